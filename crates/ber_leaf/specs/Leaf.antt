@@ -1,0 +1,127 @@
+-- The contents of leaves: which octets hold a value, and which of them are its normal content.
+use Rattle.std.specs.Prelude.{◌≡◌, ℕ, ◌+◌, ◌-◌, ◌*◌, ◌/◌, ◌%◌, ◌^◌, suc, zero, ℤ, pos, negsuc, Bool, true, false, IsTrue, not, ◌&&◌, ◌||◌, nat_eq, nat_lt, nat_le, List, [], ◌∷◌, ◌++◌, length, codes, Option, Some, None, if◌then◌else◌}
+use Rattle.std.specs.List.{list_all, list_any}
+use Rattle.jiff_core.specs.Calendar.{days_in_month}
+use Rattle.std.specs.Int.Digits.{number_from_digits}
+use Rattle.ber_core.specs.Octets.{are_octets}
+use Rattle.ber_leaf.specs.declared.fault.LeafFault.{LeafFault}
+use Rattle.ber_leaf.specs.Simple.{Simple, flag, whole, date, time, printable, general, visible}
+use Rattle.ber_leaf.specs.Profile.{Profile, is_graphic}
+
+pub data Leaf : Type 0 where
+  boolean integer enumerated general_string visible_string printable_string iso_date iso_time : Leaf
+
+abbrev pub is_string : Leaf → Bool
+is_string boolean = false
+is_string integer = false
+is_string enumerated = false
+is_string _ = true
+
+abbrev is_printable : ℕ → Bool
+is_printable octet = list_any (nat_eq octet) (codes "ABCDEFGHIJKLMNOPQRSTUVWXYZabcdefghijklmnopqrstuvwxyz0123456789 '()+,-./:=?")
+
+abbrev is_digit : ℕ → Bool
+is_digit octet = nat_le 0x30 octet && nat_le octet 0x39
+
+-- the number that two digits spell
+abbrev two_digits : ℕ → ℕ → ℕ
+two_digits t u = 10 * (t - 0x30) + (u - 0x30)
+
+-- YYYYMMDD: a day of the proleptic Gregorian calendar
+abbrev pub is_day : List ℕ → Bool
+is_day (y₁ ∷ y₂ ∷ y₃ ∷ y₄ ∷ m₁ ∷ m₂ ∷ d₁ ∷ d₂ ∷ []) =
+    let month = two_digits m₁ m₂ in
+    let day = two_digits d₁ d₂ in
+    list_all is_digit (y₁ ∷ y₂ ∷ y₃ ∷ y₄ ∷ m₁ ∷ m₂ ∷ d₁ ∷ d₂ ∷ [])
+    && nat_le 1 month && nat_le month 12 && nat_le 1 day
+    && nat_le day (days_in_month (pos (100 * two_digits y₁ y₂ + two_digits y₃ y₄)) month)
+is_day _ = false
+
+-- HHMMSS: a time of a day, whose second may be 60, or 240000
+abbrev pub is_time : List ℕ → Bool
+is_time (h₁ ∷ h₂ ∷ m₁ ∷ m₂ ∷ s₁ ∷ s₂ ∷ []) =
+    let hour = two_digits h₁ h₂ in
+    let minute = two_digits m₁ m₂ in
+    let second = two_digits s₁ s₂ in
+    list_all is_digit (h₁ ∷ h₂ ∷ m₁ ∷ m₂ ∷ s₁ ∷ s₂ ∷ [])
+    && ((nat_le hour 23 && nat_le minute 59 && nat_le second 60) || (nat_eq hour 24 && nat_eq minute 0 && nat_eq second 0))
+is_time _ = false
+
+-- empty, or two octets or more whose first nine bits are equal
+abbrev pub is_padded : List ℕ → Bool
+is_padded [] = true
+is_padded (a ∷ []) = false
+is_padded (a ∷ b ∷ _) = (nat_eq a 0 && nat_lt b 128) || (nat_eq a 255 && nat_le 128 b)
+
+abbrev unless : Bool → LeafFault → Option LeafFault
+unless b fault = if b then None else Some fault
+
+abbrev integer_fault : List ℕ → Option LeafFault
+integer_fault octets =
+    if is_padded octets then Some LeafFault.BadInteger
+    else unless (nat_le (length octets) 8) LeafFault.IntegerTooLong
+
+-- why octets are no content
+abbrev pub content_fault : Profile → Leaf → List ℕ → Option LeafFault
+content_fault p boolean octets = unless (nat_eq (length octets) 1) LeafFault.BadBoolean
+content_fault p integer octets = integer_fault octets
+content_fault p enumerated octets = integer_fault octets
+content_fault p general_string octets = unless (list_all p.general octets) LeafFault.BadText
+content_fault p visible_string octets = unless (list_all is_graphic octets) LeafFault.BadText
+content_fault p printable_string octets = unless (list_all is_printable octets) LeafFault.BadText
+content_fault p iso_date octets = unless (is_day octets) LeafFault.BadDate
+content_fault p iso_time octets = unless (is_time octets) LeafFault.BadTime
+
+-- two's complement, most significant octet first
+abbrev pub integer_of : List ℕ → ℤ
+integer_of [] = pos 0
+integer_of (a ∷ octets) =
+    if nat_lt a 128 then pos (number_from_digits 256 (a ∷ octets))
+    else negsuc (256 ^ suc (length octets) - 1 - number_from_digits 256 (a ∷ octets))
+
+-- the value that a content holds
+abbrev pub value : Leaf → List ℕ → Simple
+value boolean octets = flag (not (list_all (nat_eq 0) octets))
+value integer octets = whole (integer_of octets)
+value enumerated octets = whole (integer_of octets)
+value general_string octets = general octets
+value visible_string octets = visible octets
+value printable_string octets = printable octets
+value iso_date octets = date octets
+value iso_time octets = time octets
+
+-- the octets are a content of the value
+abbrev pub Holds : Profile → Leaf → Simple → List ℕ → Type 0
+Holds p leaf v octets = IsTrue (are_octets octets) × (content_fault p leaf octets ≡ None) × (v ≡ value leaf octets)
+
+-- n in k octets, most significant first
+abbrev pub big_endian : ℕ → ℕ → List ℕ
+big_endian zero n = []
+big_endian (suc k) n = big_endian k (n / 256) ++ n % 256 ∷ []
+
+-- how many octets hold the numbers from -(n + 1) to n, at most eight
+abbrev pub octet_count : ℕ → ℕ
+octet_count n =
+    if nat_lt n 0x80 then 1
+    else if nat_lt n 0x8000 then 2
+    else if nat_lt n 0x80_0000 then 3
+    else if nat_lt n 0x8000_0000 then 4
+    else if nat_lt n 0x80_0000_0000 then 5
+    else if nat_lt n 0x8000_0000_0000 then 6
+    else if nat_lt n 0x80_0000_0000_0000 then 7
+    else 8
+
+abbrev integer_octets : ℤ → List ℕ
+integer_octets (pos n) = big_endian (octet_count n) n
+integer_octets (negsuc n) = big_endian (octet_count n) (256 ^ octet_count n - 1 - n)
+
+-- DER's content of a value
+abbrev pub normal_content : Simple → List ℕ
+normal_content (flag false) = 0 ∷ []
+normal_content (flag true) = 0xFF ∷ []
+normal_content (whole n) = integer_octets n
+normal_content (date octets) = octets
+normal_content (time octets) = octets
+normal_content (printable octets) = octets
+normal_content (general octets) = octets
+normal_content (visible octets) = octets

@@ -1,0 +1,3 @@
+pub mod Profile
+pub mod Simple
+pub mod Leaf
