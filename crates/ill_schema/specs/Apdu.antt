@@ -1,0 +1,46 @@
+-- APDUs, their encodings and streams of them.
+use Rattle.std.specs.Prelude.{◌≡◌, ℕ, ◌-◌, ◌≤◌, List, [], ◌∷◌, ◌++◌, length, take}
+use Rattle.ber_core.specs.Tree.{Tree, depth, Spells}
+use Rattle.ill_schema.specs.declared.node.NodeId.TheVariants.{IllApdu}
+use Rattle.ill_schema.specs.Content.{Content, alternative}
+use Rattle.ber_leaf.specs.Profile.{Profile}
+use Rattle.ill_schema.specs.Tagging.{untagged}
+use Rattle.ill_schema.specs.Meaning.{Means}
+use Rattle.ill_schema.specs.Normal.{normal_tree}
+use Rattle.ber_core.specs.Der.{encoding}
+
+pub record Apdu : Type 0 where
+  pub number : ℕ
+  pub body : Content
+
+-- an alternative of ILL-APDU, whose rows are numbered from 1
+abbrev pub choice_of : Apdu → Content
+choice_of a = alternative (a.number - 1) a.body
+
+abbrev pub MeansApdu : Profile → Apdu → Tree → Type 0
+MeansApdu p a T = (1 ≤ a.number) × Means p (choice_of a) IllApdu untagged T
+
+-- the octets are an encoding of the APDU within the profile, whatever the size of its normal form
+pub record Encodes (p : Profile) (a : Apdu) (b : List ℕ) : Type 0 where
+  pub tree : Tree
+  pub means : MeansApdu p a tree
+  pub spells : Spells tree b
+  pub shallow : depth tree ≤ 32
+  pub short : length b ≤ p.limit
+
+-- DER's octets of the APDU
+abbrev pub normal : Apdu → List ℕ
+normal a = encoding (normal_tree (choice_of a) IllApdu untagged)
+
+pub record SpellsApdu (p : Profile) (a : Apdu) (b : List ℕ) : Type 0 where
+  pub encodes : Encodes p a b
+  pub normal_short : length (normal a) ≤ p.limit
+
+-- the first n octets of s spell the APDU
+abbrev pub Accepts : Profile → List ℕ → Apdu → ℕ → Type 0
+Accepts p s a n = (n ≤ length s) × SpellsApdu p a (take n s)
+
+-- s is spellings of the APDUs, one after another, and then the rest
+abbrev pub IsStream : Profile → List ℕ → List Apdu → List ℕ → Type 0
+IsStream p s [] rest = s ≡ rest
+IsStream p s (a ∷ as') rest = (b : List ℕ) × (t : List ℕ) × (s ≡ b ++ t) × SpellsApdu p a b × IsStream p t as' rest

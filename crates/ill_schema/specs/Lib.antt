@@ -1,0 +1,9 @@
+pub mod Content
+pub mod Table
+pub mod TableFacts
+pub mod Presence
+pub mod Tagging
+pub mod Meaning
+pub mod Normal
+pub mod Apdu
+pub mod Fits

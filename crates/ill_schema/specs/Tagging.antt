@@ -1,0 +1,79 @@
+-- Tags, and how a row's tag stands to the tag of its type (X.690, 8.14; X.680, 31.2).
+use Rattle.std.specs.Prelude.{◌≡◌, ◌⊎◌, ℕ, Bool, ◌&&◌, nat_eq, Option, Some, None, if◌then◌else◌}
+use Rattle.ber_core.specs.declared.id.Class.{Class}
+use Rattle.ber_core.specs.Identifier.{Tag, class_bits}
+use Rattle.ber_core.specs.Tree.{Tree, constructed, more, none}
+use Rattle.ber_leaf.specs.Leaf.{Leaf, boolean, integer, enumerated, general_string, visible_string, printable_string, iso_date, iso_time}
+use Rattle.ber_leaf.specs.Profile.{Profile}
+use Rattle.ber_leaf.specs.Simple.{Simple, flag, whole, date, time, printable, general, visible}
+use Rattle.ill_schema.specs.declared.node.Kind.{Kind}
+use Rattle.ill_schema.specs.declared.node.LeafKind.{LeafKind}
+use Rattle.ill_schema.specs.declared.part.Mode.{Mode}
+use Rattle.ill_schema.specs.declared.part.Row.{Row}
+
+abbrev pub universal : ℕ → Tag
+universal number = record { class = Class.Universal; number = number }
+
+abbrev pub same_tag : Tag → Tag → Bool
+same_tag s t = nat_eq (class_bits s.class) (class_bits t.class) && nat_eq s.number t.number
+
+-- SEQUENCE, and SEQUENCE OF (X.690, 8.9 and 8.10)
+abbrev pub sequence_tag : Tag
+sequence_tag = universal 16
+
+-- the tag of a leaf where no other stands in its place; ISO-Date and ISO-Time are VisibleStrings
+abbrev pub leaf_tag : Leaf → Tag
+leaf_tag boolean = universal 1
+leaf_tag integer = universal 2
+leaf_tag enumerated = universal 10
+leaf_tag general_string = universal 27
+leaf_tag printable_string = universal 19
+leaf_tag visible_string = universal 26
+leaf_tag iso_date = universal 26
+leaf_tag iso_time = universal 26
+
+-- the leaf as which a node of this kind holds the value
+abbrev pub leaf_of : Kind → Simple → Option Leaf
+leaf_of (Kind.Leaf LeafKind.Boolean) (flag _) = Some boolean
+leaf_of (Kind.Leaf LeafKind.Integer) (whole _) = Some integer
+leaf_of (Kind.Leaf LeafKind.Enumerated) (whole _) = Some enumerated
+leaf_of (Kind.Leaf LeafKind.Date) (date _) = Some iso_date
+leaf_of (Kind.Leaf LeafKind.Time) (time _) = Some iso_time
+leaf_of (Kind.Leaf LeafKind.Printable) (printable _) = Some printable_string
+leaf_of Kind.IllString (general _) = Some general_string
+leaf_of Kind.IllString (visible _) = Some visible_string
+leaf_of _ _ = None
+
+pub data Tagging : Type 0 where
+  -- the type's own tag
+  untagged : Tagging
+  -- in place of the type's tag
+  implicit : Tag → Tagging
+  -- round the whole element
+  explicit : Tag → Tagging
+  -- round the SEQUENCE, or directly round its components
+  explicit_or_bare : Tag → Tagging
+
+abbrev tagged_by : Profile → Mode → Tag → Tagging
+tagged_by p Mode.Implicit tag = implicit tag
+tagged_by p Mode.Explicit tag = explicit tag
+tagged_by p Mode.ExplicitOrBare tag = if p.bare then explicit_or_bare tag else explicit tag
+tagged_by p Mode.Untagged tag = untagged
+
+-- how the elements of a row are tagged
+abbrev pub tagging : Profile → Row → Tagging
+tagging p row = elim row.tag as (λ _. Tagging) [ None ↦ untagged | Some t ↦ tagged_by p row.mode (record { class = t.0; number = t.1 }) ]
+
+-- the tree T is an element under a tagging: E says of a tag and a tree that the tree has the tag and is the element
+abbrev pub Tagged : Tagging → Tag → (Tag → Tree → Type 0) → Tree → Type 0
+Tagged untagged own E T = E own T
+Tagged (implicit tag) own E T = E tag T
+Tagged (explicit tag) own E T = (U : Tree) × (T ≡ constructed tag (more U none)) × E own U
+Tagged (explicit_or_bare tag) own E T = ((U : Tree) × (T ≡ constructed tag (more U none)) × E own U) ⊎ E tag T
+
+-- DER's tree of an element under a tagging: an explicit tag holds the one element
+abbrev pub tag_tree : Tagging → Tag → (Tag → Tree) → Tree
+tag_tree untagged own tree = tree own
+tag_tree (implicit tag) own tree = tree tag
+tag_tree (explicit tag) own tree = constructed tag (more (tree own) none)
+tag_tree (explicit_or_bare tag) own tree = constructed tag (more (tree own) none)

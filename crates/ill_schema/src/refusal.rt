@@ -1,0 +1,51 @@
+use crate::part::PartId;
+
+/// Why a message is refused.
+#[derive(Clone, Copy, Debug, PartialEq, Eq)]
+pub enum Cause {
+    /// The input ends inside the message.
+    Truncated,
+    /// The identifier octets are none (X.690, 8.1.2), or the tag number has more than four octets.
+    BadTag,
+    /// The first length octet is FF, or 80 on a primitive element (X.690, 8.1.3).
+    BadLength,
+    /// The message would pass the limit, and no definite element is open.
+    TooLong,
+    /// The element would pass the end of an open definite element.
+    Overrun,
+    /// The element would stand at depth 33.
+    TooDeep,
+    /// Class and number aren't due here.
+    UnexpectedTag,
+    /// Class and number are those of a left out row that is due here.
+    LeftOut(PartId),
+    /// Primitive where constructed is due, or the reverse.
+    WrongForm,
+    /// A sequence or an explicit wrapper ends before a mandatory part.
+    Missing(PartId),
+    /// In an indefinite element, 00 and then another octet than 00 (X.690, 8.1.5).
+    BadEnd,
+    /// A BOOLEAN's content isn't one octet (X.690, 8.2.1).
+    BadBoolean,
+    /// An integer's content is empty, or its first nine bits are equal (X.690, 8.3).
+    BadInteger,
+    /// An integer's content has more than eight octets.
+    IntegerTooLong,
+    /// An octet outside the string's alphabet.
+    BadText,
+    /// Not eight digits of a day that exists.
+    BadDate,
+    /// Not six digits of a time of day.
+    BadTime,
+    /// Octets stand behind the message.
+    TrailingBytes,
+    /// The message's normal form would pass the limit.
+    NormalTooLong,
+}
+
+/// A refusal: its cause, and the offset in octets, from 0, of what it is about.
+#[derive(Clone, Copy, Debug, PartialEq, Eq)]
+pub struct Refusal {
+    pub at: u32,
+    pub cause: Cause,
+}
