@@ -1,0 +1,11 @@
+pub mod Tags
+pub mod Unique
+pub mod Laws
+pub mod Normal
+pub mod Depths
+pub mod Encodings
+pub mod MeansFits
+pub mod Wider
+pub mod Shorter
+pub mod Streams
+pub mod Rows
