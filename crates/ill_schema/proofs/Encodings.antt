@@ -27,7 +27,7 @@ use Rattle.std.proofs.lemmas.Bool.{and_parts}
 use Rattle.ill_schema.proofs.Tags.{at_row}
 use Rattle.ill_schema.proofs.Normal.{normal_apdu_means}
 use Rattle.ill_schema.proofs.Depths.{normal_depth}
-use Rattle.ill_schema.proofs.Laws.{apdu_unique}
+use Rattle.ill_schema.proofs.OneMeaning.{apdu_unique}
 
 -- a tagging's tag has identifiers in both forms
 abbrev ValidTagging : Tagging → Type 0

@@ -1,6 +1,6 @@
 pub mod Tags
 pub mod Unique
-pub mod Laws
+pub mod OneMeaning
 pub mod Normal
 pub mod Depths
 pub mod Encodings

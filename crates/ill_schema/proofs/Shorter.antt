@@ -44,7 +44,7 @@ digits_grow m n le =
     le_lt : (a b c : ℕ) → a ≤ b → b < c → a < c
     le_lt a b c h k = omega arith
 
-pub length_grows : (m n : ℕ) → m ≤ n → length (shortest_length m) ≤ length (shortest_length n)
+length_grows : (m n : ℕ) → m ≤ n → length (shortest_length m) ≤ length (shortest_length n)
 length_grows m n le = elim (cases (nat_lt m 128)) [
   | inl h ↦ elim (cases (nat_lt n 128)) [
     | inl k ↦ rw (h, k) (lit≤ tt)
@@ -57,7 +57,7 @@ length_grows m n le = elim (cases (nat_lt m 128)) [
 ]
 
 -- a length of at most 65,535 takes at most three octets
-pub length_at_most_three : (n : ℕ) → n ≤ 65_535 → length (shortest_length n) ≤ 3
+length_at_most_three : (n : ℕ) → n ≤ 65_535 → length (shortest_length n) ≤ 3
 length_at_most_three n le = elim (cases (nat_lt n 128)) [
   | inl h ↦ rw h (lit≤ tt)
   | inr h ↦ rw h (omega (arith, length-digits_of-le 256 2 n (lit≤ tt) (omega (arith, le))))
@@ -73,7 +73,7 @@ indefinite_size t os b h =
 
 -- the shortest definite form of a tree is no longer than a spelling of it
 mutual
-  pub size_least : (T : Tree) (b : List ℕ) → Spells T b → length b ≤ 65_535 → size T ≤ length b
+  size_least : (T : Tree) (b : List ℕ) → Spells T b → length b ≤ 65_535 → size T ≤ length b
   size_least (primitive tag octets) b h le =
       let l = shortest_least (length octets) h.octets h.spell_length in
       let s = definite_size tag false octets b h in
@@ -92,7 +92,7 @@ mutual
         omega arith
   ]
 
-  pub sizes_least : (ts : Trees) (b : List ℕ) → SpellsAll ts b → length b ≤ 65_535 → sizes ts ≤ length b
+  sizes_least : (ts : Trees) (b : List ℕ) → SpellsAll ts b → length b ≤ 65_535 → sizes ts ≤ length b
   sizes_least none b h le = omega arith
   sizes_least (more T ts) b h le =
       let s : length b ≡ length h.0 + length h.1 = ap length h.4 ∙ length-append h.0 h.1 in
@@ -200,7 +200,7 @@ none_least c row es rows n h true e = h
 none_least c row es rows n h false e = absurd cc
 
 mutual
-  pub normal_least : (limit : ℕ) (c : Content) (node : NodeId) (g : Tagging) (T : Tree) → IsPlain g → Means (profile_one limit) c node g T → size (normal_tree c node g) ≤ size T
+  normal_least : (limit : ℕ) (c : Content) (node : NodeId) (g : Tagging) (T : Tree) → IsPlain g → Means (profile_one limit) c node g T → size (normal_tree c node g) ≤ size T
   normal_least limit (simple v) node g T ok m = simple_least limit v node g T ok m
   normal_least limit (sequence es) node g T ok m =
       tagged_least g sequence_tag _ (λ t. constructed t (normal_trees es (rows_of node))) T ok
@@ -248,10 +248,7 @@ normal_no_longer limit a T b m s le =
     let z = size_least T b s le in
     omega arith
 
--- what encodes an APDU in profile one within 65,535 octets spells it there, and so in profile two
-pub small_spells : (a : Apdu) (b : List ℕ) → Encodes (profile_one 65_535) a b → SpellsApdu (profile_one 65_535) a b
-small_spells a b h = record { encodes = h; normal_short = let s = h.short in let n = normal_no_longer 65_535 a h.tree b h.means h.spells h.short in omega arith }
-
+-- what encodes an APDU in profile 1 within 65,535 octets spells it in profile 2
 pub small_wider : (a : Apdu) (b : List ℕ) → Encodes (profile_one 65_535) a b → SpellsApdu profile_two a b
 small_wider a b h = record {
   encodes = encodes_wider 65_535 a b (lit≤ tt) h;

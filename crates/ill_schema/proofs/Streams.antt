@@ -7,7 +7,7 @@ use Rattle.ber_core.proofs.Identifiers.{IsEnd, identifier_no_end}
 use Rattle.ber_core.proofs.Lists.{fronts}
 use Rattle.ill_schema.specs.Apdu.{Apdu, Encodes, SpellsApdu, Accepts, IsStream}
 use Rattle.ber_leaf.specs.Profile.{Profile}
-use Rattle.ill_schema.proofs.Laws.{one_message}
+use Rattle.ill_schema.proofs.OneMeaning.{one_message}
 
 pub tails : (a b x y : List ℕ) → a ≡ b → a ++ x ≡ b ++ y → x ≡ y
 tails a b x y e h = (fronts a b x y (ap length e) h).1

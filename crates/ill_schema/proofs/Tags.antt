@@ -12,36 +12,7 @@ use Rattle.ill_schema.specs.declared.part.Row.{Row}
 use Rattle.ber_leaf.specs.Profile.{Profile}
 use Rattle.ill_schema.specs.Tagging.{Tagging, untagged, implicit, explicit, explicit_or_bare, tagging, universal, sequence_tag, same_tag}
 use Rattle.ill_schema.specs.Table.{kind_of, rows_of}
-
-abbrev pub own_tags : Kind → List Tag
-own_tags Kind.Seq = sequence_tag ∷ []
-own_tags Kind.SeqOf = sequence_tag ∷ []
-own_tags Kind.Choice = []
-own_tags Kind.IllString = universal 27 ∷ universal 26 ∷ []
-own_tags (Kind.Leaf LeafKind.Boolean) = universal 1 ∷ []
-own_tags (Kind.Leaf LeafKind.Integer) = universal 2 ∷ []
-own_tags (Kind.Leaf LeafKind.Enumerated) = universal 10 ∷ []
-own_tags (Kind.Leaf LeafKind.Printable) = universal 19 ∷ []
-own_tags (Kind.Leaf _) = universal 26 ∷ []
-
-abbrev pub tagging_tags : Tagging → List Tag → List Tag
-tagging_tags untagged own = own
-tagging_tags (implicit tag) own = tag ∷ []
-tagging_tags (explicit tag) own = tag ∷ []
-tagging_tags (explicit_or_bare tag) own = tag ∷ []
-
-abbrev pub alternative_tags : Profile → Row → List Tag
-alternative_tags p row = tagging_tags (tagging p row) []
-
-abbrev pub kind_tags : Kind → List Tag → List Tag
-kind_tags Kind.Choice alternatives = alternatives
-kind_tags kind alternatives = own_tags kind
-
-abbrev pub node_tags : Profile → NodeId → List Tag
-node_tags p node = kind_tags (kind_of node) (flat_map (alternative_tags p) (rows_of node))
-
-abbrev pub row_tags : Profile → Row → List Tag
-row_tags p row = tagging_tags (tagging p row) (node_tags p row.node)
+use Rattle.ill_schema.specs.TableFacts.{own_tags, tagging_tags, alternative_tags, kind_tags, node_tags, row_tags, are_distinct, has_different_tags, names_below}
 
 abbrev pub is_proper : Tagging → Kind → Bool
 is_proper untagged kind = true
@@ -58,10 +29,6 @@ is_proper_row p row = is_proper (tagging p row) (kind_of row.node)
 abbrev pub is_tagged : Tagging → Bool
 is_tagged untagged = false
 is_tagged _ = true
-
-abbrev pub are_distinct : List Tag → Bool
-are_distinct [] = true
-are_distinct (t ∷ ts) = not (list_any (same_tag t) ts) && are_distinct ts
 
 -- the rows of a sequence begin by different tags, none of them SEQUENCE's
 abbrev pub are_good : Profile → Kind → List Row → Bool
@@ -160,3 +127,16 @@ pub at_row : (test : Row → Bool) (rows : List Row) (n : ℕ) (row : Row) → I
 at_row test [] n row h e = absurd cc
 at_row test (r ∷ rows) zero row h e = let g : r ≡ row = cc in subst (λ y. IsTrue (test y)) g ((and_parts (test r) (list_all test rows) h).0)
 at_row test (r ∷ rows) (suc n) row h e = at_row test rows n row ((and_parts (test r) (list_all test rows) h).1) e
+
+different_at : (f : ℕ → Bool) (b : Bool) (l : ℕ) (node : NodeId) → IsTrue (has_different_tags (record { general = f; bare = b; limit = l }) node)
+different_at f true l Boolean = refl
+different_at f true l _ = refl
+different_at f false l Boolean = refl
+different_at f false l _ = refl
+
+pub tags_differ : (p : Profile) (node : NodeId) → IsTrue (has_different_tags p node)
+tags_differ p node = different_at p.general p.bare p.limit node
+
+pub rows_name_below : (node : NodeId) → IsTrue (names_below node)
+rows_name_below Boolean = refl
+rows_name_below _ = refl

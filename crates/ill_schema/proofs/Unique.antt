@@ -20,7 +20,8 @@ use Rattle.ill_schema.specs.Presence.{is_default_of, same_value, MayLack}
 use Rattle.ill_schema.specs.Meaning.{Means, Matches, MatchItems, MeansSimple, HoldsLeaf, IsAlternative}
 use Rattle.ill_schema.specs.Table.{kind_of, rows_of}
 use Rattle.std.proofs.lemmas.Bool.{and_parts}
-use Rattle.ill_schema.proofs.Tags.{own_tags, tagging_tags, alternative_tags, kind_tags, node_tags, row_tags, is_proper, is_proper_row, is_tagged, are_good, tables_good, tables_proper, Mem, Distinct, distinct, not_mem, disjoint, distinct-right, same_place, at_row, mem-left, mem-right, mem-rows}
+use Rattle.ill_schema.specs.TableFacts.{own_tags, tagging_tags, alternative_tags, kind_tags, node_tags, row_tags}
+use Rattle.ill_schema.proofs.Tags.{is_proper, is_proper_row, is_tagged, are_good, tables_good, tables_proper, Mem, Distinct, distinct, not_mem, disjoint, distinct-right, same_place, at_row, mem-left, mem-right, mem-rows}
 
 -- a leaf by its kind and, for an ILL-String, its tag
 unfoldable pub leaf_at : Kind → ℕ → Leaf
