@@ -1,10 +1,14 @@
 //! The tables of ILL messages, their values, what octets mean by them, and the normal form.
 #![tactic(auto)]
 
+mod lookup;
 mod node;
 mod part;
 mod refusal;
+mod table;
 
+pub use lookup::{kind, row, rows};
 pub use node::{Kind, LeafKind, NodeId};
 pub use part::{Mode, PartId, Presence, Row};
 pub use refusal::{Cause, Refusal};
+pub use table::rows_of;
