@@ -7,3 +7,4 @@ pub mod Meaning
 pub mod Normal
 pub mod Apdu
 pub mod Fits
+pub mod Names

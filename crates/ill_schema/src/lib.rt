@@ -2,12 +2,14 @@
 #![tactic(auto)]
 
 mod lookup;
+mod names;
 mod node;
 mod part;
 mod refusal;
 mod table;
 
 pub use lookup::{kind, row, rows};
+pub use names::{apdu_name, apdu_node, part_name};
 pub use node::{Kind, LeafKind, NodeId};
 pub use part::{Mode, PartId, Presence, Row};
 pub use refusal::{Cause, Refusal};
