@@ -8,3 +8,4 @@ pub mod Normal
 pub mod Apdu
 pub mod Fits
 pub mod Names
+pub mod FitsProps
