@@ -9,3 +9,4 @@ pub mod Apdu
 pub mod Fits
 pub mod Names
 pub mod FitsProps
+pub mod Value

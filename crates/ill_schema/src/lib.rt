@@ -7,6 +7,7 @@ mod node;
 mod part;
 mod refusal;
 mod table;
+mod value;
 
 pub use lookup::{kind, row, rows};
 pub use names::{apdu_name, apdu_node, part_name};
@@ -14,3 +15,4 @@ pub use node::{Kind, LeafKind, NodeId};
 pub use part::{Mode, PartId, Presence, Row};
 pub use refusal::{Cause, Refusal};
 pub use table::rows_of;
+pub use value::Value;
