@@ -33,7 +33,6 @@ simple_set = Coded-set (hlevel codes)
 Holds-prop : (p : Profile) (leaf : Leaf) (v : Simple) (octets : List ℕ) → IsProp (Holds p leaf v octets)
 Holds-prop p leaf v octets = hlevel (codes, simple_set)
 
-
 -- a part with facts of it, where the first fact names the part
 named_prop : {A : Type 0} (B C : A → Type 0) → ((x : A) → IsProp (B x)) → ((x : A) → IsProp (C x)) → ((x y : A) → B x → B y → x ≡ y)
     → IsProp ((x : A) × B x × C x)

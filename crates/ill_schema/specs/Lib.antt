@@ -10,3 +10,4 @@ pub mod Fits
 pub mod Names
 pub mod FitsProps
 pub mod Value
+pub mod ValueFits

@@ -1,18 +1,22 @@
 //! The tables of ILL messages, their values, what octets mean by them, and the normal form.
 #![tactic(auto)]
 
+mod equality;
 mod lookup;
 mod names;
 mod node;
 mod part;
 mod refusal;
+mod shape;
 mod table;
 mod value;
 
+pub use equality::equal;
 pub use lookup::{kind, row, rows};
 pub use names::{apdu_name, apdu_node, part_name};
 pub use node::{Kind, LeafKind, NodeId};
 pub use part::{Mode, PartId, Presence, Row};
 pub use refusal::{Cause, Refusal};
+pub use shape::fits;
 pub use table::rows_of;
 pub use value::Value;
