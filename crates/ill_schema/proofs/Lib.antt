@@ -1,1 +1,12 @@
+pub mod Tags
+pub mod Unique
+pub mod OneMeaning
+pub mod Normal
+pub mod Depths
+pub mod Encodings
+pub mod MeansFits
+pub mod Wider
+pub mod Shorter
+pub mod Streams
+pub mod Rows
 pub mod Contents

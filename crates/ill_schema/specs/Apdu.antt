@@ -29,12 +29,12 @@ pub record Encodes (p : Profile) (a : Apdu) (b : List ℕ) : Type 0 where
   pub short : length b ≤ p.limit
 
 -- DER's octets of the APDU
-abbrev pub normal : Apdu → List ℕ
-normal a = encoding (normal_tree (choice_of a) IllApdu untagged)
+abbrev pub normal_form : Apdu → List ℕ
+normal_form a = encoding (normal_tree (choice_of a) IllApdu untagged)
 
 pub record SpellsApdu (p : Profile) (a : Apdu) (b : List ℕ) : Type 0 where
   pub encodes : Encodes p a b
-  pub normal_short : length (normal a) ≤ p.limit
+  pub normal_short : length (normal_form a) ≤ p.limit
 
 -- the first n octets of s spell the APDU
 abbrev pub Accepts : Profile → List ℕ → Apdu → ℕ → Type 0

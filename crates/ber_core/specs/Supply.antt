@@ -1,0 +1,18 @@
+-- What contracts see of sources and sinks.
+use Rattle.std.specs.Prelude.{◌≡◌, ℕ, ◌-◌, min, Bool, true, false, ◌||◌, List, ◌++◌, length, take, drop, Option, Some, None, option_map, nat_eq}
+use Rattle.ber_core.specs.declared.source.FromRead.{FromRead}
+use Rattle.ber_core.specs.declared.sink.ToWrite.{ToWrite}
+
+-- the reader under a source, and whether the source broke
+abbrev pub reader_of : {R : Type 0} → FromRead R → R
+reader_of source = source.inner
+
+abbrev pub is_source_broken : {R : Type 0} → FromRead R → Bool
+is_source_broken source = source.broken
+
+-- the writer under a sink, and whether the sink broke
+abbrev pub writer_of : {W : Type 0} → ToWrite W → W
+writer_of sink = sink.inner
+
+abbrev pub is_sink_broken : {W : Type 0} → ToWrite W → Bool
+is_sink_broken sink = sink.broken

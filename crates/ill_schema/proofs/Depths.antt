@@ -1,0 +1,158 @@
+-- How deep normal trees are.
+use Rattle.std.proofs.Common.{◌≡◌, ℕ, ◌+◌, ◌-◌, ◌≤◌, Bool, true, false, ◌&&◌, List, [], ◌∷◌, Some, None, IsTrue, refl, sym, subst, arith}
+use Rattle.std.specs.Prelude.{nat_le}
+use Rattle.std.specs.List.{list_all}
+use Rattle.ber_core.specs.Identifier.{Tag}
+use Rattle.ber_core.specs.Tree.{Tree, Trees, constructed, depth, depth_all, none, more}
+use Rattle.ill_schema.specs.declared.node.Kind.{Kind}
+use Rattle.ill_schema.specs.declared.node.NodeId.{NodeId}
+use Rattle.ill_schema.specs.declared.node.NodeId.TheVariants.{Boolean, Integer, Enumerated, IsoDate, IsoTime, PrintableString, IllString, LeftOut, Symbol, Name, SystemId, TransactionId, DateTime, ServiceDateTime, PostalAddress, SystemAddress, DeliveryAddress, ClientId, DeliveryService, RequesterOptionalMessages, ResponderOptionalMessages, SearchType, SupplyMediumInfo, ItemId, Amount, CostInfo, SendTo, SendToList, AlreadyTriedList, ThirdPartyInfo, UnitsPerMedium, UnitsPerMediumList, DateDue, ShippedVia, SupplyDetails, IllServiceTypes, SupplyMediumInfos, IllRequest, LocationInfo, Locs, Conditional, Retry, Unfilled, Locations, WillSupply, HoldPlaced, Estimate, Results, IllAnswer, IllApdu}
+use Rattle.ill_schema.specs.declared.part.Row.{Row}
+use Rattle.ill_schema.specs.Apdu.{Apdu, choice_of}
+use Rattle.ill_schema.specs.Content.{Content, simple, sequence, list, alternative, Entries, no_entries, absent, present, Items, no_items, item}
+use Rattle.ill_schema.specs.Fits.{Fits, FitRows, FitItems, FitsApdu}
+use Rattle.ber_leaf.specs.Profile.{Profile, profile_two}
+use Rattle.ill_schema.specs.Tagging.{Tagging, untagged, implicit, explicit, explicit_or_bare, tagging, tag_tree, sequence_tag}
+use Rattle.ill_schema.specs.Presence.{is_default}
+use Rattle.ill_schema.specs.Normal.{normal_tree, normal_trees, normal_items}
+use Rattle.ill_schema.specs.Table.{kind_of, rows_of}
+use Rattle.std.proofs.lemmas.Bool.{and_parts}
+use Rattle.ill_schema.proofs.Tags.{at_row}
+
+-- the depth of a node's normal elements, at most
+abbrev height : NodeId → ℕ
+height Boolean = 1
+height Integer = 1
+height Enumerated = 1
+height IsoDate = 1
+height IsoTime = 1
+height PrintableString = 1
+height IllString = 1
+height LeftOut = 1
+height Symbol = 2
+height Name = 2
+height SystemId = 4
+height TransactionId = 5
+height DateTime = 2
+height ServiceDateTime = 3
+height PostalAddress = 4
+height SystemAddress = 3
+height DeliveryAddress = 5
+height ClientId = 3
+height DeliveryService = 2
+height RequesterOptionalMessages = 2
+height ResponderOptionalMessages = 2
+height SearchType = 3
+height SupplyMediumInfo = 3
+height ItemId = 3
+height Amount = 2
+height CostInfo = 3
+height SendTo = 5
+height SendToList = 6
+height AlreadyTriedList = 5
+height ThirdPartyInfo = 7
+height UnitsPerMedium = 2
+height UnitsPerMediumList = 3
+height DateDue = 2
+height ShippedVia = 2
+height SupplyDetails = 4
+height IllServiceTypes = 2
+height SupplyMediumInfos = 4
+height IllRequest = 8
+height LocationInfo = 5
+height Locs = 6
+height Conditional = 7
+height Retry = 7
+height Unfilled = 7
+height Locations = 7
+height WillSupply = 7
+height HoldPlaced = 7
+height Estimate = 7
+height Results = 8
+height IllAnswer = 10
+height IllApdu = 11
+height _ = 6
+
+abbrev wrap : Tagging → ℕ
+wrap untagged = 0
+wrap (implicit t) = 0
+wrap (explicit t) = 1
+wrap (explicit_or_bare t) = 1
+
+-- the elements that a node of the kind adds round its rows
+abbrev own : Kind → ℕ
+own Kind.Choice = 0
+own _ = 1
+
+abbrev is_below : ℕ → Row → Bool
+is_below n row = nat_le (wrap (tagging profile_two row) + height row.node) n
+
+abbrev is_tall : NodeId → Bool
+is_tall node = nat_le 1 (height node) && list_all (is_below (height node - own (kind_of node))) (rows_of node)
+
+all_tall : (node : NodeId) → IsTrue (is_tall node)
+all_tall Boolean = refl
+all_tall _ = refl
+
+le_of : (m n : ℕ) → IsTrue (nat_le m n) → m ≤ n
+le_of m n h = grind arith
+
+tall : (node : NodeId) → 1 ≤ height node
+tall node = le_of 1 (height node) ((and_parts _ _ (all_tall node)).0)
+
+tall_rows : (node : NodeId) (k : Kind) → kind_of node ≡ k → IsTrue (list_all (is_below (height node - own k)) (rows_of node))
+tall_rows node k e = subst (λ x. IsTrue (list_all (is_below (height node - own x)) (rows_of node))) e ((and_parts _ _ (all_tall node)).1)
+
+tag_depth : (g : Tagging) (t : Tag) (f : Tag → Tree) (n : ℕ) → ((s : Tag) → depth (f s) ≤ n) → depth (tag_tree g t f) ≤ wrap g + n
+tag_depth untagged t f n h = let q = h t in omega arith
+tag_depth (implicit s) t f n h = let q = h s in omega arith
+tag_depth (explicit s) t f n h = let q = h t in omega arith
+tag_depth (explicit_or_bare s) t f n h = let q = h t in omega arith
+
+first_below : (n : ℕ) (row : Row) (rows : List Row) → IsTrue (list_all (is_below n) (row ∷ rows)) → wrap (tagging profile_two row) + height row.node ≤ n
+first_below n row rows h = le_of _ _ ((and_parts _ _ h).0)
+
+mutual
+  tree_depth : (p : Profile) (c : Content) (node : NodeId) (g : Tagging) → Fits p c node → depth (normal_tree c node g) ≤ wrap g + height node
+  tree_depth p (simple v) node g fit = tag_depth g _ _ (height node) (λ t. tall node)
+  tree_depth p (sequence es) node g fit = tag_depth g sequence_tag _ (height node) (λ t.
+      let q = trees_depth p es (rows_of node) (height node - 1) (tall_rows node Kind.Seq fit.0) fit.1 in let r = tall node in omega arith)
+  tree_depth p (list is) node g fit = tag_depth g sequence_tag _ (height node) (λ t.
+      let q = items_depth p is (rows_of node) (height node - 1) (tall_rows node Kind.SeqOf fit.0) fit.1 in let r = tall node in omega arith)
+  tree_depth p (alternative n c) node g fit =
+      let row = fit.0 in
+      let b : wrap (tagging profile_two row) + height row.node ≤ height node - 0 = le_of _ _ (at_row (is_below (height node - 0)) (rows_of node) n row (tall_rows node Kind.Choice fit.1.0) fit.1.1) in
+      let q = tree_depth p c row.node (tagging profile_two row) fit.2 in
+      let r : depth (normal_tree c row.node (tagging profile_two row)) ≤ height node = omega arith in
+      tag_depth g sequence_tag _ (height node) (λ t.
+      subst (λ o. depth (elim o as (λ _. Tree) [ Some x ↦ normal_tree c x.node (tagging profile_two x) | None ↦ constructed t none ]) ≤ height node) (sym fit.1.1) r)
+
+  trees_depth : (p : Profile) (es : Entries) (rows : List Row) (n : ℕ) → IsTrue (list_all (is_below n) rows) → FitRows p es rows → depth_all (normal_trees es rows) ≤ n
+  trees_depth p no_entries rows n h fit = omega arith
+  trees_depth p (absent es) [] n h fit = omega arith
+  trees_depth p (absent es) (row ∷ rows) n h fit = trees_depth p es rows n ((and_parts _ _ h).1) fit.1
+  trees_depth p (present c es) [] n h fit = omega arith
+  trees_depth p (present c es) (row ∷ rows) n h fit =
+      let parts = and_parts _ _ h in
+      let q : depth (normal_tree c row.node (tagging profile_two row)) ≤ wrap (tagging profile_two row) + height row.node = tree_depth p c row.node (tagging profile_two row) fit.1 in
+      let b : wrap (tagging profile_two row) + height row.node ≤ n = first_below n row rows h in
+      either c row es rows n (omega arith) (trees_depth p es rows n parts.1 fit.2) (is_default row c)
+    where
+      either : (c : Content) (row : Row) (es : Entries) (rows : List Row) (n : ℕ) → depth (normal_tree c row.node (tagging profile_two row)) ≤ n → depth_all (normal_trees es rows) ≤ n → (b : Bool)
+          → depth_all (elim b as (λ _. Trees) [ true ↦ normal_trees es rows | false ↦ more (normal_tree c row.node (tagging profile_two row)) (normal_trees es rows) ]) ≤ n
+      either c row es rows n q r true = r
+      either c row es rows n q r false = omega arith
+
+  items_depth : (p : Profile) (is : Items) (rows : List Row) (n : ℕ) → IsTrue (list_all (is_below n) rows) → FitItems p is rows → depth_all (normal_items is rows) ≤ n
+  items_depth p no_items rows n h fit = omega arith
+  items_depth p (item c is) [] n h fit = omega arith
+  items_depth p (item c is) (row ∷ rows) n h fit =
+      let e : Some row ≡ Some fit.0 = fit.1 in
+      let r : fit.0 ≡ row = cc in
+      let q : depth (normal_tree c row.node (tagging profile_two row)) ≤ wrap (tagging profile_two row) + height row.node = tree_depth p c row.node (tagging profile_two row) (subst (λ x. Fits p c x.node) r fit.2) in
+      let b : wrap (tagging profile_two row) + height row.node ≤ n = first_below n row rows h in
+      let s = items_depth p is (row ∷ rows) n h fit.3 in
+      omega arith
+
+pub normal_depth : (p : Profile) (a : Apdu) → FitsApdu p a → depth (normal_tree (choice_of a) IllApdu untagged) ≤ 11
+normal_depth p a fit = tree_depth p (choice_of a) IllApdu untagged fit.1

@@ -1,0 +1,8 @@
+use Rattle.ill_schema.proofs.Tags.{tags_differ, rows_name_below}
+use Rattle.ill_schema.proofs.laws.tables_are_well_formed.Goals as goal
+
+pub returns-clause-tags : goal.returns-clause-tags
+returns-clause-tags c = tags_differ
+
+pub returns-clause-below : goal.returns-clause-below
+returns-clause-below c = rows_name_below

@@ -1,0 +1,67 @@
+//! What holds of the definitions alone. Each law is the contract of a function that does nothing.
+ghost use Rattle.std.specs.Prelude.{◌≡◌, ℕ, ◌<◌, ◌≤◌, ◌^◌, List, [], ◌++◌, length, IsTrue};
+ghost use Rattle.ber_core.specs.Tree.{Tree, Spells, depth};
+ghost use Rattle.ber_leaf.specs.Profile.{Profile, profile_one, profile_two};
+ghost use Rattle.ill_schema.specs.Content.{Content};
+ghost use Rattle.ill_schema.specs.Tagging.{Tagging, untagged};
+ghost use Rattle.ill_schema.specs.TableFacts.{has_different_tags, names_below};
+ghost use Rattle.ill_schema.specs.Meaning.{Means};
+ghost use Rattle.ill_schema.specs.Fits.{Fits, FitsApdu};
+ghost use Rattle.ill_schema.specs.Normal.{normal_tree};
+ghost use Rattle.ill_schema.specs.Apdu.{Apdu, choice_of, Encodes, SpellsApdu, MeansApdu, normal_form};
+
+use crate::node::NodeId;
+
+/// In each sequence and choice the tags of all rows are different, and each row names a node further up in the list of nodes.
+pub fn tables_are_well_formed()
+    ensures tags { (p : Profile) (node : NodeId) → IsTrue (has_different_tags p node) }
+    ensures below { (node : NodeId) → IsTrue (names_below node) }
+{}
+
+/// A tree means at most one value as the type of a node, and at most one APDU.
+pub fn one_value()
+    ensures value { (p : Profile) (v w : Content) (node : NodeId) (t : Tree) → Means p v node untagged t → Means p w node untagged t → v ≡ w }
+    ensures apdu { (p : Profile) (a b : Apdu) (t : Tree) → MeansApdu p a t → MeansApdu p b t → a ≡ b }
+{}
+
+/// What means a value fits the node, and what means an APDU fits it.
+pub fn what_is_meant_fits()
+    ensures value { (p : Profile) (v : Content) (node : NodeId) (g : Tagging) (t : Tree) → Means p v node g t → Fits p v node }
+    ensures apdu { (p : Profile) (a : Apdu) (t : Tree) → MeansApdu p a t → FitsApdu p a }
+{}
+
+/// Octets spell at most one APDU, and no spelling is a proper prefix of another.
+pub fn one_meaning()
+    ensures apdu { (p : Profile) (a b : Apdu) (octets : List ℕ) → SpellsApdu p a octets → SpellsApdu p b octets → a ≡ b }
+    ensures prefix { (p : Profile) (a b : Apdu) (octets more : List ℕ) → SpellsApdu p a octets → SpellsApdu p b (octets ++ more) → more ≡ [] }
+{}
+
+/// The normal tree of a value that fits means it; the normal tree of an APDU has depth 11 at most.
+pub fn normal_tree_means_the_value()
+    ensures value { (p : Profile) (v : Content) (node : NodeId) (g : Tagging) → Fits p v node → Means p v node g (normal_tree v node g) }
+    ensures depth { (p : Profile) (a : Apdu) → FitsApdu p a → depth (normal_tree (choice_of a) NodeId.IllApdu untagged) ≤ 11 }
+{}
+
+/// The normal form of an APDU spells it, where it is within a profile's limit that a length can say (X.690, 10.1).
+pub fn normal_form_is_a_spelling()
+    ensures { (p : Profile) (a : Apdu) → p.limit < 256 ^ 126 → FitsApdu p a → length (normal_form a) ≤ p.limit → SpellsApdu p a (normal_form a) }
+{}
+
+/// Two APDUs with one normal form are one APDU, where a length can say their sizes.
+pub fn normal_form_is_one_to_one()
+    ensures { (p : Profile) (a b : Apdu) → FitsApdu p a → FitsApdu p b → length (normal_form a) < 256 ^ 126 → length (normal_form b) < 256 ^ 126
+        → normal_form a ≡ normal_form b → a ≡ b }
+{}
+
+/// Where wrappers aren't bare, a normal form is no longer than a spelling of up to 65,535 octets: there an indefinite form costs
+/// three octets, and a shortest definite length three at most.
+pub fn normal_form_is_no_longer()
+    ensures { (limit : ℕ) (a : Apdu) (octets : List ℕ) → Encodes (profile_one limit) a octets → length octets ≤ 65_535 → length (normal_form a) ≤ length octets }
+{}
+
+/// What spells an APDU in profile 1, with either of its limits, spells the same APDU in profile 2; its normal form doesn't depend on
+/// the profile. (Within 65,535 octets the size of the normal form is no condition of its own.)
+pub fn profile_two_extends_profile_one()
+    ensures small { (a : Apdu) (octets : List ℕ) → Encodes (profile_one 65_535) a octets → SpellsApdu profile_two a octets }
+    ensures large { (a : Apdu) (octets : List ℕ) → SpellsApdu (profile_one 1_048_576) a octets → SpellsApdu profile_two a octets }
+{}
