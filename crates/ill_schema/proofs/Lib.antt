@@ -8,5 +8,6 @@ pub mod MeansFits
 pub mod Wider
 pub mod Shorter
 pub mod Streams
-pub mod Rows
+pub mod WorkedRows
 pub mod Contents
+pub mod LeafFits
