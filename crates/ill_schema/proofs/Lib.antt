@@ -11,3 +11,5 @@ pub mod Streams
 pub mod WorkedRows
 pub mod Contents
 pub mod LeafFits
+pub mod RowFits
+pub mod Numbers

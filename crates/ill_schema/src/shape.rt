@@ -1,13 +1,14 @@
 //! Which values have the shape of a node.
 ghost use Rattle.std.specs.Prelude.{◌≡◌, ◌↔◌, IsTrue, MatchOption};
 ghost use Rattle.ber_leaf.specs.Profile.{profile_two};
-ghost use Rattle.ber_leaf.specs.Simple.{whole, date, time, printable};
+ghost use Rattle.ber_leaf.specs.Simple.{flag, whole, date, time, printable};
 ghost use Rattle.ber_leaf.specs.Strings.{string_value};
 ghost use Rattle.ill_schema.specs.Fits.{FitsSimple, Fits};
 ghost use Rattle.ill_schema.specs.Meaning.{IsAlternative};
 ghost use Rattle.ill_schema.specs.Presence.{IsCarried, MayLack};
+ghost use Rattle.ill_schema.specs.Table.{kind_of};
 ghost use Rattle.ill_schema.specs.Value.{content_of};
-ghost use Rattle.ill_schema.specs.ValueFits.{EntriesFit, ItemFits, ItemsFit};
+ghost use Rattle.ill_schema.specs.ValueFits.{IsNumeric, EntriesFit, ItemFits, ItemsFit};
 ghost use Rattle.ill_schema.specs.declared.part.Row.{Row};
 
 use crate::lookup::{kind, row};
@@ -42,13 +43,33 @@ fn alternative(node: NodeId, number: u8) -> Option<Row>
     is_carried(row.presence).then_some(row)
 }
 
-fn number_fits(number: i64, node: NodeId) -> bool
-    ensures { IsTrue result ↔ FitsSimple profile_two (whole number) node }
+fn has_kind(node: NodeId, wanted: Kind) -> bool
+    ensures { IsTrue result ↔ (kind_of node ≡ wanted) }
+{
+    kind(node) == wanted
+}
+
+fn flag_fits(value: bool, node: NodeId) -> bool
+    ensures { IsTrue result ↔ FitsSimple profile_two (flag value) node }
+{
+    let _ = value;
+    has_kind(node, Kind::Leaf(LeafKind::Boolean))
+}
+
+fn is_numeric(node: NodeId) -> bool
+    ensures { IsTrue result ↔ IsNumeric (kind_of node) }
 {
     matches!(
         kind(node),
-        Kind::Leaf(LeafKind::Integer) | Kind::Leaf(LeafKind::Enumerated)
+        Kind::Leaf(LeafKind::Integer | LeafKind::Enumerated)
     )
+}
+
+fn number_fits(number: i64, node: NodeId) -> bool
+    ensures { IsTrue result ↔ FitsSimple profile_two (whole number) node }
+{
+    let _ = number;
+    is_numeric(node)
 }
 
 // In the next four the call tells the proof that the octets are a content.
@@ -57,28 +78,28 @@ fn date_fits(text: &DateText, node: NodeId) -> bool
     ensures { IsTrue result ↔ FitsSimple profile_two (date text.now) node }
 {
     text.octets();
-    kind(node) == Kind::Leaf(LeafKind::Date)
+    has_kind(node, Kind::Leaf(LeafKind::Date))
 }
 
 fn time_fits(text: &TimeText, node: NodeId) -> bool
     ensures { IsTrue result ↔ FitsSimple profile_two (time text.now) node }
 {
     text.octets();
-    kind(node) == Kind::Leaf(LeafKind::Time)
+    has_kind(node, Kind::Leaf(LeafKind::Time))
 }
 
 fn printable_fits(text: &PrintableText, node: NodeId) -> bool
     ensures { IsTrue result ↔ FitsSimple profile_two (printable text.now) node }
 {
     text.octets();
-    kind(node) == Kind::Leaf(LeafKind::Printable)
+    has_kind(node, Kind::Leaf(LeafKind::Printable))
 }
 
 fn string_fits(string: &IllString, node: NodeId) -> bool
     ensures { IsTrue result ↔ FitsSimple profile_two (string_value string.now) node }
 {
     string.octets();
-    kind(node) == Kind::IllString
+    has_kind(node, Kind::IllString)
 }
 
 /// Whether a value has the shape of a node: one entry for each row of a sequence, where mandatory
@@ -89,14 +110,14 @@ pub fn fits(value: &Value, node: NodeId) -> bool
     ensures { IsTrue result ↔ Fits profile_two (content_of value.now) node }
 {
     match value {
-        Value::Flag(_) => kind(node) == Kind::Leaf(LeafKind::Boolean),
+        Value::Flag(flag) => flag_fits(*flag, node),
         Value::Whole(number) => number_fits(*number, node),
         Value::Date(text) => date_fits(text, node),
         Value::Time(text) => time_fits(text, node),
         Value::Print(text) => printable_fits(text, node),
         Value::Str(string) => string_fits(string, node),
-        Value::Seq(entries) => kind(node) == Kind::Seq && fit_rows(entries, rows_of(node)),
-        Value::List(items) => kind(node) == Kind::SeqOf && fit_items(items, rows_of(node)),
+        Value::Seq(entries) => has_kind(node, Kind::Seq) && fit_rows(entries, rows_of(node)),
+        Value::List(items) => has_kind(node, Kind::SeqOf) && fit_items(items, rows_of(node)),
         Value::Alt(number, chosen) => match alternative(node, *number) {
             Some(row) => fits(chosen, row.node),
             None => false,
