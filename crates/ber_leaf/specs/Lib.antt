@@ -1,3 +1,5 @@
 pub mod Profile
 pub mod Simple
 pub mod Leaf
+pub mod Content
+pub mod Strings

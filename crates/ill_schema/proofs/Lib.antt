@@ -8,4 +8,8 @@ pub mod MeansFits
 pub mod Wider
 pub mod Shorter
 pub mod Streams
-pub mod Rows
+pub mod WorkedRows
+pub mod Contents
+pub mod LeafFits
+pub mod RowFits
+pub mod Numbers

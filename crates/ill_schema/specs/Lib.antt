@@ -7,3 +7,7 @@ pub mod Meaning
 pub mod Normal
 pub mod Apdu
 pub mod Fits
+pub mod Names
+pub mod FitsProps
+pub mod Value
+pub mod ValueFits

@@ -1,16 +1,28 @@
 //! The tables of ILL messages, their values, what octets mean by them, and the normal form.
 #![tactic(auto)]
 
+mod equality;
 mod laws;
+mod lookup;
+mod names;
 mod node;
 mod part;
 mod refusal;
+mod shape;
+mod table;
+mod value;
 
+pub use equality::equal;
 pub use laws::{
     normal_form_is_a_spelling, normal_form_is_no_longer, normal_form_is_one_to_one,
     normal_tree_means_the_value, one_meaning, one_value, profile_two_extends_profile_one,
     tables_are_well_formed, what_is_meant_fits,
 };
+pub use lookup::{kind, row, rows};
+pub use names::{apdu_name, apdu_node, part_name};
 pub use node::{Kind, LeafKind, NodeId};
 pub use part::{Mode, PartId, Presence, Row};
 pub use refusal::{Cause, Refusal};
+pub use shape::fits;
+pub use table::rows_of;
+pub use value::Value;

@@ -1,0 +1,58 @@
+ghost use Rattle.std.specs.Prelude.{◌≡◌, nat_eq, IfOk};
+ghost use Rattle.std.specs.Cmp.Lexicographic.{pointwise, nat_list_eq_equiv};
+ghost use Rattle.std.specs.Cmp.{partial_equiv_from_equiv};
+ghost use Rattle.ber_leaf.specs.Leaf.{visible_string};
+ghost use Rattle.ber_leaf.specs.Content.{IsContent};
+
+use std::alloc::{AllocError, Global};
+use std::marker::Model;
+
+/// A VisibleString's text (X.690, 8.23): the graphic octets of ASCII and the space, `20` to `7E`.
+#[derive(Debug, Drop)]
+pub struct VisibleText {
+    octets: Vec<u8>,
+}
+
+impl Model for VisibleText {
+    ghost use Rattle.std.specs.Prelude.{List, ℕ};
+    ghost use Rattle.ber_leaf.specs.Leaf.{visible_string};
+    ghost use Rattle.ber_leaf.specs.Content.{IsContent};
+
+    ghost Value = { List ℕ };
+
+    ghost view = { λ text. text.octets.items };
+
+    ghost invariant = { λ text. IsContent visible_string text.octets.items };
+}
+
+impl VisibleText {
+    /// The octets of the text.
+    pub fn octets(&self) -> &[u8]
+        ensures value { result.now ≡ self.now }
+        ensures content { IsContent visible_string self.now }
+    {
+        &self.octets
+    }
+
+    /// The same text in new memory.
+    pub fn copy(&self, alloc: Global) -> Result<Self, AllocError>
+        ensures { IfOk result (λ text. text ≡ self.now) }
+    {
+        let octets = Vec::from_slice(alloc, &self.octets)?;
+        Ok(VisibleText { octets })
+    }
+}
+
+impl PartialEq for VisibleText {
+    ghost eq = { pointwise nat_eq };
+
+    ghost laws = { partial_equiv_from_equiv nat_list_eq_equiv };
+
+    fn eq(&self, other: &Self) -> bool {
+        self.octets() == other.octets()
+    }
+}
+
+impl Eq for VisibleText {
+    ghost laws = { nat_list_eq_equiv };
+}

@@ -1,0 +1,49 @@
+//! What the tables say of a node and of its rows.
+ghost use Rattle.std.specs.Prelude.{◌≡◌, length, slice_get};
+ghost use Rattle.ill_schema.specs.Table.{kind_of, rows_of};
+
+use crate::node::{Kind, LeafKind, NodeId};
+use crate::part::{PartId, Row};
+use crate::table::rows_of;
+
+/// The kind of a node.
+pub fn kind(node: NodeId) -> Kind
+    ensures { result ≡ kind_of node }
+{
+    match node {
+        NodeId::Boolean => Kind::Leaf(LeafKind::Boolean),
+        NodeId::Integer => Kind::Leaf(LeafKind::Integer),
+        NodeId::Enumerated => Kind::Leaf(LeafKind::Enumerated),
+        NodeId::IsoDate => Kind::Leaf(LeafKind::Date),
+        NodeId::IsoTime => Kind::Leaf(LeafKind::Time),
+        NodeId::PrintableString => Kind::Leaf(LeafKind::Printable),
+        NodeId::IllString => Kind::IllString,
+        NodeId::Symbol
+        | NodeId::Name
+        | NodeId::DeliveryService
+        | NodeId::ShippedVia
+        | NodeId::Results
+        | NodeId::IllApdu => Kind::Choice,
+        NodeId::SendToList
+        | NodeId::AlreadyTriedList
+        | NodeId::UnitsPerMediumList
+        | NodeId::IllServiceTypes
+        | NodeId::SupplyMediumInfos
+        | NodeId::Locs => Kind::SeqOf,
+        _ => Kind::Seq,
+    }
+}
+
+/// How many rows a node has.
+pub fn rows(node: NodeId) -> u8
+    ensures { result ≡ length (rows_of node) }
+{
+    rows_of(node).len() as u8
+}
+
+/// What the tables say of a part, None where the node has no such row.
+pub fn row(part: PartId) -> Option<Row>
+    ensures { result ≡ slice_get (rows_of part.node) part.row }
+{
+    rows_of(part.node).get(part.row as usize).copied()
+}
