@@ -1,7 +1,7 @@
 -- The contents of leaves: which octets hold a value, and which of them are its normal content.
 use Rattle.std.specs.Prelude.{◌≡◌, ℕ, ◌+◌, ◌-◌, ◌*◌, ◌/◌, ◌%◌, ◌^◌, suc, zero, ℤ, pos, negsuc, Bool, true, false, IsTrue, not, ◌&&◌, ◌||◌, nat_eq, nat_lt, nat_le, List, [], ◌∷◌, ◌++◌, length, codes, Option, Some, None, if◌then◌else◌}
 use Rattle.std.specs.List.{list_all, list_any}
-use Rattle.jiff_core.specs.Calendar.{days_in_month}
+use Rattle.jiff.specs.Words.{days_in_month}
 use Rattle.std.specs.Int.Digits.{number_from_digits}
 use Rattle.ber_core.specs.Octets.{are_octets}
 use Rattle.ber_leaf.specs.declared.fault.LeafFault.{LeafFault}
@@ -17,14 +17,14 @@ is_string integer = false
 is_string enumerated = false
 is_string _ = true
 
-abbrev is_printable : ℕ → Bool
+abbrev pub is_printable : ℕ → Bool
 is_printable octet = list_any (nat_eq octet) (codes "ABCDEFGHIJKLMNOPQRSTUVWXYZabcdefghijklmnopqrstuvwxyz0123456789 '()+,-./:=?")
 
-abbrev is_digit : ℕ → Bool
+abbrev pub is_digit : ℕ → Bool
 is_digit octet = nat_le 0x30 octet && nat_le octet 0x39
 
 -- the number that two digits spell
-abbrev two_digits : ℕ → ℕ → ℕ
+abbrev pub two_digits : ℕ → ℕ → ℕ
 two_digits t u = 10 * (t - 0x30) + (u - 0x30)
 
 -- YYYYMMDD: a day of the proleptic Gregorian calendar
