@@ -1,5 +1,5 @@
-ghost use Rattle.std.specs.Prelude.{◌≡◌};
-ghost use Rattle.ber_leaf.specs.Leaf.{integer, is_padded, octet_count};
+ghost use Rattle.std.specs.Prelude.{◌≡◌, ◌<◌, ◌≤◌, ◌-◌, ◌++◌, length, replicate};
+ghost use Rattle.ber_leaf.specs.Leaf.{integer, integer_of, sign_octet, is_padded, reach, octet_count};
 ghost use Rattle.ber_leaf.specs.Simple.{whole};
 
 use crate::{Leaf, LeafFault};
@@ -25,15 +25,11 @@ impl Leaf for Whole {
     }
 
     fn of(octets: Vec<u8>) -> i64 {
-        let sign = if octets[0] < 0x80 { 0x00 } else { 0xFF };
-        let mut bytes = [sign; 8];
-        bytes[8 - octets.len()..].copy_from_slice(&octets);
-        i64::from_be_bytes(bytes)
+        integer_of(&octets)
     }
 
     fn normal_size(value: &i64) -> usize {
-        let size = if *value < 0 { -1 - *value } else { *value };
-        octet_count(size as u64)
+        octet_count(reach(*value))
     }
 
     fn put_normal(value: &i64, room: &mut [u8]) {
@@ -54,6 +50,38 @@ fn is_padded(octets: &[u8]) -> bool
             0xFF => *second >= 0x80,
             _ => false,
         },
+    }
+}
+
+/// The number that the octets are in two's complement.
+fn integer_of(octets: &[u8]) -> i64
+    requires some { 0 < length octets.now }
+    requires few { length octets.now ≤ 8 }
+    ensures { result ≡ integer_of octets.now }
+{
+    i64::from_be_bytes(extended(octets))
+}
+
+/// The octets behind as many copies of their sign as make eight of them.
+fn extended(octets: &[u8]) -> [u8; 8]
+    requires some { 0 < length octets.now }
+    requires few { length octets.now ≤ 8 }
+    ensures { result ≡ replicate (8 - length octets.now) (sign_octet octets.now) ++ octets.now }
+{
+    let sign = if octets[0] < 0x80 { 0x00 } else { 0xFF };
+    let mut bytes = [sign; 8];
+    bytes[8 - octets.len()..].copy_from_slice(octets);
+    bytes
+}
+
+/// The least `n` such that the value stands from `-n - 1` to `n`.
+fn reach(value: i64) -> u64
+    ensures { result ≡ reach value }
+{
+    if value < 0 {
+        (-1 - value) as u64
+    } else {
+        value as u64
     }
 }
 

@@ -1,8 +1,8 @@
-ghost use Rattle.std.specs.Prelude.{◌≡◌, nat_eq, IfOk, length};
+ghost use Rattle.std.specs.Prelude.{◌≡◌, nat_eq, IfOk, ◌≤◌};
 ghost use Rattle.std.specs.Cmp.{partial_equiv_from_equiv};
 ghost use Rattle.std.specs.Cmp.Lexicographic.{nat_list_eq_equiv, pointwise};
 ghost use Rattle.ber_leaf.specs.Content.{IsContent};
-ghost use Rattle.ber_leaf.specs.Leaf.{iso_date, is_day, two_digits};
+ghost use Rattle.ber_leaf.specs.Leaf.{iso_date, is_day, is_civil_day};
 ghost use Rattle.ber_leaf.specs.Simple.{date};
 
 use crate::{Leaf, LeafFault};
@@ -97,6 +97,16 @@ fn is_day(octets: &[u8]) -> bool
     if !are_digits(octets) {
         return false;
     }
-    let year = 100 * i16::from(pair(y1, y2)) + i16::from(pair(y3, y4));
-    Date::new(year, pair(m1, m2) as i8, pair(d1, d2) as i8).is_ok()
+    let year = 100 * u16::from(pair(y1, y2)) + u16::from(pair(y3, y4));
+    is_civil_day(year, pair(m1, m2), pair(d1, d2))
+}
+
+/// Whether the proleptic Gregorian calendar has the day.
+fn is_civil_day(year: u16, month: u8, day: u8) -> bool
+    requires year { year ≤ 9999 }
+    requires month { month ≤ 99 }
+    requires day { day ≤ 99 }
+    ensures { result ≡ is_civil_day year month day }
+{
+    Date::new(year as i16, month as i8, day as i8).is_ok()
 }

@@ -1,8 +1,8 @@
-ghost use Rattle.std.specs.Prelude.{◌≡◌, nat_eq, IfOk, length};
+ghost use Rattle.std.specs.Prelude.{◌≡◌, nat_eq, IfOk};
 ghost use Rattle.std.specs.Cmp.{partial_equiv_from_equiv};
 ghost use Rattle.std.specs.Cmp.Lexicographic.{nat_list_eq_equiv, pointwise};
 ghost use Rattle.ber_leaf.specs.Content.{IsContent};
-ghost use Rattle.ber_leaf.specs.Leaf.{iso_time, is_time, two_digits};
+ghost use Rattle.ber_leaf.specs.Leaf.{iso_time, is_time, is_clock_time};
 ghost use Rattle.ber_leaf.specs.Simple.{time};
 
 use crate::{Leaf, LeafFault};
@@ -96,8 +96,12 @@ fn is_time(octets: &[u8]) -> bool
     if !are_digits(octets) {
         return false;
     }
-    match (pair(h1, h2), pair(m1, m2), pair(s1, s2)) {
-        (24, minute, second) => minute == 0 && second == 0,
-        (hour, minute, second) => hour < 24 && minute < 60 && second <= 60,
-    }
+    is_clock_time(pair(h1, h2), pair(m1, m2), pair(s1, s2))
+}
+
+/// Whether a day has the time; a leap second may end any minute.
+fn is_clock_time(hour: u8, minute: u8, second: u8) -> bool
+    ensures { result ≡ is_clock_time hour minute second }
+{
+    matches!((hour, minute, second), (0..=23, 0..=59, 0..=60) | (24, 0, 0))
 }
