@@ -1,12 +1,12 @@
 -- The octets of integers: the number that octets hold, and the octets that DER takes for a number.
-use Rattle.std.proofs.Common.{◌≡◌, ◌⊎◌, ◌≤◌, ◌<◌, ℕ, zero, suc, ◌+◌, ◌-◌, ◌*◌, ◌/◌, ◌%◌, ◌^◌, ℤ, pos, negsuc, Bool, true, false, ◌&&◌, ◌||◌, nat_lt, List, [], ◌∷◌, ◌++◌, length, Some, None, IsTrue, refl, sym, ap, ap₂, subst, ◌∙◌, arith, inl, inr, append_assoc, append-nil, replicate, w64, length-append, lt-ltb, le-ltb, ltb-true, ltb-false}
+use Rattle.std.proofs.Common.{◌≡◌, ◌⊎◌, ◌≤◌, ◌<◌, ℕ, zero, suc, ◌+◌, ◌-◌, ◌*◌, ◌/◌, ◌%◌, ◌^◌, ℤ, pos, negsuc, neg_ℤ, ◌≤ℤ◌, ◌↔◌, Bool, true, false, ◌&&◌, ◌||◌, nat_lt, List, [], ◌∷◌, ◌++◌, length, Some, None, IsTrue, refl, sym, ap, ap₂, subst, ◌∙◌, arith, inl, inr, append_assoc, append-nil, replicate, w64, length-append, lt-ltb, le-ltb, ltb-true, ltb-false}
 use Rattle.std.specs.Prelude.{if◌then◌else◌, nat_le, nat_eq}
 use Rattle.std.specs.List.{list_all}
 use Rattle.std.specs.Int.{from_be_bytes, cast_signed}
 use Rattle.std.specs.Int.Digits.{number_from_digits, number_from_digits_after, AllBelowBase}
 use Rattle.std.proofs.Math.Nat.{pow-succ', pow-le-pow_right, mul-le-mul_left}
 use Rattle.std.proofs.lemmas.Bool.{cases_lt}
-use Rattle.std.proofs.lemmas.Int.{to_z_pos}
+use Rattle.std.proofs.lemmas.Int.{ints, to_z_pos}
 use Rattle.std.proofs.lemmas.Int.Digits.{number_lt, number_push}
 use Rattle.std.proofs.lemmas.List.{length-replicate}
 use Rattle.std.proofs.lemmas.List.Folds.{list_all-append}
@@ -318,3 +318,29 @@ extended_value (a ∷ r) h lt le =
       | inl l ↦ ap spread l ∙ low_value a r h le (ltb-true _ _ l) ∙ sym (ap (λ (b : Bool). if b then pos n else negsuc m) l)
       | inr l ↦ ap spread l ∙ high_value a r h le (ltb-false _ _ l) ∙ sym (ap (λ (b : Bool). if b then pos n else negsuc m) l)
     ]
+
+-- the number that octets hold is within the bounds
+whole_within : (p : Profile) (o : List ℕ) → IsTrue (are_octets o) → content_fault p integer o ≡ None → reach (integer_of o) < 9_223_372_036_854_775_808
+whole_within p [] h e = absurd cc
+whole_within p (a ∷ r) h e =
+    let size = integer_size p (a ∷ r) e in
+    let n = number_from_digits 256 (a ∷ r) in
+    let m = 256 ^ suc (length r) - 1 - n in
+    let weight = pow-le-pow_right {n = 256} (omega arith) {i = length r} {j = 7} (omega (arith, size.1)) in
+    elim (two_cases (nat_lt a 128)) [
+      | inl l ↦ subst (λ (b : Bool). reach (if b then pos n else negsuc m) < 9_223_372_036_854_775_808) (sym l) (omega (arith, weight, low_half a r h (ltb-true _ _ l)))
+      | inr l ↦ subst (λ (b : Bool). reach (if b then pos n else negsuc m) < 9_223_372_036_854_775_808) (sym l) (omega (arith, weight, pow-succ' 256 (length r), high_half a r (ltb-false _ _ l)))
+    ]
+
+reach_bounds : (z : ℤ) → reach z < 9_223_372_036_854_775_808 ↔ ((neg_ℤ (pos 9_223_372_036_854_775_808) ≤ℤ z) × (z ≤ℤ pos 9_223_372_036_854_775_807))
+reach_bounds (pos n) = (λ h. (omega (arith, ints), omega (arith, ints)), λ h. let top = h.1 in omega (arith, ints))
+reach_bounds (negsuc n) = (λ h. (omega (arith, ints), omega (arith, ints)), λ h. let low = h.0 in omega (arith, ints))
+
+-- some octets hold a whole number exactly within the bounds
+pub whole_bounds : (p : Profile) (z : ℤ) → ((o : List ℕ) × Holds p integer (whole z) o) ↔ ((neg_ℤ (pos 9_223_372_036_854_775_808) ≤ℤ z) × (z ≤ℤ pos 9_223_372_036_854_775_807))
+whole_bounds p z = (
+  λ h.
+    let same : z ≡ integer_of h.0 = let e : whole z ≡ whole (integer_of h.0) = h.1.2 in cc in
+    (reach_bounds z).0 (subst (λ (x : ℤ). reach x < 9_223_372_036_854_775_808) (sym same) (whole_within p h.0 h.1.0 h.1.1)),
+  λ h. (normal_content (whole z), whole_held p z ((reach_bounds z).1 h)),
+)

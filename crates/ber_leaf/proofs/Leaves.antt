@@ -1,5 +1,5 @@
 -- Which octets are contents, and what every kind of leaf has in common.
-use Rattle.std.proofs.Common.{◌≡◌, ◌↔◌, ℕ, suc, ◌<◌, ◌≤◌, Bool, true, false, nat_lt, List, [], ◌∷◌, length, get_or, Option, Some, None, IsTrue, IsNone, refl, sym, ◌∙◌, ap, subst, arith}
+use Rattle.std.proofs.Common.{◌≡◌, ◌↔◌, ℕ, suc, ◌<◌, ◌≤◌, Bool, true, false, not, nat_eq, nat_lt, List, [], ◌∷◌, length, get_or, Option, Some, None, IsTrue, IsNone, refl, sym, ◌∙◌, ap, subst, arith}
 use Rattle.std.specs.Prelude.{if◌then◌else◌}
 use Rattle.std.specs.List.{list_all}
 use Rattle.ber_core.specs.Octets.{are_octets}
@@ -61,3 +61,49 @@ normal_value p iso_time o h e = (h, e, refl)
 -- the normal content of a value that some octets hold holds it
 pub normal_holds : (p : Profile) (l : Leaf) (v : Simple) (o : List ℕ) → Holds p l v o → Holds p l v (normal_content v)
 normal_holds p l v o h = subst (λ w. Holds p l w (normal_content w)) (sym h.2) (normal_value p l o h.0 h.1)
+
+-- no content of a value is shorter than its normal content
+value_least : (p : Profile) (l : Leaf) (o : List ℕ) → IsTrue (are_octets o) → content_fault p l o ≡ None → length (normal_content (value l o)) ≤ length o
+value_least p boolean o h e = flag_least (not (list_all (nat_eq 0) o)) o e
+  where
+    flag_least : (b : Bool) (o : List ℕ) → content_fault p boolean o ≡ None → length (normal_content (flag b)) ≤ length o
+    flag_least b [] e = absurd cc
+    flag_least true (a ∷ o) e = omega arith
+    flag_least false (a ∷ o) e = omega arith
+value_least p integer o h e = omega (arith, ap length (integer_same o h p e))
+value_least p enumerated o h e = omega (arith, ap length (integer_same o h p e))
+value_least p general_string o h e = omega arith
+value_least p visible_string o h e = omega arith
+value_least p printable_string o h e = omega arith
+value_least p iso_date o h e = omega arith
+value_least p iso_time o h e = omega arith
+
+pub content_least : (p : Profile) (l : Leaf) (v : Simple) (o : List ℕ) → Holds p l v o → length (normal_content v) ≤ length o
+content_least p l v o h = subst (λ w. length (normal_content w) ≤ length o) (sym h.2) (value_least p l o h.0 h.1)
+
+-- values of one kind with the same normal content are the same
+pub normal_apart : (p : Profile) (l : Leaf) (v w : Simple) (a b : List ℕ) → Holds p l v a → Holds p l w b → normal_content v ≡ normal_content w → v ≡ w
+normal_apart p l v w a b h k e = held_same p l v w (normal_content w) (subst (λ o. Holds p l v o) e (normal_holds p l v a h)) (normal_holds p l w b k)
+
+-- what octets hold in the narrow profile they hold in the wide one
+wider_octet : (n : ℕ) → is_graphic n ≡ true → is_no_shift n ≡ true
+wider_octet n h = grind arith
+
+wider_octets : (os : List ℕ) → list_all is_graphic os ≡ true → list_all is_no_shift os ≡ true
+wider_octets [] h = refl
+wider_octets (o ∷ os) h = let p = and_parts (is_graphic o) (list_all is_graphic os) h in rw (wider_octet o p.0) (wider_octets os p.1)
+
+tested : (b : Bool) (f : LeafFault) → (if b then None else Some f) ≡ None → b ≡ true
+tested true f e = refl
+tested false f e = absurd cc
+
+pub wider_content : (limit : ℕ) (l : Leaf) (os : List ℕ) → content_fault (profile_one limit) l os ≡ None → content_fault profile_two l os ≡ None
+wider_content limit general_string os e =
+    ap (λ (b : Bool). if b then None else Some LeafFault.BadText) (wider_octets os (tested (list_all is_graphic os) LeafFault.BadText e))
+wider_content limit boolean os e = e
+wider_content limit integer os e = e
+wider_content limit enumerated os e = e
+wider_content limit visible_string os e = e
+wider_content limit printable_string os e = e
+wider_content limit iso_date os e = e
+wider_content limit iso_time os e = e

@@ -5,6 +5,7 @@ mod boolean;
 mod contents;
 mod fault;
 mod integer;
+mod laws;
 mod segments;
 mod text;
 
@@ -12,5 +13,10 @@ pub use boolean::Flag;
 pub use contents::Leaf;
 pub use fault::LeafFault;
 pub use integer::Whole;
+pub use laws::{
+    enumerated_is_held_as_integer, normal_content_holds_its_value, normal_content_is_least,
+    normal_contents_tell_values_apart, octets_hold_one_out, octets_hold_one_value,
+    profile_two_holds_what_one_does, whole_numbers_have_bounds,
+};
 pub use segments::Segments;
 pub use text::{DateText, GeneralText, IllString, PrintableText, TimeText, VisibleText};
