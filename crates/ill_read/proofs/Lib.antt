@@ -13,3 +13,4 @@ pub mod Beginnings
 pub mod Feeding
 pub mod Places
 pub mod Heads
+pub mod Starts

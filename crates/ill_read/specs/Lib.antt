@@ -4,3 +4,5 @@ pub mod Place
 pub mod Reading
 pub mod Fault
 pub mod Outcome
+pub mod LeafTypes
+pub mod Code
