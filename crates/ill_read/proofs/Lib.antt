@@ -14,3 +14,5 @@ pub mod Feeding
 pub mod Places
 pub mod Heads
 pub mod Starts
+pub mod Components
+pub mod Begins

@@ -1,5 +1,5 @@
 -- The first element with a tag.
-use Rattle.std.proofs.Common.{◌≡◌, Bool, true, false, List, [], ◌∷◌, Option, Some, None, option_map, refl, sym, ap, ◌∙◌}
+use Rattle.std.proofs.Common.{◌≡◌, Bool, true, false, List, [], ◌∷◌, ◌++◌, Option, Some, None, option_map, refl, sym, ap, ◌∙◌}
 use Rattle.std.specs.Prelude.{if◌then◌else◌, find}
 use Rattle.ber_core.specs.Identifier.{Tag}
 use Rattle.ill_schema.specs.declared.part.PartId.{PartId}
@@ -45,3 +45,22 @@ element_with-leave_out t part (s ∷ ss) =
     same : (b : Bool) (o : Option Element) → or_else b (left_out part) (option_map (λ _. left_out part) o) ≡ option_map (λ _. left_out part) (or_else b s.element o)
     same true o = refl
     same false o = refl
+
+pub element_with-append : (t : Tag) (xs ys : List Start) → element_with t (xs ++ ys) ≡ elim (element_with t xs) as (λ _. Option Element) [ Some e ↦ Some e | None ↦ element_with t ys ]
+element_with-append t [] ys = refl
+element_with-append t (x ∷ xs) ys =
+    element_with-more t x (xs ++ ys)
+    ∙ ap (or_else (same_tag x.tag t) x.element) (element_with-append t xs ys)
+    ∙ same (same_tag x.tag t) (element_with t xs)
+    ∙ ap (λ o. elim o as (λ _. Option Element) [ Some e ↦ Some e | None ↦ element_with t ys ]) (sym (element_with-more t x xs))
+  where
+    same : (b : Bool) (o : Option Element) → or_else b x.element (elim o as (λ _. Option Element) [ Some e ↦ Some e | None ↦ element_with t ys ])
+        ≡ elim (or_else b x.element o) as (λ _. Option Element) [ Some e ↦ Some e | None ↦ element_with t ys ]
+    same true o = refl
+    same false o = refl
+
+pub element_with-front : (t : Tag) (xs ys : List Start) (e : Element) → element_with t xs ≡ Some e → element_with t (xs ++ ys) ≡ Some e
+element_with-front t xs ys e h = element_with-append t xs ys ∙ ap (λ o. elim o as (λ _. Option Element) [ Some x ↦ Some x | None ↦ element_with t ys ]) h
+
+pub element_with-back : (t : Tag) (xs ys : List Start) → element_with t xs ≡ None → element_with t (xs ++ ys) ≡ element_with t ys
+element_with-back t xs ys h = element_with-append t xs ys ∙ ap (λ o. elim o as (λ _. Option Element) [ Some x ↦ Some x | None ↦ element_with t ys ]) h

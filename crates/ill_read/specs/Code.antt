@@ -1,13 +1,14 @@
 -- What the decoder's types stand for.
-use Rattle.std.specs.Prelude.{◌≡◌, ℕ, ◌+◌, List, [], ◌∷◌, drop, find, Option, Some, None, option_map}
+use Rattle.std.specs.Prelude.{◌≡◌, ℕ, ◌+◌, List, [], ◌∷◌, drop, find, flat_map, Option, Some, None, option_map}
 use Rattle.ber_core.specs.declared.id.Class.{Class}
 use Rattle.ber_core.specs.Identifier.{Tag}
 use Rattle.ber_leaf.specs.Profile.{profile_two}
+use Rattle.ill_schema.specs.declared.node.NodeId.{NodeId}
 use Rattle.ill_schema.specs.declared.part.PartId.{PartId}
 use Rattle.ill_schema.specs.declared.part.Presence.{Presence}
 use Rattle.ill_schema.specs.declared.part.Row.{Row}
 use Rattle.ill_schema.specs.Tagging.{Tagging, untagged, implicit, explicit, explicit_or_bare, tagging, same_tag}
-use Rattle.ill_read.specs.Element.{Component, Element, leaf, sequence, list, wrapper, loose_wrapper, segment, left_out, Start}
+use Rattle.ill_read.specs.Element.{Component, Element, leaf, sequence, list, wrapper, loose_wrapper, segment, left_out, Start, components, component_starts}
 use Rattle.ill_read.specs.LeafTypes.{leaf_is}
 use Rattle.ill_read.specs.declared.element.Element.{Element as CodeElement}
 use Rattle.ill_read.specs.declared.element.Element.TheVariants as code
@@ -49,3 +50,7 @@ element_with tag ss = option_map (λ s. s.element) (find (λ s. same_tag s.tag t
 abbrev pub first_element : List Start → Option Element
 first_element [] = None
 first_element (s ∷ ss) = Some s.element
+
+-- the elements by which a choice without a tag of its own begins
+abbrev pub alternative_starts : NodeId → List Start
+alternative_starts node = flat_map component_starts (components profile_two node)

@@ -6,3 +6,4 @@ pub mod Fault
 pub mod Outcome
 pub mod LeafTypes
 pub mod Code
+pub mod DueCode

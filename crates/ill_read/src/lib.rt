@@ -1,6 +1,7 @@
 //! Reads ILL messages: the decoder, and the exact refusal of every other input.
 #![tactic(auto)]
 
+mod due;
 mod element;
 mod laws;
 mod leaf_type;

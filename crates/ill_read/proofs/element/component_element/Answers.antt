@@ -1,10 +1,10 @@
-use Rattle.std.proofs.Common.{◌≡◌, sym, ap, ◌∙◌, Some, List, option_map}
+use Rattle.std.proofs.Common.{◌≡◌, sym, ap, ◌∙◌, Some, Option, List, option_map}
 use Rattle.ber_core.specs.Id.{tag_of_id}
 use Rattle.ber_leaf.specs.Profile.{profile_two}
 use Rattle.ill_schema.specs.declared.part.Presence.{Presence}
 use Rattle.ill_schema.specs.Tagging.{tagging}
 use Rattle.ill_read.specs.Code.{element_is, element_with, component_at}
-use Rattle.ill_read.specs.Element.{Start, left_out, leave_out, tagged_starts, component_starts}
+use Rattle.ill_read.specs.Element.{Element, Start, left_out, leave_out, tagged_starts}
 use Rattle.ill_read.proofs.Starts.{element_with-leave_out}
 use Rattle.ill_read.proofs.element.component_element.Goals as goal
 
@@ -14,7 +14,6 @@ returns-in-LeftOut c =
     let t = tag_of_id c.args.id in
     let part = c.args.part in
     let starts = tagged_starts (tagging profile_two c.args.row) (component_at part c.args.row) in
-    let found : Some (element_is c.in_ok-element.element) ≡ element_with t starts = c.in_ok-element.ensures tt in
-    ap (option_map (λ _. left_out part)) found
-    ∙ sym (element_with-leave_out t part starts)
-    ∙ ap (λ (x : Presence). element_with t (elim x as (λ _. List Start) [ Presence.LeftOut ↦ leave_out part starts | _ ↦ starts ])) (sym c.in-LeftOut.is)
+    let found : Some (element_is c.in_ok-element.element) ≡ element_with t starts = c.in_ok-element.ensures in
+    let at : Presence → Option Element = λ x. element_with t (elim x as (λ _. List Start) [ Presence.LeftOut ↦ leave_out part starts | _ ↦ starts ]) in
+    ap (option_map (λ _. left_out part)) found ∙ sym (element_with-leave_out t part starts) ∙ ap at (sym c.in-LeftOut.is)
