@@ -15,4 +15,4 @@ pub mod Places
 pub mod Heads
 pub mod Starts
 pub mod Components
-pub mod Begins
+pub mod DueRows

@@ -1,14 +1,15 @@
 //! What is due in an open element.
-ghost use Rattle.std.specs.Prelude.{◌≡◌, ◌≤◌, length, drop, slice_get, MatchOption, None, Some};
+ghost use Rattle.std.specs.Prelude.{◌≡◌, ◌≤◌, length, drop, slice_get, MatchOption, IsTrue, ◌↔◌, None, Some};
 ghost use Rattle.ber_core.specs.Id.{tag_of_id};
 ghost use Rattle.ber_leaf.specs.Profile.{profile_two};
 ghost use Rattle.ill_schema.specs.declared.node.Kind.{Kind};
+ghost use Rattle.ill_schema.specs.declared.part.Presence.{Presence};
 ghost use Rattle.ill_schema.specs.Table.{kind_of, rows_of};
 ghost use Rattle.ill_schema.specs.Tagging.{tagging, untagged};
 ghost use Rattle.ill_read.specs.Element.{components, component_starts, starts};
 ghost use Rattle.ill_read.specs.Next.{due, due_in};
 ghost use Rattle.ill_read.specs.Code.{element_with, component_at, component_of, alternative_starts, found_is};
-ghost use Rattle.ill_read.specs.DueCode.{IsAlternativeOf, IsBegun};
+ghost use Rattle.ill_read.specs.DueCode.{IsAlternativeOf, IsBegun, IsDueIn, IsDueInRows, IsInnerDue, IsItemDue, IsSegmentDue, next_is};
 
 use crate::element::{
     Element, Found, Tagging, Wrapped, component_element, is_universal, own_element, tagging_of,
@@ -132,5 +133,104 @@ fn untagged_start(part: PartId, row: Row, id: Id) -> Option<Begun>
     match kind(row.node) {
         Kind::Choice => alternative(row.node, id),
         _ => own_start(part, row, id),
+    }
+}
+
+/// Whether the row's entry has to be there.
+fn is_mandatory(row: Row) -> bool
+    ensures { IsTrue result ↔ (row.presence ≡ Presence.Must) }
+{
+    matches!(&row.presence, Presence::Must)
+}
+
+/// What is due in a sequence from a row on: a row is if each row before it may be absent.
+fn due_row(node: NodeId, position: u8, id: Id) -> Option<Due>
+    ensures { MatchOption result (due_in profile_two (tag_of_id id) (drop position (components profile_two node)) ≡ None)
+        (λ due. IsDueInRows (tag_of_id id) node position due) }
+{
+    let rows = rows_of(node);
+    for number in position..rows.len() as u8 {
+        let Some(row) = row_in(rows, number) else {
+            return None;
+        };
+        if let Some(begun) = row_start(PartId { node, row: number }, row, id) {
+            return Some(Due {
+                slot: Slot::Row(number),
+                alternative: begun.alternative,
+                found: begun.found,
+            });
+        }
+        if is_mandatory(row) {
+            return None;
+        }
+    }
+    None
+}
+
+/// What is due in a wrapper without elements.
+fn due_inner(wrapped: Wrapped, id: Id) -> Option<Due>
+    ensures { MatchOption result (due profile_two (tag_of_id id) (next_is (Next.Inner wrapped)) ≡ None) (λ due. IsInnerDue (tag_of_id id) wrapped due) }
+{
+    let begun = inner_start(wrapped, id)?;
+    Some(Due {
+        slot: Slot::Inner,
+        alternative: begun.alternative,
+        found: begun.found,
+    })
+}
+
+/// What is due in a list.
+fn due_item(node: NodeId, id: Id) -> Option<Due>
+    ensures { MatchOption result (due profile_two (tag_of_id id) (next_is (Next.Items node)) ≡ None) (λ due. IsItemDue (tag_of_id id) node due) }
+{
+    let row = row_in(rows_of(node), 0)?;
+    match row_start(PartId { node, row: 0 }, row, id) {
+        Some(begun) => Some(Due {
+            slot: Slot::Item,
+            alternative: begun.alternative,
+            found: begun.found,
+        }),
+        None => None,
+    }
+}
+
+/// What is due in a string or a segment (X.690, 8.23.6).
+fn due_segment(id: Id) -> Option<Due>
+    ensures { MatchOption result (due profile_two (tag_of_id id) (next_is Next.Segments) ≡ None) (λ due. IsSegmentDue (tag_of_id id) due) }
+{
+    if !is_universal(id, 4) {
+        return None;
+    }
+    Some(Due {
+        slot: Slot::Segment,
+        alternative: None,
+        found: Found::Element(Element::Segment),
+    })
+}
+
+/// What is due in a loose wrapper without elements: what it wraps, or the first rows of that.
+fn due_loose(wrapped: Wrapped, id: Id) -> Option<Due>
+    ensures { MatchOption result (due profile_two (tag_of_id id) (next_is (Next.Either wrapped)) ≡ None) (λ due. IsDueIn (tag_of_id id) (Next.Either wrapped) due) }
+{
+    if is_universal(id, 16) {
+        due_inner(wrapped, id)
+    } else {
+        due_row(wrapped.node, 0, id)
+    }
+}
+
+impl Next {
+    /// What is due with the identifier's tag, None where nothing is.
+    pub fn find(self, id: Id) -> Option<Due>
+        ensures { MatchOption result (due profile_two (tag_of_id id) (next_is self) ≡ None) (λ due. IsDueIn (tag_of_id id) self due) }
+    {
+        match self {
+            Next::Rows(node, position) => due_row(node, position, id),
+            Next::Inner(wrapped) => due_inner(wrapped, id),
+            Next::Items(node) => due_item(node, id),
+            Next::Either(wrapped) => due_loose(wrapped, id),
+            Next::Segments => due_segment(id),
+            Next::Nothing => None,
+        }
     }
 }
