@@ -1,14 +1,24 @@
--- The octets of integers.
-use Rattle.std.proofs.Common.{◌≡◌, ◌⊎◌, ◌≤◌, ◌<◌, ℕ, suc, ◌+◌, ◌-◌, ◌*◌, ◌/◌, ◌%◌, ◌^◌, pos, negsuc, Bool, true, false, ◌&&◌, ◌||◌, nat_lt, List, [], ◌∷◌, ◌++◌, length, Some, None, IsTrue, refl, sym, ap, ap₂, ◌∙◌, arith, inl, inr, append_assoc, append-nil, lt-ltb, le-ltb, ltb-true, ltb-false}
+-- The octets of integers: the number that octets hold, and the octets that DER takes for a number.
+use Rattle.std.proofs.Common.{◌≡◌, ◌⊎◌, ◌≤◌, ◌<◌, ℕ, zero, suc, ◌+◌, ◌-◌, ◌*◌, ◌/◌, ◌%◌, ◌^◌, ℤ, pos, negsuc, neg_ℤ, ◌≤ℤ◌, ◌↔◌, Bool, true, false, ◌&&◌, ◌||◌, nat_lt, List, [], ◌∷◌, ◌++◌, length, Some, None, IsTrue, refl, sym, ap, ap₂, subst, ◌∙◌, arith, inl, inr, append_assoc, append-nil, replicate, w64, length-append, lt-ltb, le-ltb, ltb-true, ltb-false}
 use Rattle.std.specs.Prelude.{if◌then◌else◌, nat_le, nat_eq}
+use Rattle.std.specs.List.{list_all}
+use Rattle.std.specs.Int.{from_be_bytes, cast_signed}
 use Rattle.std.specs.Int.Digits.{number_from_digits, number_from_digits_after, AllBelowBase}
-use Rattle.std.proofs.lemmas.Int.Digits.{number_lt}
+use Rattle.std.proofs.Math.Nat.{pow-succ', pow-le-pow_right, mul-le-mul_left}
+use Rattle.std.proofs.lemmas.Bool.{cases_lt}
+use Rattle.std.proofs.lemmas.Int.{ints, to_z_pos}
+use Rattle.std.proofs.lemmas.Int.Digits.{number_lt, number_push}
+use Rattle.std.proofs.lemmas.List.{length-replicate}
+use Rattle.std.proofs.lemmas.List.Folds.{list_all-append}
 use Rattle.ber_leaf.specs.declared.fault.LeafFault.{LeafFault}
 use Rattle.ber_leaf.specs.Simple.{whole}
-use Rattle.ber_leaf.specs.Leaf.{integer, normal_content, integer_of, content_fault, big_endian, octet_count, is_padded}
 use Rattle.ber_core.specs.Octets.{are_octets}
+use Rattle.ber_leaf.specs.Leaf.{integer, normal_content, Holds, integer_of, content_fault, big_endian, octet_count, reach, is_padded, sign_octet}
 use Rattle.ber_leaf.specs.Profile.{Profile}
-use Rattle.std.proofs.lemmas.Bool.{and_parts}
+
+pub and_parts : (a b : Bool) → IsTrue (a && b) → IsTrue a × IsTrue b
+and_parts true b h = (refl, h)
+and_parts false b h = absurd (cc)
 
 small : (a : ℕ) (r : List ℕ) → IsTrue (are_octets (a ∷ r)) → (a < 256) × IsTrue (are_octets r)
 small a r h = let p = and_parts _ _ h in (ltb-true _ _ p.0, p.1)
@@ -76,57 +86,93 @@ count_7 n h k = rw (le-ltb n 128 (omega (arith, h))) (rw (le-ltb n 32768 (omega 
 count_8 : (n : ℕ) → 36028797018963968 ≤ n → octet_count n ≡ 8
 count_8 n h = rw (le-ltb n 128 (omega (arith, h))) (rw (le-ltb n 32768 (omega (arith, h))) (rw (le-ltb n 8388608 (omega (arith, h))) (rw (le-ltb n 2147483648 (omega (arith, h))) (rw (le-ltb n 549755813888 (omega (arith, h))) (rw (le-ltb n 140737488355328 (omega (arith, h))) (rw (le-ltb n 36028797018963968 (omega (arith, h))) refl))))))
 
-counts : (a : ℕ) (r : List ℕ) → IsTrue (are_octets (a ∷ r)) → a < 128 → is_padded (a ∷ r) ≡ false → length (a ∷ r) ≤ 8 → octet_count (number_from_digits 256 (a ∷ r)) ≡ length (a ∷ r)
-counts a [] h lt u le = count_1 (number_from_digits 256 (a ∷ [])) (omega (arith, lt))
-counts a (b ∷ []) h lt u le =
-    let s0 = small a (b ∷ []) h in let s1 = small b ([]) s0.1 in
-    let w = low_part a b ((or_false _ _ u).0) in count_2 (number_from_digits 256 (a ∷ b ∷ [])) (omega (arith, lt, w, s0.0, s1.0)) (omega (arith, lt, w, s0.0, s1.0))
-counts a (b ∷ c ∷ []) h lt u le =
-    let s0 = small a (b ∷ c ∷ []) h in let s1 = small b (c ∷ []) s0.1 in let s2 = small c ([]) s1.1 in
-    let w = low_part a b ((or_false _ _ u).0) in count_3 (number_from_digits 256 (a ∷ b ∷ c ∷ [])) (omega (arith, lt, w, s0.0, s1.0, s2.0)) (omega (arith, lt, w, s0.0, s1.0, s2.0))
-counts a (b ∷ c ∷ d ∷ []) h lt u le =
-    let s0 = small a (b ∷ c ∷ d ∷ []) h in let s1 = small b (c ∷ d ∷ []) s0.1 in let s2 = small c (d ∷ []) s1.1 in let s3 = small d ([]) s2.1 in
-    let w = low_part a b ((or_false _ _ u).0) in count_4 (number_from_digits 256 (a ∷ b ∷ c ∷ d ∷ [])) (omega (arith, lt, w, s0.0, s1.0, s2.0, s3.0)) (omega (arith, lt, w, s0.0, s1.0, s2.0, s3.0))
-counts a (b ∷ c ∷ d ∷ e ∷ []) h lt u le =
-    let s0 = small a (b ∷ c ∷ d ∷ e ∷ []) h in let s1 = small b (c ∷ d ∷ e ∷ []) s0.1 in let s2 = small c (d ∷ e ∷ []) s1.1 in let s3 = small d (e ∷ []) s2.1 in let s4 = small e ([]) s3.1 in
-    let w = low_part a b ((or_false _ _ u).0) in count_5 (number_from_digits 256 (a ∷ b ∷ c ∷ d ∷ e ∷ [])) (omega (arith, lt, w, s0.0, s1.0, s2.0, s3.0, s4.0)) (omega (arith, lt, w, s0.0, s1.0, s2.0, s3.0, s4.0))
-counts a (b ∷ c ∷ d ∷ e ∷ f ∷ []) h lt u le =
-    let s0 = small a (b ∷ c ∷ d ∷ e ∷ f ∷ []) h in let s1 = small b (c ∷ d ∷ e ∷ f ∷ []) s0.1 in let s2 = small c (d ∷ e ∷ f ∷ []) s1.1 in let s3 = small d (e ∷ f ∷ []) s2.1 in let s4 = small e (f ∷ []) s3.1 in let s5 = small f ([]) s4.1 in
-    let w = low_part a b ((or_false _ _ u).0) in count_6 (number_from_digits 256 (a ∷ b ∷ c ∷ d ∷ e ∷ f ∷ [])) (omega (arith, lt, w, s0.0, s1.0, s2.0, s3.0, s4.0, s5.0)) (omega (arith, lt, w, s0.0, s1.0, s2.0, s3.0, s4.0, s5.0))
-counts a (b ∷ c ∷ d ∷ e ∷ f ∷ g ∷ []) h lt u le =
-    let s0 = small a (b ∷ c ∷ d ∷ e ∷ f ∷ g ∷ []) h in let s1 = small b (c ∷ d ∷ e ∷ f ∷ g ∷ []) s0.1 in let s2 = small c (d ∷ e ∷ f ∷ g ∷ []) s1.1 in let s3 = small d (e ∷ f ∷ g ∷ []) s2.1 in let s4 = small e (f ∷ g ∷ []) s3.1 in let s5 = small f (g ∷ []) s4.1 in let s6 = small g ([]) s5.1 in
-    let w = low_part a b ((or_false _ _ u).0) in count_7 (number_from_digits 256 (a ∷ b ∷ c ∷ d ∷ e ∷ f ∷ g ∷ [])) (omega (arith, lt, w, s0.0, s1.0, s2.0, s3.0, s4.0, s5.0, s6.0)) (omega (arith, lt, w, s0.0, s1.0, s2.0, s3.0, s4.0, s5.0, s6.0))
-counts a (b ∷ c ∷ d ∷ e ∷ f ∷ g ∷ z ∷ []) h lt u le =
-    let s0 = small a (b ∷ c ∷ d ∷ e ∷ f ∷ g ∷ z ∷ []) h in let s1 = small b (c ∷ d ∷ e ∷ f ∷ g ∷ z ∷ []) s0.1 in let s2 = small c (d ∷ e ∷ f ∷ g ∷ z ∷ []) s1.1 in let s3 = small d (e ∷ f ∷ g ∷ z ∷ []) s2.1 in let s4 = small e (f ∷ g ∷ z ∷ []) s3.1 in let s5 = small f (g ∷ z ∷ []) s4.1 in let s6 = small g (z ∷ []) s5.1 in let s7 = small z ([]) s6.1 in
-    let w = low_part a b ((or_false _ _ u).0) in count_8 (number_from_digits 256 (a ∷ b ∷ c ∷ d ∷ e ∷ f ∷ g ∷ z ∷ [])) (omega (arith, lt, w, s0.0, s1.0, s2.0, s3.0, s4.0, s5.0, s6.0, s7.0))
-counts a (b ∷ c ∷ d ∷ e ∷ f ∷ g ∷ z ∷ i ∷ r) x lt y le = absurd (omega (arith, le))
+-- n takes more than j octets of two's complement, or j is 0
+abbrev Needs : ℕ → ℕ → Type 0
+Needs zero n = Unit {0}
+Needs (suc i) n = 128 * 256 ^ i ≤ n
 
-counts_below : (a : ℕ) (r : List ℕ) → IsTrue (are_octets (a ∷ r)) → 128 ≤ a → is_padded (a ∷ r) ≡ false → length (a ∷ r) ≤ 8
-    → octet_count (256 ^ suc (length r) - 1 - number_from_digits 256 (a ∷ r)) ≡ length (a ∷ r)
-counts_below a [] h ge u le = let s0 = small a ([]) h in count_1 (256 ^ 1 - 1 - number_from_digits 256 (a ∷ [])) (omega (arith, ge, s0.0))
-counts_below a (b ∷ []) h ge u le =
-    let s0 = small a (b ∷ []) h in let s1 = small b ([]) s0.1 in
-    let w = high_part a b s0.0 s1.0 ((or_false _ _ u).1) in count_2 (256 ^ 2 - 1 - number_from_digits 256 (a ∷ b ∷ [])) (omega (arith, ge, w, s0.0, s1.0)) (omega (arith, ge, w, s0.0, s1.0))
-counts_below a (b ∷ c ∷ []) h ge u le =
-    let s0 = small a (b ∷ c ∷ []) h in let s1 = small b (c ∷ []) s0.1 in let s2 = small c ([]) s1.1 in
-    let w = high_part a b s0.0 s1.0 ((or_false _ _ u).1) in count_3 (256 ^ 3 - 1 - number_from_digits 256 (a ∷ b ∷ c ∷ [])) (omega (arith, ge, w, s0.0, s1.0, s2.0)) (omega (arith, ge, w, s0.0, s1.0, s2.0))
-counts_below a (b ∷ c ∷ d ∷ []) h ge u le =
-    let s0 = small a (b ∷ c ∷ d ∷ []) h in let s1 = small b (c ∷ d ∷ []) s0.1 in let s2 = small c (d ∷ []) s1.1 in let s3 = small d ([]) s2.1 in
-    let w = high_part a b s0.0 s1.0 ((or_false _ _ u).1) in count_4 (256 ^ 4 - 1 - number_from_digits 256 (a ∷ b ∷ c ∷ d ∷ [])) (omega (arith, ge, w, s0.0, s1.0, s2.0, s3.0)) (omega (arith, ge, w, s0.0, s1.0, s2.0, s3.0))
-counts_below a (b ∷ c ∷ d ∷ e ∷ []) h ge u le =
-    let s0 = small a (b ∷ c ∷ d ∷ e ∷ []) h in let s1 = small b (c ∷ d ∷ e ∷ []) s0.1 in let s2 = small c (d ∷ e ∷ []) s1.1 in let s3 = small d (e ∷ []) s2.1 in let s4 = small e ([]) s3.1 in
-    let w = high_part a b s0.0 s1.0 ((or_false _ _ u).1) in count_5 (256 ^ 5 - 1 - number_from_digits 256 (a ∷ b ∷ c ∷ d ∷ e ∷ [])) (omega (arith, ge, w, s0.0, s1.0, s2.0, s3.0, s4.0)) (omega (arith, ge, w, s0.0, s1.0, s2.0, s3.0, s4.0))
-counts_below a (b ∷ c ∷ d ∷ e ∷ f ∷ []) h ge u le =
-    let s0 = small a (b ∷ c ∷ d ∷ e ∷ f ∷ []) h in let s1 = small b (c ∷ d ∷ e ∷ f ∷ []) s0.1 in let s2 = small c (d ∷ e ∷ f ∷ []) s1.1 in let s3 = small d (e ∷ f ∷ []) s2.1 in let s4 = small e (f ∷ []) s3.1 in let s5 = small f ([]) s4.1 in
-    let w = high_part a b s0.0 s1.0 ((or_false _ _ u).1) in count_6 (256 ^ 6 - 1 - number_from_digits 256 (a ∷ b ∷ c ∷ d ∷ e ∷ f ∷ [])) (omega (arith, ge, w, s0.0, s1.0, s2.0, s3.0, s4.0, s5.0)) (omega (arith, ge, w, s0.0, s1.0, s2.0, s3.0, s4.0, s5.0))
-counts_below a (b ∷ c ∷ d ∷ e ∷ f ∷ g ∷ []) h ge u le =
-    let s0 = small a (b ∷ c ∷ d ∷ e ∷ f ∷ g ∷ []) h in let s1 = small b (c ∷ d ∷ e ∷ f ∷ g ∷ []) s0.1 in let s2 = small c (d ∷ e ∷ f ∷ g ∷ []) s1.1 in let s3 = small d (e ∷ f ∷ g ∷ []) s2.1 in let s4 = small e (f ∷ g ∷ []) s3.1 in let s5 = small f (g ∷ []) s4.1 in let s6 = small g ([]) s5.1 in
-    let w = high_part a b s0.0 s1.0 ((or_false _ _ u).1) in count_7 (256 ^ 7 - 1 - number_from_digits 256 (a ∷ b ∷ c ∷ d ∷ e ∷ f ∷ g ∷ [])) (omega (arith, ge, w, s0.0, s1.0, s2.0, s3.0, s4.0, s5.0, s6.0)) (omega (arith, ge, w, s0.0, s1.0, s2.0, s3.0, s4.0, s5.0, s6.0))
-counts_below a (b ∷ c ∷ d ∷ e ∷ f ∷ g ∷ z ∷ []) h ge u le =
-    let s0 = small a (b ∷ c ∷ d ∷ e ∷ f ∷ g ∷ z ∷ []) h in let s1 = small b (c ∷ d ∷ e ∷ f ∷ g ∷ z ∷ []) s0.1 in let s2 = small c (d ∷ e ∷ f ∷ g ∷ z ∷ []) s1.1 in let s3 = small d (e ∷ f ∷ g ∷ z ∷ []) s2.1 in let s4 = small e (f ∷ g ∷ z ∷ []) s3.1 in let s5 = small f (g ∷ z ∷ []) s4.1 in let s6 = small g (z ∷ []) s5.1 in let s7 = small z ([]) s6.1 in
-    let w = high_part a b s0.0 s1.0 ((or_false _ _ u).1) in count_8 (256 ^ 8 - 1 - number_from_digits 256 (a ∷ b ∷ c ∷ d ∷ e ∷ f ∷ g ∷ z ∷ [])) (omega (arith, ge, w, s0.0, s1.0, s2.0, s3.0, s4.0, s5.0, s6.0, s7.0))
-counts_below a (b ∷ c ∷ d ∷ e ∷ f ∷ g ∷ z ∷ i ∷ r) x ge y le = absurd (omega (arith, le))
+count_is : (j n : ℕ) → j ≤ 7 → n < 128 * 256 ^ j → Needs j n → octet_count n ≡ suc j
+count_is zero n le lt h = count_1 n lt
+count_is (suc zero) n le lt h = count_2 n h lt
+count_is (suc (suc zero)) n le lt h = count_3 n h lt
+count_is (suc (suc (suc zero))) n le lt h = count_4 n h lt
+count_is (suc (suc (suc (suc zero)))) n le lt h = count_5 n h lt
+count_is (suc (suc (suc (suc (suc zero))))) n le lt h = count_6 n h lt
+count_is (suc (suc (suc (suc (suc (suc zero)))))) n le lt h = count_7 n h lt
+count_is (suc (suc (suc (suc (suc (suc (suc zero))))))) n le lt h = count_8 n h
+count_is (suc (suc (suc (suc (suc (suc (suc (suc j)))))))) n le lt h = absurd (omega (arith, le))
 
+-- the least count that does
+count_of : (j n : ℕ) → j ≤ 7 → n < 128 * 256 ^ j → (i : ℕ) × (i ≤ 7) × (n < 128 * 256 ^ i) × Needs i n
+count_of zero n le lt = (0, omega arith, lt, tt)
+count_of (suc j) n le lt = elim (cases_lt n (128 * 256 ^ j)) [ inl h ↦ count_of j n (omega (arith, le)) h | inr h ↦ (suc j, le, lt, h) ]
+
+-- a number that digits go on, by the weight of what stood there
+number-after : (n : ℕ) (ds : List ℕ) → number_from_digits_after 256 n ds ≡ n * 256 ^ length ds + number_from_digits 256 ds
+number-after n [] = omega arith
+number-after n (d ∷ ds) =
+    let p = ap (λ (x : ℕ). n * x) (pow-succ' 256 (length ds)) in
+    omega (arith, p, number-after (n * 256 + d) ds, number-after (0 * 256 + d) ds)
+
+number-cons : (a : ℕ) (r : List ℕ) → number_from_digits 256 (a ∷ r) ≡ a * 256 ^ length r + number_from_digits 256 r
+number-cons a r = omega (arith, number-after (0 * 256 + a) r)
+
+-- the first bit of octets tells the half in which their number lies
+low_half : (a : ℕ) (r : List ℕ) → IsTrue (are_octets (a ∷ r)) → a < 128 → number_from_digits 256 (a ∷ r) < 128 * 256 ^ length r
+low_half a r h lt =
+    let s = small a r h in
+    omega (arith, number-cons a r, number_lt 256 r (all_small r s.1), mul-le-mul_left {m = a} {n = 127} (256 ^ length r) (omega (arith, lt)))
+
+high_half : (a : ℕ) (r : List ℕ) → 128 ≤ a → 128 * 256 ^ length r ≤ number_from_digits 256 (a ∷ r)
+high_half a r ge = omega (arith, number-cons a r, mul-le-mul_left {m = 128} {n = a} (256 ^ length r) ge)
+
+-- octets that aren't padded are no more than their number needs
+needs_low : (a : ℕ) (r : List ℕ) → is_padded (a ∷ r) ≡ false → Needs (length r) (number_from_digits 256 (a ∷ r))
+needs_low a [] u = tt
+needs_low a (b ∷ s) u =
+    let w = low_part a b ((or_false _ _ u).0) in
+    let p = ap (λ (x : ℕ). a * x) (pow-succ' 256 (length s)) in
+    omega (arith, p, number-cons a (b ∷ s), number-cons b s, mul-le-mul_left {m = 128} {n = 256 * a + b} (256 ^ length s) w)
+
+needs_high : (a : ℕ) (r : List ℕ) → IsTrue (are_octets (a ∷ r)) → is_padded (a ∷ r) ≡ false → Needs (length r) (256 ^ suc (length r) - 1 - number_from_digits 256 (a ∷ r))
+needs_high a [] h u = tt
+needs_high a (b ∷ s) h u =
+    let q = small a (b ∷ s) h in
+    let t = small b s q.1 in
+    let w : 256 * a + b < 65408 = high_part a b q.0 t.0 ((or_false _ _ u).1) in
+    let p = ap (λ (x : ℕ). a * x) (pow-succ' 256 (length s)) in
+    omega (arith, p, pow-succ' 256 (length s), pow-succ' 256 (suc (length s)), number-cons a (b ∷ s), number-cons b s, number_lt 256 s (all_small s t.1), mul-le-mul_left {m = 256 * a + b} {n = 65407} (256 ^ length s) (omega arith))
+
+-- and octets that are no more than their number needs aren't padded
+lean_low : (a : ℕ) (r : List ℕ) → IsTrue (are_octets (a ∷ r)) → a < 128 → Needs (length r) (number_from_digits 256 (a ∷ r)) → is_padded (a ∷ r) ≡ false
+lean_low a [] h lt n = refl
+lean_low a (b ∷ s) h lt n =
+    let q = small a (b ∷ s) h in
+    let t = small b s q.1 in
+    let p = ap (λ (x : ℕ). a * x) (pow-succ' 256 (length s)) in
+    elim (cases_lt (256 * a + b) 128) [
+      | inl w ↦ absurd (omega (arith, n, p, number-cons a (b ∷ s), number-cons b s, number_lt 256 s (all_small s t.1), mul-le-mul_left {m = 256 * a + b} {n = 127} (256 ^ length s) (omega (arith, w))))
+      | inr w ↦ lean_pair_low a b lt w
+    ]
+  where
+    lean_pair_low : (a b : ℕ) → a < 128 → 128 ≤ 256 * a + b → (nat_eq a 0 && nat_lt b 128) || (nat_eq a 255 && nat_le 128 b) ≡ false
+    lean_pair_low a b lt w = grind arith
+
+lean_high : (a : ℕ) (r : List ℕ) → IsTrue (are_octets (a ∷ r)) → 128 ≤ a → Needs (length r) (256 ^ suc (length r) - 1 - number_from_digits 256 (a ∷ r)) → is_padded (a ∷ r) ≡ false
+lean_high a [] h ge n = refl
+lean_high a (b ∷ s) h ge n =
+    let q = small a (b ∷ s) h in
+    let t = small b s q.1 in
+    let p = ap (λ (x : ℕ). a * x) (pow-succ' 256 (length s)) in
+    elim (cases_lt (256 * a + b) 65408) [
+      | inl w ↦ lean_pair_high a b ge w
+      | inr w ↦ absurd (omega (arith, n, p, pow-succ' 256 (length s), pow-succ' 256 (suc (length s)), number-cons a (b ∷ s), number-cons b s, number_lt 256 s (all_small s t.1), mul-le-mul_left {m = 65408} {n = 256 * a + b} (256 ^ length s) w))
+    ]
+  where
+    lean_pair_high : (a b : ℕ) → 128 ≤ a → 256 * a + b < 65408 → (nat_eq a 0 && nat_lt b 128) || (nat_eq a 255 && nat_le 128 b) ≡ false
+    lean_pair_high a b ge w = grind arith
+
+-- a content of an integer is the normal content of its number
 pub integer_same : (o : List ℕ) → IsTrue (are_octets o) → (p : Profile) → content_fault p integer o ≡ None → normal_content (whole (integer_of o)) ≡ o
 integer_same [] h p e = absurd cc
 integer_same (a ∷ r) h p e =
@@ -135,14 +181,166 @@ integer_same (a ∷ r) h p e =
     let n = number_from_digits 256 (a ∷ r) in
     let m = 256 ^ suc (length r) - 1 - n in
     let lt = number_lt 256 (a ∷ r) (all_small (a ∷ r) h) in
+    let w = pow-succ' 256 (length r) in
     elim (two_cases (nat_lt a 128)) [
       | inl l ↦
           ap (λ (b : Bool). normal_content (whole (if b then pos n else negsuc m))) l
-          ∙ ap (λ (k : ℕ). big_endian k n) (counts a r h (ltb-true _ _ l) parts.0 le)
+          ∙ ap (λ (k : ℕ). big_endian k n) (count_is (length r) n (omega (arith, le)) (low_half a r h (ltb-true _ _ l)) (needs_low a r parts.0))
           ∙ read_back (a ∷ r) h
       | inr l ↦
           ap (λ (b : Bool). normal_content (whole (if b then pos n else negsuc m))) l
-          ∙ ap (λ (k : ℕ). big_endian k (256 ^ k - 1 - m)) (counts_below a r h (ltb-false _ _ l) parts.0 le)
+          ∙ ap (λ (k : ℕ). big_endian k (256 ^ k - 1 - m)) (count_is (length r) m (omega (arith, le)) (omega (arith, w, high_half a r (ltb-false _ _ l))) (needs_high a r h parts.0))
           ∙ ap (λ (x : ℕ). big_endian (length (a ∷ r)) x) (let q : 256 ^ suc (length r) - 1 - m ≡ n = omega (arith, lt) in q)
           ∙ read_back (a ∷ r) h
     ]
+
+pub length-big_endian : (k n : ℕ) → length (big_endian k n) ≡ k
+length-big_endian zero n = refl
+length-big_endian (suc k) n = omega (arith, length-append (big_endian k (n / 256)) (n % 256 ∷ []), length-big_endian k (n / 256))
+
+-- how many octets the normal content of a number has
+pub length-normal : (z : ℤ) → length (normal_content (whole z)) ≡ octet_count (reach z)
+length-normal (pos n) = length-big_endian (octet_count n) n
+length-normal (negsuc n) = length-big_endian (octet_count n) (256 ^ octet_count n - 1 - n)
+
+-- an integer's content has one to eight octets
+pub integer_size : (p : Profile) (o : List ℕ) → content_fault p integer o ≡ None → (0 < length o) × (length o ≤ 8)
+integer_size p [] e = absurd cc
+integer_size p (a ∷ r) e =
+    let parts = not_padded (is_padded (a ∷ r)) (nat_le (length (a ∷ r)) 8) e in
+    (omega arith, grind (arith, parts.1))
+
+octets-big_endian : (k n : ℕ) → IsTrue (are_octets (big_endian k n))
+octets-big_endian zero n = refl
+octets-big_endian (suc k) n =
+    list_all-append (λ octet. nat_lt octet 256) (big_endian k (n / 256)) (n % 256 ∷ [])
+    ∙ ap₂ (λ (b c : Bool). b && (c && true)) (octets-big_endian k (n / 256)) (lt-ltb (n % 256) 256 (omega arith))
+
+number-big_endian : (k n : ℕ) → n < 256 ^ k → number_from_digits 256 (big_endian k n) ≡ n
+number-big_endian zero n lt = omega (arith, lt)
+number-big_endian (suc k) n lt =
+    let w = pow-succ' 256 k in
+    omega (arith, number_push 256 (big_endian k (n / 256)) (n % 256), number-big_endian k (n / 256) (omega (arith, lt, w)))
+
+faultless : (p : Profile) (o : List ℕ) → is_padded o ≡ false → length o ≤ 8 → content_fault p integer o ≡ None
+faultless p o u le =
+    ap₂ (λ (b c : Bool). if b then Some LeafFault.BadInteger else (if c then None else Some LeafFault.IntegerTooLong)) u (let t : nat_le (length o) 8 ≡ true = grind arith in t)
+
+-- octets that are as many as their number needs hold it
+held_low : (p : Profile) (o : List ℕ) (j n : ℕ) → IsTrue (are_octets o) → length o ≡ suc j → number_from_digits 256 o ≡ n → j ≤ 7 → n < 128 * 256 ^ j → Needs j n → Holds p integer (whole (pos n)) o
+held_low p [] j n h l e le lt need = absurd (omega (arith, l))
+held_low p (a ∷ r) j n h l e le lt need =
+    let size : j ≡ length r = omega (arith, l) in
+    let below : number_from_digits 256 (a ∷ r) < 128 * 256 ^ length r = omega (arith, lt, e, ap (λ (x : ℕ). 256 ^ x) size) in
+    let needed = subst (λ (x : ℕ). Needs (length r) x) (sym e) (subst (λ (x : ℕ). Needs x n) size need) in
+    elim (cases_lt a 128) [
+      | inl l ↦ (h, faultless p (a ∷ r) (lean_low a r h l needed) (omega (arith, le, size)), ap whole (ap pos (sym e) ∙ sym (ap (λ (b : Bool). if b then pos (number_from_digits 256 (a ∷ r)) else negsuc (256 ^ suc (length r) - 1 - number_from_digits 256 (a ∷ r))) (lt-ltb a 128 l))))
+      | inr l ↦ absurd (omega (arith, below, high_half a r l))
+    ]
+
+held_high : (p : Profile) (o : List ℕ) (j n : ℕ) → IsTrue (are_octets o) → length o ≡ suc j → number_from_digits 256 o ≡ 256 ^ suc j - 1 - n → j ≤ 7 → n < 128 * 256 ^ j → Needs j n → Holds p integer (whole (negsuc n)) o
+held_high p [] j n h l e le lt need = absurd (omega (arith, l))
+held_high p (a ∷ r) j n h l e le lt need =
+    let size : j ≡ length r = omega (arith, l) in
+    let weight = ap (λ (x : ℕ). 256 ^ suc x) size in
+    let w = pow-succ' 256 j in
+    let back : 256 ^ suc (length r) - 1 - number_from_digits 256 (a ∷ r) ≡ n = omega (arith, lt, e, weight, w) in
+    let needed = subst (λ (x : ℕ). Needs (length r) x) (sym back) (subst (λ (x : ℕ). Needs x n) size need) in
+    elim (cases_lt a 128) [
+      | inl l ↦ absurd (omega (arith, low_half a r h l, lt, e, ap (λ (x : ℕ). 256 ^ x) size, weight, w))
+      | inr l ↦ (h, faultless p (a ∷ r) (lean_high a r h l needed) (omega (arith, le, size)), ap whole (ap negsuc (sym back) ∙ sym (ap (λ (b : Bool). if b then pos (number_from_digits 256 (a ∷ r)) else negsuc (256 ^ suc (length r) - 1 - number_from_digits 256 (a ∷ r))) (le-ltb a 128 l))))
+    ]
+
+-- each number within the bounds is held by its normal content
+pub whole_held : (p : Profile) (z : ℤ) → reach z < 9_223_372_036_854_775_808 → Holds p integer (whole z) (normal_content (whole z))
+whole_held p (pos n) lt =
+    let s = count_of 7 n (omega arith) lt in
+    let w = pow-succ' 256 s.0 in
+    subst (λ (k : ℕ). Holds p integer (whole (pos n)) (big_endian k n)) (sym (count_is s.0 n s.1 s.2 s.3))
+    (held_low p (big_endian (suc s.0) n) s.0 n (octets-big_endian (suc s.0) n) (length-big_endian (suc s.0) n) (number-big_endian (suc s.0) n (omega (arith, w, s.2))) s.1 s.2 s.3)
+whole_held p (negsuc n) lt =
+    let s = count_of 7 n (omega arith) lt in
+    let w = pow-succ' 256 s.0 in
+    let m = 256 ^ suc s.0 - 1 - n in
+    subst (λ (k : ℕ). Holds p integer (whole (negsuc n)) (big_endian k (256 ^ k - 1 - n))) (sym (count_is s.0 n s.1 s.2 s.3))
+    (held_high p (big_endian (suc s.0) m) s.0 n (octets-big_endian (suc s.0) m) (length-big_endian (suc s.0) m) (number-big_endian (suc s.0) m (omega (arith, w, s.2))) s.1 s.2 s.3)
+
+-- copies of the sign before a number's octets
+zeros : (j : ℕ) (o : List ℕ) → number_from_digits 256 (replicate j 0 ++ o) ≡ number_from_digits 256 o
+zeros zero o = refl
+zeros (suc j) o = zeros j o
+
+ones : (j : ℕ) (o : List ℕ) → number_from_digits 256 (replicate j 255 ++ o) + 256 ^ length o ≡ 256 ^ (j + length o) + number_from_digits 256 o
+ones zero o = let e : 0 + length o ≡ length o = omega arith in omega (arith, ap (λ (x : ℕ). 256 ^ x) e)
+ones (suc j) o =
+    let size : length (replicate j 255 ++ o) ≡ j + length o = simp (length-append, length-replicate) refl in
+    let next : suc j + length o ≡ suc (j + length o) = omega arith in
+    omega (arith, ones j o, number-after 255 (replicate j 255 ++ o), ap (λ (x : ℕ). 256 ^ x) size, ap (λ (x : ℕ). 256 ^ x) next, pow-succ' 256 (j + length o))
+
+eight : (o : List ℕ) → length o ≡ 8 → from_be_bytes w64 o ≡ number_from_digits 256 o
+eight (a ∷ b ∷ c ∷ d ∷ e ∷ f ∷ g ∷ h ∷ []) l = omega arith
+eight _ l = absurd (omega (arith, l))
+
+size_eight : (s : ℕ) (o : List ℕ) → length o ≤ 8 → length (replicate (8 - length o) s ++ o) ≡ 8
+size_eight s o le = simp (length-append, length-replicate) (omega (arith, le))
+
+low_value : (a : ℕ) (r : List ℕ) → IsTrue (are_octets (a ∷ r)) → length (a ∷ r) ≤ 8 → a < 128
+    → cast_signed w64 (from_be_bytes w64 (replicate (8 - length (a ∷ r)) 0 ++ (a ∷ r))) ≡ pos (number_from_digits 256 (a ∷ r))
+low_value a r h le lt =
+    let weight = pow-le-pow_right {n = 256} (omega arith) {i = length r} {j = 7} (omega (arith, le)) in
+    ap (cast_signed w64) (eight (replicate (8 - length (a ∷ r)) 0 ++ (a ∷ r)) (size_eight 0 (a ∷ r) le) ∙ zeros (8 - length (a ∷ r)) (a ∷ r))
+    ∙ to_z_pos w64 (number_from_digits 256 (a ∷ r)) (omega (arith, weight, low_half a r h lt))
+
+to_z_negsuc : (n : ℕ) → 2 ^ 63 ≤ n → cast_signed w64 n ≡ negsuc (2 ^ 64 - suc n)
+to_z_negsuc n h = rw (le-ltb n 9_223_372_036_854_775_808 h) refl
+
+high_value : (a : ℕ) (r : List ℕ) → IsTrue (are_octets (a ∷ r)) → length (a ∷ r) ≤ 8 → 128 ≤ a
+    → cast_signed w64 (from_be_bytes w64 (replicate (8 - length (a ∷ r)) 255 ++ (a ∷ r))) ≡ negsuc (256 ^ suc (length r) - 1 - number_from_digits 256 (a ∷ r))
+high_value a r h le ge =
+    let weight = pow-le-pow_right {n = 256} (omega arith) {i = length r} {j = 7} (omega (arith, le)) in
+    let whole_size : 8 - length (a ∷ r) + length (a ∷ r) ≡ 8 = omega (arith, le) in
+    let m = number_from_digits 256 (replicate (8 - length (a ∷ r)) 255 ++ (a ∷ r)) in
+    let worth : m + 256 ^ suc (length r) ≡ 256 ^ 8 + number_from_digits 256 (a ∷ r) = ones (8 - length (a ∷ r)) (a ∷ r) ∙ ap (λ (x : ℕ). 256 ^ x + number_from_digits 256 (a ∷ r)) whole_size in
+    let below : number_from_digits 256 (a ∷ r) < 256 ^ suc (length r) = number_lt 256 (a ∷ r) (all_small (a ∷ r) h) in
+    ap (cast_signed w64) (eight (replicate (8 - length (a ∷ r)) 255 ++ (a ∷ r)) (size_eight 255 (a ∷ r) le))
+    ∙ to_z_negsuc m (omega (arith, worth, below, weight, pow-succ' 256 (length r), high_half a r ge))
+    ∙ ap negsuc (let rest : 2 ^ 64 - suc m ≡ 256 ^ suc (length r) - 1 - number_from_digits 256 (a ∷ r) = omega (arith, worth, below) in rest)
+
+-- eight octets hold what the octets behind their sign do
+pub extended_value : (o : List ℕ) → IsTrue (are_octets o) → 0 < length o → length o ≤ 8
+    → cast_signed w64 (from_be_bytes w64 (replicate (8 - length o) (sign_octet o) ++ o)) ≡ integer_of o
+extended_value [] h lt le = absurd (omega (arith, lt))
+extended_value (a ∷ r) h lt le =
+    let n = number_from_digits 256 (a ∷ r) in
+    let m = 256 ^ suc (length r) - 1 - n in
+    let spread = λ (b : Bool). cast_signed w64 (from_be_bytes w64 (replicate (8 - length (a ∷ r)) (if b then 0 else 255) ++ (a ∷ r))) in
+    elim (two_cases (nat_lt a 128)) [
+      | inl l ↦ ap spread l ∙ low_value a r h le (ltb-true _ _ l) ∙ sym (ap (λ (b : Bool). if b then pos n else negsuc m) l)
+      | inr l ↦ ap spread l ∙ high_value a r h le (ltb-false _ _ l) ∙ sym (ap (λ (b : Bool). if b then pos n else negsuc m) l)
+    ]
+
+-- the number that octets hold is within the bounds
+whole_within : (p : Profile) (o : List ℕ) → IsTrue (are_octets o) → content_fault p integer o ≡ None → reach (integer_of o) < 9_223_372_036_854_775_808
+whole_within p [] h e = absurd cc
+whole_within p (a ∷ r) h e =
+    let size = integer_size p (a ∷ r) e in
+    let n = number_from_digits 256 (a ∷ r) in
+    let m = 256 ^ suc (length r) - 1 - n in
+    let weight = pow-le-pow_right {n = 256} (omega arith) {i = length r} {j = 7} (omega (arith, size.1)) in
+    elim (two_cases (nat_lt a 128)) [
+      | inl l ↦ subst (λ (b : Bool). reach (if b then pos n else negsuc m) < 9_223_372_036_854_775_808) (sym l) (omega (arith, weight, low_half a r h (ltb-true _ _ l)))
+      | inr l ↦ subst (λ (b : Bool). reach (if b then pos n else negsuc m) < 9_223_372_036_854_775_808) (sym l) (omega (arith, weight, pow-succ' 256 (length r), high_half a r (ltb-false _ _ l)))
+    ]
+
+reach_bounds : (z : ℤ) → reach z < 9_223_372_036_854_775_808 ↔ ((neg_ℤ (pos 9_223_372_036_854_775_808) ≤ℤ z) × (z ≤ℤ pos 9_223_372_036_854_775_807))
+reach_bounds (pos n) = (λ h. (omega (arith, ints), omega (arith, ints)), λ h. let top = h.1 in omega (arith, ints))
+reach_bounds (negsuc n) = (λ h. (omega (arith, ints), omega (arith, ints)), λ h. let low = h.0 in omega (arith, ints))
+
+-- some octets hold a whole number exactly within the bounds
+pub whole_bounds : (p : Profile) (z : ℤ) → ((o : List ℕ) × Holds p integer (whole z) o) ↔ ((neg_ℤ (pos 9_223_372_036_854_775_808) ≤ℤ z) × (z ≤ℤ pos 9_223_372_036_854_775_807))
+whole_bounds p z = (
+  λ h.
+    let same : z ≡ integer_of h.0 = let e : whole z ≡ whole (integer_of h.0) = h.1.2 in cc in
+    (reach_bounds z).0 (subst (λ (x : ℤ). reach x < 9_223_372_036_854_775_808) (sym same) (whole_within p h.0 h.1.0 h.1.1)),
+  λ h. (normal_content (whole z), whole_held p z ((reach_bounds z).1 h)),
+)

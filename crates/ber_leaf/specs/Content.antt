@@ -1,10 +1,9 @@
--- What the text types keep, and what a string of either alternative shows.
-use Rattle.std.specs.Prelude.{◌≡◌, ℕ, IsTrue, List, Option, None}
-use Rattle.ber_core.specs.Octets.{are_octets}
-use Rattle.ber_leaf.specs.declared.fault.LeafFault.{LeafFault}
-use Rattle.ber_leaf.specs.Leaf.{Leaf, content_fault}
+-- What the octets of a leaf are asked to be, in the final profile.
+use Rattle.std.specs.Prelude.{ℕ, List}
+use Rattle.ber_leaf.specs.Leaf.{Leaf, Holds}
 use Rattle.ber_leaf.specs.Profile.{profile_two}
+use Rattle.ber_leaf.specs.Simple.{Simple}
 
--- the octets are a content of a leaf of the kind
+-- the octets are a content of a leaf of the kind: they hold a value
 unfoldable pub IsContent : Leaf → List ℕ → Type 0
-IsContent leaf octets = IsTrue (are_octets octets) × (content_fault profile_two leaf octets ≡ None)
+IsContent leaf octets = (v : Simple) × Holds profile_two leaf v octets

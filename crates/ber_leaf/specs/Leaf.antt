@@ -1,7 +1,7 @@
 -- The contents of leaves: which octets hold a value, and which of them are its normal content.
 use Rattle.std.specs.Prelude.{◌≡◌, ℕ, ◌+◌, ◌-◌, ◌*◌, ◌/◌, ◌%◌, ◌^◌, suc, zero, ℤ, pos, negsuc, Bool, true, false, IsTrue, not, ◌&&◌, ◌||◌, nat_eq, nat_lt, nat_le, List, [], ◌∷◌, ◌++◌, length, codes, Option, Some, None, if◌then◌else◌}
 use Rattle.std.specs.List.{list_all, list_any}
-use Rattle.jiff_core.specs.Calendar.{days_in_month}
+use Rattle.jiff.specs.Words.{days_in_month}
 use Rattle.std.specs.Int.Digits.{number_from_digits}
 use Rattle.ber_core.specs.Octets.{are_octets}
 use Rattle.ber_leaf.specs.declared.fault.LeafFault.{LeafFault}
@@ -17,34 +17,36 @@ is_string integer = false
 is_string enumerated = false
 is_string _ = true
 
-abbrev is_printable : ℕ → Bool
+abbrev pub is_printable : ℕ → Bool
 is_printable octet = list_any (nat_eq octet) (codes "ABCDEFGHIJKLMNOPQRSTUVWXYZabcdefghijklmnopqrstuvwxyz0123456789 '()+,-./:=?")
 
-abbrev is_digit : ℕ → Bool
+abbrev pub is_digit : ℕ → Bool
 is_digit octet = nat_le 0x30 octet && nat_le octet 0x39
 
 -- the number that two digits spell
-abbrev two_digits : ℕ → ℕ → ℕ
+abbrev pub two_digits : ℕ → ℕ → ℕ
 two_digits t u = 10 * (t - 0x30) + (u - 0x30)
 
--- YYYYMMDD: a day of the proleptic Gregorian calendar
+-- the proleptic Gregorian calendar has the day
+abbrev pub is_civil_day : ℕ → ℕ → ℕ → Bool
+is_civil_day year month day = nat_le 1 month && nat_le month 12 && nat_le 1 day && nat_le day (days_in_month (pos year) month)
+
+-- YYYYMMDD: eight digits that name a day
 abbrev pub is_day : List ℕ → Bool
 is_day (y₁ ∷ y₂ ∷ y₃ ∷ y₄ ∷ m₁ ∷ m₂ ∷ d₁ ∷ d₂ ∷ []) =
-    let month = two_digits m₁ m₂ in
-    let day = two_digits d₁ d₂ in
     list_all is_digit (y₁ ∷ y₂ ∷ y₃ ∷ y₄ ∷ m₁ ∷ m₂ ∷ d₁ ∷ d₂ ∷ [])
-    && nat_le 1 month && nat_le month 12 && nat_le 1 day
-    && nat_le day (days_in_month (pos (100 * two_digits y₁ y₂ + two_digits y₃ y₄)) month)
+    && is_civil_day (100 * two_digits y₁ y₂ + two_digits y₃ y₄) (two_digits m₁ m₂) (two_digits d₁ d₂)
 is_day _ = false
 
--- HHMMSS: a time of a day, whose second may be 60, or 240000
+-- a time of a day, whose second may be 60, or the end of a day
+abbrev pub is_clock_time : ℕ → ℕ → ℕ → Bool
+is_clock_time hour minute second =
+    (nat_le hour 23 && nat_le minute 59 && nat_le second 60) || (nat_eq hour 24 && nat_eq minute 0 && nat_eq second 0)
+
+-- HHMMSS: six digits that name a time
 abbrev pub is_time : List ℕ → Bool
 is_time (h₁ ∷ h₂ ∷ m₁ ∷ m₂ ∷ s₁ ∷ s₂ ∷ []) =
-    let hour = two_digits h₁ h₂ in
-    let minute = two_digits m₁ m₂ in
-    let second = two_digits s₁ s₂ in
-    list_all is_digit (h₁ ∷ h₂ ∷ m₁ ∷ m₂ ∷ s₁ ∷ s₂ ∷ [])
-    && ((nat_le hour 23 && nat_le minute 59 && nat_le second 60) || (nat_eq hour 24 && nat_eq minute 0 && nat_eq second 0))
+    list_all is_digit (h₁ ∷ h₂ ∷ m₁ ∷ m₂ ∷ s₁ ∷ s₂ ∷ []) && is_clock_time (two_digits h₁ h₂) (two_digits m₁ m₂) (two_digits s₁ s₂)
 is_time _ = false
 
 -- empty, or two octets or more whose first nine bits are equal
@@ -79,6 +81,11 @@ integer_of (a ∷ octets) =
     if nat_lt a 128 then pos (number_from_digits 256 (a ∷ octets))
     else negsuc (256 ^ suc (length octets) - 1 - number_from_digits 256 (a ∷ octets))
 
+-- the octet that may stand before a number's octets and leave it the same
+abbrev pub sign_octet : List ℕ → ℕ
+sign_octet [] = 0
+sign_octet (a ∷ _) = if nat_lt a 128 then 0 else 0xFF
+
 -- the value that a content holds
 abbrev pub value : Leaf → List ℕ → Simple
 value boolean octets = flag (not (list_all (nat_eq 0) octets))
@@ -98,6 +105,11 @@ Holds p leaf v octets = IsTrue (are_octets octets) × (content_fault p leaf octe
 abbrev pub big_endian : ℕ → ℕ → List ℕ
 big_endian zero n = []
 big_endian (suc k) n = big_endian k (n / 256) ++ n % 256 ∷ []
+
+-- the least n such that the number stands from -(n + 1) to n
+abbrev pub reach : ℤ → ℕ
+reach (pos n) = n
+reach (negsuc n) = n
 
 -- how many octets hold the numbers from -(n + 1) to n, at most eight
 abbrev pub octet_count : ℕ → ℕ

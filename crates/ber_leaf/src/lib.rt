@@ -1,16 +1,22 @@
 //! The contents of primitive elements and strings: which octets hold which value.
 #![tactic(auto)]
 
+mod boolean;
+mod contents;
 mod fault;
+mod integer;
+mod laws;
 mod segments;
 mod text;
 
+pub use boolean::Flag;
+pub use contents::Leaf;
 pub use fault::LeafFault;
+pub use integer::Whole;
+pub use laws::{
+    enumerated_is_held_as_integer, normal_content_holds_its_value, normal_content_is_least,
+    normal_contents_tell_values_apart, octets_hold_one_out, octets_hold_one_value,
+    profile_two_holds_what_one_does, whole_numbers_have_bounds,
+};
 pub use segments::Segments;
 pub use text::{DateText, GeneralText, IllString, PrintableText, TimeText, VisibleText};
-
-/// The contents of a BOOLEAN (X.690, 8.2): one octet, `00` for false and any other for true.
-pub struct Flag;
-
-/// The contents of an INTEGER or ENUMERATED (X.690, 8.3 and 8.4): one to eight octets of two's complement.
-pub struct Whole;

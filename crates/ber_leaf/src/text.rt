@@ -1,6 +1,7 @@
 //! Texts that exist only if their octets are in their alphabet or form.
 
 mod date;
+mod digits;
 mod general;
 mod ill_string;
 mod printable;

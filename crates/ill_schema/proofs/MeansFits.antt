@@ -22,7 +22,7 @@ use Rattle.ill_schema.specs.Meaning.{Means, Matches, MatchItems, HoldsLeaf, IsAl
 use Rattle.ill_schema.specs.Table.{kind_of, rows_of}
 use Rattle.std.proofs.lemmas.Bool.{and_parts}
 use Rattle.ill_schema.proofs.Tags.{at_row}
-use Rattle.ber_leaf.proofs.NormalContents.{flag_holds, normal_holds}
+use Rattle.ber_leaf.proofs.Leaves.{flag_holds, normal_holds}
 use Rattle.ill_schema.proofs.Unique.{same_value-is}
 
 -- a number that one octet holds

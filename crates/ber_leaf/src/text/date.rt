@@ -1,9 +1,13 @@
-ghost use Rattle.std.specs.Prelude.{◌≡◌, nat_eq, IfOk};
-ghost use Rattle.std.specs.Cmp.Lexicographic.{pointwise, nat_list_eq_equiv};
+ghost use Rattle.std.specs.Prelude.{◌≡◌, nat_eq, IfOk, ◌≤◌};
 ghost use Rattle.std.specs.Cmp.{partial_equiv_from_equiv};
-ghost use Rattle.ber_leaf.specs.Leaf.{iso_date};
+ghost use Rattle.std.specs.Cmp.Lexicographic.{nat_list_eq_equiv, pointwise};
 ghost use Rattle.ber_leaf.specs.Content.{IsContent};
+ghost use Rattle.ber_leaf.specs.Leaf.{iso_date, is_day, is_civil_day};
+ghost use Rattle.ber_leaf.specs.Simple.{date};
 
+use crate::{Leaf, LeafFault};
+use super::digits::{are_digits, pair};
+use jiff::civil::Date;
 use std::alloc::{AllocError, Global};
 use std::marker::Model;
 
@@ -15,8 +19,8 @@ pub struct DateText {
 
 impl Model for DateText {
     ghost use Rattle.std.specs.Prelude.{List, ℕ};
-    ghost use Rattle.ber_leaf.specs.Leaf.{iso_date};
     ghost use Rattle.ber_leaf.specs.Content.{IsContent};
+    ghost use Rattle.ber_leaf.specs.Leaf.{iso_date};
 
     ghost Value = { List ℕ };
 
@@ -43,6 +47,32 @@ impl DateText {
     }
 }
 
+impl Leaf for DateText {
+    type Out = DateText;
+
+    ghost kind = { iso_date };
+
+    ghost simple = { date };
+
+    ghost apart = { λ v w e. Prim.cc };
+
+    fn check(octets: &[u8]) -> Option<LeafFault> {
+        (!is_day(octets)).then_some(LeafFault::BadDate)
+    }
+
+    fn of(octets: Vec<u8>) -> DateText {
+        DateText { octets }
+    }
+
+    fn normal_size(text: &DateText) -> usize {
+        text.octets.len()
+    }
+
+    fn put_normal(text: &DateText, room: &mut [u8]) {
+        room.copy_from_slice(&text.octets);
+    }
+}
+
 impl PartialEq for DateText {
     ghost eq = { pointwise nat_eq };
 
@@ -55,4 +85,28 @@ impl PartialEq for DateText {
 
 impl Eq for DateText {
     ghost laws = { nat_list_eq_equiv };
+}
+
+/// Whether the octets are a day, as YYYYMMDD.
+fn is_day(octets: &[u8]) -> bool
+    ensures { result ≡ is_day octets.now }
+{
+    let [y1, y2, y3, y4, m1, m2, d1, d2] = *octets else {
+        return false;
+    };
+    if !are_digits(octets) {
+        return false;
+    }
+    let year = 100 * u16::from(pair(y1, y2)) + u16::from(pair(y3, y4));
+    is_civil_day(year, pair(m1, m2), pair(d1, d2))
+}
+
+/// Whether the proleptic Gregorian calendar has the day.
+fn is_civil_day(year: u16, month: u8, day: u8) -> bool
+    requires year { year ≤ 9999 }
+    requires month { month ≤ 99 }
+    requires day { day ≤ 99 }
+    ensures { result ≡ is_civil_day year month day }
+{
+    Date::new(year as i16, month as i8, day as i8).is_ok()
 }

@@ -1,9 +1,13 @@
 ghost use Rattle.std.specs.Prelude.{◌≡◌, nat_eq, IfOk};
-ghost use Rattle.std.specs.Cmp.Lexicographic.{pointwise, nat_list_eq_equiv};
 ghost use Rattle.std.specs.Cmp.{partial_equiv_from_equiv};
-ghost use Rattle.ber_leaf.specs.Leaf.{general_string};
+ghost use Rattle.std.specs.Cmp.Lexicographic.{nat_list_eq_equiv, pointwise};
 ghost use Rattle.ber_leaf.specs.Content.{IsContent};
+ghost use Rattle.ber_leaf.specs.Leaf.{general_string};
+ghost use Rattle.ber_leaf.specs.Simple.{general};
+ghost use Rattle.std.specs.List.{list_all};
+ghost use Rattle.ber_leaf.specs.Profile.{is_no_shift};
 
+use crate::{Leaf, LeafFault};
 use std::alloc::{AllocError, Global};
 use std::marker::Model;
 
@@ -15,8 +19,8 @@ pub struct GeneralText {
 
 impl Model for GeneralText {
     ghost use Rattle.std.specs.Prelude.{List, ℕ};
-    ghost use Rattle.ber_leaf.specs.Leaf.{general_string};
     ghost use Rattle.ber_leaf.specs.Content.{IsContent};
+    ghost use Rattle.ber_leaf.specs.Leaf.{general_string};
 
     ghost Value = { List ℕ };
 
@@ -43,6 +47,32 @@ impl GeneralText {
     }
 }
 
+impl Leaf for GeneralText {
+    type Out = GeneralText;
+
+    ghost kind = { general_string };
+
+    ghost simple = { general };
+
+    ghost apart = { λ v w e. Prim.cc };
+
+    fn check(octets: &[u8]) -> Option<LeafFault> {
+        (!has_no_shift(octets)).then_some(LeafFault::BadText)
+    }
+
+    fn of(octets: Vec<u8>) -> GeneralText {
+        GeneralText { octets }
+    }
+
+    fn normal_size(text: &GeneralText) -> usize {
+        text.octets.len()
+    }
+
+    fn put_normal(text: &GeneralText, room: &mut [u8]) {
+        room.copy_from_slice(&text.octets);
+    }
+}
+
 impl PartialEq for GeneralText {
     ghost eq = { pointwise nat_eq };
 
@@ -55,4 +85,11 @@ impl PartialEq for GeneralText {
 
 impl Eq for GeneralText {
     ghost laws = { nat_list_eq_equiv };
+}
+
+/// Whether no octet shifts or escapes.
+fn has_no_shift(octets: &[u8]) -> bool
+    ensures { result ≡ list_all is_no_shift octets.now }
+{
+    octets.iter().all(|octet| !matches!(octet, 0x0E | 0x0F | 0x1B))
 }

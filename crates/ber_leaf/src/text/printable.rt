@@ -1,9 +1,12 @@
 ghost use Rattle.std.specs.Prelude.{◌≡◌, nat_eq, IfOk};
-ghost use Rattle.std.specs.Cmp.Lexicographic.{pointwise, nat_list_eq_equiv};
 ghost use Rattle.std.specs.Cmp.{partial_equiv_from_equiv};
-ghost use Rattle.ber_leaf.specs.Leaf.{printable_string};
+ghost use Rattle.std.specs.Cmp.Lexicographic.{nat_list_eq_equiv, pointwise};
 ghost use Rattle.ber_leaf.specs.Content.{IsContent};
+ghost use Rattle.ber_leaf.specs.Leaf.{printable_string, is_printable};
+ghost use Rattle.ber_leaf.specs.Simple.{printable};
+ghost use Rattle.std.specs.List.{list_all};
 
+use crate::{Leaf, LeafFault};
 use std::alloc::{AllocError, Global};
 use std::marker::Model;
 
@@ -15,8 +18,8 @@ pub struct PrintableText {
 
 impl Model for PrintableText {
     ghost use Rattle.std.specs.Prelude.{List, ℕ};
-    ghost use Rattle.ber_leaf.specs.Leaf.{printable_string};
     ghost use Rattle.ber_leaf.specs.Content.{IsContent};
+    ghost use Rattle.ber_leaf.specs.Leaf.{printable_string};
 
     ghost Value = { List ℕ };
 
@@ -43,6 +46,32 @@ impl PrintableText {
     }
 }
 
+impl Leaf for PrintableText {
+    type Out = PrintableText;
+
+    ghost kind = { printable_string };
+
+    ghost simple = { printable };
+
+    ghost apart = { λ v w e. Prim.cc };
+
+    fn check(octets: &[u8]) -> Option<LeafFault> {
+        (!is_printable(octets)).then_some(LeafFault::BadText)
+    }
+
+    fn of(octets: Vec<u8>) -> PrintableText {
+        PrintableText { octets }
+    }
+
+    fn normal_size(text: &PrintableText) -> usize {
+        text.octets.len()
+    }
+
+    fn put_normal(text: &PrintableText, room: &mut [u8]) {
+        room.copy_from_slice(&text.octets);
+    }
+}
+
 impl PartialEq for PrintableText {
     ghost eq = { pointwise nat_eq };
 
@@ -55,4 +84,20 @@ impl PartialEq for PrintableText {
 
 impl Eq for PrintableText {
     ghost laws = { nat_list_eq_equiv };
+}
+
+/// Whether each octet is in PrintableString's set.
+fn is_printable(octets: &[u8]) -> bool
+    ensures { result ≡ list_all is_printable octets.now }
+{
+    octets.iter().all(|octet| is_printable_octet(*octet))
+}
+
+fn is_printable_octet(octet: u8) -> bool
+    ensures { result ≡ is_printable octet }
+{
+    matches!(
+        octet,
+        b'A'..=b'Z' | b'a'..=b'z' | b'0'..=b'9' | b' ' | b'\'' | b'(' | b')' | b'+' | b',' | b'-' | b'.' | b'/' | b':' | b'=' | b'?'
+    )
 }

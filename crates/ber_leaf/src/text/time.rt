@@ -1,9 +1,12 @@
 ghost use Rattle.std.specs.Prelude.{◌≡◌, nat_eq, IfOk};
-ghost use Rattle.std.specs.Cmp.Lexicographic.{pointwise, nat_list_eq_equiv};
 ghost use Rattle.std.specs.Cmp.{partial_equiv_from_equiv};
-ghost use Rattle.ber_leaf.specs.Leaf.{iso_time};
+ghost use Rattle.std.specs.Cmp.Lexicographic.{nat_list_eq_equiv, pointwise};
 ghost use Rattle.ber_leaf.specs.Content.{IsContent};
+ghost use Rattle.ber_leaf.specs.Leaf.{iso_time, is_time, is_clock_time};
+ghost use Rattle.ber_leaf.specs.Simple.{time};
 
+use crate::{Leaf, LeafFault};
+use super::digits::{are_digits, pair};
 use std::alloc::{AllocError, Global};
 use std::marker::Model;
 
@@ -15,8 +18,8 @@ pub struct TimeText {
 
 impl Model for TimeText {
     ghost use Rattle.std.specs.Prelude.{List, ℕ};
-    ghost use Rattle.ber_leaf.specs.Leaf.{iso_time};
     ghost use Rattle.ber_leaf.specs.Content.{IsContent};
+    ghost use Rattle.ber_leaf.specs.Leaf.{iso_time};
 
     ghost Value = { List ℕ };
 
@@ -43,6 +46,32 @@ impl TimeText {
     }
 }
 
+impl Leaf for TimeText {
+    type Out = TimeText;
+
+    ghost kind = { iso_time };
+
+    ghost simple = { time };
+
+    ghost apart = { λ v w e. Prim.cc };
+
+    fn check(octets: &[u8]) -> Option<LeafFault> {
+        (!is_time(octets)).then_some(LeafFault::BadTime)
+    }
+
+    fn of(octets: Vec<u8>) -> TimeText {
+        TimeText { octets }
+    }
+
+    fn normal_size(text: &TimeText) -> usize {
+        text.octets.len()
+    }
+
+    fn put_normal(text: &TimeText, room: &mut [u8]) {
+        room.copy_from_slice(&text.octets);
+    }
+}
+
 impl PartialEq for TimeText {
     ghost eq = { pointwise nat_eq };
 
@@ -55,4 +84,24 @@ impl PartialEq for TimeText {
 
 impl Eq for TimeText {
     ghost laws = { nat_list_eq_equiv };
+}
+
+/// Whether the octets are a time of a day, as HHMMSS.
+fn is_time(octets: &[u8]) -> bool
+    ensures { result ≡ is_time octets.now }
+{
+    let [h1, h2, m1, m2, s1, s2] = *octets else {
+        return false;
+    };
+    if !are_digits(octets) {
+        return false;
+    }
+    is_clock_time(pair(h1, h2), pair(m1, m2), pair(s1, s2))
+}
+
+/// Whether a day has the time; a leap second may end any minute.
+fn is_clock_time(hour: u8, minute: u8, second: u8) -> bool
+    ensures { result ≡ is_clock_time hour minute second }
+{
+    matches!((hour, minute, second), (0..=23, 0..=59, 0..=60) | (24, 0, 0))
 }

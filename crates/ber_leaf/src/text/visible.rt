@@ -1,9 +1,13 @@
 ghost use Rattle.std.specs.Prelude.{◌≡◌, nat_eq, IfOk};
-ghost use Rattle.std.specs.Cmp.Lexicographic.{pointwise, nat_list_eq_equiv};
 ghost use Rattle.std.specs.Cmp.{partial_equiv_from_equiv};
-ghost use Rattle.ber_leaf.specs.Leaf.{visible_string};
+ghost use Rattle.std.specs.Cmp.Lexicographic.{nat_list_eq_equiv, pointwise};
 ghost use Rattle.ber_leaf.specs.Content.{IsContent};
+ghost use Rattle.ber_leaf.specs.Leaf.{visible_string};
+ghost use Rattle.ber_leaf.specs.Simple.{visible};
+ghost use Rattle.std.specs.List.{list_all};
+ghost use Rattle.ber_leaf.specs.Profile.{is_graphic};
 
+use crate::{Leaf, LeafFault};
 use std::alloc::{AllocError, Global};
 use std::marker::Model;
 
@@ -15,8 +19,8 @@ pub struct VisibleText {
 
 impl Model for VisibleText {
     ghost use Rattle.std.specs.Prelude.{List, ℕ};
-    ghost use Rattle.ber_leaf.specs.Leaf.{visible_string};
     ghost use Rattle.ber_leaf.specs.Content.{IsContent};
+    ghost use Rattle.ber_leaf.specs.Leaf.{visible_string};
 
     ghost Value = { List ℕ };
 
@@ -43,6 +47,32 @@ impl VisibleText {
     }
 }
 
+impl Leaf for VisibleText {
+    type Out = VisibleText;
+
+    ghost kind = { visible_string };
+
+    ghost simple = { visible };
+
+    ghost apart = { λ v w e. Prim.cc };
+
+    fn check(octets: &[u8]) -> Option<LeafFault> {
+        (!is_graphic(octets)).then_some(LeafFault::BadText)
+    }
+
+    fn of(octets: Vec<u8>) -> VisibleText {
+        VisibleText { octets }
+    }
+
+    fn normal_size(text: &VisibleText) -> usize {
+        text.octets.len()
+    }
+
+    fn put_normal(text: &VisibleText, room: &mut [u8]) {
+        room.copy_from_slice(&text.octets);
+    }
+}
+
 impl PartialEq for VisibleText {
     ghost eq = { pointwise nat_eq };
 
@@ -55,4 +85,11 @@ impl PartialEq for VisibleText {
 
 impl Eq for VisibleText {
     ghost laws = { nat_list_eq_equiv };
+}
+
+/// Whether each octet is graphic or the space.
+fn is_graphic(octets: &[u8]) -> bool
+    ensures { result ≡ list_all is_graphic octets.now }
+{
+    octets.iter().all(|octet| matches!(octet, b' '..=b'~'))
 }
