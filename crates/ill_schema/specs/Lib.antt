@@ -11,3 +11,5 @@ pub mod Names
 pub mod FitsProps
 pub mod Value
 pub mod ValueFits
+pub mod Elements
+pub mod Sizes

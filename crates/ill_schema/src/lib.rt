@@ -1,6 +1,7 @@
 //! The tables of ILL messages, their values, what octets mean by them, and the normal form.
 #![tactic(auto)]
 
+mod entry;
 mod equality;
 mod laws;
 mod lookup;
@@ -9,9 +10,12 @@ mod node;
 mod part;
 mod refusal;
 mod shape;
+mod size;
 mod table;
+mod tagging;
 mod value;
 
+pub use entry::{is_carried, is_default, may_lack};
 pub use equality::equal;
 pub use laws::{
     normal_form_is_a_spelling, normal_form_is_no_longer, normal_form_is_one_to_one,
@@ -24,5 +28,7 @@ pub use node::{Kind, LeafKind, NodeId};
 pub use part::{Mode, PartId, Presence, Row};
 pub use refusal::{Cause, Refusal};
 pub use shape::fits;
+pub use size::{LIMIT, normal_size};
 pub use table::rows_of;
+pub use tagging::{replacement, wrapper};
 pub use value::Value;
