@@ -14,3 +14,4 @@ pub mod LeafFits
 pub mod RowFits
 pub mod Trees
 pub mod Sizes
+pub mod Carried

@@ -13,3 +13,5 @@ pub mod Value
 pub mod ValueFits
 pub mod Elements
 pub mod Sizes
+pub mod Message
+pub mod Unfit

@@ -5,6 +5,7 @@ mod entry;
 mod equality;
 mod laws;
 mod lookup;
+mod message;
 mod names;
 mod node;
 mod part;
@@ -13,6 +14,7 @@ mod shape;
 mod size;
 mod table;
 mod tagging;
+mod unfit;
 mod value;
 
 pub use entry::{is_carried, is_default, may_lack};
@@ -23,6 +25,7 @@ pub use laws::{
     tables_are_well_formed, what_is_meant_fits,
 };
 pub use lookup::{kind, row, rows};
+pub use message::Message;
 pub use names::{apdu_name, apdu_node, part_name};
 pub use node::{Kind, LeafKind, NodeId};
 pub use part::{Mode, PartId, Presence, Row};
@@ -31,4 +34,5 @@ pub use shape::fits;
 pub use size::{LIMIT, normal_size};
 pub use table::rows_of;
 pub use tagging::{replacement, wrapper};
+pub use unfit::Unfit;
 pub use value::Value;

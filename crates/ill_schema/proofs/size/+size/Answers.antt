@@ -78,7 +78,7 @@ entries_size-returns-in_err-present_size t c =
     let es = c.deref-entry-items.result.now in
     let e = entry_step es (rows_of c.args.node) c.loop-i.i (Some c.in-Some.value) c.loop-i-test.true (rw c.in-Some.is at c.entry-item.is) in
     rw (c.from_residual.ensures, ← c.deref-entry-items.ensures.value)
-      (part_passes _ _ _ c.loop-i.sum _ e c.loop-i.invariant.so_far (rw c.row_at.ensures at c.in_err-present_size.ensures))
+    (part_passes _ _ _ c.loop-i.sum _ e c.loop-i.invariant.so_far (rw c.row_at.ensures at c.in_err-present_size.ensures))
 
 pub entries_size-returns-in_err-sum : goal.entries_size-returns-in_err-sum
 entries_size-returns-in_err-sum t c =
@@ -86,7 +86,7 @@ entries_size-returns-in_err-sum t c =
     let e = entry_step es (rows_of c.args.node) c.loop-i.i (Some c.in-Some.value) c.loop-i-test.true (rw c.in-Some.is at c.entry-item.is) in
     let part = rw c.row_at.ensures at c.in_ok-present_size.ensures in
     rw (c.from_residual-in_err-sum.ensures, ← c.deref-entry-items.ensures.value)
-      (sum_passes _ _ _ c.loop-i.sum _ _ e part.0 c.loop-i.invariant.so_far c.in_err-sum.ensures)
+    (sum_passes _ _ _ c.loop-i.sum _ _ e part.0 c.loop-i.invariant.so_far c.in_err-sum.ensures)
 
 pub entries_size-loop-i-preserved : goal.entries_size-loop-i-preserved
 entries_size-loop-i-preserved t c =
@@ -107,7 +107,7 @@ items_size-returns-in_err-item_size t c =
     let vs = c.deref-item-items.result.now in
     let e = item_step vs (rows_of c.args.node) c.loop-item.item-index c.item-item.result c.loop-item-test.true c.item-item.is in
     rw (c.from_residual.ensures, ← c.deref-item-items.ensures.value)
-      (part_passes _ _ _ c.loop-item.sum _ e c.loop-item.invariant.so_far (rw c.row_at-row.ensures at c.in_err-item_size.ensures))
+    (part_passes _ _ _ c.loop-item.sum _ e c.loop-item.invariant.so_far (rw c.row_at-row.ensures at c.in_err-item_size.ensures))
 
 pub items_size-returns-in_err-sum : goal.items_size-returns-in_err-sum
 items_size-returns-in_err-sum t c =
@@ -115,7 +115,7 @@ items_size-returns-in_err-sum t c =
     let e = item_step vs (rows_of c.args.node) c.loop-item.item-index c.item-item.result c.loop-item-test.true c.item-item.is in
     let part = rw c.row_at-row.ensures at c.in_ok-item_size.ensures in
     rw (c.from_residual-in_err-sum.ensures, ← c.deref-item-items.ensures.value)
-      (sum_passes _ _ _ c.loop-item.sum _ _ e part.0 c.loop-item.invariant.so_far c.in_err-sum.ensures)
+    (sum_passes _ _ _ c.loop-item.sum _ _ e part.0 c.loop-item.invariant.so_far c.in_err-sum.ensures)
 
 pub items_size-loop-item-preserved : goal.items_size-loop-item-preserved
 items_size-loop-item-preserved t c =
