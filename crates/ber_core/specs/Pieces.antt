@@ -1,5 +1,5 @@
 -- Octets that are moved a few at a time, until they break.
-use Rattle.std.specs.Prelude.{ℕ, ◌-◌, min, Bool, true, false, ◌||◌, List, ◌++◌, length, take, drop, Option, Some, None, option_map, nat_eq}
+use Rattle.std.specs.Prelude.{ℕ, ◌-◌, min, Bool, true, false, ◌||◌, List, ◌++◌, length, drop, Option, Some, None, option_map, nat_eq}
 
 -- what octets are moved, at most how many in a call, how many before it breaks (None: never), and whether it is broken
 pub record Moving : Type 0 where

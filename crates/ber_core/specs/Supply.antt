@@ -1,7 +1,7 @@
 -- What contracts see of sources and sinks.
-use Rattle.std.specs.Prelude.{◌≡◌, ℕ, ◌-◌, min, Bool, true, false, ◌||◌, List, ◌++◌, length, take, drop, Option, Some, None, option_map, nat_eq}
-use Rattle.ber_core.specs.declared.source.FromRead.{FromRead}
-use Rattle.ber_core.specs.declared.sink.ToWrite.{ToWrite}
+use Rattle.std.specs.Prelude.{Bool}
+use Rattle.ber_core.specs.declared.source.from_read.FromRead.{FromRead}
+use Rattle.ber_core.specs.declared.sink.to_write.ToWrite.{ToWrite}
 
 -- the reader under a source, and whether the source broke
 abbrev pub reader_of : {R : Type 0} → FromRead R → R

@@ -1,11 +1,10 @@
 -- The normal form of a value is an encoding of its normal tree.
-use Rattle.std.proofs.Common.{◌≡◌, ℕ, ◌<◌, ◌≤◌, ◌^◌, Bool, true, false, ◌&&◌, not, List, [], ◌∷◌, ◌++◌, length, Option, Some, None, IsTrue, refl, sym, ap, subst, arith, inl, slice_get, length-append, lit≤}
+use Rattle.std.proofs.Common.{◌≡◌, ℕ, ◌<◌, ◌≤◌, ◌^◌, Bool, true, false, ◌&&◌, not, List, [], ◌∷◌, ◌++◌, length, Option, Some, None, IsTrue, refl, sym, ap, subst, arith, slice_get, lit≤}
 use Rattle.std.specs.Prelude.{nat_le}
 use Rattle.std.specs.List.{list_all}
 use Rattle.ber_core.specs.declared.id.Class.{Class}
-use Rattle.ber_core.specs.Identifier.{Tag, identifier, HasIdentifier}
-use Rattle.ber_core.specs.Length.{IsLength, shortest_length}
-use Rattle.ber_core.specs.Tree.{Tree, Trees, primitive, constructed, none, more, Spells, SpellsAll}
+use Rattle.ber_core.specs.Identifier.{Tag, HasIdentifier}
+use Rattle.ber_core.specs.Tree.{Tree, Trees, primitive, constructed, none, more, Spells}
 use Rattle.ber_core.proofs.Encodings.{encoding_spells}
 use Rattle.ber_core.proofs.Trees.{one_reading}
 use Rattle.ill_schema.specs.declared.part.Mode.{Mode}

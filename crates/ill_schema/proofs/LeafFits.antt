@@ -1,12 +1,12 @@
 -- Which leaves fit a node: those of its kind.
-use Rattle.std.proofs.Common.{◌≡◌, ◌↔◌, ◌<◌, ℕ, ℤ, pos, negsuc, arith, FitsSigned, w64, Bool, true, false, List, Option, Some, None, refl, ap}
+use Rattle.std.proofs.Common.{◌≡◌, ◌↔◌, ◌<◌, ℕ, ℤ, pos, negsuc, arith, FitsSigned, w64, Bool, List, Some, refl, ap}
 use Rattle.std.proofs.lemmas.Int.{ints}
 use Rattle.ber_leaf.specs.Content.{IsContent}
 use Rattle.ber_leaf.specs.declared.text.ill_string.IllString.{IllString}
 use Rattle.ber_leaf.specs.declared.text.ill_string.IllString.TheVariants.{General, Visible}
-use Rattle.ber_leaf.specs.Leaf.{Leaf, boolean, integer, enumerated, general_string, visible_string, printable_string, iso_date, iso_time, Holds, value, normal_content, reach}
+use Rattle.ber_leaf.specs.Leaf.{Leaf, boolean, integer, enumerated, general_string, visible_string, printable_string, iso_date, iso_time, Holds, normal_content, reach}
 use Rattle.ber_leaf.specs.Profile.{profile_two}
-use Rattle.ber_leaf.specs.Simple.{Simple, flag, whole, date, time, printable, general, visible}
+use Rattle.ber_leaf.specs.Simple.{flag, whole, date, time, printable, general, visible}
 use Rattle.ber_leaf.proofs.Integers.{whole_held}
 use Rattle.ber_leaf.proofs.Leaves.{flag_holds, content_holds}
 use Rattle.ber_leaf.specs.Strings.{string_leaf, string_octets, string_value}

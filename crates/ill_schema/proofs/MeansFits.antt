@@ -1,9 +1,8 @@
 -- What a tree means fits.
-use Rattle.std.proofs.Common.{◌≡◌, ◌⊎◌, ℕ, ◌+◌, ℤ, pos, negsuc, Bool, true, false, nat_lt, List, [], ◌∷◌, Some, None, IsTrue, refl, sym, ap, subst, inl, inr, arith}
+use Rattle.std.proofs.Common.{◌≡◌, ℕ, ◌+◌, ℤ, pos, negsuc, Bool, true, false, nat_lt, List, [], ◌∷◌, Some, IsTrue, refl, sym, ap, subst, inl, inr, arith}
 use Rattle.std.specs.List.{list_all}
-use Rattle.std.specs.Prelude.{if◌then◌else◌}
 use Rattle.ber_core.specs.Identifier.{Tag}
-use Rattle.ber_core.specs.Tree.{Tree, Trees, constructed, none, more, text}
+use Rattle.ber_core.specs.Tree.{Tree, Trees, text}
 use Rattle.ill_schema.specs.declared.node.Kind.{Kind}
 use Rattle.ill_schema.specs.declared.node.LeafKind.{LeafKind}
 use Rattle.ill_schema.specs.declared.node.NodeId.{NodeId}
@@ -13,15 +12,14 @@ use Rattle.ill_schema.specs.declared.part.Row.{Row}
 use Rattle.ill_schema.specs.Apdu.{Apdu, MeansApdu, choice_of}
 use Rattle.ill_schema.specs.Content.{Content, simple, sequence, list, alternative, Entries, no_entries, absent, present, Items, no_items, item}
 use Rattle.ber_leaf.specs.Simple.{Simple, flag, whole}
-use Rattle.ill_schema.specs.Fits.{Fits, FitsSimple, FitRows, FitItems, FitsApdu}
+use Rattle.ill_schema.specs.Fits.{Fits, FitRows, FitItems, FitsApdu}
 use Rattle.ber_leaf.specs.Leaf.{Leaf, boolean, integer, enumerated, Holds, normal_content}
 use Rattle.ber_leaf.specs.Profile.{Profile}
 use Rattle.ill_schema.specs.Tagging.{Tagging, untagged, implicit, explicit, explicit_or_bare, tagging, Tagged, sequence_tag, leaf_tag, leaf_of}
-use Rattle.ill_schema.specs.Presence.{is_default, is_default_of, default_value, same_value}
-use Rattle.ill_schema.specs.Meaning.{Means, Matches, MatchItems, HoldsLeaf, IsAlternative}
+use Rattle.ill_schema.specs.Presence.{is_default, is_default_of}
+use Rattle.ill_schema.specs.Meaning.{Means, Matches, MatchItems, HoldsLeaf}
 use Rattle.ill_schema.specs.Table.{kind_of, rows_of}
 use Rattle.std.proofs.lemmas.Bool.{and_parts}
-use Rattle.ill_schema.proofs.Tags.{at_row}
 use Rattle.ber_leaf.proofs.Leaves.{flag_holds, normal_holds}
 use Rattle.ill_schema.proofs.Unique.{same_value-is}
 

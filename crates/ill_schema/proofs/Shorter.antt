@@ -1,16 +1,13 @@
 -- Without bare wrappers the normal form is no longer than a spelling.
-use Rattle.std.proofs.Common.{◌≡◌, ◌⊎◌, ℕ, ◌+◌, ◌<◌, ◌≤◌, ◌^◌, Bool, true, false, not, nat_lt, List, [], ◌∷◌, ◌++◌, length, Option, Some, None, IsTrue, refl, sym, ap, subst, ◌∙◌, inl, inr, arith, slice_get, length-append, lit≤, ltb-true, ltb-false, lt-ltb, le-ltb}
-use Rattle.std.specs.Prelude.{if◌then◌else◌, nat_eq}
-use Rattle.std.specs.List.{list_all}
+use Rattle.std.proofs.Common.{◌≡◌, ℕ, ◌+◌, ◌<◌, ◌≤◌, ◌^◌, Bool, true, false, nat_lt, List, [], ◌∷◌, ◌++◌, length, Option, Some, None, IsTrue, refl, sym, ap, subst, ◌∙◌, inl, inr, arith, length-append, lit≤, ltb-true, ltb-false}
 use Rattle.std.specs.Int.Digits.{digits_of, number_from_digits}
 use Rattle.std.proofs.lemmas.Int.Digits.{number_lt, length-digits_of-le, all_below_base_digits_of, number_digits_of}
 use Rattle.ber_core.specs.declared.id.Class.{Class}
 use Rattle.ber_core.specs.Identifier.{Tag, identifier}
-use Rattle.ber_core.specs.Length.{IsLength, shortest_length}
+use Rattle.ber_core.specs.Length.{shortest_length}
 use Rattle.ber_core.specs.Tree.{Tree, Trees, primitive, constructed, none, more, tag_of, text, text_all, IsDefinite, IsIndefinite, Spells, SpellsAll}
 use Rattle.ber_core.proofs.Identifiers.{cases}
-use Rattle.ber_core.proofs.Shortest.{shortest_least, some_digits, is_short, is_long}
-use Rattle.ber_leaf.specs.declared.fault.LeafFault.{LeafFault}
+use Rattle.ber_core.proofs.Shortest.{shortest_least}
 use Rattle.ill_schema.specs.declared.part.Mode.{Mode}
 use Rattle.ill_schema.specs.declared.node.NodeId.{NodeId}
 use Rattle.ill_schema.specs.declared.node.NodeId.TheVariants.{IllApdu}
@@ -18,20 +15,19 @@ use Rattle.ill_schema.specs.declared.part.Presence.{Presence}
 use Rattle.ill_schema.specs.declared.part.Row.{Row}
 use Rattle.ill_schema.specs.Apdu.{Apdu, MeansApdu, Encodes, SpellsApdu, choice_of, normal_form}
 use Rattle.ill_schema.specs.Content.{Content, simple, sequence, list, alternative, Entries, no_entries, absent, present, Items, no_items, item}
-use Rattle.ber_leaf.specs.Simple.{Simple, flag}
-use Rattle.ber_leaf.specs.Leaf.{Leaf, boolean, integer, enumerated, general_string, visible_string, printable_string, iso_date, iso_time, Holds, value, normal_content, content_fault}
-use Rattle.ber_core.specs.Octets.{are_octets}
-use Rattle.ber_leaf.specs.Profile.{Profile, profile_one, profile_two}
+use Rattle.ber_leaf.specs.Simple.{Simple}
+use Rattle.ber_leaf.specs.Leaf.{normal_content}
+use Rattle.ber_leaf.specs.Profile.{profile_one, profile_two}
 use Rattle.ill_schema.specs.Tagging.{Tagging, untagged, implicit, explicit, explicit_or_bare, tagging, Tagged, tag_tree, sequence_tag, leaf_tag}
 use Rattle.ill_schema.specs.Presence.{is_default}
 use Rattle.ill_schema.specs.Meaning.{Means, Matches, MatchItems, HoldsLeaf}
 use Rattle.ill_schema.specs.Normal.{normal_tree, normal_trees, normal_items}
 use Rattle.ber_core.specs.Der.{size, sizes, header_size}
 use Rattle.ill_schema.specs.Table.{rows_of}
-use Rattle.ber_leaf.proofs.Integers.{integer_same}
+use Rattle.ber_leaf.proofs.Leaves.{content_least}
 use Rattle.ill_schema.proofs.Normal.{same_tree}
 use Rattle.ber_core.proofs.Encodings.{length-encoding, three_parts}
-use Rattle.ill_schema.proofs.Wider.{tested, encodes_wider}
+use Rattle.ill_schema.proofs.Wider.{encodes_wider}
 
 -- a smaller length takes no more octets
 digits_grow : (m n : ℕ) → m ≤ n → length (digits_of 256 m) ≤ length (digits_of 256 n)
@@ -130,27 +126,6 @@ joined_least t n (primitive tag octets) e le =
 joined_least t n (constructed tag trees) e le =
     subst (λ s. header_size s false n + n ≤ size (constructed tag trees)) e
     (wrap_grows tag false true n (sizes trees) (let a = texts_least trees in omega arith))
-
-flag_size : (b : Bool) → length (normal_content (flag b)) ≡ 1
-flag_size true = refl
-flag_size false = refl
-
-one_octet : (n : ℕ) → nat_eq n 1 ≡ true → 1 ≤ n
-one_octet n h = grind arith
-
--- no content of a value is shorter than the normal one
-value_least : (p : Profile) (l : Leaf) (o : List ℕ) → IsTrue (are_octets o) → content_fault p l o ≡ None → length (normal_content (value l o)) ≤ length o
-value_least p boolean o h e = let q = one_octet (length o) (tested (nat_eq (length o) 1) LeafFault.BadBoolean e) in let f = flag_size (not (list_all (nat_eq 0) o)) in omega arith
-value_least p integer o h e = let s = ap length (integer_same o h p e) in omega arith
-value_least p enumerated o h e = let s = ap length (integer_same o h p e) in omega arith
-value_least p general_string o h e = omega arith
-value_least p visible_string o h e = omega arith
-value_least p printable_string o h e = omega arith
-value_least p iso_date o h e = omega arith
-value_least p iso_time o h e = omega arith
-
-content_least : (p : Profile) (l : Leaf) (v : Simple) (o : List ℕ) → Holds p l v o → length (normal_content v) ≤ length o
-content_least p l v o h = subst (λ w. length (normal_content w) ≤ length o) (sym h.2) (value_least p l o h.0 h.1)
 
 -- no wrapper may be left out
 abbrev IsPlain : Tagging → Type 0

@@ -1,7 +1,7 @@
 -- Streams of messages.
-use Rattle.std.proofs.Common.{◌≡◌, ◌⊎◌, ℕ, zero, suc, ◌<◌, ◌≤◌, Bool, true, false, List, [], ◌∷◌, ◌++◌, length, take, drop, refl, sym, inl, inr, ap, subst, ◌∙◌, arith, append_assoc, take-append-drop, length-append}
+use Rattle.std.proofs.Common.{◌≡◌, ℕ, zero, suc, ◌≤◌, Bool, true, false, List, [], ◌∷◌, ◌++◌, length, take, drop, refl, sym, inl, inr, ap, subst, ◌∙◌, arith, take-append-drop, length-append}
 use Rattle.ber_core.specs.Identifier.{Tag, HasIdentifier, identifier}
-use Rattle.ber_core.specs.Tree.{Tree, primitive, constructed, Spells, IsDefinite, IsIndefinite}
+use Rattle.ber_core.specs.Tree.{Tree, primitive, constructed, Spells}
 use Rattle.std.proofs.lemmas.List.{length-take-le}
 use Rattle.ber_core.proofs.Identifiers.{IsEnd, identifier_no_end}
 use Rattle.ber_core.proofs.Lists.{fronts}

@@ -5,14 +5,13 @@ use Rattle.std.specs.List.{list_all, list_any}
 use Rattle.std.proofs.lemmas.Bool.{and_parts}
 use Rattle.ber_core.specs.Identifier.{Tag}
 use Rattle.ill_schema.specs.declared.node.Kind.{Kind}
-use Rattle.ill_schema.specs.declared.node.LeafKind.{LeafKind}
 use Rattle.ill_schema.specs.declared.node.NodeId.{NodeId}
 use Rattle.ill_schema.specs.declared.node.NodeId.TheVariants.{Boolean}
 use Rattle.ill_schema.specs.declared.part.Row.{Row}
 use Rattle.ber_leaf.specs.Profile.{Profile}
-use Rattle.ill_schema.specs.Tagging.{Tagging, untagged, implicit, explicit, explicit_or_bare, tagging, universal, sequence_tag, same_tag}
+use Rattle.ill_schema.specs.Tagging.{Tagging, untagged, implicit, explicit, explicit_or_bare, tagging, sequence_tag, same_tag}
 use Rattle.ill_schema.specs.Table.{kind_of, rows_of}
-use Rattle.ill_schema.specs.TableFacts.{own_tags, tagging_tags, alternative_tags, kind_tags, node_tags, row_tags, are_distinct, has_different_tags, names_below}
+use Rattle.ill_schema.specs.TableFacts.{alternative_tags, row_tags, are_distinct, has_different_tags, names_below}
 
 abbrev pub is_proper : Tagging → Kind → Bool
 is_proper untagged kind = true

@@ -1,11 +1,8 @@
 -- What is spelled in profile one is spelled in profile two.
-use Rattle.std.proofs.Common.{◌≡◌, ◌⊎◌, ℕ, ◌≤◌, Bool, true, false, List, [], ◌∷◌, Option, Some, None, refl, sym, ap, subst, inl, inr, arith}
-use Rattle.std.specs.Prelude.{if◌then◌else◌}
-use Rattle.std.specs.List.{list_all}
+use Rattle.std.proofs.Common.{◌≡◌, ◌⊎◌, ℕ, ◌≤◌, List, [], ◌∷◌, Option, Some, None, refl, sym, subst, inl, inr, arith}
 use Rattle.ber_core.specs.declared.id.Class.{Class}
 use Rattle.ber_core.specs.Identifier.{Tag}
 use Rattle.ber_core.specs.Tree.{Tree, Trees, constructed, more, none}
-use Rattle.ber_leaf.specs.declared.fault.LeafFault.{LeafFault}
 use Rattle.ill_schema.specs.declared.part.Mode.{Mode}
 use Rattle.ill_schema.specs.declared.node.NodeId.{NodeId}
 use Rattle.ill_schema.specs.declared.node.NodeId.TheVariants.{IllApdu}
@@ -13,34 +10,11 @@ use Rattle.ill_schema.specs.declared.part.Presence.{Presence}
 use Rattle.ill_schema.specs.declared.part.Row.{Row}
 use Rattle.ill_schema.specs.Apdu.{Apdu, choice_of, Encodes, SpellsApdu}
 use Rattle.ill_schema.specs.Content.{Content, simple, sequence, list, alternative, Entries, no_entries, absent, present, Items, no_items, item}
-use Rattle.ber_leaf.specs.Leaf.{Leaf, boolean, integer, enumerated, general_string, visible_string, printable_string, iso_date, iso_time, content_fault}
-use Rattle.ber_leaf.specs.Profile.{profile_one, profile_two, is_graphic, is_no_shift}
+use Rattle.ber_leaf.specs.Profile.{profile_one, profile_two}
 use Rattle.ill_schema.specs.Tagging.{Tagging, untagged, implicit, explicit, explicit_or_bare, tagging, Tagged, leaf_tag, sequence_tag}
 use Rattle.ill_schema.specs.Meaning.{Means, Matches, MatchItems, HoldsLeaf}
 use Rattle.ill_schema.specs.Table.{rows_of}
-use Rattle.std.proofs.lemmas.Bool.{and_parts}
-
-wider_octet : (n : ℕ) → is_graphic n ≡ true → is_no_shift n ≡ true
-wider_octet n h = grind arith
-
-wider_octets : (os : List ℕ) → list_all is_graphic os ≡ true → list_all is_no_shift os ≡ true
-wider_octets [] h = refl
-wider_octets (o ∷ os) h = let p = and_parts (is_graphic o) (list_all is_graphic os) h in rw (wider_octet o p.0) (wider_octets os p.1)
-
-pub tested : (b : Bool) (c : LeafFault) → (if b then None else Some c) ≡ None → b ≡ true
-tested true c e = refl
-tested false c e = absurd cc
-
-wider_content : (limit : ℕ) (l : Leaf) (os : List ℕ) → content_fault (profile_one limit) l os ≡ None → content_fault profile_two l os ≡ None
-wider_content limit general_string os e =
-    ap (λ (b : Bool). if b then None else Some LeafFault.BadText) (wider_octets os (tested (list_all is_graphic os) LeafFault.BadText e))
-wider_content limit boolean os e = e
-wider_content limit integer os e = e
-wider_content limit enumerated os e = e
-wider_content limit visible_string os e = e
-wider_content limit printable_string os e = e
-wider_content limit iso_date os e = e
-wider_content limit iso_time os e = e
+use Rattle.ber_leaf.proofs.Leaves.{wider_content}
 
 Wider : Tagging → Tagging → Type 0
 Wider g h = (g ≡ h) ⊎ ((t : Tag) × (g ≡ explicit t) × (h ≡ explicit_or_bare t))

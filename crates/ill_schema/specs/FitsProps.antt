@@ -1,5 +1,5 @@
 -- That a value fits its node is a proposition: it has one proof at most.
-use Rattle.std.specs.Prelude.{◌≡◌, ◌≤◌, ℕ, List, [], ◌∷◌, Option, Some, None, slice_get}
+use Rattle.std.specs.Prelude.{◌≡◌, ℕ, List, [], ◌∷◌, Option, Some, slice_get}
 use Rattle.std.specs.Coded.{Coded, Coded-set, codes, coded_option, ×_prop, Unit-prop, le_prop}
 use mathlib.Core.HLevel.{is_prop→PathP, ×₃_prop}
 use Rattle.ber_leaf.specs.Simple.{Simple}

@@ -2,6 +2,7 @@ pub mod Content
 pub mod Table
 pub mod TableFacts
 pub mod Presence
+pub mod Causes
 pub mod Tagging
 pub mod Meaning
 pub mod Normal

@@ -1,7 +1,6 @@
 -- The normal tree of a value: the tree that DER encodes (X.690, 10.2, 11.1 and 11.5).
-use Rattle.std.specs.Prelude.{ℕ, ◌+◌, Bool, true, false, List, [], ◌∷◌, ◌++◌, length, Some, None, slice_get}
-use Rattle.ber_core.specs.Identifier.{Tag, identifier}
-use Rattle.ber_core.specs.Length.{shortest_length}
+use Rattle.std.specs.Prelude.{true, false, List, ◌∷◌, Some, None, slice_get}
+use Rattle.ber_core.specs.Identifier.{Tag}
 use Rattle.ber_core.specs.Tree.{Tree, Trees, primitive, constructed, none, more}
 use Rattle.ill_schema.specs.declared.node.NodeId.{NodeId}
 use Rattle.ill_schema.specs.declared.part.Row.{Row}

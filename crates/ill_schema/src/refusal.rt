@@ -1,4 +1,5 @@
 use crate::part::PartId;
+use ber_leaf::LeafFault;
 
 /// Why a message is refused.
 #[derive(Clone, Copy, Debug, PartialEq, Eq)]
@@ -41,6 +42,24 @@ pub enum Cause {
     TrailingBytes,
     /// The message's normal form would pass the limit.
     NormalTooLong,
+}
+
+impl From<LeafFault> for Cause {
+    ghost use Rattle.std.specs.Prelude.{◌≡◌};
+    ghost use Rattle.ill_schema.specs.Causes.{cause_of};
+
+    ghost from_gives = { λ fault cause. cause ≡ cause_of fault };
+
+    fn from(fault: LeafFault) -> Cause {
+        match fault {
+            LeafFault::BadBoolean => Cause::BadBoolean,
+            LeafFault::BadInteger => Cause::BadInteger,
+            LeafFault::IntegerTooLong => Cause::IntegerTooLong,
+            LeafFault::BadText => Cause::BadText,
+            LeafFault::BadDate => Cause::BadDate,
+            LeafFault::BadTime => Cause::BadTime,
+        }
+    }
 }
 
 /// A refusal: its cause, and the offset in octets, from 0, of what it is about.

@@ -1,0 +1,15 @@
+pub mod Machine
+pub mod Sequences
+pub mod Elements
+pub mod Openings
+pub mod Readings
+pub mod Judging
+pub mod Running
+pub mod Reaching
+pub mod Placing
+pub mod Outcomes
+pub mod Longer
+pub mod Beginnings
+pub mod Feeding
+pub mod Places
+pub mod Heads

@@ -1,0 +1,89 @@
+-- A machine that goes from place to place.
+use Rattle.std.proofs.Common.{◌≡◌, ℕ, zero, suc, ◌+◌, ◌*◌, List, [], ◌∷◌, length, drop, Option, refl, sym, ap, ◌∙◌, arith}
+use Rattle.ber_core.specs.Identifier.{Tag}
+use Rattle.ber_core.specs.Tree.{Tree, Trees, primitive, constructed, none, more}
+use Rattle.ber_leaf.specs.Profile.{Profile}
+use Rattle.ill_read.specs.Element.{Element}
+use Rattle.ill_read.specs.Place.{Open}
+use Rattle.ill_read.specs.Fault.{Fault, Judgement, faulty, closes, opens, reads, judge}
+
+pub data Step : Type 0 where
+  refused : Fault → Step
+  -- the message's tree, and where it ends
+  whole : Tree → ℕ → Step
+  -- the next place, and the octets behind it
+  goes : List Open → ℕ → List ℕ → Step
+  stuck : Step
+
+abbrev pub snoc : Trees → Tree → Trees
+snoc none T = more T none
+snoc (more U ts) T = more U (snoc ts T)
+
+abbrev pub with_tree : List Open → Tree → ℕ → List ℕ → Step
+with_tree [] T k rest = whole T k
+with_tree (o ∷ path) T k rest = goes (record o { trees = snoc o.trees T } ∷ path) k rest
+
+abbrev pub close : List Open → ℕ → List ℕ → Step
+close [] k rest = stuck
+close (o ∷ path) k rest = with_tree path (constructed o.tag o.trees) k rest
+
+abbrev pub opened : Element → Tag → ℕ → Option ℕ → Open
+opened e tag k end = record { element = e; tag = tag; start = k; end = end; trees = none }
+
+abbrev pub moved : Judgement → List Open → ℕ → List ℕ → Step
+moved (faulty f) path k rest = refused f
+moved (closes m) path k rest = close path (k + m) (drop m rest)
+moved (opens tag e h end) path k rest = goes (opened e tag k end ∷ path) (k + h) (drop h rest)
+moved (reads tag h content) path k rest = with_tree path (primitive tag content) (k + h + length content) (drop (h + length content) rest)
+
+abbrev pub step : Profile → List Open → ℕ → List ℕ → Step
+step p path k rest = moved (judge p path k rest) path k rest
+
+abbrev pub next : Profile → Step → Step
+next p (goes path k rest) = step p path k rest
+next p (refused f) = refused f
+next p (whole T n) = whole T n
+next p stuck = stuck
+
+-- so many steps further
+abbrev pub after : Profile → ℕ → Step → Step
+after p zero st = st
+after p (suc n) st = after p n (next p st)
+
+abbrev pub Runs : Profile → Step → Step → Type 0
+Runs p a b = (n : ℕ) × (after p n a ≡ b)
+
+pub after-sum : (p : Profile) (m n : ℕ) (a : Step) → after p (m + n) a ≡ after p n (after p m a)
+after-sum p zero n a = let e : zero + n ≡ n = omega arith in ap (λ k. after p k a) e
+after-sum p (suc m) n a = let e : suc m + n ≡ suc (m + n) = omega arith in ap (λ k. after p k a) e ∙ after-sum p m n (next p a)
+
+pub runs-none : (p : Profile) (a : Step) → Runs p a a
+runs-none p a = (0, refl)
+
+pub runs-step : (p : Profile) (path : List Open) (k : ℕ) (rest : List ℕ) (b : Step) → step p path k rest ≡ b → Runs p (goes path k rest) b
+runs-step p path k rest b e = (1, e)
+
+pub runs-trans : (p : Profile) (a b c : Step) → Runs p a b → Runs p b c → Runs p a c
+runs-trans p a b c h k = (h.0 + k.0, after-sum p h.0 k.0 a ∙ ap (after p k.0) h.1 ∙ k.1)
+
+-- the machine stays there
+abbrev pub IsFinal : Step → Type 0
+IsFinal (goes path k rest) = ⊥
+IsFinal _ = Unit {0}
+
+stays : (p : Profile) (n : ℕ) (a : Step) → IsFinal a → after p n a ≡ a
+stays p zero a h = refl
+stays p (suc n) (refused f) h = stays p n (refused f) h
+stays p (suc n) (whole T k) h = stays p n (whole T k) h
+stays p (suc n) stuck h = stays p n stuck h
+stays p (suc n) (goes path k rest) h = absurd h
+
+-- a machine is a function: it ends in one way
+pub one_end : (p : Profile) (a b c : Step) → IsFinal b → IsFinal c → Runs p a b → Runs p a c → b ≡ c
+one_end p a b c f g h k =
+    let e : h.0 + k.0 ≡ k.0 + h.0 = omega arith in
+    sym (after-sum p h.0 k.0 a ∙ ap (after p k.0) h.1 ∙ stays p k.0 b f) ∙ ap (λ n. after p n a) e ∙ after-sum p k.0 h.0 a ∙ ap (after p h.0) k.1 ∙ stays p h.0 c g
+
+-- each step consumes two octets at least or closes an element, so these are enough
+abbrev pub read : Profile → List ℕ → Step
+read p s = after p (2 * length s + 2) (goes [] 0 s)
