@@ -36,3 +36,6 @@ pub use table::rows_of;
 pub use tagging::{replacement, wrapper};
 pub use unfit::Unfit;
 pub use value::Value;
+
+#[cfg(test)]
+mod tests;
