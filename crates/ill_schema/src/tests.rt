@@ -1,4 +1,4 @@
-//! Worked messages, built by hand, with their sizes from outside.
+//! Worked messages, with their sizes from outside.
 
 use crate::{
     Kind, LIMIT, LeafKind, Message, Mode, NodeId, PartId, Presence, Unfit, Value, apdu_name,
@@ -13,267 +13,233 @@ use std::alloc::{AllocError, Global};
 use std::boxed::Box;
 use std::test::Fail;
 
-fn general(alloc: Global, octets: &[u8]) -> Result<Value, Fail> {
-    let octets = Vec::from_slice(alloc, octets)?;
+/// The rows that each APDU begins with: version 2, group "G", qualifier "Q", 29 February 2024.
+///
+/// A value is written part by part, and then what it is: `seq:n` of the last n parts, `list:n`, or
+/// `alt:n`, the alternative of row n. `-` is an absent part, and `none:n` is n of them.
+const HEAD: &str = "2 - general:G general:Q - seq:4 date:20240229 - seq:2 - seq:2 - -";
+
+/// A row a line: its name, the APDU's number, the size of the normal form or why there is none, and the rows behind the head.
+const ROWS: &str = "\
+message-new-of-expired 20 33 - seq:6
+message-new-of-no-such-apdu 21 NotCarried - seq:6
+apdu-that-is-left-out 2 NotCarried - seq:6
+apdu-zero 0 NotCarried - seq:6
+too-few-entries 20 DoesNotFit seq:5
+note-within-the-second-limit 17 65536 letters:65490 - seq:7
+note-of-the-limit 17 1048576 letters:1048526 - seq:7
+message-new-past-second-limit 17 TooLong letters:1048527 - seq:7
+request-normal-form 1 54 1 none:3 1 list:1 - false false 1 1 seq:4 none:2 3 - none:23 seq:23 none:4 false false none:3 seq:26
+sizes-total-of-request-with-delivery 1 62 1 - general:mail alt:0 - 1 list:1 - false false 1 1 seq:4 none:2 3 - none:23 seq:23 none:4 false false none:3 seq:26
+request-with-empty-client-id 1 56 1 none:3 1 list:1 - false false 1 1 seq:4 none:2 3 none:3 seq:3 none:23 seq:23 none:4 false false none:3 seq:26
+overdue-normal-form 12 46 date:20240229 true seq:2 none:2 seq:8
+overdue-not-renewable 12 49 date:20240229 false seq:2 none:2 seq:8
+sizes-total-of-deep-answer 4 60 3 1 general:L alt:1 - seq:2 none:2 seq:3 list:1 seq:2 alt:2 none:7 seq:14";
+
+fn general(octets: Vec<u8>) -> Result<Value, Fail> {
     if GeneralText::check(&octets).is_some() {
         return Err("no GeneralString")?;
     }
     Ok(Value::Str(IllString::General(GeneralText::of(octets))))
 }
 
-fn visible(alloc: Global, octets: &[u8]) -> Result<Value, Fail> {
-    let octets = Vec::from_slice(alloc, octets)?;
+fn visible(octets: Vec<u8>) -> Result<Value, Fail> {
     if VisibleText::check(&octets).is_some() {
         return Err("no VisibleString")?;
     }
     Ok(Value::Str(IllString::Visible(VisibleText::of(octets))))
 }
 
-fn date(alloc: Global) -> Result<Value, Fail> {
-    let octets = Vec::from_slice(alloc, b"20240229")?;
+fn date(octets: Vec<u8>) -> Result<Value, Fail> {
     if DateText::check(&octets).is_some() {
         return Err("no ISO-Date")?;
     }
     Ok(Value::Date(DateText::of(octets)))
 }
 
-/// Adds rows that hold nothing.
-fn skip(entries: &mut Vec<Option<Value>>, count: u8) -> Result<(), AllocError> {
+fn leaf(alloc: Global, word: &str) -> Result<Value, Fail> {
+    let (kind, text) = word.split_once(':').unwrap_or((word, ""));
+    match kind {
+        "false" => Ok(Value::Flag(false)),
+        "true" => Ok(Value::Flag(true)),
+        "general" => general(Vec::from_slice(alloc, text.as_bytes())?),
+        "visible" => visible(Vec::from_slice(alloc, text.as_bytes())?),
+        "date" => date(Vec::from_slice(alloc, text.as_bytes())?),
+        "letters" => general(vec![in alloc; b'A'; text.parse::<usize>()?]?),
+        _ => Ok(Value::Whole(word.parse::<i64>()?)),
+    }
+}
+
+/// Takes off the last parts.
+fn last(parts: &mut Vec<Option<Value>>, count: usize) -> Result<Vec<Option<Value>>, Fail> {
+    if count > parts.len() {
+        return Err("too few parts")?;
+    }
+    let at = parts.len() - count;
+    Ok(parts.split_off(at)?)
+}
+
+fn skip(parts: &mut Vec<Option<Value>>, count: usize) -> Result<(), AllocError> {
     for _ in 0..count {
-        entries.push(None)?;
+        parts.push(None)?;
     }
     Ok(())
 }
 
-/// The five rows that each APDU begins with: version 2, group "G", qualifier "Q", 29 February 2024.
-fn head(alloc: Global, group: Value) -> Result<Vec<Option<Value>>, Fail> {
-    let transaction = vec![in alloc; None, Some(group), Some(general(alloc, b"Q")?), None]?;
-    let day = vec![in alloc; Some(date(alloc)?), None]?;
-    let service = vec![in alloc; Some(Value::Seq(day)), None]?;
-    let mut entries = vec![in alloc;
-        Some(Value::Whole(2)),
-        Some(Value::Seq(transaction)),
-        Some(Value::Seq(service)),
-    ]?;
-    skip(&mut entries, 2)?;
-    Ok(entries)
+fn list(alloc: Global, parts: Vec<Option<Value>>) -> Result<Value, Fail> {
+    let mut items = Vec::new(alloc);
+    for part in parts {
+        items.push(part.ok_or("an absent item")?)?;
+    }
+    Ok(Value::List(items))
 }
 
-/// The body of the Expired that `expired-normal-form` spells.
+fn chosen(alloc: Global, parts: &mut Vec<Option<Value>>, number: u8) -> Result<Value, Fail> {
+    match parts.pop() {
+        Some(Some(value)) => Ok(Value::Alt(number, Box::new(alloc, value)?)),
+        _ => Err("no alternative")?,
+    }
+}
+
+/// Adds what a word says to the parts.
+fn add(alloc: Global, parts: &mut Vec<Option<Value>>, word: &str) -> Result<(), Fail> {
+    let (kind, count) = word.split_once(':').unwrap_or((word, ""));
+    match kind {
+        "-" => Ok(parts.push(None)?),
+        "none" => Ok(skip(parts, count.parse::<usize>()?)?),
+        "seq" => {
+            let entries = last(parts, count.parse::<usize>()?)?;
+            Ok(parts.push(Some(Value::Seq(entries)))?)
+        }
+        "list" => {
+            let items = last(parts, count.parse::<usize>()?)?;
+            Ok(parts.push(Some(list(alloc, items)?))?)
+        }
+        "alt" => {
+            let value = chosen(alloc, parts, count.parse::<u8>()?)?;
+            Ok(parts.push(Some(value))?)
+        }
+        _ => Ok(parts.push(Some(leaf(alloc, word)?))?),
+    }
+}
+
+/// The value that the words write.
+fn value(alloc: Global, head: &str, rest: &str) -> Result<Value, Fail> {
+    let mut parts = Vec::new(alloc);
+    for word in head.split(' ') {
+        add(alloc, &mut parts, word)?;
+    }
+    for word in rest.split(' ') {
+        add(alloc, &mut parts, word)?;
+    }
+    match parts.pop() {
+        Some(Some(value)) => Ok(value),
+        _ => Err("no value")?,
+    }
+}
+
+/// The body of the Expired that row `expired-normal-form` spells.
 fn expired(alloc: Global) -> Result<Value, Fail> {
-    let mut entries = head(alloc, general(alloc, b"G")?)?;
-    skip(&mut entries, 1)?;
-    Ok(Value::Seq(entries))
+    value(alloc, HEAD, "- seq:6")
 }
 
-/// The body of a Message whose note is so many times the letter A.
-fn noted(alloc: Global, length: usize) -> Result<Value, Fail> {
-    let mut entries = head(alloc, general(alloc, b"G")?)?;
-    let note = vec![in alloc; b'A'; length]?;
-    entries.push(Some(general(alloc, &note)?))?;
-    skip(&mut entries, 1)?;
-    Ok(Value::Seq(entries))
-}
-
-/// The body of an Overdue.
-fn overdue(alloc: Global, renewable: bool) -> Result<Value, Fail> {
-    let mut entries = head(alloc, general(alloc, b"G")?)?;
-    let due = vec![in alloc; Some(date(alloc)?), Some(Value::Flag(renewable))]?;
-    entries.push(Some(Value::Seq(due)))?;
-    skip(&mut entries, 2)?;
-    Ok(Value::Seq(entries))
-}
-
-/// The body of the ILL-Request that `request-normal-form` spells, with what stands in its delivery
-/// service and its client's identification.
-fn request(alloc: Global, service: Option<Value>, client: Option<Value>) -> Result<Value, Fail> {
-    let messages = vec![in alloc;
-        Some(Value::Flag(false)),
-        Some(Value::Flag(false)),
-        Some(Value::Whole(1)),
-        Some(Value::Whole(1)),
-    ]?;
-    let mut item = Vec::new(alloc);
-    skip(&mut item, 23)?;
-    let mut entries = head(alloc, general(alloc, b"G")?)?;
-    entries.push(Some(Value::Whole(1)))?;
-    skip(&mut entries, 1)?;
-    entries.push(service)?;
-    skip(&mut entries, 1)?;
-    entries.push(Some(Value::List(vec![in alloc; Value::Whole(1)]?)))?;
-    skip(&mut entries, 1)?;
-    entries.push(Some(Value::Seq(messages)))?;
-    skip(&mut entries, 2)?;
-    entries.push(Some(Value::Whole(3)))?;
-    entries.push(client)?;
-    entries.push(Some(Value::Seq(item)))?;
-    skip(&mut entries, 4)?;
-    entries.push(Some(Value::Flag(false)))?;
-    entries.push(Some(Value::Flag(false)))?;
-    skip(&mut entries, 3)?;
-    Ok(Value::Seq(entries))
+fn expectation(word: &str) -> Result<Result<u32, Unfit>, Fail> {
+    match word {
+        "NotCarried" => Ok(Err(Unfit::NotCarried)),
+        "DoesNotFit" => Ok(Err(Unfit::DoesNotFit)),
+        "TooLong" => Ok(Err(Unfit::TooLong)),
+        _ => Ok(Ok(word.parse::<u32>()?)),
+    }
 }
 
 /// The octets of the message's normal form, or why there is none.
 fn new_size(apdu: u8, body: Value) -> Result<u32, Unfit> {
     match Message::new(apdu, body) {
         Ok(message) => Ok(message.octets()),
-        Err((_, unfit)) => Err(unfit),
+        Err((_body, unfit)) => Err(unfit),
+    }
+}
+
+fn message(apdu: u8, body: Value) -> Result<Message, Fail> {
+    match Message::new(apdu, body) {
+        Ok(message) => Ok(message),
+        Err((_body, _unfit)) => Err("no message")?,
+    }
+}
+
+fn refused(apdu: u8, body: Value) -> Result<Value, Fail> {
+    match Message::new(apdu, body) {
+        Ok(_message) => Err("a message")?,
+        Err((body, _unfit)) => Ok(body),
     }
 }
 
 #[test]
 fn message_new(rt: HostRuntime) -> Result<(), Fail> {
-    let alloc = rt.alloc();
-    assert_eq!(rt;
-        new_size(20, expired(alloc)?),
-        Ok(33),
-        "message-new-of-expired"
-    );
-    assert_eq!(rt;
-        new_size(21, expired(alloc)?),
-        Err(Unfit::NotCarried),
-        "message-new-of-no-such-apdu"
-    );
-    assert_eq!(rt; new_size(2, expired(alloc)?), Err(Unfit::NotCarried));
-    assert_eq!(rt; new_size(0, expired(alloc)?), Err(Unfit::NotCarried));
-    assert_eq!(rt;
-        new_size(20, Value::Flag(true)),
-        Err(Unfit::DoesNotFit),
-        "message-new-of-a-flag"
-    );
-    assert_eq!(rt;
-        new_size(17, noted(alloc, 65_490)?),
-        Ok(65_536),
-        "note-within-the-second-limit"
-    );
-    assert_eq!(rt; new_size(17, noted(alloc, 1_048_526)?), Ok(LIMIT));
-    assert_eq!(rt;
-        new_size(17, noted(alloc, 1_048_527)?),
-        Err(Unfit::TooLong),
-        "message-new-past-second-limit"
-    );
+    for line in ROWS.lines() {
+        let (name, rest) = line.split_once(' ').ok_or("a name")?;
+        let (apdu, rest) = rest.split_once(' ').ok_or("a number")?;
+        let (expected, parts) = rest.split_once(' ').ok_or("an outcome")?;
+        let body = value(rt.alloc(), HEAD, parts)?;
+        let found = new_size(apdu.parse::<u8>()?, body);
+        assert_eq!(rt; found, expectation(expected)?, "{name}");
+    }
+    assert_eq!(rt; LIMIT, 1_048_576);
     Ok(())
+}
+
+#[test]
+fn message_new_of_a_flag(rt: HostRuntime) {
+    assert_eq!(rt; new_size(20, Value::Flag(true)), Err(Unfit::DoesNotFit));
 }
 
 #[test]
 fn refused_body_comes_back(rt: HostRuntime) -> Result<(), Fail> {
-    match Message::new(21, expired(rt.alloc())?) {
-        Ok(_) => Err("a message")?,
-        Err((body, _)) => assert!(rt; equal(&body, &expired(rt.alloc())?)),
-    }
+    let body = refused(21, expired(rt.alloc())?)?;
+    assert!(rt; equal(&body, &expired(rt.alloc())?));
     Ok(())
 }
 
 #[test]
-fn normal_sizes(rt: HostRuntime) -> Result<(), Fail> {
-    let alloc = rt.alloc();
-    let mail = Value::Alt(0, Box::new(alloc, general(alloc, b"mail")?)?);
-    let client = Value::Seq(vec![in alloc; None, None, None]?);
-    assert_eq!(rt;
-        new_size(1, request(alloc, None, None)?),
-        Ok(54),
-        "request-normal-form"
-    );
-    assert_eq!(rt;
-        new_size(1, request(alloc, Some(mail), None)?),
-        Ok(62),
-        "sizes-total-of-request-with-delivery"
-    );
-    assert_eq!(rt;
-        new_size(1, request(alloc, None, Some(client))?),
-        Ok(56),
-        "request-with-empty-client-id"
-    );
-    assert_eq!(rt;
-        new_size(12, overdue(alloc, true)?),
-        Ok(46),
-        "overdue-normal-form"
-    );
-    assert_eq!(rt;
-        new_size(12, overdue(alloc, false)?),
-        Ok(49),
-        "overdue-not-renewable"
-    );
-    Ok(())
-}
-
-#[test]
-fn deep_answer(rt: HostRuntime) -> Result<(), Fail> {
-    let alloc = rt.alloc();
-    let symbol = Value::Alt(1, Box::new(alloc, general(alloc, b"L")?)?);
-    let system = Value::Seq(vec![in alloc; Some(symbol), None]?);
-    let place = Value::Seq(vec![in alloc; Some(system), None, None]?);
-    let places = Value::List(vec![in alloc; place]?);
-    let unfilled = Value::Seq(vec![in alloc; Some(Value::Whole(1)), Some(places)]?);
-    let mut entries = head(alloc, general(alloc, b"G")?)?;
-    entries.push(Some(Value::Whole(3)))?;
-    entries.push(Some(Value::Alt(2, Box::new(alloc, unfilled)?)))?;
-    skip(&mut entries, 7)?;
-    assert_eq!(rt;
-        new_size(4, Value::Seq(entries)),
-        Ok(60),
-        "sizes-total-of-deep-answer"
-    );
-    Ok(())
-}
-
-#[test]
-fn fits_a_node(rt: HostRuntime) -> Result<(), Fail> {
-    let alloc = rt.alloc();
-    let due = Value::Seq(vec![in alloc; Some(date(alloc)?)]?);
-    assert!(rt; !fits(&due, NodeId::DATE_DUE), "date-due-of-one-entry");
-    assert!(rt;
-        !fits(&Value::Flag(true), NodeId::SYSTEM_ID),
-        "system-id-from-a-flag"
-    );
+fn system_id_from_a_flag(rt: HostRuntime) {
+    assert!(rt; !fits(&Value::Flag(true), NodeId::SYSTEM_ID));
     assert!(rt; fits(&Value::Flag(true), NodeId::BOOLEAN));
     assert!(rt; fits(&Value::Whole(-1), NodeId::ENUMERATED));
-    assert!(rt; !fits(&Value::List(Vec::new(alloc)), NodeId::DATE_DUE));
+}
+
+#[test]
+fn date_due_of_one_entry(rt: HostRuntime) -> Result<(), Fail> {
+    let due = value(rt.alloc(), "date:20240229", "seq:1")?;
+    assert!(rt; !fits(&due, NodeId::DATE_DUE));
     Ok(())
 }
 
 #[test]
 fn sizes_of_nodes(rt: HostRuntime) {
     let flag = Value::Flag(true);
-    if fits(&flag, NodeId::BOOLEAN) {
-        assert_eq!(rt; normal_size(&flag, NodeId::BOOLEAN), Some(3));
-    }
+    assert!(rt; fits(&flag, NodeId::BOOLEAN));
+    assert_eq!(rt; normal_size(&flag, NodeId::BOOLEAN), Some(3));
     let least = Value::Whole(-9_223_372_036_854_775_808);
-    if fits(&least, NodeId::INTEGER) {
-        assert_eq!(rt; normal_size(&least, NodeId::INTEGER), Some(10));
-    }
+    assert!(rt; fits(&least, NodeId::INTEGER));
+    assert_eq!(rt; normal_size(&least, NodeId::INTEGER), Some(10));
 }
 
 #[test]
-fn equality(rt: HostRuntime) -> Result<(), Fail> {
-    let alloc = rt.alloc();
-    let mut other = head(alloc, visible(alloc, b"G")?)?;
-    skip(&mut other, 1)?;
-    let other = Value::Seq(other);
-    assert!(rt; equal(&expired(alloc)?, &expired(alloc)?));
-    assert!(rt;
-        !equal(&expired(alloc)?, &other),
-        "visible-differs-from-general"
-    );
-    assert!(rt; !equal(&Value::Flag(true), &Value::Whole(1)));
-    match (Message::new(20, expired(alloc)?), Message::new(20, other)) {
-        (Ok(a), Ok(b)) => {
-            assert!(rt; a.same_apdu(&a));
-            assert!(rt; !a.same_apdu(&b));
-            assert_eq!(rt; b.octets(), 33, "group-qualifier-visible");
-        }
-        _ => Err("no message")?,
-    }
+fn visible_differs_from_general(rt: HostRuntime) -> Result<(), Fail> {
+    let head = "2 - visible:G general:Q - seq:4 date:20240229 - seq:2 - seq:2 - -";
+    let a = message(20, expired(rt.alloc())?)?;
+    let b = message(20, value(rt.alloc(), head, "- seq:6")?)?;
+    assert!(rt; a.same_apdu(&a));
+    assert!(rt; !a.same_apdu(&b));
+    assert_eq!(rt; b.octets(), 33, "group-qualifier-visible");
     Ok(())
 }
 
 #[test]
 fn a_message_keeps_its_parts(rt: HostRuntime) -> Result<(), Fail> {
-    let alloc = rt.alloc();
-    let made = Message::new(20, expired(alloc)?).ok().ok_or("no message")?;
+    let made = message(20, expired(rt.alloc())?)?;
     assert_eq!(rt; made.apdu(), 20);
-    assert!(rt; equal(made.body(), &expired(alloc)?));
+    assert!(rt; equal(made.body(), &expired(rt.alloc())?));
     let read = Message::of(20, made.into_body(), 47);
     assert_eq!(rt; read.octets(), 47);
     Ok(())
