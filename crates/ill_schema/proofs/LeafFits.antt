@@ -1,13 +1,15 @@
 -- Which leaves fit a node: those of its kind.
-use Rattle.std.proofs.Common.{◌≡◌, ◌↔◌, ℕ, ℤ, FitsSigned, w64, Bool, List, Some, refl, ap}
+use Rattle.std.proofs.Common.{◌≡◌, ◌↔◌, ◌<◌, ℕ, ℤ, pos, negsuc, arith, FitsSigned, w64, Bool, List, Some, refl, ap}
+use Rattle.std.proofs.lemmas.Int.{ints}
 use Rattle.ber_leaf.specs.Content.{IsContent}
 use Rattle.ber_leaf.specs.declared.text.ill_string.IllString.{IllString}
 use Rattle.ber_leaf.specs.declared.text.ill_string.IllString.TheVariants.{General, Visible}
-use Rattle.ber_leaf.specs.Leaf.{Leaf, boolean, integer, enumerated, general_string, visible_string, printable_string, iso_date, iso_time, Holds, normal_content}
+use Rattle.ber_leaf.specs.Leaf.{Leaf, boolean, integer, enumerated, general_string, visible_string, printable_string, iso_date, iso_time, Holds, normal_content, reach}
 use Rattle.ber_leaf.specs.Profile.{profile_two}
 use Rattle.ber_leaf.specs.Simple.{flag, whole, date, time, printable, general, visible}
+use Rattle.ber_leaf.proofs.Integers.{whole_held}
+use Rattle.ber_leaf.proofs.Leaves.{flag_holds, content_holds}
 use Rattle.ber_leaf.specs.Strings.{string_leaf, string_octets, string_value}
-use Rattle.ber_leaf.proofs.Leaves.{content_holds, flag_holds}
 use Rattle.ill_schema.specs.declared.node.Kind.{Kind}
 use Rattle.ill_schema.specs.declared.node.LeafKind.{LeafKind}
 use Rattle.ill_schema.specs.declared.node.NodeId.{NodeId}
@@ -15,7 +17,6 @@ use Rattle.ill_schema.specs.Fits.{FitsSimple}
 use Rattle.ill_schema.specs.Table.{kind_of}
 use Rattle.ill_schema.specs.Tagging.{leaf_of}
 use Rattle.ill_schema.specs.ValueFits.{IsNumeric}
-use Rattle.ill_schema.proofs.Numbers.{whole_holds}
 
 pub through : {A B C : Type 0} → (A ↔ B) → (B ↔ C) → (A ↔ C)
 through f g = (λ a. g.0 (f.0 a), λ c. f.1 (g.1 c))
@@ -60,6 +61,14 @@ string_fits node (General text) h =
     (λ e. (general_string, ap (λ (k : Kind). leaf_of k (general text)) e, content_holds general_string text h), λ f. string_kind (kind_of node) (General text) f.0 f.1)
 string_fits node (Visible text) h =
     (λ e. (visible_string, ap (λ (k : Kind). leaf_of k (visible text)) e, content_holds visible_string text h), λ f. string_kind (kind_of node) (Visible text) f.0 f.1)
+
+-- the numbers of 64 bits have contents
+whole_holds : (n : ℤ) → FitsSigned w64 n → Holds profile_two integer (whole n) (normal_content (whole n))
+whole_holds n h = whole_held profile_two n (within n h)
+  where
+    within : (n : ℤ) → FitsSigned w64 n → reach n < 9_223_372_036_854_775_808
+    within (pos n) h = omega (arith, ints, h)
+    within (negsuc n) h = omega (arith, ints, h)
 
 abbrev HasWhole : Kind → ℤ → Type 0
 HasWhole k n = (leaf : Leaf) × (leaf_of k (whole n) ≡ Some leaf) × Holds profile_two leaf (whole n) (normal_content (whole n))

@@ -12,4 +12,6 @@ pub mod WorkedRows
 pub mod Contents
 pub mod LeafFits
 pub mod RowFits
-pub mod Numbers
+pub mod Trees
+pub mod Sizes
+pub mod Carried

@@ -12,3 +12,7 @@ pub mod Names
 pub mod FitsProps
 pub mod Value
 pub mod ValueFits
+pub mod Elements
+pub mod Sizes
+pub mod Message
+pub mod Unfit

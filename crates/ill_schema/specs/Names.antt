@@ -116,11 +116,11 @@ names_of _ = ([], [])
 abbrev pub part_name_of : PartId → Option (List ℕ × List ℕ)
 part_name_of part = let names = names_of part.node in option_map (λ row. (names.0, row)) (slice_get names.1 part.row)
 
-abbrev carried : Presence → NodeId → Option NodeId
+abbrev pub carried : Presence → NodeId → Option NodeId
 carried Presence.LeftOut node = None
 carried _ node = Some node
 
-abbrev carried_node : Option Row → Option NodeId
+abbrev pub carried_node : Option Row → Option NodeId
 carried_node None = None
 carried_node (Some row) = carried row.presence row.node
 

@@ -1,9 +1,10 @@
 -- The content that a `Value` stands for: texts as their octets, and lists for the `Vec`s.
-use Rattle.std.specs.Prelude.{List, [], ◌∷◌, map, Option, Some, None, option_map}
+use Rattle.std.specs.Prelude.{ℕ, List, [], ◌∷◌, map, Option, Some, None, option_map}
 use Rattle.ber_leaf.specs.Simple.{flag, whole, date, time, printable}
 use Rattle.ber_leaf.specs.Strings.{string_value}
 use Rattle.ill_schema.specs.declared.value.Value.{Value, fold-Value}
 use Rattle.ill_schema.specs.declared.value.Value.TheOpen.{Value-F}
+use Rattle.ill_schema.specs.Apdu.{Apdu}
 use Rattle.ill_schema.specs.Content.{Content, simple, sequence, list, alternative, Entries, no_entries, absent, present, Items, no_items, item}
 
 abbrev pub entries_of : List (Option Content) → Entries
@@ -35,3 +36,6 @@ entries_content es = entries_of (map (option_map content_of) es)
 
 abbrev pub items_content : List Value → Items
 items_content vs = items_of (map content_of vs)
+
+abbrev pub apdu_with : ℕ → Value → Apdu
+apdu_with number body = record { number = number; body = content_of body }

@@ -1,17 +1,23 @@
 //! The tables of ILL messages, their values, what octets mean by them, and the normal form.
 #![tactic(auto)]
 
+mod entry;
 mod equality;
 mod laws;
 mod lookup;
+mod message;
 mod names;
 mod node;
 mod part;
 mod refusal;
 mod shape;
+mod size;
 mod table;
+mod tagging;
+mod unfit;
 mod value;
 
+pub use entry::{is_carried, is_default, may_lack};
 pub use equality::equal;
 pub use laws::{
     normal_form_is_a_spelling, normal_form_is_no_longer, normal_form_is_one_to_one,
@@ -19,10 +25,17 @@ pub use laws::{
     tables_are_well_formed, what_is_meant_fits,
 };
 pub use lookup::{kind, row, rows};
+pub use message::Message;
 pub use names::{apdu_name, apdu_node, part_name};
 pub use node::{Kind, LeafKind, NodeId};
 pub use part::{Mode, PartId, Presence, Row};
 pub use refusal::{Cause, Refusal};
 pub use shape::fits;
+pub use size::{LIMIT, normal_size};
 pub use table::rows_of;
+pub use tagging::{replacement, wrapper};
+pub use unfit::Unfit;
 pub use value::Value;
+
+#[cfg(test)]
+mod tests;

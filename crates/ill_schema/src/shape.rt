@@ -5,32 +5,18 @@ ghost use Rattle.ber_leaf.specs.Simple.{flag, whole, date, time, printable};
 ghost use Rattle.ber_leaf.specs.Strings.{string_value};
 ghost use Rattle.ill_schema.specs.Fits.{FitsSimple, Fits};
 ghost use Rattle.ill_schema.specs.Meaning.{IsAlternative};
-ghost use Rattle.ill_schema.specs.Presence.{IsCarried, MayLack};
 ghost use Rattle.ill_schema.specs.Table.{kind_of};
 ghost use Rattle.ill_schema.specs.Value.{content_of};
 ghost use Rattle.ill_schema.specs.ValueFits.{IsNumeric, EntriesFit, ItemFits, ItemsFit};
 ghost use Rattle.ill_schema.specs.declared.part.Row.{Row};
 
+use crate::entry::{is_carried, may_lack};
 use crate::lookup::{kind, row};
 use crate::node::{Kind, LeafKind, NodeId};
-use crate::part::{PartId, Presence, Row};
+use crate::part::{PartId, Row};
 use crate::table::rows_of;
 use crate::value::Value;
 use ber_leaf::{DateText, IllString, PrintableText, TimeText};
-
-/// Whether a row may hold an entry.
-fn is_carried(presence: Presence) -> bool
-    ensures { IsTrue result ↔ IsCarried presence }
-{
-    !matches!(presence, Presence::LeftOut)
-}
-
-/// Whether a row's entry may be missing.
-fn may_lack(presence: Presence) -> bool
-    ensures { IsTrue result ↔ MayLack presence }
-{
-    matches!(presence, Presence::May | Presence::LeftOut)
-}
 
 /// The row that a choice may take under a number.
 fn alternative(node: NodeId, number: u8) -> Option<Row>
