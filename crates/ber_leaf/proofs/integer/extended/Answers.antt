@@ -1,7 +1,7 @@
 use Rattle.std.proofs.Common.{◌≡◌, ℕ, suc, ◌-◌, ◌<◌, ◌≤◌, length, List, [], ◌∷◌, ◌++◌, refl, replicate, ap, ap₂, sym, get_or, ◌∙◌, arith, length-take, length-drop, rules, nat_lt}
 use Rattle.std.specs.Prelude.{if◌then◌else◌}
 use borrow.Rule.Slice.PartMut.{put_mid}
-use Rattle.ber_leaf.specs.Leaf.{sign_octet}
+use Rattle.ber_leaf.specs.Sign.{sign_octet}
 use Rattle.ber_leaf.proofs.integer.extended.Goals as goal
 use Rattle.ber_leaf.proofs.integer.extended.Goals.{then-octets-lt128, else-octets-lt128}
 
