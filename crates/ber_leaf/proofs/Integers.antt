@@ -341,7 +341,7 @@ reach_bounds (negsuc n) = (λ h. (omega (arith, ints), omega (arith, ints)), λ 
 pub whole_bounds : (p : Profile) (z : ℤ) → ((o : List ℕ) × Holds p integer (whole z) o) ↔ ((neg_ℤ (pos 9_223_372_036_854_775_808) ≤ℤ z) × (z ≤ℤ pos 9_223_372_036_854_775_807))
 whole_bounds p z = (
   λ h.
-    let same : z ≡ integer_of h.0 = let e : whole z ≡ whole (integer_of h.0) = h.1.2 in cc in
-    (reach_bounds z).0 (subst (λ (x : ℤ). reach x < 9_223_372_036_854_775_808) (sym same) (whole_within p h.0 h.1.0 h.1.1)),
+      let same : z ≡ integer_of h.0 = let e : whole z ≡ whole (integer_of h.0) = h.1.2 in cc in
+      (reach_bounds z).0 (subst (λ (x : ℤ). reach x < 9_223_372_036_854_775_808) (sym same) (whole_within p h.0 h.1.0 h.1.1)),
   λ h. (normal_content (whole z), whole_held p z ((reach_bounds z).1 h)),
 )

@@ -6,8 +6,8 @@ ghost use Rattle.ber_leaf.specs.Leaf.{content_fault, iso_date, is_day, is_civil_
 ghost use Rattle.ber_leaf.specs.Profile.{profile_two};
 ghost use Rattle.ber_leaf.specs.Simple.{date};
 
-use crate::{Leaf, LeafFault};
 use super::digits::{are_digits, pair};
+use crate::{Leaf, LeafFault};
 use jiff::civil::Date;
 use std::alloc::{AllocError, Global};
 use std::marker::Model;

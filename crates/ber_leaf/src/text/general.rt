@@ -104,5 +104,7 @@ impl Eq for GeneralText {
 fn has_no_shift(octets: &[u8]) -> bool
     ensures { result ≡ list_all is_no_shift octets.now }
 {
-    octets.iter().all(|octet| !matches!(octet, 0x0E | 0x0F | 0x1B))
+    octets
+        .iter()
+        .all(|octet| !matches!(octet, 0x0E | 0x0F | 0x1B))
 }

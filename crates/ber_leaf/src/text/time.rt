@@ -6,8 +6,8 @@ ghost use Rattle.ber_leaf.specs.Leaf.{content_fault, iso_time, is_time, is_clock
 ghost use Rattle.ber_leaf.specs.Profile.{profile_two};
 ghost use Rattle.ber_leaf.specs.Simple.{time};
 
-use crate::{Leaf, LeafFault};
 use super::digits::{are_digits, pair};
+use crate::{Leaf, LeafFault};
 use std::alloc::{AllocError, Global};
 use std::marker::Model;
 
@@ -116,5 +116,8 @@ fn is_time(octets: &[u8]) -> bool
 fn is_clock_time(hour: u8, minute: u8, second: u8) -> bool
     ensures { result ≡ is_clock_time hour minute second }
 {
-    matches!((hour, minute, second), (0..=23, 0..=59, 0..=60) | (24, 0, 0))
+    matches!(
+        (hour, minute, second),
+        (0..=23, 0..=59, 0..=60) | (24, 0, 0)
+    )
 }

@@ -29,10 +29,10 @@ high_sign (a ∷ r) lt l = grind arith
 pub returns : goal.returns
 returns c =
     let sign : c.if-octets-lt128.sign ≡ sign_octet c.args.octets.now =
-        elim c.if-octets-lt128.branch [
-          | then-octets-lt128 w ↦ w.sign-is ∙ sym (low_sign c.args.octets.now c.requires.some w.if-octets-lt128.true)
-          | else-octets-lt128 w ↦ w.sign-is ∙ sym (high_sign c.args.octets.now c.requires.some w.if-octets-lt128.false)
-        ] in
+    elim c.if-octets-lt128.branch [
+      | then-octets-lt128 w ↦ w.sign-is ∙ sym (low_sign c.args.octets.now c.requires.some w.if-octets-lt128.true)
+      | else-octets-lt128 w ↦ w.sign-is ∙ sym (high_sign c.args.octets.now c.requires.some w.if-octets-lt128.false)
+    ] in
     rw c.copy_from_slice.ensures.after (put_behind c.if-octets-lt128.sign c.args.octets.now c.requires.some c.requires.few ∙ ap (λ (s : ℕ). replicate (8 - length c.args.octets.now) s ++ c.args.octets.now) sign)
 
 pub copy_from_slice-requires : goal.copy_from_slice-requires

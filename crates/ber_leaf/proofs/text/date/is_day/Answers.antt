@@ -18,4 +18,4 @@ pub returns : goal.returns
 returns c =
     c.is_civil_day.ensures
     ∙ by_parts c.args.octets.now (100 * c.from.result + c.from-2.result) c.pair-3.result c.pair-4.result (omega arith) (search rules)
-        (omega (arith, c.from.ensures, c.from-2.ensures, c.pair.ensures.value, c.pair-2.ensures.value)) c.pair-3.ensures.value c.pair-4.ensures.value
+    (omega (arith, c.from.ensures, c.from-2.ensures, c.pair.ensures.value, c.pair-2.ensures.value)) c.pair-3.ensures.value c.pair-4.ensures.value
