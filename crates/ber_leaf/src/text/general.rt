@@ -3,10 +3,9 @@ ghost use Rattle.std.specs.Cmp.{partial_equiv_from_equiv};
 ghost use Rattle.std.specs.Cmp.Lexicographic.{nat_list_eq_equiv, pointwise};
 ghost use Rattle.ber_leaf.specs.Content.{IsContent};
 ghost use Rattle.ber_leaf.specs.Leaf.{content_fault, general_string};
-ghost use Rattle.ber_leaf.specs.Profile.{profile_two};
+ghost use Rattle.ber_leaf.specs.Profile.{is_no_shift, profile_two};
 ghost use Rattle.ber_leaf.specs.Simple.{general};
 ghost use Rattle.std.specs.List.{list_all};
-ghost use Rattle.ber_leaf.specs.Profile.{is_no_shift};
 
 use crate::{Leaf, LeafFault};
 use std::alloc::{AllocError, Global};

@@ -3,10 +3,9 @@ ghost use Rattle.std.specs.Cmp.{partial_equiv_from_equiv};
 ghost use Rattle.std.specs.Cmp.Lexicographic.{nat_list_eq_equiv, pointwise};
 ghost use Rattle.ber_leaf.specs.Content.{IsContent};
 ghost use Rattle.ber_leaf.specs.Leaf.{content_fault, visible_string};
-ghost use Rattle.ber_leaf.specs.Profile.{profile_two};
+ghost use Rattle.ber_leaf.specs.Profile.{is_graphic, profile_two};
 ghost use Rattle.ber_leaf.specs.Simple.{visible};
 ghost use Rattle.std.specs.List.{list_all};
-ghost use Rattle.ber_leaf.specs.Profile.{is_graphic};
 
 use crate::{Leaf, LeafFault};
 use std::alloc::{AllocError, Global};

@@ -1,5 +1,4 @@
-use Rattle.std.proofs.Common.{◌≡◌, ℕ, suc, ◌-◌, ◌<◌, ◌≤◌, length, List, [], ◌∷◌, ◌++◌, refl, replicate, ap, ap₂, sym, get_or, ◌∙◌, arith, length-take, length-drop, rules, nat_lt}
-use Rattle.std.specs.Prelude.{if◌then◌else◌}
+use Rattle.std.proofs.Common.{◌≡◌, ℕ, ◌-◌, ◌<◌, ◌≤◌, length, List, [], ◌∷◌, ◌++◌, refl, replicate, ap, sym, get_or, ◌∙◌, arith, length-take, length-drop}
 use borrow.Rule.Slice.PartMut.{put_mid}
 use Rattle.ber_leaf.specs.Sign.{sign_octet}
 use Rattle.ber_leaf.proofs.integer.extended.Goals as goal
