@@ -130,7 +130,7 @@ high_half a r ge = omega (arith, number-cons a r, mul-le-mul_left {m = 128} {n =
 needs_low : (a : ℕ) (r : List ℕ) → is_padded (a ∷ r) ≡ false → Needs (length r) (number_from_digits 256 (a ∷ r))
 needs_low a [] u = tt
 needs_low a (b ∷ s) u =
-    let w = low_part a b ((or_false _ _ u).0) in
+    let w = low_part a b ((or_false (nat_eq a 0 && nat_lt b 128) (nat_eq a 255 && nat_le 128 b) u).0) in
     let p = ap (λ (x : ℕ). a * x) (pow-succ' 256 (length s)) in
     omega (arith, p, number-cons a (b ∷ s), number-cons b s, mul-le-mul_left {m = 128} {n = 256 * a + b} (256 ^ length s) w)
 
@@ -139,7 +139,7 @@ needs_high a [] h u = tt
 needs_high a (b ∷ s) h u =
     let q = small a (b ∷ s) h in
     let t = small b s q.1 in
-    let w : 256 * a + b < 65408 = high_part a b q.0 t.0 ((or_false _ _ u).1) in
+    let w : 256 * a + b < 65408 = high_part a b q.0 t.0 ((or_false (nat_eq a 0 && nat_lt b 128) (nat_eq a 255 && nat_le 128 b) u).1) in
     let p = ap (λ (x : ℕ). a * x) (pow-succ' 256 (length s)) in
     omega (arith, p, pow-succ' 256 (length s), pow-succ' 256 (suc (length s)), number-cons a (b ∷ s), number-cons b s, number_lt 256 s (all_small s t.1), mul-le-mul_left {m = 256 * a + b} {n = 65407} (256 ^ length s) (omega arith))
 

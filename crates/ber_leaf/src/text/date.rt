@@ -35,7 +35,8 @@ impl DateText {
     pub fn new(octets: Vec<u8>) -> Result<Self, LeafFault>
         ensures text { IfOk result (λ text. text ≡ octets.items) }
         ensures succeeds { IsOk result ↔ IsContent iso_date octets.items }
-        ensures fault { IfErr result (λ fault. content_fault profile_two iso_date octets.items ≡ Some fault) }
+        ensures fault { IfErr result
+            (λ fault. content_fault profile_two iso_date octets.items ≡ Some fault) }
     {
         match Self::check(&octets) {
             None => Ok(Self::of(octets)),

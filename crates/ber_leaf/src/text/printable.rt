@@ -34,7 +34,8 @@ impl PrintableText {
     pub fn new(octets: Vec<u8>) -> Result<Self, LeafFault>
         ensures text { IfOk result (λ text. text ≡ octets.items) }
         ensures succeeds { IsOk result ↔ IsContent printable_string octets.items }
-        ensures fault { IfErr result (λ fault. content_fault profile_two printable_string octets.items ≡ Some fault) }
+        ensures fault { IfErr result
+            (λ fault. content_fault profile_two printable_string octets.items ≡ Some fault) }
     {
         match Self::check(&octets) {
             None => Ok(Self::of(octets)),
@@ -111,6 +112,7 @@ fn is_printable_octet(octet: u8) -> bool
 {
     matches!(
         octet,
-        b'A'..=b'Z' | b'a'..=b'z' | b'0'..=b'9' | b' ' | b'\'' | b'(' | b')' | b'+' | b',' | b'-' | b'.' | b'/' | b':' | b'=' | b'?'
+        b'A'..=b'Z' | b'a'..=b'z' | b'0'..=b'9'
+            | b' ' | b'\'' | b'(' | b')' | b'+' | b',' | b'-' | b'.' | b'/' | b':' | b'=' | b'?'
     )
 }
