@@ -7,3 +7,5 @@ pub mod Outcome
 pub mod LeafTypes
 pub mod Code
 pub mod DueCode
+pub mod Failures
+pub mod HeaderCode

@@ -233,4 +233,18 @@ impl Next {
             Next::Nothing => None,
         }
     }
+
+    /// What comes behind an element at the slot.
+    pub fn behind(self, slot: Slot) -> Next {
+        match (self, slot) {
+            (Next::Rows(node, _), Slot::Row(row)) => Next::Rows(node, row.saturating_add(1)),
+            (Next::Either(wrapped), Slot::Row(row)) => Next::Rows(
+                wrapped.node,
+                row.saturating_add(1),
+            ),
+            (Next::Items(node), _) => Next::Items(node),
+            (Next::Segments, _) => Next::Segments,
+            _ => Next::Nothing,
+        }
+    }
 }

@@ -28,6 +28,21 @@ pub enum Element {
     Segment,
 }
 
+impl Element {
+    ghost use Rattle.ill_read.specs.Place.{allows};
+
+    /// Whether it may have the form (X.690, 8.2 to 8.10, 8.14 and 8.23).
+    pub fn allows(self, constructed: bool) -> bool
+        ensures { result ≡ allows (element_is self) constructed }
+    {
+        match self {
+            Element::Leaf(leaf) => !constructed || leaf.is_string(),
+            Element::Segment => true,
+            _ => constructed,
+        }
+    }
+}
+
 /// What an explicit tag stands round.
 #[derive(Clone, Copy, Debug, PartialEq, Eq)]
 pub struct Wrapped {

@@ -34,13 +34,13 @@ loop-number-preserved c =
     let row : slice_get (rows_of c.args.node) i ≡ Some c.in-Some.row = ap (λ rows. slice_get rows i) (sym c.rows_of-rows.ensures.rows) ∙ sym c.row_in.ensures ∙ c.in-Some.is in
     let may : c.in-Some.row.presence ≡ Presence.Must → ⊥ = λ m. let t = c.is_mandatory.ensures.1 m in let f = c.if-is_mandatory.false in cc in
     let lacks : MayAllLack c.args.node c.args.position (i + 1) = λ k r from until is must.
-        elim (cases_lt k i) [
-          | inl l ↦ c.loop-number.invariant.2 k r from l is must
-          | inr ge ↦
-              let e : k ≡ i = omega arith in
-              let there : slice_get (rows_of c.args.node) i ≡ Some r = subst (λ j. slice_get (rows_of c.args.node) j ≡ Some r) e is in
-              let same : Some c.in-Some.row ≡ Some r = sym row ∙ there in
-              let s : r ≡ c.in-Some.row = cc in
-              may (sym (ap (λ (x : Row). x.presence) s) ∙ must)
-        ] in
+    elim (cases_lt k i) [
+      | inl l ↦ c.loop-number.invariant.2 k r from l is must
+      | inr ge ↦
+          let e : k ≡ i = omega arith in
+          let there : slice_get (rows_of c.args.node) i ≡ Some r = subst (λ j. slice_get (rows_of c.args.node) j ≡ Some r) e is in
+          let same : Some c.in-Some.row ≡ Some r = sym row ∙ there in
+          let s : r ≡ c.in-Some.row = cc in
+          may (sym (ap (λ (x : Row). x.presence) s) ∙ must)
+    ] in
     (omega (arith, c.loop-number.invariant.0), c.loop-number.invariant.1 ∙ due_from-skip (tag_of_id c.args.id) c.args.node i c.in-Some.row row c.in_default-row_start.ensures may, lacks)
