@@ -16,3 +16,5 @@ pub mod Heads
 pub mod Starts
 pub mod Components
 pub mod DueRows
+pub mod Enumerated
+pub mod HeadersRead

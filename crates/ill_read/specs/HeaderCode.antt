@@ -1,5 +1,5 @@
 -- What the decoder reads of a header.
-use Rattle.std.specs.Prelude.{◌≡◌, ℕ, ◌≤◌, min, List, length, drop}
+use Rattle.std.specs.Prelude.{◌≡◌, ℕ, ◌<◌, ◌≤◌, min, List, length, drop}
 use Rattle.ber_core.specs.declared.header.Len.{Len}
 use Rattle.ber_core.specs.declared.header.Len.TheVariants.{Definite, Indefinite}
 use Rattle.ber_core.specs.Id.{tag_of_id, form_of_id}
@@ -17,7 +17,7 @@ IsWholeLength read Indefinite behind = read ≡ indefinite behind
 abbrev pub IsLengthRead : Length → LengthRead → List ℕ → Type 0
 IsLengthRead NoLength read octets = read ≡ no_length
 IsLengthRead PartLength read octets = read ≡ part_length
-IsLengthRead (Whole len size) read octets = (size ≤ length octets) × IsWholeLength read len (drop size octets)
+IsLengthRead (Whole len size) read octets = (0 < size) × (size ≤ length octets) × IsWholeLength read len (drop size octets)
 
 abbrev pub IsHeaderRead : HeaderRead → List ℕ → Type 0
 IsHeaderRead NoIdentifier octets = read_identifier octets ≡ no_identifier

@@ -188,7 +188,7 @@ fn due_in_element(pending: &[u8], may_end: bool) -> u32 {
     }
     match read_header(pending) {
         HeaderRead::Identified(_, LengthRead::Whole(Len::Definite(size), header)) => {
-            size.saturating_sub(pending.len().saturating_sub(header).min(LIMIT as usize) as u32)
+            size.saturating_sub(pending.len().saturating_sub(header as usize).min(LIMIT as usize) as u32)
         }
         _ => due_in_header(pending),
     }

@@ -1,5 +1,5 @@
 //! The header at the front of the octets that are there.
-ghost use Rattle.std.specs.Prelude.{◌≡◌};
+ghost use Rattle.std.specs.Prelude.{◌≤◌, length};
 ghost use Rattle.ill_read.specs.HeaderCode.{IsHeaderRead};
 
 use ber_core::{HeaderFault, HeaderState, Id, Len};
@@ -19,11 +19,12 @@ pub enum LengthRead {
     NoLength,
     PartLength,
     /// The length, and how many octets the header has.
-    Whole(Len, usize),
+    Whole(Len, u32),
 }
 
 /// Reads as much of a header as is there.
 pub fn read_header(octets: &[u8]) -> HeaderRead
+    requires { length octets.now ≤ 1_048_576 }
     ensures { IsHeaderRead result octets.now }
 {
     let mut state = HeaderState::new();
@@ -31,7 +32,7 @@ pub fn read_header(octets: &[u8]) -> HeaderRead
         match state.push(*octet) {
             Ok(None) => {}
             Ok(Some(header)) => {
-                return HeaderRead::Identified(header.id, LengthRead::Whole(header.len, i + 1));
+                return HeaderRead::Identified(header.id, LengthRead::Whole(header.len, i as u32 + 1));
             }
             Err(HeaderFault::BadTag) => return HeaderRead::NoIdentifier,
             Err(HeaderFault::BadLength) => {

@@ -170,11 +170,11 @@ impl Path {
                 slot: started.slot,
                 alternative: started.alternative,
                 element: started.element,
-                header: header as u32,
+                header,
                 end: None,
             })),
             LengthRead::Whole(Len::Definite(size), header) => {
-                self.judge_size(at, started, header as u32, size, window, want)
+                self.judge_size(at, started, header, size, window, want)
             }
         }
     }

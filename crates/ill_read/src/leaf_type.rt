@@ -1,5 +1,5 @@
 //! The types of leaves, and the values of their contents.
-ghost use Rattle.std.specs.Prelude.{◌≡◌, IfOk};
+ghost use Rattle.std.specs.Prelude.{◌≡◌, ◌↔◌, IsNone};
 ghost use Rattle.ber_leaf.specs.Content.{IsContent};
 ghost use Rattle.ber_leaf.specs.Leaf.{content_fault, is_string, value};
 ghost use Rattle.ber_leaf.specs.Profile.{profile_two};
@@ -38,13 +38,15 @@ impl LeafType {
         )
     }
 
-    /// Why the octets are no content of it.
+    /// Why the octets are no content of it, None exactly where they are.
     pub fn fault(self, octets: &[u8]) -> Option<LeafFault>
-        ensures { result ≡ content_fault profile_two (leaf_is self) octets.now }
+        ensures fault { result ≡ content_fault profile_two (leaf_is self) octets.now }
+        ensures none { IsNone result ↔ IsContent (leaf_is self) octets.now }
     {
         match self {
             LeafType::Boolean => Flag::check(octets),
-            LeafType::Integer | LeafType::Enumerated => Whole::check(octets),
+            LeafType::Integer => Whole::check(octets),
+            LeafType::Enumerated => Whole::check(octets),
             LeafType::General => GeneralText::check(octets),
             LeafType::Visible => VisibleText::check(octets),
             LeafType::Printable => PrintableText::check(octets),
