@@ -9,3 +9,4 @@ pub mod Code
 pub mod DueCode
 pub mod Failures
 pub mod HeaderCode
+pub mod Progress

@@ -1,4 +1,6 @@
 //! A message that comes in pieces.
+ghost use Rattle.std.specs.Prelude.{◌≤◌};
+
 use crate::failure::Failure;
 use crate::header::{HeaderRead, LengthRead, read_header};
 use crate::judge::Judgement;
@@ -25,6 +27,7 @@ pub struct Decoder {
     /// The octets behind that place that came so far.
     pending: Vec<u8>,
     state: State,
+    ghost within: { at ≤ 1_048_576 },
 }
 
 #[derive(Debug, Drop)]
@@ -35,6 +38,10 @@ enum State {
 }
 
 impl Decoder {
+    ghost use Rattle.std.specs.Prelude.{◌≡◌, ◌+◌, length};
+    ghost use Rattle.std.specs.Bool.{OnTrue};
+    ghost use Rattle.ill_read.specs.Progress.{depth_of, size_of, IsProgress, StepsTo};
+
     pub fn new(alloc: Global) -> Decoder {
         Decoder {
             alloc,
@@ -100,41 +107,61 @@ impl Decoder {
     }
 
     /// Goes from place to place as far as the octets reach, and answers how many belong to the elements that were passed.
-    pub(crate) fn run(&mut self, octets: &[u8]) -> usize {
+    pub(crate) fn run(&mut self, octets: &[u8]) -> usize
+        ensures { result ≤ length octets.now }
+    {
         let mut rest = octets;
         while matches!(&self.state, State::Open) {
             match self.path.judge(self.at, rest) {
                 Ok(judgement) => {
-                    let size = (judgement.size() as usize).min(rest.len());
-                    self.step(judgement, &rest[..size]);
+                    let size = judgement.size() as usize;
+                    if !self.step(judgement, &rest[..size]) {
+                        break;
+                    }
                     rest = &rest[size..];
                 }
-                Err(
-                    Refusal {
-                        cause: Cause::Truncated,
-                        ..
-                    },
-                ) => break,
-                Err(refusal) => self.state = State::Failed(Failure::Refused(refusal)),
+                Err(refusal) => {
+                    self.refuse(refusal);
+                    break;
+                }
             }
         }
         octets.len() - rest.len()
     }
 
-    /// Does what was judged with the octets that it takes.
-    fn step(&mut self, judgement: Judgement, octets: &[u8]) {
+    /// Fails with a refusal, unless it is only that the octets end.
+    fn refuse(&mut self, refusal: Refusal) {
+        if refusal.cause != Cause::Truncated {
+            self.state = State::Failed(Failure::Refused(refusal));
+        }
+    }
+
+    /// Does what was judged with the octets that it takes, and answers whether that didn't fail.
+    fn step(&mut self, judgement: Judgement, octets: &[u8]) -> bool
+        requires progress { IsProgress (depth_of self.old.path) (length octets.now) judgement }
+        requires small { self.old.at + size_of judgement ≤ 1_048_576 }
+        requires whole { length octets.now ≡ size_of judgement }
+        ensures { OnTrue result (StepsTo judgement (depth_of self.old.path) (depth_of self.new.path)) }
+    {
         match self.path.step(judgement, self.at, octets) {
-            Ok(None) => self.at = self.at.saturating_add(octets.len() as u32),
-            Ok(Some(body)) => {
-                self.at = self.at.saturating_add(octets.len() as u32);
-                self.finish_body(body);
+            Ok(body) => {
+                self.at += octets.len() as u32;
+                if let Some(body) = body {
+                    self.finish_body(body);
+                }
+                true
             }
-            Err(failure) => self.state = State::Failed(failure),
+            Err(failure) => {
+                self.state = State::Failed(failure);
+                false
+            }
         }
     }
 
     /// The message is whole.
-    fn finish_body(&mut self, body: Body) {
+    fn finish_body(&mut self, body: Body)
+        ensures { self.new.path ≡ self.old.path }
+    {
         self.state = match message_of(body, self.at) {
             Some(message) => State::Whole(message),
             None => State::Failed(Failure::refused(0, Cause::NormalTooLong)),
@@ -186,9 +213,15 @@ fn due_in_element(pending: &[u8], may_end: bool) -> u32 {
     if may_end && matches!(pending, [0, ..]) {
         return 1;
     }
-    match read_header(pending) {
+    let room = pending.len().min(LIMIT as usize);
+    match read_header(&pending[..room]) {
         HeaderRead::Identified(_, LengthRead::Whole(Len::Definite(size), header)) => {
-            size.saturating_sub(pending.len().saturating_sub(header as usize).min(LIMIT as usize) as u32)
+            size.saturating_sub(
+                pending
+                    .len()
+                    .saturating_sub(header as usize)
+                    .min(LIMIT as usize) as u32,
+            )
         }
         _ => due_in_header(pending),
     }

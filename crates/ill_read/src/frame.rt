@@ -1,4 +1,6 @@
 //! The open elements of a message.
+ghost use Rattle.std.specs.Prelude.{◌≤◌};
+
 use crate::due::{Next, Slot};
 use crate::element::Element;
 
@@ -20,6 +22,7 @@ pub struct Frame {
     pub bound: u32,
     /// How many values are held for the elements round it.
     pub base: u32,
+    ghost within: { bound ≤ 1_048_576 },
 }
 
 impl Frame {

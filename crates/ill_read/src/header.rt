@@ -32,7 +32,10 @@ pub fn read_header(octets: &[u8]) -> HeaderRead
         match state.push(*octet) {
             Ok(None) => {}
             Ok(Some(header)) => {
-                return HeaderRead::Identified(header.id, LengthRead::Whole(header.len, i as u32 + 1));
+                return HeaderRead::Identified(
+                    header.id,
+                    LengthRead::Whole(header.len, i as u32 + 1),
+                );
             }
             Err(HeaderFault::BadTag) => return HeaderRead::NoIdentifier,
             Err(HeaderFault::BadLength) => {

@@ -1,4 +1,7 @@
 //! What is done at a place: the conditions in their one order, of which the first that holds gives the fault.
+ghost use Rattle.std.specs.Prelude.{◌≡◌, ◌≤◌, IfOk, length};
+ghost use Rattle.std.specs.Option.{ForSome};
+
 use crate::due::{Due, Next, Slot};
 use crate::element::{Element, Found};
 use crate::header::{HeaderRead, LengthRead, read_header};
@@ -17,12 +20,17 @@ pub enum Judgement {
 }
 
 impl Judgement {
+    ghost use Rattle.ill_read.specs.Progress.{size_of};
+
     /// How many octets it takes.
-    pub fn size(self) -> u32 {
+    pub fn size(self) -> u32
+        requires { size_of self ≤ 1_048_576 }
+        ensures { result ≡ size_of self }
+    {
         match self {
             Judgement::Closes(marks) => marks,
             Judgement::Opens(opening) => opening.header,
-            Judgement::Reads(reading) => reading.header.saturating_add(reading.size),
+            Judgement::Reads(reading) => reading.header + reading.size,
         }
     }
 }
@@ -35,6 +43,7 @@ pub struct Opening {
     pub element: Element,
     pub header: u32,
     pub end: Option<u32>,
+    ghost within: { ForSome end (λ e. e ≤ 1_048_576) },
 }
 
 /// A primitive element: the sizes of its header and its content.
@@ -57,8 +66,15 @@ struct Started {
 }
 
 impl Path {
+    ghost use Rattle.std.specs.Prelude.{◌+◌, ◌<◌};
+    ghost use Rattle.ill_read.specs.Progress.{depth_of, size_of, IsProgress, HeaderIsIn};
+
     /// Judges the place at this offset, where the rest of the input follows.
-    pub fn judge(&self, at: u32, rest: &[u8]) -> Result<Judgement, Refusal> {
+    pub fn judge(&self, at: u32, rest: &[u8]) -> Result<Judgement, Refusal>
+        requires { at ≤ 1_048_576 }
+        ensures progress { IfOk result (λ judgement. IsProgress (depth_of self.now) (length rest.now) judgement) }
+        ensures small { IfOk result (λ judgement. at + size_of judgement ≤ 1_048_576) }
+    {
         let innermost = self.innermost();
         if let Some(frame) = innermost {
             if frame.ends_at(at) {
@@ -97,7 +113,10 @@ impl Path {
     }
 
     /// The innermost element ends: is a part of it missing?
-    fn judge_end(&self, at: u32, marks: u32) -> Result<Judgement, Refusal> {
+    fn judge_end(&self, at: u32, marks: u32) -> Result<Judgement, Refusal>
+        requires { 0 < depth_of self.now }
+        ensures { IfOk result (λ judgement. judgement ≡ Judgement.Closes marks) }
+    {
         match missing(self.next()) {
             Some(part) => Err(Refusal {
                 at,
@@ -108,7 +127,12 @@ impl Path {
     }
 
     /// An end mark, whose first octet is there.
-    fn judge_mark(&self, at: u32, window: &[u8], want: Refusal) -> Result<Judgement, Refusal> {
+    fn judge_mark(&self, at: u32, window: &[u8], want: Refusal) -> Result<Judgement, Refusal>
+        requires fits { at + length window.now ≤ 1_048_576 }
+        requires open { 0 < depth_of self.now }
+        ensures progress { IfOk result (λ judgement. IsProgress (depth_of self.now) (length window.now) judgement) }
+        ensures small { IfOk result (λ judgement. at + size_of judgement ≤ 1_048_576) }
+    {
         match window {
             [_, 0, ..] => self.judge_end(at, 2),
             [_, _, ..] => Err(Refusal {
@@ -120,7 +144,11 @@ impl Path {
     }
 
     /// An element from its first octet on.
-    fn judge_element(&self, at: u32, window: &[u8], want: Refusal) -> Result<Judgement, Refusal> {
+    fn judge_element(&self, at: u32, window: &[u8], want: Refusal) -> Result<Judgement, Refusal>
+        requires { at + length window.now ≤ 1_048_576 }
+        ensures progress { IfOk result (λ judgement. IsProgress (depth_of self.now) (length window.now) judgement) }
+        ensures small { IfOk result (λ judgement. at + size_of judgement ≤ 1_048_576) }
+    {
         match read_header(window) {
             HeaderRead::PartIdentifier => Err(want),
             HeaderRead::NoIdentifier => Err(Refusal {
@@ -156,11 +184,16 @@ impl Path {
         &self,
         at: u32,
         started: Started,
-        length: LengthRead,
+        length_read: LengthRead,
         window: &[u8],
         want: Refusal,
-    ) -> Result<Judgement, Refusal> {
-        match length {
+    ) -> Result<Judgement, Refusal>
+        requires fits { at + length window.now ≤ 1_048_576 }
+        requires header { HeaderIsIn length_read (length window.now) }
+        ensures progress { IfOk result (λ judgement. IsProgress (depth_of self.now) (length window.now) judgement) }
+        ensures small { IfOk result (λ judgement. at + size_of judgement ≤ 1_048_576) }
+    {
+        match length_read {
             LengthRead::PartLength => Err(want),
             LengthRead::NoLength => Err(Refusal {
                 at,
@@ -188,7 +221,12 @@ impl Path {
         size: u32,
         window: &[u8],
         want: Refusal,
-    ) -> Result<Judgement, Refusal> {
+    ) -> Result<Judgement, Refusal>
+        requires fits { at + length window.now ≤ 1_048_576 }
+        requires header { (0 < header) × (header ≤ length window.now) }
+        ensures progress { IfOk result (λ judgement. IsProgress (depth_of self.now) (length window.now) judgement) }
+        ensures small { IfOk result (λ judgement. at + size_of judgement ≤ 1_048_576) }
+    {
         let room = self.bound().saturating_sub(at).saturating_sub(header);
         if size > room {
             return Err(Refusal {

@@ -1,4 +1,6 @@
 //! The path of open elements, with the values and the text that they hold so far.
+ghost use Rattle.std.specs.Prelude.{◌≡◌, ◌≤◌, IfOk, length};
+
 use crate::due::{Next, Slot};
 use crate::element::{Element, Wrapped};
 use crate::failure::Failure;
@@ -41,6 +43,9 @@ pub struct Body {
 }
 
 impl Path {
+    ghost use Rattle.std.specs.Prelude.{◌+◌, ◌-◌, ◌<◌, ◌↔◌, IsNone, MatchOption};
+    ghost use Rattle.ill_read.specs.Progress.{depth_of, StepsTo, IsProgress};
+
     pub fn new(alloc: Global) -> Path {
         Path {
             alloc,
@@ -50,7 +55,9 @@ impl Path {
         }
     }
 
-    pub fn innermost(&self) -> Option<Frame> {
+    pub fn innermost(&self) -> Option<Frame>
+        ensures { IsNone result ↔ (depth_of self.now ≡ 0) }
+    {
         self.frames.as_slice().last().copied()
     }
 
@@ -67,7 +74,9 @@ impl Path {
     }
 
     /// The offset that no octet may reach.
-    pub fn bound(&self) -> u32 {
+    pub fn bound(&self) -> u32
+        ensures { result ≤ 1_048_576 }
+    {
         match self.innermost() {
             Some(frame) => frame.bound,
             None => LIMIT,
@@ -106,7 +115,10 @@ impl Path {
         judgement: Judgement,
         at: u32,
         octets: &[u8],
-    ) -> Result<Option<Body>, Failure> {
+    ) -> Result<Option<Body>, Failure>
+        requires { IsProgress (depth_of self.old) (length octets.now) judgement }
+        ensures { IfOk result (λ _. StepsTo judgement (depth_of self.old) (depth_of self.new)) }
+    {
         match judgement {
             Judgement::Closes(_) => {
                 self.pass_last_rows()?;
@@ -124,7 +136,9 @@ impl Path {
     }
 
     /// Opens the element that is due and begins at `start`.
-    fn open(&mut self, opening: Opening, start: u32) {
+    fn open(&mut self, opening: Opening, start: u32)
+        ensures { depth_of self.new ≤ depth_of self.old + 1 }
+    {
         let Opening {
             slot,
             alternative,
@@ -151,7 +165,9 @@ impl Path {
         reading: Reading,
         start: u32,
         content: &[u8],
-    ) -> Result<Option<Body>, Failure> {
+    ) -> Result<Option<Body>, Failure>
+        ensures { depth_of self.new ≡ depth_of self.old }
+    {
         match reading.element {
             Element::Leaf(leaf) => {
                 let value = leaf_value(self.alloc, leaf, start, content)?;
@@ -165,10 +181,11 @@ impl Path {
     }
 
     /// Closes the innermost element, in which nothing is missing.
-    fn close(&mut self) -> Result<Option<Body>, Failure> {
-        let Some(frame) = self.frames.pop() else {
-            return Ok(None);
-        };
+    fn close(&mut self) -> Result<Option<Body>, Failure>
+        requires { 0 < depth_of self.old }
+        ensures { depth_of self.new + 1 ≡ depth_of self.old }
+    {
+        let frame = self.frames.pop().unwrap();
         let value = match frame.element {
             Element::Segment => return Ok(None),
             Element::Leaf(leaf) => {
@@ -180,21 +197,19 @@ impl Path {
             Element::Wrapper(_) => return self.unwrap(frame),
             Element::LooseWrapper(_) => match frame.next {
                 Next::Nothing => return self.unwrap(frame),
-                _ => self.loose_sequence(frame)?,
+                _ => self.values.sequence(frame.base)?,
             },
         };
         Ok(self.deliver(frame.slot, frame.alternative, value)?)
     }
 
-    fn unwrap(&mut self, frame: Frame) -> Result<Option<Body>, Failure> {
+    fn unwrap(&mut self, frame: Frame) -> Result<Option<Body>, Failure>
+        ensures { depth_of self.new ≡ depth_of self.old }
+    {
         match self.values.last() {
             Some(value) => Ok(self.deliver(frame.slot, frame.alternative, value)?),
             None => Ok(None),
         }
-    }
-
-    fn loose_sequence(&mut self, frame: Frame) -> Result<Value, AllocError> {
-        self.values.sequence(frame.base)
     }
 
     /// Puts a value where it belongs in the element round it; of a whole message, gives it back.
@@ -203,7 +218,9 @@ impl Path {
         slot: Slot,
         alternative: Option<u8>,
         value: Value,
-    ) -> Result<Option<Body>, AllocError> {
+    ) -> Result<Option<Body>, AllocError>
+        ensures { depth_of self.new ≡ depth_of self.old }
+    {
         let Some(frame) = self.innermost() else {
             return Ok(Some(Body {
                 row: alternative.unwrap_or(0),
@@ -223,7 +240,9 @@ impl Path {
     }
 
     /// Passes the rows before this one.
-    fn pass_rows(&mut self, next: Next, row: u8) -> Result<(), AllocError> {
+    fn pass_rows(&mut self, next: Next, row: u8) -> Result<(), AllocError>
+        ensures { depth_of self.new ≡ depth_of self.old }
+    {
         match next {
             Next::Rows(node, position) => self.values.pass(node, position, row),
             Next::Either(wrapped) => self.values.pass(wrapped.node, 0, row),
@@ -231,7 +250,9 @@ impl Path {
         }
     }
 
-    fn advance(&mut self, next: Next) {
+    fn advance(&mut self, next: Next)
+        ensures { depth_of self.new ≡ depth_of self.old }
+    {
         let last = self.frames.len().saturating_sub(1);
         if let Some(frame) = self.frames.as_mut_slice().get_mut(last) {
             frame.next = next;
@@ -239,7 +260,9 @@ impl Path {
     }
 
     /// Passes the last rows of the sequence that ends.
-    fn pass_last_rows(&mut self) -> Result<(), AllocError> {
+    fn pass_last_rows(&mut self) -> Result<(), AllocError>
+        ensures { depth_of self.new ≡ depth_of self.old }
+    {
         match self.next() {
             Next::Rows(node, position) => self.values.pass(node, position, rows(node)),
             Next::Either(wrapped) => self.values.pass(wrapped.node, 0, rows(wrapped.node)),
