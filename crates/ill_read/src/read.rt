@@ -1,4 +1,7 @@
 //! Messages out of sources and slices.
+ghost use Rattle.std.specs.Prelude.{IsTrue, IsErrOf};
+ghost use Rattle.ill_read.specs.declared.failure.ReadFailure.{ReadFailure};
+
 use crate::decoder::{Decoder, Progress};
 use crate::failure::{Failure, ReadFailure};
 use ber_core::Source;
@@ -12,7 +15,10 @@ const CHUNK: usize = 4096;
 pub fn read_message<R: Source>(
     alloc: Global,
     source: &mut R,
-) -> Result<Option<Message>, ReadFailure> {
+) -> Result<Option<Message>, ReadFailure>
+    ensures broken { IsErrOf result ReadFailure.ReadFault → IsTrue (R.is_broken source.new) }
+    ensures stays { IsTrue (R.is_broken source.old) → IsTrue (R.is_broken source.new) }
+{
     let mut decoder = Decoder::new(alloc);
     let mut buffer = [0; CHUNK];
     for _ in 0..=1_048_576u32 {
