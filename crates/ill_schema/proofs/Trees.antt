@@ -13,11 +13,11 @@ use Rattle.ill_schema.specs.declared.part.Presence.{Presence}
 use Rattle.ill_schema.specs.declared.part.Row.{Row}
 use Rattle.ill_schema.specs.declared.value.Value.{Value}
 use Rattle.ill_schema.specs.Content.{Content, simple, sequence, list, alternative, Entries, Items}
-use Rattle.ill_schema.specs.Elements.{tag_at, wrapper, wrapper_at, row_tree, trees_unless, entry_trees, joined, own_number, element_tag, element_tree, place_trees, item_trees}
+use Rattle.ill_schema.specs.Elements.{tag_at, wrapper, wrapper_at, row_tree, trees_unless, entry_trees, joined, element_tag, element_tree, place_trees, item_trees}
 use Rattle.ill_schema.specs.Normal.{normal_tree, normal_trees, normal_items}
 use Rattle.ill_schema.specs.Presence.{is_default}
 use Rattle.ill_schema.specs.Table.{kind_of, rows_of}
-use Rattle.ill_schema.specs.Tagging.{Tagging, untagged, implicit, explicit, explicit_or_bare, tagging, leaf_of, leaf_tag, universal, sequence_tag}
+use Rattle.ill_schema.specs.Tagging.{untagged, explicit, explicit_or_bare, tagging, leaf_of, leaf_tag, universal, sequence_tag}
 use Rattle.ill_schema.specs.Value.{content_of, entries_content, items_content}
 
 pub sizes-joined : (ts us : Trees) → sizes (joined ts us) ≡ sizes ts + sizes us
