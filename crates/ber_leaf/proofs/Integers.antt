@@ -1,7 +1,6 @@
 -- The octets of integers: the number that octets hold, and the octets that DER takes for a number.
 use Rattle.std.proofs.Common.{◌≡◌, ◌⊎◌, ◌≤◌, ◌<◌, ℕ, zero, suc, ◌+◌, ◌-◌, ◌*◌, ◌/◌, ◌%◌, ◌^◌, ℤ, pos, negsuc, neg_ℤ, ◌≤ℤ◌, ◌↔◌, Bool, true, false, ◌&&◌, ◌||◌, nat_lt, List, [], ◌∷◌, ◌++◌, length, Some, None, IsTrue, refl, sym, ap, ap₂, subst, ◌∙◌, arith, inl, inr, append_assoc, append-nil, replicate, w64, length-append, lt-ltb, le-ltb, ltb-true, ltb-false}
 use Rattle.std.specs.Prelude.{if◌then◌else◌, nat_le, nat_eq}
-use Rattle.std.specs.List.{list_all}
 use Rattle.std.specs.Int.{from_be_bytes, cast_signed}
 use Rattle.std.specs.Int.Digits.{number_from_digits, number_from_digits_after, AllBelowBase}
 use Rattle.std.proofs.Math.Nat.{pow-succ', pow-le-pow_right, mul-le-mul_left}
@@ -13,7 +12,8 @@ use Rattle.std.proofs.lemmas.List.Folds.{list_all-append}
 use Rattle.ber_leaf.specs.declared.fault.LeafFault.{LeafFault}
 use Rattle.ber_leaf.specs.Simple.{whole}
 use Rattle.ber_core.specs.Octets.{are_octets}
-use Rattle.ber_leaf.specs.Leaf.{integer, normal_content, Holds, integer_of, content_fault, big_endian, octet_count, reach, is_padded, sign_octet}
+use Rattle.ber_leaf.specs.Leaf.{integer, normal_content, Holds, integer_of, content_fault, big_endian, octet_count, is_padded}
+use Rattle.ber_leaf.specs.Sign.{reach, sign_octet}
 use Rattle.ber_leaf.specs.Profile.{Profile}
 
 pub and_parts : (a b : Bool) → IsTrue (a && b) → IsTrue a × IsTrue b
@@ -130,7 +130,7 @@ high_half a r ge = omega (arith, number-cons a r, mul-le-mul_left {m = 128} {n =
 needs_low : (a : ℕ) (r : List ℕ) → is_padded (a ∷ r) ≡ false → Needs (length r) (number_from_digits 256 (a ∷ r))
 needs_low a [] u = tt
 needs_low a (b ∷ s) u =
-    let w = low_part a b ((or_false _ _ u).0) in
+    let w = low_part a b ((or_false (nat_eq a 0 && nat_lt b 128) (nat_eq a 255 && nat_le 128 b) u).0) in
     let p = ap (λ (x : ℕ). a * x) (pow-succ' 256 (length s)) in
     omega (arith, p, number-cons a (b ∷ s), number-cons b s, mul-le-mul_left {m = 128} {n = 256 * a + b} (256 ^ length s) w)
 
@@ -139,7 +139,7 @@ needs_high a [] h u = tt
 needs_high a (b ∷ s) h u =
     let q = small a (b ∷ s) h in
     let t = small b s q.1 in
-    let w : 256 * a + b < 65408 = high_part a b q.0 t.0 ((or_false _ _ u).1) in
+    let w : 256 * a + b < 65408 = high_part a b q.0 t.0 ((or_false (nat_eq a 0 && nat_lt b 128) (nat_eq a 255 && nat_le 128 b) u).1) in
     let p = ap (λ (x : ℕ). a * x) (pow-succ' 256 (length s)) in
     omega (arith, p, pow-succ' 256 (length s), pow-succ' 256 (suc (length s)), number-cons a (b ∷ s), number-cons b s, number_lt 256 s (all_small s t.1), mul-le-mul_left {m = 256 * a + b} {n = 65407} (256 ^ length s) (omega arith))
 
@@ -340,7 +340,7 @@ reach_bounds (negsuc n) = (λ h. (omega (arith, ints), omega (arith, ints)), λ 
 pub whole_bounds : (p : Profile) (z : ℤ) → ((o : List ℕ) × Holds p integer (whole z) o) ↔ ((neg_ℤ (pos 9_223_372_036_854_775_808) ≤ℤ z) × (z ≤ℤ pos 9_223_372_036_854_775_807))
 whole_bounds p z = (
   λ h.
-    let same : z ≡ integer_of h.0 = let e : whole z ≡ whole (integer_of h.0) = h.1.2 in cc in
-    (reach_bounds z).0 (subst (λ (x : ℤ). reach x < 9_223_372_036_854_775_808) (sym same) (whole_within p h.0 h.1.0 h.1.1)),
+      let same : z ≡ integer_of h.0 = let e : whole z ≡ whole (integer_of h.0) = h.1.2 in cc in
+      (reach_bounds z).0 (subst (λ (x : ℤ). reach x < 9_223_372_036_854_775_808) (sym same) (whole_within p h.0 h.1.0 h.1.1)),
   λ h. (normal_content (whole z), whole_held p z ((reach_bounds z).1 h)),
 )

@@ -35,11 +35,6 @@ pub content_holds : (l : Leaf) (o : List ℕ) → IsContent l o → Holds profil
 unfolding IsContent
 content_holds l o h = (h.1.0, h.1.1, refl)
 
--- what holds a value is a content
-pub held_content : (l : Leaf) (v : Simple) (o : List ℕ) → Holds profile_two l v o → IsContent l o
-unfolding IsContent
-held_content l v o h = (v, h)
-
 -- octets hold at most one value
 pub held_same : (p : Profile) (l : Leaf) (v w : Simple) (o : List ℕ) → Holds p l v o → Holds p l w o → v ≡ w
 held_same p l v w o h k = h.2 ∙ sym k.2

@@ -1,4 +1,4 @@
--- The contents of leaves: which octets hold a value, and which of them are its normal content.
+-- The contents of leaves: which octets hold which value, and which of them are its normal content (X.690, 8.2 to 8.4, 8.23 and 11.1).
 use Rattle.std.specs.Prelude.{◌≡◌, ℕ, ◌+◌, ◌-◌, ◌*◌, ◌/◌, ◌%◌, ◌^◌, suc, zero, ℤ, pos, negsuc, Bool, true, false, IsTrue, not, ◌&&◌, ◌||◌, nat_eq, nat_lt, nat_le, List, [], ◌∷◌, ◌++◌, length, codes, Option, Some, None, if◌then◌else◌}
 use Rattle.std.specs.List.{list_all, list_any}
 use Rattle.jiff.specs.Words.{days_in_month}
@@ -8,18 +8,22 @@ use Rattle.ber_leaf.specs.declared.fault.LeafFault.{LeafFault}
 use Rattle.ber_leaf.specs.Simple.{Simple, flag, whole, date, time, printable, general, visible}
 use Rattle.ber_leaf.specs.Profile.{Profile, is_graphic}
 
+-- the kinds of leaves; the last five are strings, of which ISO-Date and ISO-Time have a form of their own
 pub data Leaf : Type 0 where
   boolean integer enumerated general_string visible_string printable_string iso_date iso_time : Leaf
 
+-- strings may be in segments (8.23)
 abbrev pub is_string : Leaf → Bool
 is_string boolean = false
 is_string integer = false
 is_string enumerated = false
 is_string _ = true
 
+-- the characters of PrintableString (X.680, 41.4)
 abbrev pub is_printable : ℕ → Bool
 is_printable octet = list_any (nat_eq octet) (codes "ABCDEFGHIJKLMNOPQRSTUVWXYZabcdefghijklmnopqrstuvwxyz0123456789 '()+,-./:=?")
 
+-- the digits of ASCII
 abbrev pub is_digit : ℕ → Bool
 is_digit octet = nat_le 0x30 octet && nat_le octet 0x39
 
@@ -31,14 +35,14 @@ two_digits t u = 10 * (t - 0x30) + (u - 0x30)
 abbrev pub is_civil_day : ℕ → ℕ → ℕ → Bool
 is_civil_day year month day = nat_le 1 month && nat_le month 12 && nat_le 1 day && nat_le day (days_in_month (pos year) month)
 
--- YYYYMMDD: eight digits that name a day
+-- YYYYMMDD: eight digits that name a day, from 0000-01-01 to 9999-12-31
 abbrev pub is_day : List ℕ → Bool
 is_day (y₁ ∷ y₂ ∷ y₃ ∷ y₄ ∷ m₁ ∷ m₂ ∷ d₁ ∷ d₂ ∷ []) =
     list_all is_digit (y₁ ∷ y₂ ∷ y₃ ∷ y₄ ∷ m₁ ∷ m₂ ∷ d₁ ∷ d₂ ∷ [])
     && is_civil_day (100 * two_digits y₁ y₂ + two_digits y₃ y₄) (two_digits m₁ m₂) (two_digits d₁ d₂)
 is_day _ = false
 
--- a time of a day, whose second may be 60, or the end of a day
+-- a time of a day, whose second may be 60 in every minute; or 24:00:00, the end of a day
 abbrev pub is_clock_time : ℕ → ℕ → ℕ → Bool
 is_clock_time hour minute second =
     (nat_le hour 23 && nat_le minute 59 && nat_le second 60) || (nat_eq hour 24 && nat_eq minute 0 && nat_eq second 0)
@@ -49,21 +53,23 @@ is_time (h₁ ∷ h₂ ∷ m₁ ∷ m₂ ∷ s₁ ∷ s₂ ∷ []) =
     list_all is_digit (h₁ ∷ h₂ ∷ m₁ ∷ m₂ ∷ s₁ ∷ s₂ ∷ []) && is_clock_time (two_digits h₁ h₂) (two_digits m₁ m₂) (two_digits s₁ s₂)
 is_time _ = false
 
--- empty, or two octets or more whose first nine bits are equal
+-- empty, or two octets or more whose first nine bits are equal (8.3.1 and 8.3.2)
 abbrev pub is_padded : List ℕ → Bool
 is_padded [] = true
 is_padded (a ∷ []) = false
 is_padded (a ∷ b ∷ _) = (nat_eq a 0 && nat_lt b 128) || (nat_eq a 255 && nat_le 128 b)
 
+-- no fault, or this one
 abbrev unless : Bool → LeafFault → Option LeafFault
 unless b fault = if b then None else Some fault
 
+-- of an integer: padded, or else more than eight octets
 abbrev integer_fault : List ℕ → Option LeafFault
 integer_fault octets =
     if is_padded octets then Some LeafFault.BadInteger
     else unless (nat_le (length octets) 8) LeafFault.IntegerTooLong
 
--- why octets are no content
+-- why octets are no content of a leaf (8.2.1, 8.3, 8.4, 8.23)
 abbrev pub content_fault : Profile → Leaf → List ℕ → Option LeafFault
 content_fault p boolean octets = unless (nat_eq (length octets) 1) LeafFault.BadBoolean
 content_fault p integer octets = integer_fault octets
@@ -74,19 +80,14 @@ content_fault p printable_string octets = unless (list_all is_printable octets) 
 content_fault p iso_date octets = unless (is_day octets) LeafFault.BadDate
 content_fault p iso_time octets = unless (is_time octets) LeafFault.BadTime
 
--- two's complement, most significant octet first
+-- two's complement, most significant octet first (8.3.3)
 abbrev pub integer_of : List ℕ → ℤ
 integer_of [] = pos 0
 integer_of (a ∷ octets) =
     if nat_lt a 128 then pos (number_from_digits 256 (a ∷ octets))
     else negsuc (256 ^ suc (length octets) - 1 - number_from_digits 256 (a ∷ octets))
 
--- the octet that may stand before a number's octets and leave it the same
-abbrev pub sign_octet : List ℕ → ℕ
-sign_octet [] = 0
-sign_octet (a ∷ _) = if nat_lt a 128 then 0 else 0xFF
-
--- the value that a content holds
+-- the value that a content holds; a boolean is false where each octet, of which it has one, is 0 (8.2.2)
 abbrev pub value : Leaf → List ℕ → Simple
 value boolean octets = flag (not (list_all (nat_eq 0) octets))
 value integer octets = whole (integer_of octets)
@@ -106,11 +107,6 @@ abbrev pub big_endian : ℕ → ℕ → List ℕ
 big_endian zero n = []
 big_endian (suc k) n = big_endian k (n / 256) ++ n % 256 ∷ []
 
--- the least n such that the number stands from -(n + 1) to n
-abbrev pub reach : ℤ → ℕ
-reach (pos n) = n
-reach (negsuc n) = n
-
 -- how many octets hold the numbers from -(n + 1) to n, at most eight
 abbrev pub octet_count : ℕ → ℕ
 octet_count n =
@@ -123,11 +119,12 @@ octet_count n =
     else if nat_lt n 0x80_0000_0000_0000 then 7
     else 8
 
+-- the octets of a number
 abbrev integer_octets : ℤ → List ℕ
 integer_octets (pos n) = big_endian (octet_count n) n
 integer_octets (negsuc n) = big_endian (octet_count n) (256 ^ octet_count n - 1 - n)
 
--- DER's content of a value
+-- DER's content of a value: a true boolean is FF (11.1), and every other value has but one content
 abbrev pub normal_content : Simple → List ℕ
 normal_content (flag false) = 0 ∷ []
 normal_content (flag true) = 0xFF ∷ []

@@ -20,3 +20,6 @@ pub use laws::{
 };
 pub use segments::Segments;
 pub use text::{DateText, GeneralText, IllString, PrintableText, TimeText, VisibleText};
+
+#[cfg(test)]
+mod tests;

@@ -13,3 +13,6 @@ pub mod Beginnings
 pub mod Feeding
 pub mod Places
 pub mod Heads
+pub mod Starts
+pub mod Components
+pub mod DueRows

@@ -4,3 +4,8 @@ pub mod Place
 pub mod Reading
 pub mod Fault
 pub mod Outcome
+pub mod LeafTypes
+pub mod Code
+pub mod DueCode
+pub mod Failures
+pub mod HeaderCode

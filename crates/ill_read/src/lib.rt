@@ -1,6 +1,23 @@
 //! Reads ILL messages: the decoder, and the exact refusal of every other input.
 #![tactic(auto)]
 
+mod decoder;
+mod due;
+mod element;
+mod failure;
+mod frame;
+mod header;
+mod judge;
 mod laws;
+mod leaf_type;
+mod path;
+mod read;
+mod values;
 
+pub use decoder::{Decoder, Progress};
+pub use failure::{Failure, ReadFailure};
 pub use laws::{one_outcome, one_place, refusals_stay};
+pub use read::{decode, read_message};
+
+#[cfg(test)]
+mod tests;

@@ -4,7 +4,8 @@ use Rattle.std.proofs.lemmas.Int.{ints}
 use Rattle.ber_leaf.specs.Content.{IsContent}
 use Rattle.ber_leaf.specs.declared.text.ill_string.IllString.{IllString}
 use Rattle.ber_leaf.specs.declared.text.ill_string.IllString.TheVariants.{General, Visible}
-use Rattle.ber_leaf.specs.Leaf.{Leaf, boolean, integer, enumerated, general_string, visible_string, printable_string, iso_date, iso_time, Holds, normal_content, reach}
+use Rattle.ber_leaf.specs.Leaf.{Leaf, boolean, integer, enumerated, general_string, visible_string, printable_string, iso_date, iso_time, Holds, normal_content}
+use Rattle.ber_leaf.specs.Sign.{reach}
 use Rattle.ber_leaf.specs.Profile.{profile_two}
 use Rattle.ber_leaf.specs.Simple.{flag, whole, date, time, printable, general, visible}
 use Rattle.ber_leaf.proofs.Integers.{whole_held}

@@ -1,12 +1,13 @@
-ghost use Rattle.std.specs.Prelude.{◌≡◌, nat_eq, IfOk, ◌≤◌};
+ghost use Rattle.std.specs.Prelude.{◌≡◌, ◌↔◌, nat_eq, IfErr, IfOk, IsOk, ◌≤◌};
 ghost use Rattle.std.specs.Cmp.{partial_equiv_from_equiv};
 ghost use Rattle.std.specs.Cmp.Lexicographic.{nat_list_eq_equiv, pointwise};
 ghost use Rattle.ber_leaf.specs.Content.{IsContent};
-ghost use Rattle.ber_leaf.specs.Leaf.{iso_date, is_day, is_civil_day};
+ghost use Rattle.ber_leaf.specs.Leaf.{content_fault, iso_date, is_day, is_civil_day};
+ghost use Rattle.ber_leaf.specs.Profile.{profile_two};
 ghost use Rattle.ber_leaf.specs.Simple.{date};
 
-use crate::{Leaf, LeafFault};
 use super::digits::{are_digits, pair};
+use crate::{Leaf, LeafFault};
 use jiff::civil::Date;
 use std::alloc::{AllocError, Global};
 use std::marker::Model;
@@ -30,6 +31,19 @@ impl Model for DateText {
 }
 
 impl DateText {
+    /// The text of the octets, or why they are none.
+    pub fn new(octets: Vec<u8>) -> Result<Self, LeafFault>
+        ensures text { IfOk result (λ text. text ≡ octets.items) }
+        ensures succeeds { IsOk result ↔ IsContent iso_date octets.items }
+        ensures fault { IfErr result
+            (λ fault. content_fault profile_two iso_date octets.items ≡ Some fault) }
+    {
+        match Self::check(&octets) {
+            None => Ok(Self::of(octets)),
+            Some(fault) => Err(fault),
+        }
+    }
+
     /// The octets of the text.
     pub fn octets(&self) -> &[u8]
         ensures value { result.now ≡ self.now }

@@ -1,8 +1,9 @@
-ghost use Rattle.std.specs.Prelude.{◌≡◌, nat_eq, IfOk};
+ghost use Rattle.std.specs.Prelude.{◌≡◌, ◌↔◌, nat_eq, IfErr, IfOk, IsOk};
 ghost use Rattle.std.specs.Cmp.{partial_equiv_from_equiv};
 ghost use Rattle.std.specs.Cmp.Lexicographic.{nat_list_eq_equiv, pointwise};
 ghost use Rattle.ber_leaf.specs.Content.{IsContent};
-ghost use Rattle.ber_leaf.specs.Leaf.{printable_string, is_printable};
+ghost use Rattle.ber_leaf.specs.Leaf.{content_fault, printable_string, is_printable};
+ghost use Rattle.ber_leaf.specs.Profile.{profile_two};
 ghost use Rattle.ber_leaf.specs.Simple.{printable};
 ghost use Rattle.std.specs.List.{list_all};
 
@@ -29,6 +30,19 @@ impl Model for PrintableText {
 }
 
 impl PrintableText {
+    /// The text of the octets, or why they are none.
+    pub fn new(octets: Vec<u8>) -> Result<Self, LeafFault>
+        ensures text { IfOk result (λ text. text ≡ octets.items) }
+        ensures succeeds { IsOk result ↔ IsContent printable_string octets.items }
+        ensures fault { IfErr result
+            (λ fault. content_fault profile_two printable_string octets.items ≡ Some fault) }
+    {
+        match Self::check(&octets) {
+            None => Ok(Self::of(octets)),
+            Some(fault) => Err(fault),
+        }
+    }
+
     /// The octets of the text.
     pub fn octets(&self) -> &[u8]
         ensures value { result.now ≡ self.now }
@@ -98,6 +112,7 @@ fn is_printable_octet(octet: u8) -> bool
 {
     matches!(
         octet,
-        b'A'..=b'Z' | b'a'..=b'z' | b'0'..=b'9' | b' ' | b'\'' | b'(' | b')' | b'+' | b',' | b'-' | b'.' | b'/' | b':' | b'=' | b'?'
+        b'A'..=b'Z' | b'a'..=b'z' | b'0'..=b'9'
+            | b' ' | b'\'' | b'(' | b')' | b'+' | b',' | b'-' | b'.' | b'/' | b':' | b'=' | b'?'
     )
 }

@@ -1,12 +1,13 @@
-ghost use Rattle.std.specs.Prelude.{◌≡◌, nat_eq, IfOk};
+ghost use Rattle.std.specs.Prelude.{◌≡◌, ◌↔◌, nat_eq, IfErr, IfOk, IsOk};
 ghost use Rattle.std.specs.Cmp.{partial_equiv_from_equiv};
 ghost use Rattle.std.specs.Cmp.Lexicographic.{nat_list_eq_equiv, pointwise};
 ghost use Rattle.ber_leaf.specs.Content.{IsContent};
-ghost use Rattle.ber_leaf.specs.Leaf.{iso_time, is_time, is_clock_time};
+ghost use Rattle.ber_leaf.specs.Leaf.{content_fault, iso_time, is_time, is_clock_time};
+ghost use Rattle.ber_leaf.specs.Profile.{profile_two};
 ghost use Rattle.ber_leaf.specs.Simple.{time};
 
-use crate::{Leaf, LeafFault};
 use super::digits::{are_digits, pair};
+use crate::{Leaf, LeafFault};
 use std::alloc::{AllocError, Global};
 use std::marker::Model;
 
@@ -29,6 +30,19 @@ impl Model for TimeText {
 }
 
 impl TimeText {
+    /// The text of the octets, or why they are none.
+    pub fn new(octets: Vec<u8>) -> Result<Self, LeafFault>
+        ensures text { IfOk result (λ text. text ≡ octets.items) }
+        ensures succeeds { IsOk result ↔ IsContent iso_time octets.items }
+        ensures fault { IfErr result
+            (λ fault. content_fault profile_two iso_time octets.items ≡ Some fault) }
+    {
+        match Self::check(&octets) {
+            None => Ok(Self::of(octets)),
+            Some(fault) => Err(fault),
+        }
+    }
+
     /// The octets of the text.
     pub fn octets(&self) -> &[u8]
         ensures value { result.now ≡ self.now }
@@ -103,5 +117,8 @@ fn is_time(octets: &[u8]) -> bool
 fn is_clock_time(hour: u8, minute: u8, second: u8) -> bool
     ensures { result ≡ is_clock_time hour minute second }
 {
-    matches!((hour, minute, second), (0..=23, 0..=59, 0..=60) | (24, 0, 0))
+    matches!(
+        (hour, minute, second),
+        (0..=23, 0..=59, 0..=60) | (24, 0, 0)
+    )
 }

@@ -1,11 +1,11 @@
-ghost use Rattle.std.specs.Prelude.{◌≡◌, nat_eq, IfOk};
+ghost use Rattle.std.specs.Prelude.{◌≡◌, ◌↔◌, nat_eq, IfErr, IfOk, IsOk};
 ghost use Rattle.std.specs.Cmp.{partial_equiv_from_equiv};
 ghost use Rattle.std.specs.Cmp.Lexicographic.{nat_list_eq_equiv, pointwise};
 ghost use Rattle.ber_leaf.specs.Content.{IsContent};
-ghost use Rattle.ber_leaf.specs.Leaf.{visible_string};
+ghost use Rattle.ber_leaf.specs.Leaf.{content_fault, visible_string};
+ghost use Rattle.ber_leaf.specs.Profile.{is_graphic, profile_two};
 ghost use Rattle.ber_leaf.specs.Simple.{visible};
 ghost use Rattle.std.specs.List.{list_all};
-ghost use Rattle.ber_leaf.specs.Profile.{is_graphic};
 
 use crate::{Leaf, LeafFault};
 use std::alloc::{AllocError, Global};
@@ -30,6 +30,19 @@ impl Model for VisibleText {
 }
 
 impl VisibleText {
+    /// The text of the octets, or why they are none.
+    pub fn new(octets: Vec<u8>) -> Result<Self, LeafFault>
+        ensures text { IfOk result (λ text. text ≡ octets.items) }
+        ensures succeeds { IsOk result ↔ IsContent visible_string octets.items }
+        ensures fault { IfErr result
+            (λ fault. content_fault profile_two visible_string octets.items ≡ Some fault) }
+    {
+        match Self::check(&octets) {
+            None => Ok(Self::of(octets)),
+            Some(fault) => Err(fault),
+        }
+    }
+
     /// The octets of the text.
     pub fn octets(&self) -> &[u8]
         ensures value { result.now ≡ self.now }

@@ -1,7 +1,6 @@
-use Rattle.std.proofs.Common.{◌≡◌, ℕ, suc, ◌-◌, ◌<◌, ◌≤◌, length, List, [], ◌∷◌, ◌++◌, refl, replicate, ap, ap₂, sym, get_or, ◌∙◌, arith, length-take, length-drop, rules, nat_lt}
-use Rattle.std.specs.Prelude.{if◌then◌else◌}
+use Rattle.std.proofs.Common.{◌≡◌, ℕ, ◌-◌, ◌<◌, ◌≤◌, length, List, [], ◌∷◌, ◌++◌, refl, replicate, ap, sym, get_or, ◌∙◌, arith, length-take, length-drop}
 use borrow.Rule.Slice.PartMut.{put_mid}
-use Rattle.ber_leaf.specs.Leaf.{sign_octet}
+use Rattle.ber_leaf.specs.Sign.{sign_octet}
 use Rattle.ber_leaf.proofs.integer.extended.Goals as goal
 use Rattle.ber_leaf.proofs.integer.extended.Goals.{then-octets-lt128, else-octets-lt128}
 
@@ -29,10 +28,10 @@ high_sign (a ∷ r) lt l = grind arith
 pub returns : goal.returns
 returns c =
     let sign : c.if-octets-lt128.sign ≡ sign_octet c.args.octets.now =
-        elim c.if-octets-lt128.branch [
-          | then-octets-lt128 w ↦ w.sign-is ∙ sym (low_sign c.args.octets.now c.requires.some w.if-octets-lt128.true)
-          | else-octets-lt128 w ↦ w.sign-is ∙ sym (high_sign c.args.octets.now c.requires.some w.if-octets-lt128.false)
-        ] in
+    elim c.if-octets-lt128.branch [
+      | then-octets-lt128 w ↦ w.sign-is ∙ sym (low_sign c.args.octets.now c.requires.some w.if-octets-lt128.true)
+      | else-octets-lt128 w ↦ w.sign-is ∙ sym (high_sign c.args.octets.now c.requires.some w.if-octets-lt128.false)
+    ] in
     rw c.copy_from_slice.ensures.after (put_behind c.if-octets-lt128.sign c.args.octets.now c.requires.some c.requires.few ∙ ap (λ (s : ℕ). replicate (8 - length c.args.octets.now) s ++ c.args.octets.now) sign)
 
 pub copy_from_slice-requires : goal.copy_from_slice-requires

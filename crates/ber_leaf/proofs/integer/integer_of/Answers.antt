@@ -1,4 +1,4 @@
-use Rattle.std.proofs.Common.{◌≡◌, ◌<◌, ℕ, List, get_or, ap, ◌∙◌, arith, rules, FitsSigned, w64}
+use Rattle.std.proofs.Common.{◌<◌, ℕ, List, get_or, ap, ◌∙◌, arith, rules, FitsSigned, w64}
 use Rattle.std.specs.Int.{from_be_bytes, cast_signed}
 use Rattle.std.proofs.lemmas.Int.{to_z-of_z}
 use Rattle.ber_leaf.proofs.Integers.{extended_value}

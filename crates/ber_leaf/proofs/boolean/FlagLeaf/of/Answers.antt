@@ -1,9 +1,9 @@
-use Rattle.std.proofs.Common.{◌≡◌, ◌<◌, ℕ, Bool, not, nat_eq, List, [], ◌∷◌, length, get_or, None, ap, sym, ◌∙◌, refl, arith}
+use Rattle.std.proofs.Common.{◌≡◌, ℕ, Bool, not, nat_eq, List, [], ◌∷◌, length, get_or, None, ap, sym, ◌∙◌, refl, arith}
 use Rattle.std.specs.List.{list_all}
 use Rattle.std.proofs.lemmas.List.{get_or_read}
 use Rattle.ber_leaf.specs.Leaf.{boolean, content_fault}
 use Rattle.ber_leaf.specs.Profile.{profile_two}
-use Rattle.ber_leaf.specs.Simple.{Simple, flag}
+use Rattle.ber_leaf.specs.Simple.{flag}
 use Rattle.ber_leaf.proofs.Leaves.{content_holds, no_fault}
 use Rattle.ber_leaf.proofs.boolean.FlagLeaf.of.Goals as goal
 

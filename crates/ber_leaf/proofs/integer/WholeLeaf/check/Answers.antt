@@ -1,4 +1,4 @@
-use Rattle.std.proofs.Common.{◌≡◌, ◌<◌, get_or, Option, Some, None, arith, rules}
+use Rattle.std.proofs.Common.{◌≡◌, ◌<◌, get_or, Some, arith, rules}
 use Rattle.ber_leaf.specs.declared.fault.LeafFault.{LeafFault}
 use Rattle.ber_leaf.specs.Leaf.{integer, content_fault}
 use Rattle.ber_leaf.specs.Profile.{profile_two}

@@ -1,6 +1,6 @@
 use Rattle.std.proofs.Common.{FitsSigned, w64, ap, ◌∙◌, sym, rules}
 use Rattle.std.proofs.lemmas.Int.{to_z-of_z}
-use Rattle.ber_leaf.specs.Leaf.{octet_count, reach}
+use Rattle.ber_leaf.specs.Leaf.{octet_count}
 use Rattle.ber_leaf.proofs.Integers.{length-normal}
 use Rattle.ber_leaf.proofs.integer.WholeLeaf.normal_size.Goals as goal
 

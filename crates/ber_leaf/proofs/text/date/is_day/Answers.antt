@@ -1,4 +1,4 @@
-use Rattle.std.proofs.Common.{◌≡◌, ℕ, ◌+◌, ◌*◌, ◌≤◌, ◌<◌, Bool, true, ◌&&◌, List, [], ◌∷◌, length, get_or, refl, ap, sym, ◌∙◌, arith, rules}
+use Rattle.std.proofs.Common.{◌≡◌, ℕ, ◌+◌, ◌*◌, Bool, true, ◌&&◌, List, [], ◌∷◌, length, get_or, ap, sym, ◌∙◌, arith, rules}
 use Rattle.std.specs.List.{list_all}
 use Rattle.ber_leaf.specs.Leaf.{is_day, is_civil_day, is_digit, two_digits}
 use Rattle.ber_leaf.proofs.text.date.is_day.Goals as goal
@@ -18,4 +18,4 @@ pub returns : goal.returns
 returns c =
     c.is_civil_day.ensures
     ∙ by_parts c.args.octets.now (100 * c.from.result + c.from-2.result) c.pair-3.result c.pair-4.result (omega arith) (search rules)
-        (omega (arith, c.from.ensures, c.from-2.ensures, c.pair.ensures.value, c.pair-2.ensures.value)) c.pair-3.ensures.value c.pair-4.ensures.value
+    (omega (arith, c.from.ensures, c.from-2.ensures, c.pair.ensures.value, c.pair-2.ensures.value)) c.pair-3.ensures.value c.pair-4.ensures.value

@@ -1,0 +1,56 @@
+-- What the decoder's types stand for.
+use Rattle.std.specs.Prelude.{◌≡◌, ℕ, ◌+◌, List, [], ◌∷◌, drop, find, flat_map, Option, Some, None, option_map}
+use Rattle.ber_core.specs.declared.id.Class.{Class}
+use Rattle.ber_core.specs.Identifier.{Tag}
+use Rattle.ber_leaf.specs.Profile.{profile_two}
+use Rattle.ill_schema.specs.declared.node.NodeId.{NodeId}
+use Rattle.ill_schema.specs.declared.part.PartId.{PartId}
+use Rattle.ill_schema.specs.declared.part.Presence.{Presence}
+use Rattle.ill_schema.specs.declared.part.Row.{Row}
+use Rattle.ill_schema.specs.Tagging.{Tagging, untagged, implicit, explicit, explicit_or_bare, tagging, same_tag}
+use Rattle.ill_read.specs.Element.{Component, Element, leaf, sequence, list, wrapper, loose_wrapper, segment, left_out, Start, components, component_starts}
+use Rattle.ill_read.specs.LeafTypes.{leaf_is}
+use Rattle.ill_read.specs.declared.element.Element.{Element as CodeElement}
+use Rattle.ill_read.specs.declared.element.Element.TheVariants as code
+use Rattle.ill_read.specs.declared.element.Found.{Found}
+use Rattle.ill_read.specs.declared.element.Found.TheVariants as found
+use Rattle.ill_read.specs.declared.element.Tagging.{Tagging as CodeTagging}
+use Rattle.ill_read.specs.declared.element.Tagging.TheVariants as tag
+use Rattle.ill_read.specs.declared.element.Wrapped.{Wrapped}
+
+abbrev pub component_of : Wrapped → Component
+component_of w = record { part = w.part; presence = Presence.Must; tagging = untagged; node = w.node }
+
+abbrev pub element_is : CodeElement → Element
+element_is (code.Leaf l) = leaf (leaf_is l)
+element_is (code.Sequence node) = sequence node
+element_is (code.List node) = list node
+element_is (code.Wrapper w) = wrapper (component_of w)
+element_is (code.LooseWrapper w) = loose_wrapper (component_of w)
+element_is code.Segment = segment
+
+abbrev pub found_is : Found → Element
+found_is (found.Element e) = element_is e
+found_is (found.LeftOut part) = left_out part
+
+abbrev pub tagging_is : CodeTagging → Tagging
+tagging_is tag.Untagged = untagged
+tagging_is (tag.Implicit class number) = implicit (record { class = class; number = number })
+tagging_is (tag.Explicit class number) = explicit (record { class = class; number = number })
+tagging_is (tag.ExplicitOrBare class number) = explicit_or_bare (record { class = class; number = number })
+
+-- the component that a row is
+abbrev pub component_at : PartId → Row → Component
+component_at part row = record { part = part; presence = row.presence; tagging = tagging profile_two row; node = row.node }
+
+-- the first element with the tag
+abbrev pub element_with : Tag → List Start → Option Element
+element_with tag ss = option_map (λ s. s.element) (find (λ s. same_tag s.tag tag) ss)
+
+abbrev pub first_element : List Start → Option Element
+first_element [] = None
+first_element (s ∷ ss) = Some s.element
+
+-- the elements by which a choice without a tag of its own begins
+abbrev pub alternative_starts : NodeId → List Start
+alternative_starts node = flat_map component_starts (components profile_two node)

@@ -1,0 +1,26 @@
+-- What the decoder reads of a header.
+use Rattle.std.specs.Prelude.{◌≡◌, ℕ, ◌≤◌, min, List, length, drop}
+use Rattle.ber_core.specs.declared.header.Len.{Len}
+use Rattle.ber_core.specs.declared.header.Len.TheVariants.{Definite, Indefinite}
+use Rattle.ber_core.specs.Id.{tag_of_id, form_of_id}
+use Rattle.ill_read.specs.Reading.{LengthRead, read_identifier, read_length, identified, no_identifier, part_identifier, definite, indefinite, no_length, part_length}
+use Rattle.ill_read.specs.declared.header.HeaderRead.{HeaderRead}
+use Rattle.ill_read.specs.declared.header.HeaderRead.TheVariants.{NoIdentifier, PartIdentifier, Identified}
+use Rattle.ill_read.specs.declared.header.LengthRead.{LengthRead as Length}
+use Rattle.ill_read.specs.declared.header.LengthRead.TheVariants.{NoLength, PartLength, Whole}
+
+-- a length's octets end behind so many of the octets
+abbrev pub IsWholeLength : LengthRead → Len → List ℕ → Type 0
+IsWholeLength read (Definite held) behind = (n : ℕ) × (read ≡ definite n behind) × (held ≡ min n 4_294_967_295)
+IsWholeLength read Indefinite behind = read ≡ indefinite behind
+
+abbrev pub IsLengthRead : Length → LengthRead → List ℕ → Type 0
+IsLengthRead NoLength read octets = read ≡ no_length
+IsLengthRead PartLength read octets = read ≡ part_length
+IsLengthRead (Whole len size) read octets = (size ≤ length octets) × IsWholeLength read len (drop size octets)
+
+abbrev pub IsHeaderRead : HeaderRead → List ℕ → Type 0
+IsHeaderRead NoIdentifier octets = read_identifier octets ≡ no_identifier
+IsHeaderRead PartIdentifier octets = read_identifier octets ≡ part_identifier
+IsHeaderRead (Identified id length) octets =
+    (rest : List ℕ) × (read_identifier octets ≡ identified (tag_of_id id) (form_of_id id) rest) × IsLengthRead length (read_length (form_of_id id) rest) octets

@@ -1,0 +1,14 @@
+-- The leaves that the code names.
+use Rattle.ber_leaf.specs.Leaf.{Leaf, boolean, integer, enumerated, general_string, visible_string, printable_string, iso_date, iso_time}
+use Rattle.ill_read.specs.declared.leaf_type.LeafType.{LeafType}
+use Rattle.ill_read.specs.declared.leaf_type.LeafType.TheVariants as code
+
+abbrev pub leaf_is : LeafType → Leaf
+leaf_is code.Boolean = boolean
+leaf_is code.Integer = integer
+leaf_is code.Enumerated = enumerated
+leaf_is code.General = general_string
+leaf_is code.Visible = visible_string
+leaf_is code.Printable = printable_string
+leaf_is code.Date = iso_date
+leaf_is code.Time = iso_time

@@ -1,0 +1,49 @@
+//! The open elements of a message.
+use crate::due::{Next, Slot};
+use crate::element::Element;
+
+/// An open element: a constructed one whose header has been read.
+#[derive(Clone, Copy, Debug)]
+pub struct Frame {
+    pub element: Element,
+    /// Where its value goes in the element round it.
+    pub slot: Slot,
+    /// The alternative of a choice without a tag that it is.
+    pub alternative: Option<u8>,
+    /// What may come next in it.
+    pub next: Next,
+    /// The offset of its first octet.
+    pub start: u32,
+    /// The offset of its end, where its length is definite.
+    pub end: Option<u32>,
+    /// The offset that no octet in it may reach: its own end, or that of the nearest element round it, or the limit.
+    pub bound: u32,
+    /// How many values are held for the elements round it.
+    pub base: u32,
+}
+
+impl Frame {
+    /// Whether it is definite and ends there.
+    pub fn ends_at(&self, at: u32) -> bool {
+        match self.end {
+            Some(end) => end == at,
+            None => false,
+        }
+    }
+}
+
+/// Fills the places where no element is open.
+impl Default for Frame {
+    fn default() -> Frame {
+        Frame {
+            element: Element::Segment,
+            slot: Slot::Segment,
+            alternative: None,
+            next: Next::Nothing,
+            start: 0,
+            end: None,
+            bound: 0,
+            base: 0,
+        }
+    }
+}

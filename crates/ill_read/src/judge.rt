@@ -1,0 +1,253 @@
+//! What is done at a place: the conditions in their one order, of which the first that holds gives the fault.
+use crate::due::{Due, Next, Slot};
+use crate::element::{Element, Found};
+use crate::header::{HeaderRead, LengthRead, read_header};
+use crate::path::{DEPTH, Path};
+use crate::values::first_mandatory;
+use ber_core::{Id, Len};
+use ill_schema::{Cause, PartId, Refusal};
+
+/// What is done at a place where nothing is at fault but, perhaps, the text or content of a leaf.
+#[derive(Clone, Copy, Debug)]
+pub enum Judgement {
+    /// The innermost element ends, behind so many octets of an end mark.
+    Closes(u32),
+    Opens(Opening),
+    Reads(Reading),
+}
+
+impl Judgement {
+    /// How many octets it takes.
+    pub fn size(self) -> u32 {
+        match self {
+            Judgement::Closes(marks) => marks,
+            Judgement::Opens(opening) => opening.header,
+            Judgement::Reads(reading) => reading.header.saturating_add(reading.size),
+        }
+    }
+}
+
+/// A constructed element: the size of its header, and its end.
+#[derive(Clone, Copy, Debug)]
+pub struct Opening {
+    pub slot: Slot,
+    pub alternative: Option<u8>,
+    pub element: Element,
+    pub header: u32,
+    pub end: Option<u32>,
+}
+
+/// A primitive element: the sizes of its header and its content.
+#[derive(Clone, Copy, Debug)]
+pub struct Reading {
+    pub slot: Slot,
+    pub alternative: Option<u8>,
+    pub element: Element,
+    pub header: u32,
+    pub size: u32,
+}
+
+/// An element that is due and has the form that it may have.
+#[derive(Clone, Copy)]
+struct Started {
+    slot: Slot,
+    alternative: Option<u8>,
+    element: Element,
+    constructed: bool,
+}
+
+impl Path {
+    /// Judges the place at this offset, where the rest of the input follows.
+    pub fn judge(&self, at: u32, rest: &[u8]) -> Result<Judgement, Refusal> {
+        let innermost = self.innermost();
+        if let Some(frame) = innermost {
+            if frame.ends_at(at) {
+                return self.judge_end(at, 0);
+            }
+        }
+        let room = self.bound().saturating_sub(at) as usize;
+        let window = if rest.len() < room {
+            rest
+        } else {
+            &rest[..room]
+        };
+        let want = self.wanting(at, rest.len());
+        if let Some(frame) = innermost {
+            if let (None, Some(0)) = (frame.end, window.first()) {
+                return self.judge_mark(at, window, want);
+            }
+        }
+        self.judge_element(at, window, want)
+    }
+
+    /// The fault where an octet is wanting: the bound comes first, or the input's end.
+    fn wanting(&self, at: u32, rest: usize) -> Refusal {
+        let room = self.bound().saturating_sub(at);
+        if rest >= room as usize {
+            Refusal {
+                at,
+                cause: self.past_end(),
+            }
+        } else {
+            Refusal {
+                at: at.saturating_add(rest as u32),
+                cause: Cause::Truncated,
+            }
+        }
+    }
+
+    /// The innermost element ends: is a part of it missing?
+    fn judge_end(&self, at: u32, marks: u32) -> Result<Judgement, Refusal> {
+        match missing(self.next()) {
+            Some(part) => Err(Refusal {
+                at,
+                cause: Cause::Missing(part),
+            }),
+            None => Ok(Judgement::Closes(marks)),
+        }
+    }
+
+    /// An end mark, whose first octet is there.
+    fn judge_mark(&self, at: u32, window: &[u8], want: Refusal) -> Result<Judgement, Refusal> {
+        match window {
+            [_, 0, ..] => self.judge_end(at, 2),
+            [_, _, ..] => Err(Refusal {
+                at,
+                cause: Cause::BadEnd,
+            }),
+            _ => Err(want),
+        }
+    }
+
+    /// An element from its first octet on.
+    fn judge_element(&self, at: u32, window: &[u8], want: Refusal) -> Result<Judgement, Refusal> {
+        match read_header(window) {
+            HeaderRead::PartIdentifier => Err(want),
+            HeaderRead::NoIdentifier => Err(Refusal {
+                at,
+                cause: Cause::BadTag,
+            }),
+            HeaderRead::Identified(id, length) => {
+                let started = self.judge_tag(at, id)?;
+                self.judge_length(at, started, length, window, want)
+            }
+        }
+    }
+
+    /// The depth, tag and form of an element.
+    fn judge_tag(&self, at: u32, id: Id) -> Result<Started, Refusal> {
+        if self.depth() >= DEPTH {
+            return Err(Refusal {
+                at,
+                cause: Cause::TooDeep,
+            });
+        }
+        let Some(due) = self.next().find(id) else {
+            return Err(Refusal {
+                at,
+                cause: Cause::UnexpectedTag,
+            });
+        };
+        judge_form(at, due, id.constructed())
+    }
+
+    /// The length of an element.
+    fn judge_length(
+        &self,
+        at: u32,
+        started: Started,
+        length: LengthRead,
+        window: &[u8],
+        want: Refusal,
+    ) -> Result<Judgement, Refusal> {
+        match length {
+            LengthRead::PartLength => Err(want),
+            LengthRead::NoLength => Err(Refusal {
+                at,
+                cause: Cause::BadLength,
+            }),
+            LengthRead::Whole(Len::Indefinite, header) => Ok(Judgement::Opens(Opening {
+                slot: started.slot,
+                alternative: started.alternative,
+                element: started.element,
+                header: header as u32,
+                end: None,
+            })),
+            LengthRead::Whole(Len::Definite(size), header) => {
+                self.judge_size(at, started, header as u32, size, window, want)
+            }
+        }
+    }
+
+    /// The end of an element of definite length.
+    fn judge_size(
+        &self,
+        at: u32,
+        started: Started,
+        header: u32,
+        size: u32,
+        window: &[u8],
+        want: Refusal,
+    ) -> Result<Judgement, Refusal> {
+        let room = self.bound().saturating_sub(at).saturating_sub(header);
+        if size > room {
+            return Err(Refusal {
+                at,
+                cause: self.past_end(),
+            });
+        }
+        if started.constructed {
+            return Ok(Judgement::Opens(Opening {
+                slot: started.slot,
+                alternative: started.alternative,
+                element: started.element,
+                header,
+                end: Some(at.saturating_add(header).saturating_add(size)),
+            }));
+        }
+        if window.len().saturating_sub(header as usize) < size as usize {
+            return Err(want);
+        }
+        Ok(Judgement::Reads(Reading {
+            slot: started.slot,
+            alternative: started.alternative,
+            element: started.element,
+            header,
+            size,
+        }))
+    }
+}
+
+/// The form of an element that is due.
+fn judge_form(at: u32, due: Due, constructed: bool) -> Result<Started, Refusal> {
+    match due.found {
+        Found::LeftOut(part) => Err(Refusal {
+            at,
+            cause: Cause::LeftOut(part),
+        }),
+        Found::Element(element) => {
+            if !element.allows(constructed) {
+                return Err(Refusal {
+                    at,
+                    cause: Cause::WrongForm,
+                });
+            }
+            Ok(Started {
+                slot: due.slot,
+                alternative: due.alternative,
+                element,
+                constructed,
+            })
+        }
+    }
+}
+
+/// The first mandatory part that is still to come.
+fn missing(next: Next) -> Option<PartId> {
+    match next {
+        Next::Rows(node, position) => first_mandatory(node, position),
+        Next::Inner(wrapped) => Some(wrapped.part),
+        Next::Either(wrapped) => first_mandatory(wrapped.node, 0),
+        Next::Items(_) | Next::Segments | Next::Nothing => None,
+    }
+}

@@ -1,0 +1,72 @@
+//! The types of leaves, and the values of their contents.
+ghost use Rattle.std.specs.Prelude.{◌≡◌, IfOk};
+ghost use Rattle.ber_leaf.specs.Content.{IsContent};
+ghost use Rattle.ber_leaf.specs.Leaf.{content_fault, is_string, value};
+ghost use Rattle.ber_leaf.specs.Profile.{profile_two};
+
+use ber_leaf::{
+    DateText, Flag, GeneralText, IllString, Leaf, LeafFault, PrintableText, TimeText, VisibleText,
+    Whole,
+};
+use ill_schema::Value;
+
+/// A type of leaf, with the two strings of an ILL-String apart.
+#[derive(Clone, Copy, Debug, PartialEq, Eq)]
+pub enum LeafType {
+    Boolean,
+    Integer,
+    Enumerated,
+    General,
+    Visible,
+    Printable,
+    Date,
+    Time,
+}
+
+impl LeafType {
+    ghost use Rattle.ill_schema.specs.Content.{simple};
+    ghost use Rattle.ill_schema.specs.Value.{content_of};
+    ghost use Rattle.ill_read.specs.LeafTypes.{leaf_is};
+
+    /// Whether it is a string, which may stand in segments (X.690, 8.23).
+    pub fn is_string(self) -> bool
+        ensures { result ≡ is_string (leaf_is self) }
+    {
+        !matches!(
+            &self,
+            LeafType::Boolean | LeafType::Integer | LeafType::Enumerated
+        )
+    }
+
+    /// Why the octets are no content of it.
+    pub fn fault(self, octets: &[u8]) -> Option<LeafFault>
+        ensures { result ≡ content_fault profile_two (leaf_is self) octets.now }
+    {
+        match self {
+            LeafType::Boolean => Flag::check(octets),
+            LeafType::Integer | LeafType::Enumerated => Whole::check(octets),
+            LeafType::General => GeneralText::check(octets),
+            LeafType::Visible => VisibleText::check(octets),
+            LeafType::Printable => PrintableText::check(octets),
+            LeafType::Date => DateText::check(octets),
+            LeafType::Time => TimeText::check(octets),
+        }
+    }
+
+    /// The value that the octets hold.
+    pub fn value(self, octets: Vec<u8>) -> Value
+        requires { IsContent (leaf_is self) octets.items }
+        ensures { content_of result ≡ simple (value (leaf_is self) octets.items) }
+    {
+        match self {
+            LeafType::Boolean => Value::Flag(Flag::of(octets)),
+            LeafType::Integer => Value::Whole(Whole::of(octets)),
+            LeafType::Enumerated => Value::Whole(Whole::of(octets)),
+            LeafType::General => Value::Str(IllString::General(GeneralText::of(octets))),
+            LeafType::Visible => Value::Str(IllString::Visible(VisibleText::of(octets))),
+            LeafType::Printable => Value::Print(PrintableText::of(octets)),
+            LeafType::Date => Value::Date(DateText::of(octets)),
+            LeafType::Time => Value::Time(TimeText::of(octets)),
+        }
+    }
+}

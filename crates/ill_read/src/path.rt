@@ -1,0 +1,275 @@
+//! The path of open elements, with the values and the text that they hold so far.
+use crate::due::{Next, Slot};
+use crate::element::{Element, Wrapped};
+use crate::failure::Failure;
+use crate::frame::Frame;
+use crate::judge::{Judgement, Opening, Reading};
+use crate::leaf_type::LeafType;
+use crate::values::Values;
+use arrayvec::ArrayVec;
+use ill_schema::{Cause, LIMIT, NodeId, PartId, Value, rows};
+use std::alloc::{AllocError, Global};
+use std::mem;
+
+/// How many elements may be open.
+pub const DEPTH: usize = 32;
+
+/// What is due where no element is open.
+const TOP: Next = Next::Inner(Wrapped {
+    part: PartId {
+        node: NodeId::IllApdu,
+        row: 0,
+    },
+    node: NodeId::IllApdu,
+});
+
+/// The open elements, innermost last, with what has been read in them.
+#[derive(Debug, Drop)]
+pub struct Path {
+    alloc: Global,
+    frames: ArrayVec<Frame, DEPTH>,
+    values: Values,
+    /// The octets of the string that is open, joined.
+    text: Vec<u8>,
+}
+
+/// The value of a message, with the row of ILL-APDU that it is of.
+#[derive(Debug, Drop)]
+pub struct Body {
+    pub row: u8,
+    pub value: Value,
+}
+
+impl Path {
+    pub fn new(alloc: Global) -> Path {
+        Path {
+            alloc,
+            frames: ArrayVec::new(),
+            values: Values::new(alloc),
+            text: Vec::new(alloc),
+        }
+    }
+
+    pub fn innermost(&self) -> Option<Frame> {
+        self.frames.as_slice().last().copied()
+    }
+
+    pub fn depth(&self) -> usize {
+        self.frames.len()
+    }
+
+    /// What may come next.
+    pub fn next(&self) -> Next {
+        match self.innermost() {
+            Some(frame) => frame.next,
+            None => TOP,
+        }
+    }
+
+    /// The offset that no octet may reach.
+    pub fn bound(&self) -> u32 {
+        match self.innermost() {
+            Some(frame) => frame.bound,
+            None => LIMIT,
+        }
+    }
+
+    /// The end of the outermost element of definite length.
+    pub fn outermost_end(&self) -> Option<u32> {
+        for frame in self.frames.as_slice() {
+            if let Some(end) = frame.end {
+                return Some(end);
+            }
+        }
+        None
+    }
+
+    /// Why an octet at the bound can't be read.
+    pub fn past_end(&self) -> Cause {
+        match self.outermost_end() {
+            Some(_) => Cause::Overrun,
+            None => Cause::TooLong,
+        }
+    }
+
+    /// Whether the innermost element is indefinite.
+    pub fn awaits_end_mark(&self) -> bool {
+        match self.innermost() {
+            Some(frame) => frame.end.is_none(),
+            None => false,
+        }
+    }
+
+    /// Does what was judged at this offset, with the octets that it takes; of a whole message, answers its body.
+    pub fn step(
+        &mut self,
+        judgement: Judgement,
+        at: u32,
+        octets: &[u8],
+    ) -> Result<Option<Body>, Failure> {
+        match judgement {
+            Judgement::Closes(_) => {
+                self.pass_last_rows()?;
+                self.close()
+            }
+            Judgement::Opens(opening) => {
+                self.open(opening, at);
+                Ok(None)
+            }
+            Judgement::Reads(reading) => {
+                let header = (reading.header as usize).min(octets.len());
+                self.take(reading, at, &octets[header..])
+            }
+        }
+    }
+
+    /// Opens the element that is due and begins at `start`.
+    fn open(&mut self, opening: Opening, start: u32) {
+        let Opening {
+            slot,
+            alternative,
+            element,
+            header: _,
+            end,
+        } = opening;
+        let frame = Frame {
+            element,
+            slot,
+            alternative,
+            next: first_next(element),
+            start,
+            end,
+            bound: end.unwrap_or(self.bound()),
+            base: self.values.len(),
+        };
+        let _ = self.frames.try_push(frame);
+    }
+
+    /// Takes the content of a primitive element that is due and begins at `start`.
+    fn take(
+        &mut self,
+        reading: Reading,
+        start: u32,
+        content: &[u8],
+    ) -> Result<Option<Body>, Failure> {
+        match reading.element {
+            Element::Leaf(leaf) => {
+                let value = leaf_value(self.alloc, leaf, start, content)?;
+                Ok(self.deliver(reading.slot, reading.alternative, value)?)
+            }
+            _ => {
+                self.text.extend_from_slice(content)?;
+                Ok(None)
+            }
+        }
+    }
+
+    /// Closes the innermost element, in which nothing is missing.
+    fn close(&mut self) -> Result<Option<Body>, Failure> {
+        let Some(frame) = self.frames.pop() else {
+            return Ok(None);
+        };
+        let value = match frame.element {
+            Element::Segment => return Ok(None),
+            Element::Leaf(leaf) => {
+                let text = mem::replace(&mut self.text, Vec::new(self.alloc));
+                text_value(leaf, frame.start, text)?
+            }
+            Element::Sequence(_) => self.values.sequence(frame.base)?,
+            Element::List(_) => self.values.list(self.alloc, frame.base)?,
+            Element::Wrapper(_) => return self.unwrap(frame),
+            Element::LooseWrapper(_) => match frame.next {
+                Next::Nothing => return self.unwrap(frame),
+                _ => self.loose_sequence(frame)?,
+            },
+        };
+        Ok(self.deliver(frame.slot, frame.alternative, value)?)
+    }
+
+    fn unwrap(&mut self, frame: Frame) -> Result<Option<Body>, Failure> {
+        match self.values.last() {
+            Some(value) => Ok(self.deliver(frame.slot, frame.alternative, value)?),
+            None => Ok(None),
+        }
+    }
+
+    fn loose_sequence(&mut self, frame: Frame) -> Result<Value, AllocError> {
+        self.values.sequence(frame.base)
+    }
+
+    /// Puts a value where it belongs in the element round it; of a whole message, gives it back.
+    fn deliver(
+        &mut self,
+        slot: Slot,
+        alternative: Option<u8>,
+        value: Value,
+    ) -> Result<Option<Body>, AllocError> {
+        let Some(frame) = self.innermost() else {
+            return Ok(Some(Body {
+                row: alternative.unwrap_or(0),
+                value,
+            }));
+        };
+        let value = match alternative {
+            Some(row) => Value::Alt(row, Box::new(self.alloc, value)?),
+            None => value,
+        };
+        if let Slot::Row(row) = slot {
+            self.pass_rows(frame.next, row)?;
+        }
+        self.values.push(value)?;
+        self.advance(frame.next.behind(slot));
+        Ok(None)
+    }
+
+    /// Passes the rows before this one.
+    fn pass_rows(&mut self, next: Next, row: u8) -> Result<(), AllocError> {
+        match next {
+            Next::Rows(node, position) => self.values.pass(node, position, row),
+            Next::Either(wrapped) => self.values.pass(wrapped.node, 0, row),
+            _ => Ok(()),
+        }
+    }
+
+    fn advance(&mut self, next: Next) {
+        let last = self.frames.len().saturating_sub(1);
+        if let Some(frame) = self.frames.as_mut_slice().get_mut(last) {
+            frame.next = next;
+        }
+    }
+
+    /// Passes the last rows of the sequence that ends.
+    fn pass_last_rows(&mut self) -> Result<(), AllocError> {
+        match self.next() {
+            Next::Rows(node, position) => self.values.pass(node, position, rows(node)),
+            Next::Either(wrapped) => self.values.pass(wrapped.node, 0, rows(wrapped.node)),
+            _ => Ok(()),
+        }
+    }
+}
+
+/// What may come in an element when it opens.
+fn first_next(element: Element) -> Next {
+    match element {
+        Element::Leaf(_) | Element::Segment => Next::Segments,
+        Element::Sequence(node) => Next::Rows(node, 0),
+        Element::List(node) => Next::Items(node),
+        Element::Wrapper(wrapped) => Next::Inner(wrapped),
+        Element::LooseWrapper(wrapped) => Next::Either(wrapped),
+    }
+}
+
+/// The value that octets hold as a leaf of the element at `start`.
+fn text_value(leaf: LeafType, start: u32, octets: Vec<u8>) -> Result<Value, Failure> {
+    match leaf.fault(&octets) {
+        Some(fault) => Err(Failure::refused(start, Cause::from(fault))),
+        None => Ok(leaf.value(octets)),
+    }
+}
+
+fn leaf_value(alloc: Global, leaf: LeafType, start: u32, content: &[u8]) -> Result<Value, Failure> {
+    match leaf.fault(content) {
+        Some(fault) => Err(Failure::refused(start, Cause::from(fault))),
+        None => Ok(leaf.value(Vec::from_slice(alloc, content)?)),
+    }
+}
