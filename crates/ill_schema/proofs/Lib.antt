@@ -15,3 +15,4 @@ pub mod RowFits
 pub mod Trees
 pub mod Sizes
 pub mod Carried
+pub mod RowNames

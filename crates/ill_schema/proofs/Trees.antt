@@ -13,57 +13,45 @@ use Rattle.ill_schema.specs.declared.part.Presence.{Presence}
 use Rattle.ill_schema.specs.declared.part.Row.{Row}
 use Rattle.ill_schema.specs.declared.value.Value.{Value}
 use Rattle.ill_schema.specs.Content.{Content, simple, sequence, list, alternative, Entries, Items}
-use Rattle.ill_schema.specs.Elements.{tag_at, wrapper, wrapper_at, replacement, replacement_at, replacing, row_tree, trees_unless, entry_trees, joined, own_number, element_tag, element_tree, place_trees, item_trees}
+use Rattle.ill_schema.specs.Elements.{tag_at, wrapper, wrapper_at, row_tree, trees_unless, entry_trees, joined, element_tag, element_tree, place_trees, item_trees}
 use Rattle.ill_schema.specs.Normal.{normal_tree, normal_trees, normal_items}
 use Rattle.ill_schema.specs.Presence.{is_default}
 use Rattle.ill_schema.specs.Table.{kind_of, rows_of}
-use Rattle.ill_schema.specs.Tagging.{Tagging, untagged, implicit, explicit, explicit_or_bare, tagging, leaf_of, leaf_tag, universal, sequence_tag}
+use Rattle.ill_schema.specs.Tagging.{untagged, explicit, explicit_or_bare, tagging, leaf_of, leaf_tag, universal, sequence_tag}
 use Rattle.ill_schema.specs.Value.{content_of, entries_content, items_content}
 
 pub sizes-joined : (ts us : Trees) → sizes (joined ts us) ≡ sizes ts + sizes us
 sizes-joined none us = omega arith
 sizes-joined (more T ts) us = let e = sizes-joined ts us in omega arith
 
--- the row's element in its wrapper, or with its tag in place of the own one
-wrapped_at : (tag : Option (Class × ℕ)) (m : Mode) (pr : Presence) (node : NodeId) (c : Content) (t : Class × ℕ) → wrapper_at m tag ≡ Some t
-    → normal_tree c node (tagging profile_two (record { tag = tag; mode = m; presence = pr; node = node })) ≡ constructed (tag_at t) (more (normal_tree c node untagged) none)
-wrapped_at None Mode.Explicit pr node c t e = absurd cc
-wrapped_at None Mode.ExplicitOrBare pr node c t e = absurd cc
-wrapped_at None Mode.Implicit pr node c t e = absurd cc
-wrapped_at None Mode.Untagged pr node c t e = absurd cc
-wrapped_at (Some s) Mode.Implicit pr node c t e = absurd cc
-wrapped_at (Some s) Mode.Untagged pr node c t e = absurd cc
-wrapped_at (Some s) Mode.Explicit pr node c t e = in_wrapper c node s ∙ ap (λ x. constructed (tag_at x) (more (normal_tree c node untagged) none)) (let q : s ≡ t = cc in q)
-  where
-    in_wrapper : (c : Content) (node : NodeId) (s : Class × ℕ) → normal_tree c node (explicit (tag_at s)) ≡ constructed (tag_at s) (more (normal_tree c node untagged) none)
-    in_wrapper (simple v) node s = refl
-    in_wrapper (sequence es) node s = refl
-    in_wrapper (list is) node s = refl
-    in_wrapper (alternative n c) node s = refl
-wrapped_at (Some s) Mode.ExplicitOrBare pr node c t e = in_wrapper c node s ∙ ap (λ x. constructed (tag_at x) (more (normal_tree c node untagged) none)) (let q : s ≡ t = cc in q)
-  where
-    in_wrapper : (c : Content) (node : NodeId) (s : Class × ℕ) → normal_tree c node (explicit_or_bare (tag_at s)) ≡ constructed (tag_at s) (more (normal_tree c node untagged) none)
-    in_wrapper (simple v) node s = refl
-    in_wrapper (sequence es) node s = refl
-    in_wrapper (list is) node s = refl
-    in_wrapper (alternative n c) node s = refl
+-- DER's tree under a tag that may be bare is that under an explicit one
+in_wrapper : (c : Content) (node : NodeId) (t : Class × ℕ) → normal_tree c node (explicit (tag_at t)) ≡ constructed (tag_at t) (more (normal_tree c node untagged) none)
+in_wrapper (simple v) node t = refl
+in_wrapper (sequence es) node t = refl
+in_wrapper (list is) node t = refl
+in_wrapper (alternative n c) node t = refl
 
+not_bare : (c : Content) (node : NodeId) (t : Tag) → normal_tree c node (explicit_or_bare t) ≡ normal_tree c node (explicit t)
+not_bare (simple v) node t = refl
+not_bare (sequence es) node t = refl
+not_bare (list is) node t = refl
+not_bare (alternative n c) node t = refl
+
+wrapped_at : (tag : Option (Class × ℕ)) (mode : Mode) (presence : Presence) (node : NodeId) (c : Content) (t : Class × ℕ) → wrapper_at mode tag ≡ Some t
+    → normal_tree c node (tagging profile_two (record { tag = tag; mode = mode; presence = presence; node = node })) ≡ constructed (tag_at t) (more (normal_tree c node untagged) none)
+wrapped_at None Mode.Explicit presence node c t e = absurd cc
+wrapped_at None Mode.ExplicitOrBare presence node c t e = absurd cc
+wrapped_at None Mode.Implicit presence node c t e = absurd cc
+wrapped_at None Mode.Untagged presence node c t e = absurd cc
+wrapped_at (Some s) Mode.Implicit presence node c t e = absurd cc
+wrapped_at (Some s) Mode.Untagged presence node c t e = absurd cc
+wrapped_at (Some s) Mode.Explicit presence node c t e = let same : s ≡ t = cc in ap (λ x. normal_tree c node (explicit (tag_at x))) same ∙ in_wrapper c node t
+wrapped_at (Some s) Mode.ExplicitOrBare presence node c t e =
+    let same : s ≡ t = cc in ap (λ x. normal_tree c node (explicit_or_bare (tag_at x))) same ∙ not_bare c node (tag_at t) ∙ in_wrapper c node t
+
+-- a row's element in its wrapper
 pub wrapped : (row : Row) (c : Content) (t : Class × ℕ) → wrapper row ≡ Some t → row_tree row c ≡ constructed (tag_at t) (more (element_tree None row.node c) none)
 wrapped row c t e = wrapped_at row.tag row.mode row.presence row.node c t e
-
-bare_at : (tag : Option (Class × ℕ)) (m : Mode) (pr : Presence) (node : NodeId) → wrapper_at m tag ≡ None
-    → tagging profile_two (record { tag = tag; mode = m; presence = pr; node = node }) ≡ replacing (replacement_at m tag)
-bare_at None Mode.Explicit pr node e = refl
-bare_at None Mode.ExplicitOrBare pr node e = refl
-bare_at None Mode.Implicit pr node e = refl
-bare_at None Mode.Untagged pr node e = refl
-bare_at (Some s) Mode.Explicit pr node e = absurd cc
-bare_at (Some s) Mode.ExplicitOrBare pr node e = absurd cc
-bare_at (Some s) Mode.Implicit pr node e = refl
-bare_at (Some s) Mode.Untagged pr node e = refl
-
-pub not_wrapped : (row : Row) (c : Content) → wrapper row ≡ None → row_tree row c ≡ element_tree (replacement row) row.node c
-not_wrapped row c e = ap (λ g. normal_tree c row.node g) (bare_at row.tag row.mode row.presence row.node e)
 
 -- the tree of each kind of content
 leaf_own : (o : Option Leaf) → elim o as (λ _. Tag) [ Some l ↦ leaf_tag l | None ↦ sequence_tag ] ≡ universal (elim o as (λ _. ℕ) [ Some l ↦ (leaf_tag l).number | None ↦ 16 ])

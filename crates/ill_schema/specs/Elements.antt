@@ -12,7 +12,6 @@ use Rattle.ill_schema.specs.declared.value.Value.{Value}
 use Rattle.ill_schema.specs.Content.{Content, simple}
 use Rattle.ill_schema.specs.Normal.{normal_tree}
 use Rattle.ill_schema.specs.Presence.{is_default}
-use Rattle.ill_schema.specs.Table.{kind_of}
 use Rattle.ill_schema.specs.Tagging.{Tagging, untagged, implicit, tagging, leaf_of, leaf_tag, universal}
 use Rattle.ill_schema.specs.Value.{content_of}
 

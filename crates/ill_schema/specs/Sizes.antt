@@ -8,7 +8,7 @@ use Rattle.ill_schema.specs.declared.node.Kind.{Kind}
 use Rattle.ill_schema.specs.declared.node.NodeId.{NodeId}
 use Rattle.ill_schema.specs.declared.node.NodeId.TheVariants.{IllApdu, IllRequest, Shipped, IllAnswer, ConditionalReply, Cancel, CancelReply, Received, Recall, Returned, CheckedIn, Overdue, Renew, RenewAnswer, Lost, Damaged, MessageApdu, StatusQuery, Expired}
 use Rattle.ill_schema.specs.declared.part.Row.{Row}
-use Rattle.ill_schema.specs.Apdu.{Apdu, normal_form}
+use Rattle.ill_schema.specs.Apdu.{normal_form}
 use Rattle.ill_schema.specs.Content.{Content}
 use Rattle.ill_schema.specs.Elements.{element_tag, element_tree, row_tree}
 use Rattle.ill_schema.specs.Normal.{normal_tree}

@@ -1,6 +1,7 @@
 //! The names of the nodes, and of each node's rows.
-ghost use Rattle.std.specs.Prelude.{◌≡◌, None, Some, MatchOption, map};
+ghost use Rattle.std.specs.Prelude.{◌≡◌, ◌↔◌, None, Some, IsSome, MatchOption, map, slice_get};
 ghost use Rattle.ill_schema.specs.Names.{names_of, part_name_of, apdu_node_of, apdu_name_of};
+ghost use Rattle.ill_schema.specs.Table.{rows_of};
 
 use crate::lookup::row;
 use crate::node::NodeId;
@@ -403,7 +404,8 @@ fn names_of(node: NodeId) -> (&'static str, &'static [&'static str])
 /// The names of a part: its node's, which is empty for a list that stands inside a row, and its
 /// row's. None where the node has no such row.
 pub fn part_name(part: PartId) -> Option<(&'static str, &'static str)>
-    ensures { MatchOption result (part_name_of part ≡ None) (λ names. part_name_of part ≡ Some (names.0.now, names.1.now)) }
+    ensures names { MatchOption result (part_name_of part ≡ None) (λ names. part_name_of part ≡ Some (names.0.now, names.1.now)) }
+    ensures there { IsSome result ↔ IsSome (slice_get (rows_of part.node) part.row) }
 {
     let (node, rows) = names_of(part.node);
     let row = rows.get(part.row as usize)?;

@@ -1,16 +1,16 @@
-use Rattle.std.proofs.Common.{◌≡◌, Some, None, get_or, ◌+◌, refl, sym, ap, ◌∙◌, arith}
+use Rattle.std.proofs.Common.{Some, None, ◌+◌, refl, sym, ap, ◌∙◌, arith}
 use Rattle.ber_core.specs.Der.{sizes}
 use Rattle.ber_core.specs.Tree.{none, more}
 use Rattle.ber_leaf.specs.Simple.{flag, whole, date, time, printable}
 use Rattle.ber_leaf.specs.Strings.{string_value}
 use Rattle.ill_schema.specs.Content.{sequence, list, alternative}
-use Rattle.ill_schema.specs.Elements.{tag_at, element_tree, row_tree}
+use Rattle.ill_schema.specs.Elements.{element_tree}
 use Rattle.ill_schema.specs.Normal.{normal_trees, normal_items}
 use Rattle.ill_schema.specs.Table.{kind_of, rows_of}
 use Rattle.ill_schema.specs.Value.{content_of, entries_content, items_content}
 use Rattle.ill_schema.proofs.Contents.{content_of-Flag, content_of-Whole, content_of-Date, content_of-Time, content_of-Print, content_of-Str, content_of-Seq, content_of-List, content_of-Alt}
 use Rattle.ill_schema.proofs.Sizes.{leaf_sized, inside_sized, inside_passes, step_sum, part_passes, sum_passes}
-use Rattle.ill_schema.proofs.Trees.{wrapped, sequence_tree, list_tree, chosen_tree, no_row_tree, entry_step, absent_step, item_step}
+use Rattle.ill_schema.proofs.Trees.{wrapped, sequence_tree, list_tree, no_row_tree, entry_step, absent_step, item_step}
 use Rattle.ill_schema.proofs.size.+size.Goals as goal
 use Rattle.ill_schema.proofs.size.+size.Goals.{entries_size-in-Some+in_ok-present_size+in_ok-sum, entries_size-in_default}
 

@@ -1,6 +1,5 @@
-use Rattle.std.proofs.Common.{◌≡◌, Some, refl, sym, ap, ◌∙◌, length, arith}
+use Rattle.std.proofs.Common.{refl, sym, ap, ◌∙◌, length, arith}
 use Rattle.ill_schema.specs.Apdu.{normal_form}
-use Rattle.ill_schema.specs.Names.{apdu_node_of}
 use Rattle.ill_schema.specs.Value.{apdu_with}
 use Rattle.ill_schema.proofs.Carried.{carried_fits, node_form-apdu}
 use Rattle.ill_schema.proofs.message.Message.new.Goals as goal
