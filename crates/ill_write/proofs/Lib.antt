@@ -1,0 +1,4 @@
+pub mod Joined
+pub mod Tags
+pub mod Measured
+pub mod Putting

@@ -1,0 +1,13 @@
+//! Writes the normal form of messages: measured first, and then forward in one pass to any sink.
+#![tactic(auto)]
+
+mod element;
+mod failure;
+mod measure;
+mod pieces;
+mod progress;
+mod put;
+mod sizes;
+
+pub use failure::WriteFailure;
+pub use sizes::Sizes;
