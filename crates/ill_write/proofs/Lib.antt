@@ -2,3 +2,4 @@ pub mod Joined
 pub mod Tags
 pub mod Measured
 pub mod Putting
+pub mod Writing

@@ -8,6 +8,7 @@ mod pieces;
 mod progress;
 mod put;
 mod sizes;
+mod write;
 
 pub use failure::WriteFailure;
 pub use sizes::Sizes;
