@@ -3,3 +3,4 @@ pub mod Tags
 pub mod Measured
 pub mod Putting
 pub mod Writing
+pub mod Messages

@@ -1,5 +1,5 @@
 -- The sizes of elements as they are measured.
-use Rattle.std.proofs.Common.{◌≡◌, ℕ, ◌+◌, ◌≤◌, ℤ, pos, negsuc, Bool, true, false, List, [], ◌∷◌, ◌++◌, length, Option, refl, sym, ap, subst, ◌∙◌, arith, append_assoc, append-nil, set}
+use Rattle.std.proofs.Common.{◌≡◌, ℕ, ◌+◌, ◌≤◌, true, List, [], ◌∷◌, ◌++◌, length, Option, sym, ap, subst, ◌∙◌, arith, append_assoc, append-nil, set}
 use Rattle.ber_core.specs.declared.id.Class.{Class}
 use Rattle.ber_core.specs.Der.{header_size, size, sizes}
 use Rattle.ber_core.specs.Identifier.{Tag}
@@ -7,9 +7,6 @@ use Rattle.ber_core.specs.Tree.{Tree, Trees, primitive, constructed, none, more}
 use Rattle.ber_leaf.specs.Leaf.{normal_content}
 use Rattle.ber_leaf.specs.Profile.{profile_two}
 use Rattle.ber_leaf.specs.Simple.{Simple}
-use Rattle.ber_leaf.specs.Strings.{string_octets, string_value}
-use Rattle.ber_leaf.specs.declared.text.ill_string.IllString.{IllString}
-use Rattle.ber_leaf.specs.declared.text.ill_string.IllString.TheVariants.{General, Visible}
 use Rattle.ill_schema.specs.declared.node.NodeId.{NodeId}
 use Rattle.ill_schema.specs.Content.{Content, simple}
 use Rattle.ill_schema.specs.Elements.{tag_at, joined, element_tag, element_tree}
@@ -31,9 +28,10 @@ inside_small T tag ts e le = let s = ap size e in omega (arith, s, le)
 pub closed : (T : Tree) (tag : Tag) (ts : Trees) (before after : List ℕ) (inside n : ℕ) → T ≡ constructed tag ts
     → Measures (before ++ 0 ∷ []) after inside ts → n ≡ header_size tag true inside + inside → MeasuresOne before (set after (length before) inside) n T
 closed T tag ts before after inside n e m h =
-    subst (λ z. MeasuresOne before (set after (length before) inside) n z) (sym e)
-      (h ∙ ap (λ (x : ℕ). header_size tag true x + x) m.0,
-        ap (λ z. set z (length before) inside) m.1 ∙ filled before (all_content_sizes ts) inside ∙ ap (λ (x : ℕ). before ++ (x ∷ all_content_sizes ts)) m.0)
+    subst (λ z. MeasuresOne before (set after (length before) inside) n z) (sym e) (
+      h ∙ ap (λ (x : ℕ). header_size tag true x + x) m.0,
+      ap (λ z. set z (length before) inside) m.1 ∙ filled before (all_content_sizes ts) inside ∙ ap (λ (x : ℕ). before ++ (x ∷ all_content_sizes ts)) m.0,
+    )
 
 -- an element with no contents
 pub closed_empty : (T : Tree) (tag : Tag) (before after : List ℕ) (n : ℕ) → T ≡ constructed tag none → after ≡ before ++ 0 ∷ [] → n ≡ header_size tag true 0 + 0
@@ -52,7 +50,7 @@ pub step_pushed : (now after all : List ℕ) (ts us ws : Trees) (n : ℕ) → ws
     → after ++ all_content_sizes us ≡ all
 step_pushed now after all ts us ws n e m p =
     ap (λ z. z ++ all_content_sizes us) m.1 ∙ append_assoc now (all_content_sizes ts) (all_content_sizes us)
-      ∙ ap (λ z. now ++ z) (sym (content_sizes-joined ts us)) ∙ ap (λ z. now ++ all_content_sizes z) (sym e) ∙ p
+    ∙ ap (λ z. now ++ z) (sym (content_sizes-joined ts us)) ∙ ap (λ z. now ++ all_content_sizes z) (sym e) ∙ p
 
 pub step_small : (ts us ws : Trees) (sum total : ℕ) → ws ≡ joined ts us → sum + sizes ws ≡ total → total ≤ profile_two.limit → sizes ts ≤ profile_two.limit
 step_small ts us ws sum total e s le = let a = sizes-joined ts us in let b = ap sizes e in omega (arith, a, b, s, le)

@@ -1,9 +1,8 @@
 -- What is put one after another.
-use Rattle.std.proofs.Common.{◌≡◌, ℕ, ◌+◌, ◌-◌, ◌^◌, ◌<◌, ◌≤◌, min, List, [], ◌∷◌, ◌++◌, length, take, Option, Some, None, Result, Ok, Err, refl, sym, ap, subst, ◌∙◌, arith, append_assoc, append-nil, length-append, drop, IsOk, length-take}
+use Rattle.std.proofs.Common.{◌≡◌, ℕ, ◌+◌, ◌-◌, ◌^◌, ◌<◌, ◌≤◌, List, [], ◌++◌, length, take, Option, Some, None, Result, Ok, Err, refl, sym, ap, subst, ◌∙◌, arith, append_assoc, append-nil, length-append, drop, IsOk, length-take}
 use Rattle.ill_write.specs.Puts.{Puts, Sends, Stands, Stopped, counted}
 use lib.Seq.{take-add, take-take}
 use Rattle.std.proofs.lemmas.List.{take-append-drop, take_at}
-use Rattle.ber_leaf.specs.Profile.{profile_two}
 use Rattle.std.specs.Prelude.{IsErr}
 use Rattle.std.specs.Prelude.{MatchResult}
 use Rattle.std.specs.Io.KnownBytes.{Appends, Keeps}
@@ -42,8 +41,14 @@ pub puts_failed : (x y : Broken) (xs ys : List ℕ) (a b : Option (List ℕ)) (p
 unfolding Puts
 puts_failed x y xs ys a b p q f = λ start given h.
     let t = f start given h in
-    record { sent = t.sent; rest = t.rest ++ ys; in_sink = t.in_sink; begins = sym (append_assoc given xs ys) ∙ ap (λ z. z ++ ys) t.begins ∙ append_assoc t.sent t.rest ys;
-      not_all = omega (arith, t.not_all, length-append (given ++ xs) ys, ap length (append_assoc given xs ys)); count = t.count }
+    record {
+      sent = t.sent;
+      rest = t.rest ++ ys;
+      in_sink = t.in_sink;
+      begins = sym (append_assoc given xs ys) ∙ ap (λ z. z ++ ys) t.begins ∙ append_assoc t.sent t.rest ys;
+      not_all = omega (arith, t.not_all, length-append (given ++ xs) ys, ap length (append_assoc given xs ys));
+      count = t.count;
+    }
 
 -- nothing more
 pub puts_nothing : (x : Unit {0}) (a : Option (List ℕ)) (p : Progress) → Puts (Ok x) [] a p a p
@@ -151,11 +156,12 @@ all_in E a b p q h f e =
     subst (λ z. Appends a b z) (sym (s.all ∙ ap (λ (n : ℕ). s.sent ++ take n q.waiting) e ∙ append-nil s.sent)) s.in_sink
 
 -- what is in the sink where it broke
-pub first_in : (x : Broken) (E : List ℕ) (a b : Option (List ℕ)) (p q : Progress) → Stands a [] a p → Puts (Err x) E a p b q → length E ≤ profile_two.limit
+pub first_in : (x : Broken) (E : List ℕ) (a b : Option (List ℕ)) (p q : Progress) → Stands a [] a p → Puts (Err x) E a p b q → length E < 2 ^ 32
     → Appends a b (take q.written E) × (q.written < length E)
 unfolding Puts
 first_in x E a b p q h f le =
     let s = f a [] h in
-    let n : q.written ≡ length s.sent = omega (arith, ap length s.begins, le, s.count, length-append s.sent s.rest) in
-    (subst (λ z. Appends a b z) (sym (ap (λ (m : ℕ). take m E) n ∙ ap (take (length s.sent)) s.begins ∙ take_at s.sent s.rest (length s.sent) refl)) s.in_sink,
-      omega (arith, n, s.not_all))
+    let n : q.written ≡ length s.sent = omega (arith, ap length s.begins, le, s.count, length-append s.sent s.rest) in (
+      subst (λ z. Appends a b z) (sym (ap (λ (m : ℕ). take m E) n ∙ ap (take (length s.sent)) s.begins ∙ take_at s.sent s.rest (length s.sent) refl)) s.in_sink,
+      omega (arith, n, s.not_all),
+    )

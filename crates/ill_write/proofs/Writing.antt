@@ -1,15 +1,15 @@
 -- Elements as they are written.
-use Rattle.std.proofs.Common.{◌≡◌, ℕ, suc, ◌+◌, ◌<◌, ◌≤◌, Bool, true, false, List, [], ◌∷◌, ◌++◌, length, get_or, Option, Some, None, IsTrue, refl, sym, ap, ap₂, subst, ◌∙◌, arith, append_assoc, append-nil, length-append, add-one, Result, Ok, Err}
+use Rattle.std.proofs.Common.{◌≡◌, ℕ, ◌+◌, ◌<◌, ◌≤◌, true, List, [], ◌∷◌, ◌++◌, length, get_or, Option, Some, refl, sym, ap, ap₂, subst, ◌∙◌, arith, append_assoc, append-nil, length-append, Result, Ok, Err}
 use Rattle.ber_core.proofs.Encodings.{length-encodings}
 use Rattle.ill_write.specs.Puts.{Puts}
-use Rattle.ill_write.proofs.Putting.{puts_then, puts_failed, as_failed, puts_nothing}
+use Rattle.ill_write.proofs.Putting.{puts_then, puts_failed, as_failed}
 use Rattle.ber_core.specs.Identifier.{Tag, identifier}
 use Rattle.ber_core.specs.Length.{shortest_length}
-use Rattle.ber_core.specs.Tree.{Tree, Trees, primitive, constructed, none, more}
-use Rattle.ber_core.specs.Der.{encoding, encodings, size, sizes}
+use Rattle.ber_core.specs.Tree.{Tree, Trees, constructed, none, more}
+use Rattle.ber_core.specs.Der.{encoding, encodings, sizes}
 use Rattle.ill_write.specs.Ahead.{Ahead}
 use Rattle.ill_schema.specs.Elements.{joined, place_trees, trees_unless, row_tree}
-use Rattle.ill_write.specs.ContentSizes.{content_sizes, all_content_sizes}
+use Rattle.ill_write.specs.ContentSizes.{all_content_sizes}
 use Rattle.ill_schema.specs.Value.{content_of}
 use Rattle.ill_schema.specs.Presence.{is_default}
 use Rattle.ill_schema.proofs.Trees.{sizes-joined}
@@ -47,7 +47,7 @@ ahead_next all at n x xs e a = ahead_right all at n (x ∷ []) xs e a
 opened : (T : Tree) (tag : Tag) (ts : Trees) (n : ℕ) → T ≡ constructed tag ts → n ≡ sizes ts → (identifier tag true ++ shortest_length n) ++ encodings ts ≡ encoding T
 opened T tag ts n e f =
     append_assoc (identifier tag true) (shortest_length n) (encodings ts)
-      ∙ ap (λ (k : ℕ). identifier tag true ++ (shortest_length k ++ encodings ts)) (f ∙ sym (length-encodings ts)) ∙ ap encoding (sym e)
+    ∙ ap (λ (k : ℕ). identifier tag true ++ (shortest_length k ++ encodings ts)) (f ∙ sym (length-encodings ts)) ∙ ap encoding (sym e)
 
 -- a constructed element is its header and the elements in it
 pub composed : (r : Result (Unit {0}) Broken) (a b c : Option (List ℕ)) (p q s : Progress) (T : Tree) (tag : Tag) (ts : Trees) (n : ℕ) → T ≡ constructed tag ts → n ≡ sizes ts
@@ -67,17 +67,18 @@ only_one r a c p s E h = subst (λ z. Puts r z a p c s) (sym (append-nil (encodi
 pub step_puts : (a b c : Option (List ℕ)) (p q s : Progress) (done : List ℕ) (ts us ws all : Trees) → ws ≡ joined ts us → done ++ encodings ws ≡ encodings all
     → Puts (Ok tt) done a p b q → Puts (Ok tt) (encodings ts) b q c s
     → ((done ++ encodings ts) ++ encodings us ≡ encodings all) × Puts (Ok tt) (done ++ encodings ts) a p c s
-step_puts a b c p q s done ts us ws all e f h k =
-    (append_assoc done (encodings ts) (encodings us) ∙ ap (λ z. done ++ z) (sym (encodings-joined ts us)) ∙ ap (λ z. done ++ encodings z) (sym e) ∙ f,
-      puts_then tt (Ok tt) done (encodings ts) a b c p q s h k)
+step_puts a b c p q s done ts us ws all e f h k = (
+  append_assoc done (encodings ts) (encodings us) ∙ ap (λ z. done ++ z) (sym (encodings-joined ts us)) ∙ ap (λ z. done ++ encodings z) (sym e) ∙ f,
+  puts_then tt (Ok tt) done (encodings ts) a b c p q s h k,
+)
 
 pub step_fails : (r : Result (Unit {0}) Broken) (x : Broken) (a b c : Option (List ℕ)) (p q s : Progress) (done : List ℕ) (ts us ws all : Trees) → ws ≡ joined ts us → done ++ encodings ws ≡ encodings all
     → IsErr r → Puts (Ok tt) done a p b q → Puts (Err x) (encodings ts) b q c s → Puts r (encodings all) a p c s
 step_fails r x a b c p q s done ts us ws all e f fails h k =
     let g : (done ++ encodings ts) ++ encodings us ≡ encodings all =
-        append_assoc done (encodings ts) (encodings us) ∙ ap (λ z. done ++ z) (sym (encodings-joined ts us)) ∙ ap (λ z. done ++ encodings z) (sym e) ∙ f in
+    append_assoc done (encodings ts) (encodings us) ∙ ap (λ z. done ++ z) (sym (encodings-joined ts us)) ∙ ap (λ z. done ++ encodings z) (sym e) ∙ f in
     subst (λ z. Puts r z a p c s) g
-      (as_failed r x _ a c p s fails (puts_failed x x (done ++ encodings ts) (encodings us) a c p s (puts_then tt (Err x) done (encodings ts) a b c p q s h k)))
+    (as_failed r x _ a c p s fails (puts_failed x x (done ++ encodings ts) (encodings us) a c p s (puts_then tt (Err x) done (encodings ts) a b c p q s h k)))
 
 pub step_ahead : (all : List ℕ) (at : ℕ) (ts us ws : Trees) → ws ≡ joined ts us → Ahead all at (all_content_sizes ws) → Ahead all at (all_content_sizes ts ++ all_content_sizes us)
 step_ahead all at ts us ws e a = subst (λ z. Ahead all at z) (ap all_content_sizes e ∙ content_sizes-joined ts us) a

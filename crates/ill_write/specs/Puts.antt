@@ -21,8 +21,8 @@ pub record TakesPart (octets : List ℕ) (before : Option (List ℕ)) (old : ℕ
 abbrev pub Sends : Result (Unit {0}) Broken → List ℕ → Option (List ℕ) → ℕ → Option (List ℕ) → ℕ → Type 0
 Sends result octets before old after new =
     MatchResult result
-      (λ _. Appends before after octets × (new ≡ counted (old + length octets)))
-      (λ _. TakesPart octets before old after new)
+    (λ _. Appends before after octets × (new ≡ counted (old + length octets)))
+    (λ _. TakesPart octets before old after new)
 
 -- of the octets given, all are in the sink but those that wait
 pub record Stands (start : Option (List ℕ)) (given : List ℕ) (told : Option (List ℕ)) (p : Progress) : Type 0 where

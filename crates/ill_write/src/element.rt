@@ -1,16 +1,17 @@
-//! The tag, identifier and size of an element.
-ghost use Rattle.std.specs.Prelude.{◌≡◌, ◌+◌, ◌≤◌, slice_get};
+//! What is asked of an element: its row, tag, identifier and size.
+ghost use Rattle.std.specs.Prelude.{◌≡◌, ◌+◌, ◌-◌, ◌≤◌, slice_get};
 ghost use Rattle.ber_core.specs.Der.{header_size};
 ghost use Rattle.ber_core.specs.Id.{tag_of_id, form_of_id};
 ghost use Rattle.ber_core.specs.Identifier.{HasIdentifier};
 ghost use Rattle.ber_leaf.specs.Profile.{profile_two};
 ghost use Rattle.ill_schema.specs.Elements.{own_number, element_tag, tag_at};
+ghost use Rattle.ill_schema.specs.Message.{apdu_of};
 ghost use Rattle.ill_schema.specs.Table.{kind_of, rows_of};
 ghost use Rattle.ill_schema.specs.Value.{content_of};
 
 use ber_core::{Class, Id, header_size};
 use ber_leaf::IllString;
-use ill_schema::{Kind, LeafKind, NodeId, Row, Value, kind, rows_of};
+use ill_schema::{Kind, LeafKind, Message, NodeId, PartId, Row, Value, kind, row, rows_of};
 
 /// A row of a node, if there is one.
 pub fn row_at(node: NodeId, i: usize) -> Option<Row>
@@ -68,4 +69,17 @@ pub fn element_size(tag: (Class, u32), constructed: bool, contents: u32) -> u32
     ensures { result ≡ header_size (tag_at tag) constructed contents + contents }
 {
     header_size(identifier_of(tag, constructed), contents) as u32 + contents
+}
+
+/// The row of ILL-APDU that carries a message.
+pub fn apdu_row(message: &Message) -> Row
+    ensures { slice_get (rows_of NodeId.IllApdu) ((apdu_of message.now).number - 1) ≡ Some result }
+{
+    // What is said of the body says that there is the row.
+    let _body = message.body();
+    row(PartId {
+        node: NodeId::ILL_APDU,
+        row: message.apdu() - 1,
+    })
+    .unwrap()
 }

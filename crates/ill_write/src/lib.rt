@@ -4,6 +4,7 @@
 mod element;
 mod failure;
 mod measure;
+mod normal;
 mod pieces;
 mod progress;
 mod put;
@@ -11,4 +12,5 @@ mod sizes;
 mod write;
 
 pub use failure::WriteFailure;
+pub use normal::write_normal;
 pub use sizes::Sizes;

@@ -41,7 +41,12 @@ pub fn measure_row(row: Row, value: &Value, out: &mut Vec<u32>) -> Result<u32, A
 
 /// The size of a value's element, where this tag may stand in place of its own.
 #[cycle(measure)]
-fn measure_value(value: &Value, node: NodeId, replaced: Option<(Class, u32)>, out: &mut Vec<u32>) -> Result<u32, AllocError>
+fn measure_value(
+    value: &Value,
+    node: NodeId,
+    replaced: Option<(Class, u32)>,
+    out: &mut Vec<u32>,
+) -> Result<u32, AllocError>
     requires valid { IsTrue (is_valid_tag replaced) }
     requires small { size (element_tree replaced node (content_of value.now)) ≤ profile_two.limit }
     ensures { IfOk result (λ n. MeasuresOne out.old.items out.new.items n (element_tree replaced node (content_of value.now))) }
@@ -90,7 +95,11 @@ fn leaf_size<L: Leaf>(tag: (Class, u32), value: &L::Out) -> u32
 
 /// The size of the elements of a sequence.
 #[cycle(measure)]
-fn measure_entries(entries: &Vec<Option<Value>>, node: NodeId, out: &mut Vec<u32>) -> Result<u32, AllocError>
+fn measure_entries(
+    entries: &Vec<Option<Value>>,
+    node: NodeId,
+    out: &mut Vec<u32>,
+) -> Result<u32, AllocError>
     requires { sizes (normal_trees (entries_content entries.now.items) (rows_of node)) ≤ profile_two.limit }
     ensures { IfOk result (λ n. Measures out.old.items out.new.items n (normal_trees (entries_content entries.now.items) (rows_of node))) }
 {

@@ -15,7 +15,12 @@ use ber_core::{Broken, Class, Sink, put_header};
 use ber_leaf::Leaf;
 
 /// Writes the header of a constructed element, whose content size is the next.
-pub fn open_element<W: Sink>(tag: (Class, u32), contents: &[u32], progress: &mut Progress, sink: &mut W) -> Result<(), Broken>
+pub fn open_element<W: Sink>(
+    tag: (Class, u32),
+    contents: &[u32],
+    progress: &mut Progress,
+    sink: &mut W,
+) -> Result<(), Broken>
     requires id { HasIdentifier (tag_at tag) true }
     requires next { progress.old.next < length contents.now }
     ensures puts { Puts result (identifier (tag_at tag) true ++ shortest_length (get_or contents.now progress.old.next 0)) (W.contents sink.old) progress.old (W.contents sink.new) progress.new }
@@ -29,7 +34,12 @@ pub fn open_element<W: Sink>(tag: (Class, u32), contents: &[u32], progress: &mut
 }
 
 /// Writes the element of a leaf whose normal content has eight octets at most.
-pub fn write_short<L: Leaf, W: Sink>(tag: (Class, u32), value: &L::Out, progress: &mut Progress, sink: &mut W) -> Result<(), Broken>
+pub fn write_short<L: Leaf, W: Sink>(
+    tag: (Class, u32),
+    value: &L::Out,
+    progress: &mut Progress,
+    sink: &mut W,
+) -> Result<(), Broken>
     requires id { HasIdentifier (tag_at tag) false }
     requires short { length (normal_content (L.simple value.now)) ≤ 8 }
     ensures puts { Puts result (encoding (primitive (tag_at tag) (normal_content (L.simple value.now)))) (W.contents sink.old) progress.old (W.contents sink.new) progress.new }
@@ -44,7 +54,12 @@ pub fn write_short<L: Leaf, W: Sink>(tag: (Class, u32), value: &L::Out, progress
 }
 
 /// Writes the element with these contents.
-pub fn write_primitive<W: Sink>(tag: (Class, u32), octets: &[u8], progress: &mut Progress, sink: &mut W) -> Result<(), Broken>
+pub fn write_primitive<W: Sink>(
+    tag: (Class, u32),
+    octets: &[u8],
+    progress: &mut Progress,
+    sink: &mut W,
+) -> Result<(), Broken>
     requires id { HasIdentifier (tag_at tag) false }
     requires small { length octets.now ≤ profile_two.limit }
     ensures puts { Puts result (encoding (primitive (tag_at tag) octets.now)) (W.contents sink.old) progress.old (W.contents sink.new) progress.new }
@@ -57,7 +72,13 @@ pub fn write_primitive<W: Sink>(tag: (Class, u32), octets: &[u8], progress: &mut
 }
 
 /// Writes the shortest header of an element.
-fn write_header<W: Sink>(tag: (Class, u32), constructed: bool, contents: u32, progress: &mut Progress, sink: &mut W) -> Result<(), Broken>
+fn write_header<W: Sink>(
+    tag: (Class, u32),
+    constructed: bool,
+    contents: u32,
+    progress: &mut Progress,
+    sink: &mut W,
+) -> Result<(), Broken>
     requires { HasIdentifier (tag_at tag) constructed }
     ensures puts { Puts result (identifier (tag_at tag) constructed ++ shortest_length contents) (W.contents sink.old) progress.old (W.contents sink.new) progress.new }
     ensures next { progress.new.next ≡ progress.old.next }

@@ -20,7 +20,13 @@ use ill_schema::{NodeId, PartId, Row, Value, is_default, replacement, row, wrapp
 
 /// Writes a row's element.
 #[cycle(write)]
-pub fn write_row<W: Sink>(row: Row, value: &Value, contents: &[u32], progress: &mut Progress, sink: &mut W) -> Result<(), Broken>
+pub fn write_row<W: Sink>(
+    row: Row,
+    value: &Value,
+    contents: &[u32],
+    progress: &mut Progress,
+    sink: &mut W,
+) -> Result<(), Broken>
     requires valid { IsTrue (is_valid row) }
     requires small { size (row_tree row (content_of value.now)) ≤ profile_two.limit }
     requires ahead { Ahead contents.now progress.old.next (content_sizes (row_tree row (content_of value.now))) }
@@ -40,7 +46,14 @@ pub fn write_row<W: Sink>(row: Row, value: &Value, contents: &[u32], progress: &
 
 /// Writes a value's element, where this tag may stand in place of its own.
 #[cycle(write)]
-fn write_value<W: Sink>(value: &Value, node: NodeId, replaced: Option<(Class, u32)>, contents: &[u32], progress: &mut Progress, sink: &mut W) -> Result<(), Broken>
+fn write_value<W: Sink>(
+    value: &Value,
+    node: NodeId,
+    replaced: Option<(Class, u32)>,
+    contents: &[u32],
+    progress: &mut Progress,
+    sink: &mut W,
+) -> Result<(), Broken>
     requires valid { IsTrue (is_valid_tag replaced) }
     requires small { size (element_tree replaced node (content_of value.now)) ≤ profile_two.limit }
     requires ahead { Ahead contents.now progress.old.next (content_sizes (element_tree replaced node (content_of value.now))) }
@@ -74,7 +87,13 @@ fn write_value<W: Sink>(value: &Value, node: NodeId, replaced: Option<(Class, u3
 
 /// Writes the elements of a sequence.
 #[cycle(write)]
-fn write_entries<W: Sink>(entries: &Vec<Option<Value>>, node: NodeId, contents: &[u32], progress: &mut Progress, sink: &mut W) -> Result<(), Broken>
+fn write_entries<W: Sink>(
+    entries: &Vec<Option<Value>>,
+    node: NodeId,
+    contents: &[u32],
+    progress: &mut Progress,
+    sink: &mut W,
+) -> Result<(), Broken>
     requires small { sizes (normal_trees (entries_content entries.now.items) (rows_of node)) ≤ profile_two.limit }
     requires ahead { Ahead contents.now progress.old.next (all_content_sizes (normal_trees (entries_content entries.now.items) (rows_of node))) }
     ensures puts { Puts result (encodings (normal_trees (entries_content entries.now.items) (rows_of node))) (W.contents sink.old) progress.old (W.contents sink.new) progress.new }
@@ -92,7 +111,13 @@ fn write_entries<W: Sink>(entries: &Vec<Option<Value>>, node: NodeId, contents: 
 
 /// Writes an entry's element, unless it is its row's default.
 #[cycle(write)]
-fn write_present<W: Sink>(row: Option<Row>, value: &Value, contents: &[u32], progress: &mut Progress, sink: &mut W) -> Result<(), Broken>
+fn write_present<W: Sink>(
+    row: Option<Row>,
+    value: &Value,
+    contents: &[u32],
+    progress: &mut Progress,
+    sink: &mut W,
+) -> Result<(), Broken>
     requires valid { IsTrue (is_valid_place row) }
     requires small { sizes (place_trees row (Some value.now)) ≤ profile_two.limit }
     requires ahead { Ahead contents.now progress.old.next (all_content_sizes (place_trees row (Some value.now))) }
@@ -115,7 +140,13 @@ fn write_present<W: Sink>(row: Option<Row>, value: &Value, contents: &[u32], pro
 
 /// Writes the elements of a list.
 #[cycle(write)]
-fn write_items<W: Sink>(items: &Vec<Value>, node: NodeId, contents: &[u32], progress: &mut Progress, sink: &mut W) -> Result<(), Broken>
+fn write_items<W: Sink>(
+    items: &Vec<Value>,
+    node: NodeId,
+    contents: &[u32],
+    progress: &mut Progress,
+    sink: &mut W,
+) -> Result<(), Broken>
     requires small { sizes (normal_items (items_content items.now.items) (rows_of node)) ≤ profile_two.limit }
     requires ahead { Ahead contents.now progress.old.next (all_content_sizes (normal_items (items_content items.now.items) (rows_of node))) }
     ensures puts { Puts result (encodings (normal_items (items_content items.now.items) (rows_of node))) (W.contents sink.old) progress.old (W.contents sink.new) progress.new }
@@ -132,7 +163,13 @@ fn write_items<W: Sink>(items: &Vec<Value>, node: NodeId, contents: &[u32], prog
 
 /// Writes an item's element.
 #[cycle(write)]
-fn write_item<W: Sink>(row: Option<Row>, item: &Value, contents: &[u32], progress: &mut Progress, sink: &mut W) -> Result<(), Broken>
+fn write_item<W: Sink>(
+    row: Option<Row>,
+    item: &Value,
+    contents: &[u32],
+    progress: &mut Progress,
+    sink: &mut W,
+) -> Result<(), Broken>
     requires valid { IsTrue (is_valid_place row) }
     requires small { sizes (item_trees row item.now) ≤ profile_two.limit }
     requires ahead { Ahead contents.now progress.old.next (all_content_sizes (item_trees row item.now)) }

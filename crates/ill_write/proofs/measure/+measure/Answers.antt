@@ -1,14 +1,14 @@
-use Rattle.std.proofs.Common.{rules, ◌≡◌, ◌+◌, ◌≤◌, length, ℕ, List, [], ◌∷◌, ◌++◌, Some, None, refl, sym, ap, ◌∙◌, subst, arith, slice_get, append-nil}
+use Rattle.std.proofs.Common.{rules, ◌≡◌, ◌+◌, ◌≤◌, length, [], ◌∷◌, ◌++◌, Some, None, sym, ap, ◌∙◌, subst, arith, slice_get, append-nil}
 use Rattle.ber_core.specs.Der.{size, sizes}
 use Rattle.ber_core.specs.Tree.{constructed, more, none}
 use Rattle.ber_leaf.specs.Profile.{profile_two}
-use Rattle.ber_leaf.specs.Simple.{flag, whole, date, time, printable, general, visible}
+use Rattle.ber_leaf.specs.Simple.{whole}
 use Rattle.ill_schema.specs.declared.value.Value.{the_lemmas}
-use Rattle.ill_schema.specs.Elements.{tag_at, element_tree, element_tag, row_tree, place_trees, item_trees}
+use Rattle.ill_schema.specs.Elements.{tag_at, element_tree, element_tag, row_tree, place_trees}
 use Rattle.ill_schema.specs.Normal.{normal_trees, normal_items}
 use Rattle.ill_schema.specs.Table.{kind_of, rows_of}
 use Rattle.ill_schema.specs.Value.{content_of, entries_content, items_content}
-use Rattle.ill_schema.proofs.Contents.{content_of-Flag, content_of-Whole, content_of-Date, content_of-Time, content_of-Print, content_of-Str, content_of-Seq, content_of-List, content_of-Alt}
+use Rattle.ill_schema.proofs.Contents.{content_of-Whole, content_of-Seq, content_of-List, content_of-Alt}
 use Rattle.ill_schema.proofs.Trees.{wrapped, sequence_tree, list_tree, chosen_tree, no_row_tree, entry_step, absent_step, item_step}
 use Rattle.ill_write.specs.ContentSizes.{content_sizes, all_content_sizes}
 use Rattle.ill_write.proofs.Measured.{leaf_tree, inside_small, closed, closed_empty, only, step_sum, step_pushed, step_small}

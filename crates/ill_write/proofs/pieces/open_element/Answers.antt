@@ -1,4 +1,3 @@
-use Rattle.std.proofs.Common.{rules, ◌≡◌, ◌+◌, ◌++◌, ℕ, List, [], Option, Ok, Err, refl, subst, sym, ap}
 use Rattle.ill_write.proofs.Putting.{puts_after}
 use Rattle.ill_write.proofs.pieces.open_element.Goals as goal
 

@@ -1,7 +1,5 @@
-use Rattle.std.proofs.Common.{rules, ◌≡◌, ◌+◌, ◌-◌, ◌^◌, ◌≤◌, ◌<◌, min, List, [], length, Option, ℕ, take, drop, sym, ap, subst, ◌∙◌, arith, Err}
-use Rattle.ill_write.specs.Puts.{counted, Sends}
+use Rattle.std.proofs.Common.{rules, ◌<◌, arith}
 use Rattle.ill_write.proofs.Putting.{appends_nothing, left_over, sends_step, broke_after}
-use Rattle.ber_core.specs.declared.source.Broken.{Broken}
 use Rattle.ill_write.proofs.put.send.Goals as goal
 
 pub loop-at-init : goal.loop-at-init

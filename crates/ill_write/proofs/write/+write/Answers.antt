@@ -1,10 +1,6 @@
-use Rattle.std.proofs.Common.{rules, ◌≡◌, ◌+◌, ◌≤◌, ◌<◌, ◌++◌, length, get_or, slice_get, IfOk, IsTrue, Ok, Err, Some, None, ℕ, List, [], ◌∷◌, true, false, refl, sym, ap, subst, ◌∙◌, arith, drop, w64, to_z, of_z}
-use Rattle.ber_core.specs.Identifier.{identifier, HasIdentifier}
-use Rattle.ber_core.specs.Length.{shortest_length}
-use Rattle.ber_core.specs.Tree.{primitive, constructed, more, none}
-use Rattle.ill_schema.specs.Content.{simple}
-use Rattle.ber_leaf.specs.Simple.{flag, whole, date, time, printable}
-use Rattle.ber_leaf.specs.Leaf.{normal_content}
+use Rattle.std.proofs.Common.{rules, ◌≡◌, ◌+◌, ◌≤◌, ◌++◌, length, slice_get, IfOk, Ok, Some, None, [], refl, sym, ap, subst, ◌∙◌, arith, drop}
+use Rattle.ber_core.specs.Tree.{constructed, more, none}
+use Rattle.ber_leaf.specs.Simple.{flag, whole}
 use Rattle.ill_schema.specs.Value.{content_of, entries_content, items_content}
 use Rattle.ill_schema.specs.Normal.{normal_trees, normal_items}
 use Rattle.ber_core.specs.Der.{encoding, encodings, size, sizes}
@@ -14,7 +10,7 @@ use Rattle.ill_schema.specs.Elements.{tag_at, row_tree, element_tree, element_ta
 use Rattle.ill_write.specs.ContentSizes.{content_sizes, all_content_sizes}
 use Rattle.ill_write.specs.Puts.{Puts}
 use Rattle.ill_write.specs.Ahead.{Ahead}
-use Rattle.ill_schema.proofs.Trees.{wrapped, sequence_tree, list_tree, simple_tree, chosen_tree, no_row_tree, entry_step, absent_step, item_step}
+use Rattle.ill_schema.proofs.Trees.{wrapped, sequence_tree, list_tree, chosen_tree, no_row_tree, entry_step, absent_step, item_step}
 use Rattle.ill_write.proofs.Tags.{place_valid, row_valid}
 use Rattle.ill_write.proofs.Measured.{leaf_tree, inside_small}
 use Rattle.ill_write.proofs.Putting.{puts_nothing}
@@ -48,7 +44,7 @@ write_row-returns-in_ok-open_element-in-Some-clause-puts g t c =
     let e = wrapped c.args.row (content_of c.args.value.now) tag (sym c.wrapper.ensures ∙ c.in-Some.is) in
     let f = ahead_first _ _ (sizes (more T none)) (all_content_sizes (more T none)) (subst (λ z. Ahead c.args.contents.now c.args.progress.now.next (content_sizes z)) e c.requires.ahead) in
     composed c.write_value.result _ _ _ c.args.progress.now c.open_element.new.progress c.write_value.new.progress _ (tag_at tag) (more T none) _ e f c.in_ok-open_element-in-Some.ensures.puts
-      (only_one c.write_value.result _ _ c.open_element.new.progress c.write_value.new.progress T c.write_value.ensures.puts)
+    (only_one c.write_value.result _ _ c.open_element.new.progress c.write_value.new.progress T c.write_value.ensures.puts)
 
 pub write_present-returns-in-None-clause-puts : goal.write_present-returns-in-None-clause-puts
 write_present-returns-in-None-clause-puts g t c = rw c.in-None.is (puts_nothing tt _ c.args.progress.now)
@@ -209,8 +205,15 @@ write_entries-loop-i-preserved g t c =
           rw (w.progress-is, w.sink-is) (inv.0 ++ encodings ts, b.0, b.1, step_next ts us ws _ _ _ e inv.3 n, ahead_right _ _ _ (all_content_sizes ts) (all_content_sizes us) n a, small_rest ts us ws e inv.5, λ h. w.in_ok-write_present.ensures.stays (inv.6 h))
       | write_entries-in_default w ↦
           let e = absent_step es (rows_of c.args.node) c.loop-i.i c.loop-i-test.true (rw w.in_default.is at c.entry-item.is) in
-          rw (w.progress-is, w.sink-is) (inv.0, ap (λ z. inv.0 ++ encodings z) (sym e) ∙ inv.1, inv.2, ap (λ z. c.loop-i.progress.next + length (all_content_sizes z)) (sym e) ∙ inv.3,
-            subst (λ z. Ahead c.args.contents.now c.loop-i.progress.next (all_content_sizes z)) e inv.4, subst (λ z. sizes z ≤ profile_two.limit) e inv.5, inv.6)
+          rw (w.progress-is, w.sink-is) (
+            inv.0,
+            ap (λ z. inv.0 ++ encodings z) (sym e) ∙ inv.1,
+            inv.2,
+            ap (λ z. c.loop-i.progress.next + length (all_content_sizes z)) (sym e) ∙ inv.3,
+            subst (λ z. Ahead c.args.contents.now c.loop-i.progress.next (all_content_sizes z)) e inv.4,
+            subst (λ z. sizes z ≤ profile_two.limit) e inv.5,
+            inv.6,
+          )
     ]
 
 pub write_value-write_row-requires : goal.write_value-write_row-requires
@@ -218,9 +221,19 @@ write_value-write_row-requires g t c κs within =
     let d : c.deref.result.now ≡ c.in-Alt.chosen.value = search rules in
     let is = ap content_of c.in-Alt.is ∙ content_of-Alt c.in-Alt.number c.in-Alt.chosen in
     let at = sym c.row.ensures ∙ c.in-Some.is in
-    let e = ap (λ x. element_tree c.args.replaced c.args.node x) is ∙ chosen_tree c.args.replaced c.args.node c.in-Alt.number _ c.in-Some.row at ∙ ap (λ x. row_tree c.in-Some.row (content_of x)) (sym d) in
-    (search (rules, the_lemmas), (within, (row_valid c.args.node c.in-Alt.number c.in-Some.row (sym at), (subst (λ T. size T ≤ profile_two.limit) e c.requires.small,
-      subst (λ T. Ahead c.args.contents.now c.args.progress.now.next (content_sizes T)) e c.requires.ahead))))
+    let e = ap (λ x. element_tree c.args.replaced c.args.node x) is ∙ chosen_tree c.args.replaced c.args.node c.in-Alt.number _ c.in-Some.row at ∙ ap (λ x. row_tree c.in-Some.row (content_of x)) (sym d) in (
+      search (rules, the_lemmas),
+      (
+        within,
+        (
+          row_valid c.args.node c.in-Alt.number c.in-Some.row (sym at),
+          (
+            subst (λ T. size T ≤ profile_two.limit) e c.requires.small,
+            subst (λ T. Ahead c.args.contents.now c.args.progress.now.next (content_sizes T)) e c.requires.ahead,
+          ),
+        ),
+      ),
+    )
 
 pub write_value-returns-in-Flag-clause-puts : goal.write_value-returns-in-Flag-clause-puts
 write_value-returns-in-Flag-clause-puts g t c =
@@ -235,7 +248,7 @@ write_value-returns-in-Whole-clause-puts g t c =
 pub write_present-returns-then-is_default-clause-puts : goal.write_present-returns-then-is_default-clause-puts
 write_present-returns-then-is_default-clause-puts g t c =
     subst (λ z. Puts (Ok tt) (encodings z) (g.W.Sink.contents c.args.sink.now) c.args.progress.now (g.W.Sink.contents c.args.sink.now) c.args.progress.now)
-      (sym (default_trees c.args.row c.in-Some.row c.args.value.now c.in-Some.is (sym c.is_default.ensures ∙ c.if-is_default.true))) (puts_nothing tt _ c.args.progress.now)
+    (sym (default_trees c.args.row c.in-Some.row c.args.value.now c.in-Some.is (sym c.is_default.ensures ∙ c.if-is_default.true))) (puts_nothing tt _ c.args.progress.now)
 
 pub write_value-returns-in_ok-open_element-in-Seq-clause-next : goal.write_value-returns-in_ok-open_element-in-Seq-clause-next
 write_value-returns-in_ok-open_element-in-Seq-clause-next g t c =
