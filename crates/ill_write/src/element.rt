@@ -1,0 +1,85 @@
+//! What is asked of an element: its row, tag, identifier and size.
+ghost use Rattle.std.specs.Prelude.{◌≡◌, ◌+◌, ◌-◌, ◌≤◌, slice_get};
+ghost use Rattle.ber_core.specs.Der.{header_size};
+ghost use Rattle.ber_core.specs.Id.{tag_of_id, form_of_id};
+ghost use Rattle.ber_core.specs.Identifier.{HasIdentifier};
+ghost use Rattle.ber_leaf.specs.Profile.{profile_two};
+ghost use Rattle.ill_schema.specs.Elements.{own_number, element_tag, tag_at};
+ghost use Rattle.ill_schema.specs.Message.{apdu_of};
+ghost use Rattle.ill_schema.specs.Table.{kind_of, rows_of};
+ghost use Rattle.ill_schema.specs.Value.{content_of};
+
+use ber_core::{Class, Id, header_size};
+use ber_leaf::IllString;
+use ill_schema::{Kind, LeafKind, Message, NodeId, PartId, Row, Value, kind, row, rows_of};
+
+/// A row of a node, if there is one.
+pub fn row_at(node: NodeId, i: usize) -> Option<Row>
+    ensures { result ≡ slice_get (rows_of node) i }
+{
+    rows_of(node).get(i).copied()
+}
+
+/// The number of an element's own tag, which is universal: that of SEQUENCE where it is no leaf.
+fn own_number(value: &Value, kind: Kind) -> u32
+    ensures { result ≡ own_number kind (content_of value.now) }
+{
+    const SEQUENCE: u32 = 16;
+    let (wanted, number) = match value {
+        Value::Flag(_) => (Kind::Leaf(LeafKind::Boolean), 1),
+        Value::Whole(_) => {
+            return match kind {
+                Kind::Leaf(LeafKind::Integer) => 2,
+                Kind::Leaf(LeafKind::Enumerated) => 10,
+                _ => SEQUENCE,
+            };
+        }
+        Value::Date(_) => (Kind::Leaf(LeafKind::Date), 26),
+        Value::Time(_) => (Kind::Leaf(LeafKind::Time), 26),
+        Value::Print(_) => (Kind::Leaf(LeafKind::Printable), 19),
+        Value::Str(IllString::General(_)) => (Kind::IllString, 27),
+        Value::Str(IllString::Visible(_)) => (Kind::IllString, 26),
+        Value::Seq(_) | Value::List(_) | Value::Alt(..) => return SEQUENCE,
+    };
+    if kind == wanted { number } else { SEQUENCE }
+}
+
+/// The class and number of a value's element, where these may stand in place of its own.
+pub fn element_tag(value: &Value, node: NodeId, replaced: Option<(Class, u32)>) -> (Class, u32)
+    ensures { tag_at result ≡ element_tag replaced (kind_of node) (content_of value.now) }
+{
+    match replaced {
+        Some(tag) => tag,
+        None => (Class::Universal, own_number(value, kind(node))),
+    }
+}
+
+/// The identifier of a class, number and form that have one.
+pub fn identifier_of(tag: (Class, u32), constructed: bool) -> Id
+    requires { HasIdentifier (tag_at tag) constructed }
+    ensures { (tag_of_id result ≡ tag_at tag) × (form_of_id result ≡ constructed) }
+{
+    Id::new(tag.0, constructed, tag.1).unwrap()
+}
+
+/// How many octets an element takes, from its contents.
+pub fn element_size(tag: (Class, u32), constructed: bool, contents: u32) -> u32
+    requires id { HasIdentifier (tag_at tag) constructed }
+    requires small { contents ≤ profile_two.limit }
+    ensures { result ≡ header_size (tag_at tag) constructed contents + contents }
+{
+    header_size(identifier_of(tag, constructed), contents) as u32 + contents
+}
+
+/// The row of ILL-APDU that carries a message.
+pub fn apdu_row(message: &Message) -> Row
+    ensures { slice_get (rows_of NodeId.IllApdu) ((apdu_of message.now).number - 1) ≡ Some result }
+{
+    // What is said of the body says that there is the row.
+    let _body = message.body();
+    row(PartId {
+        node: NodeId::ILL_APDU,
+        row: message.apdu() - 1,
+    })
+    .unwrap()
+}

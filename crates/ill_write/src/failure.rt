@@ -1,0 +1,8 @@
+/// Why a normal form wasn't written whole.
+#[derive(Clone, Copy, Debug, PartialEq, Eq)]
+pub enum WriteFailure {
+    /// There was no memory to measure it, and nothing was written.
+    OutOfMemory,
+    /// The sink broke. Exactly the first octets of the normal form were written, so many of them.
+    WriteFault(u32),
+}
