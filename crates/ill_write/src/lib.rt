@@ -1,8 +1,10 @@
 //! Writes the normal form of messages: measured first, and then forward in one pass to any sink.
 #![tactic(auto)]
 
+mod bytes;
 mod element;
 mod failure;
+mod laws;
 mod measure;
 mod normal;
 mod pieces;
@@ -12,5 +14,6 @@ mod sizes;
 mod write;
 
 pub use failure::WriteFailure;
-pub use normal::write_normal;
+pub use laws::normal_size_counts_normal_forms;
+pub use normal::{normal_bytes, write_normal};
 pub use sizes::Sizes;

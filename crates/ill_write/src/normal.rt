@@ -9,6 +9,7 @@ ghost use Rattle.ill_write.specs.Measured.{contents_of, total_of};
 ghost use Rattle.ill_write.specs.Puts.{Puts};
 ghost use Rattle.ill_write.specs.Written.{IfPartWritten};
 
+use crate::bytes::Bytes;
 use crate::element::apdu_row;
 use crate::failure::WriteFailure;
 use crate::progress::Progress;
@@ -16,7 +17,7 @@ use crate::sizes::Sizes;
 use crate::write::write_row;
 use ber_core::{Broken, Sink};
 use ill_schema::Message;
-use std::alloc::Global;
+use std::alloc::{AllocError, Global};
 
 /// Writes the normal form of a message, and answers its size in octets.
 ///
@@ -43,6 +44,21 @@ pub fn write_normal<W: Sink>(
             Err(written) => Err(WriteFailure::WriteFault(written)),
         },
         Err(_) => Err(WriteFailure::OutOfMemory),
+    }
+}
+
+/// The octets of the normal form of a message.
+pub fn normal_bytes(alloc: Global, message: &Message) -> Result<Vec<u8>, AllocError>
+    ensures { IfOk result (λ octets. octets.items ≡ normal_form (apdu_of message.now)) }
+{
+    let sizes = Sizes::measure(alloc, message)?;
+    let mut bytes = Bytes {
+        octets: Vec::with_capacity(alloc, sizes.total as usize)?,
+        broken: false,
+    };
+    match write_measured(&sizes, message, &mut bytes) {
+        Ok(_) => Ok(bytes.octets),
+        Err(_) => Err(AllocError),
     }
 }
 
