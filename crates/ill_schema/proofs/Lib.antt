@@ -16,3 +16,4 @@ pub mod Trees
 pub mod Sizes
 pub mod Carried
 pub mod RowNames
+pub mod FitsProps

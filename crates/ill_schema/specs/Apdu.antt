@@ -4,9 +4,7 @@ use Rattle.ber_core.specs.Tree.{Tree, depth, Spells}
 use Rattle.ill_schema.specs.declared.node.NodeId.TheVariants.{IllApdu}
 use Rattle.ill_schema.specs.Content.{Content, alternative}
 use Rattle.ber_leaf.specs.Profile.{Profile}
-use Rattle.ill_schema.specs.Tagging.{untagged}
-use Rattle.ill_schema.specs.Meaning.{Means}
-use Rattle.ill_schema.specs.Normal.{normal_tree}
+use Rattle.ill_schema.specs.{Tagging.untagged, Meaning.Means, Normal.normal_tree}
 use Rattle.ber_core.specs.Der.{encoding}
 
 pub record Apdu : Type 0 where

@@ -1,17 +1,12 @@
 -- Which values a node has, and which APDUs there are.
 use Rattle.std.specs.Prelude.{◌≡◌, ◌≤◌, List, [], ◌∷◌, Some, slice_get}
-use Rattle.ill_schema.specs.declared.node.Kind.{Kind}
-use Rattle.ill_schema.specs.declared.node.NodeId.{NodeId}
-use Rattle.ill_schema.specs.declared.node.NodeId.TheVariants.{IllApdu}
-use Rattle.ill_schema.specs.declared.part.Row.{Row}
+use Rattle.ill_schema.specs.declared.{node.Kind.Kind, node.NodeId.NodeId, node.NodeId.TheVariants.IllApdu, part.Row.Row}
 use Rattle.ill_schema.specs.Apdu.{Apdu, choice_of}
 use Rattle.ill_schema.specs.Content.{Content, simple, sequence, list, alternative, Entries, no_entries, absent, present, Items, no_items, item}
-use Rattle.ber_leaf.specs.Simple.{Simple}
+use Rattle.ber_leaf.specs.{Simple.Simple, Profile.Profile}
 use Rattle.ber_leaf.specs.Leaf.{Leaf, Holds, normal_content}
-use Rattle.ber_leaf.specs.Profile.{Profile}
-use Rattle.ill_schema.specs.Tagging.{leaf_of}
+use Rattle.ill_schema.specs.{Tagging.leaf_of, Meaning.IsAlternative}
 use Rattle.ill_schema.specs.Presence.{IsCarried, MayLack}
-use Rattle.ill_schema.specs.Meaning.{IsAlternative}
 use Rattle.ill_schema.specs.Table.{kind_of, rows_of}
 
 -- the node has such leaves, and the value's normal content holds it, which it does exactly if some octets hold it

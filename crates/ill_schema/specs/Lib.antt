@@ -9,7 +9,6 @@ pub mod Normal
 pub mod Apdu
 pub mod Fits
 pub mod Names
-pub mod FitsProps
 pub mod Value
 pub mod ValueFits
 pub mod Elements

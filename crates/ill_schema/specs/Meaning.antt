@@ -2,13 +2,10 @@
 use Rattle.std.specs.Prelude.{◌≡◌, ◌⊎◌, ℕ, List, [], ◌∷◌, Some, IsTrue, slice_get}
 use Rattle.ber_core.specs.Identifier.{Tag}
 use Rattle.ber_core.specs.Tree.{Tree, Trees, primitive, constructed, none, more, tag_of, IsString, text}
-use Rattle.ill_schema.specs.declared.node.Kind.{Kind}
-use Rattle.ill_schema.specs.declared.node.NodeId.{NodeId}
-use Rattle.ill_schema.specs.declared.part.Row.{Row}
+use Rattle.ill_schema.specs.declared.{node.Kind.Kind, node.NodeId.NodeId, part.Row.Row}
 use Rattle.ill_schema.specs.Content.{Content, simple, sequence, list, alternative, Entries, no_entries, absent, present, Items, no_items, item}
-use Rattle.ber_leaf.specs.Simple.{Simple}
+use Rattle.ber_leaf.specs.{Simple.Simple, Profile.Profile}
 use Rattle.ber_leaf.specs.Leaf.{Leaf, is_string, Holds}
-use Rattle.ber_leaf.specs.Profile.{Profile}
 use Rattle.ill_schema.specs.Tagging.{Tagging, tagging, Tagged, leaf_tag, leaf_of, sequence_tag}
 use Rattle.ill_schema.specs.Presence.{IsCarried, MayLack, is_default}
 use Rattle.ill_schema.specs.Table.{kind_of, rows_of}

@@ -1,8 +1,7 @@
 -- What contracts see of a message.
 use Rattle.std.specs.Prelude.{ℕ}
 use Rattle.ill_schema.specs.declared.message.Message.{Message}
-use Rattle.ill_schema.specs.Apdu.{Apdu}
-use Rattle.ill_schema.specs.Value.{apdu_with}
+use Rattle.ill_schema.specs.{Apdu.Apdu, Value.apdu_with}
 
 abbrev pub apdu_of : Message → Apdu
 apdu_of m = apdu_with m.apdu m.body

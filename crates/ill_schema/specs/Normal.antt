@@ -2,12 +2,9 @@
 use Rattle.std.specs.Prelude.{true, false, List, ◌∷◌, Some, None, slice_get}
 use Rattle.ber_core.specs.Identifier.{Tag}
 use Rattle.ber_core.specs.Tree.{Tree, Trees, primitive, constructed, none, more}
-use Rattle.ill_schema.specs.declared.node.NodeId.{NodeId}
-use Rattle.ill_schema.specs.declared.part.Row.{Row}
+use Rattle.ill_schema.specs.declared.{node.NodeId.NodeId, part.Row.Row}
 use Rattle.ill_schema.specs.Content.{Content, simple, sequence, list, alternative, Entries, absent, present, Items, item}
-use Rattle.ber_leaf.specs.Simple.{Simple}
-use Rattle.ber_leaf.specs.Leaf.{normal_content}
-use Rattle.ber_leaf.specs.Profile.{profile_two}
+use Rattle.ber_leaf.specs.{Simple.Simple, Leaf.normal_content, Profile.profile_two}
 use Rattle.ill_schema.specs.Tagging.{Tagging, tagging, tag_tree, leaf_tag, leaf_of, sequence_tag}
 use Rattle.ill_schema.specs.Presence.{is_default}
 use Rattle.ill_schema.specs.Table.{kind_of, rows_of}

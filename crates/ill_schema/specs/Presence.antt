@@ -2,10 +2,7 @@
 use Rattle.std.specs.Prelude.{ℤ, pos, Bool, false, not, if◌then◌else◌}
 use Rattle.std.specs.Ordering.{int_eq}
 use Rattle.ber_leaf.specs.Simple.{Simple, flag, whole}
-use Rattle.ill_schema.specs.declared.node.Kind.{Kind}
-use Rattle.ill_schema.specs.declared.node.LeafKind.{LeafKind}
-use Rattle.ill_schema.specs.declared.part.Presence.{Presence}
-use Rattle.ill_schema.specs.declared.part.Row.{Row}
+use Rattle.ill_schema.specs.declared.{node.Kind.Kind, node.LeafKind.LeafKind, part.Presence.Presence, part.Row.Row}
 use Rattle.ill_schema.specs.Content.{Content, simple}
 use Rattle.ill_schema.specs.Table.{kind_of}
 

@@ -1,13 +1,9 @@
 -- Facts about the tables as a whole.
-use Rattle.std.specs.Prelude.{ℕ, Bool, true, ◌&&◌, not, nat_lt, List, [], ◌∷◌, flat_map}
-use Rattle.std.specs.List.{list_all, list_any}
+use Rattle.std.specs.Prelude.{ℕ, zero, suc, ◌+◌, max, Bool, true, ◌&&◌, not, nat_lt, List, [], ◌∷◌, flat_map}
+use Rattle.std.specs.List.{fold, list_all, list_any}
 use Rattle.ber_core.specs.Identifier.{Tag}
 use Rattle.ber_leaf.specs.Profile.{Profile}
-use Rattle.ill_schema.specs.declared.node.Kind.{Kind}
-use Rattle.ill_schema.specs.declared.node.LeafKind.{LeafKind}
-use Rattle.ill_schema.specs.declared.node.NodeId.{NodeId}
-use Rattle.ill_schema.specs.declared.node.NodeId.TheVariants.{Boolean, Integer, Enumerated, IsoDate, IsoTime, PrintableString, IllString, LeftOut, Symbol, Name, SystemId, TransactionId, DateTime, ServiceDateTime, PostalAddress, SystemAddress, DeliveryAddress, ClientId, DeliveryService, RequesterOptionalMessages, ResponderOptionalMessages, SearchType, SupplyMediumInfo, ItemId, Amount, CostInfo, SendTo, SendToList, AlreadyTriedList, ThirdPartyInfo, UnitsPerMedium, UnitsPerMediumList, DateDue, ShippedVia, SupplyDetails, IllServiceTypes, SupplyMediumInfos, IllRequest, Shipped, LocationInfo, Locs, Conditional, Retry, Unfilled, Locations, WillSupply, HoldPlaced, Estimate, Results, IllAnswer, ConditionalReply, Cancel, CancelReply, Received, Recall, Returned, CheckedIn, Overdue, Renew, RenewAnswer, Lost, Damaged, MessageApdu, StatusQuery, Expired, IllApdu}
-use Rattle.ill_schema.specs.declared.part.Row.{Row}
+use Rattle.ill_schema.specs.declared.{node.Kind.Kind, node.LeafKind.LeafKind, node.NodeId.NodeId, part.Row.Row}
 use Rattle.ill_schema.specs.Table.{kind_of, rows_of}
 use Rattle.ill_schema.specs.Tagging.{Tagging, untagged, implicit, explicit, explicit_or_bare, tagging, universal, sequence_tag, same_tag}
 
@@ -54,74 +50,15 @@ are_distinct (t ∷ ts) = not (list_any (same_tag t) ts) && are_distinct ts
 abbrev pub has_different_tags : Profile → NodeId → Bool
 has_different_tags p node = are_distinct (flat_map (row_tags p) (rows_of node))
 
--- a number for each node, which is larger than those of the nodes that its rows name
-abbrev pub rank : NodeId → ℕ
-rank Boolean = 0
-rank Integer = 1
-rank Enumerated = 2
-rank IsoDate = 3
-rank IsoTime = 4
-rank PrintableString = 5
-rank IllString = 6
-rank LeftOut = 7
-rank Symbol = 8
-rank Name = 9
-rank SystemId = 10
-rank TransactionId = 11
-rank DateTime = 12
-rank ServiceDateTime = 13
-rank PostalAddress = 14
-rank SystemAddress = 15
-rank DeliveryAddress = 16
-rank ClientId = 17
-rank DeliveryService = 18
-rank RequesterOptionalMessages = 19
-rank ResponderOptionalMessages = 20
-rank SearchType = 21
-rank SupplyMediumInfo = 22
-rank ItemId = 23
-rank Amount = 24
-rank CostInfo = 25
-rank SendTo = 26
-rank SendToList = 27
-rank AlreadyTriedList = 28
-rank ThirdPartyInfo = 29
-rank UnitsPerMedium = 30
-rank UnitsPerMediumList = 31
-rank DateDue = 32
-rank ShippedVia = 33
-rank SupplyDetails = 34
-rank IllServiceTypes = 35
-rank SupplyMediumInfos = 36
-rank IllRequest = 37
-rank Shipped = 38
-rank LocationInfo = 39
-rank Locs = 40
-rank Conditional = 41
-rank Retry = 42
-rank Unfilled = 43
-rank Locations = 44
-rank WillSupply = 45
-rank HoldPlaced = 46
-rank Estimate = 47
-rank Results = 48
-rank IllAnswer = 49
-rank ConditionalReply = 50
-rank Cancel = 51
-rank CancelReply = 52
-rank Received = 53
-rank Recall = 54
-rank Returned = 55
-rank CheckedIn = 56
-rank Overdue = 57
-rank Renew = 58
-rank RenewAnswer = 59
-rank Lost = 60
-rank Damaged = 61
-rank MessageApdu = 62
-rank StatusQuery = 63
-rank Expired = 64
-rank IllApdu = 65
+-- how many levels of nodes stand below a node, up to n
+abbrev levels : ℕ → NodeId → ℕ
+levels zero node = 0
+levels (suc n) node = fold (λ most row. max most (1 + levels n row.node)) 0 (rows_of node)
 
+-- a node's level, which is at most 9
+abbrev pub rank : NodeId → ℕ
+rank = levels 9
+
+-- the node's rows name only nodes of lower levels
 abbrev pub names_below : NodeId → Bool
 names_below node = list_all (λ row. nat_lt (rank row.node) (rank node)) (rows_of node)

@@ -6,10 +6,7 @@ use Rattle.ber_core.specs.Tree.{Tree, constructed, more, none}
 use Rattle.ber_leaf.specs.Leaf.{Leaf, boolean, integer, enumerated, general_string, visible_string, printable_string, iso_date, iso_time}
 use Rattle.ber_leaf.specs.Profile.{Profile}
 use Rattle.ber_leaf.specs.Simple.{Simple, flag, whole, date, time, printable, general, visible}
-use Rattle.ill_schema.specs.declared.node.Kind.{Kind}
-use Rattle.ill_schema.specs.declared.node.LeafKind.{LeafKind}
-use Rattle.ill_schema.specs.declared.part.Mode.{Mode}
-use Rattle.ill_schema.specs.declared.part.Row.{Row}
+use Rattle.ill_schema.specs.declared.{node.Kind.Kind, node.LeafKind.LeafKind, part.Mode.Mode, part.Row.Row}
 
 abbrev pub universal : ℕ → Tag
 universal number = record { class = Class.Universal; number = number }

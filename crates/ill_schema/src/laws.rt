@@ -12,7 +12,7 @@ ghost use Rattle.ill_schema.specs.Apdu.{Apdu, choice_of, Encodes, SpellsApdu, Me
 
 use crate::node::NodeId;
 
-/// In each sequence and choice the tags of all rows are different, and each row names a node further up in the list of nodes.
+/// In each sequence and choice the tags of all rows are different, and each row names a node of a lower level.
 pub fn tables_are_well_formed()
     ensures tags { (p : Profile) (node : NodeId) → IsTrue (has_different_tags p node) }
     ensures below { (node : NodeId) → IsTrue (names_below node) }

@@ -3,7 +3,6 @@ ghost use Rattle.std.specs.Prelude.{◌≤◌, length};
 ghost use Rattle.ber_leaf.specs.Profile.{profile_two};
 ghost use Rattle.ill_schema.specs.Apdu.{normal_form};
 ghost use Rattle.ill_schema.specs.Fits.{FitsApdu};
-ghost use Rattle.ill_schema.specs.FitsProps.{FitsApdu-prop};
 ghost use Rattle.ill_schema.specs.Value.{apdu_with};
 
 use crate::equality::equal;
@@ -20,7 +19,7 @@ pub struct Message {
     apdu: u8,
     body: Value,
     octets: u32,
-    ghost fits: { FitsApdu profile_two (apdu_with apdu body) } by { FitsApdu-prop profile_two (apdu_with apdu body) },
+    ghost fits: { ∥ FitsApdu profile_two (apdu_with apdu body) ∥₁ },
     ghost within: { length (normal_form (apdu_with apdu body)) ≤ profile_two.limit },
 }
 

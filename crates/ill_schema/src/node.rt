@@ -19,7 +19,7 @@ pub enum Kind {
     IllString,
 }
 
-/// A node of the schema. Each names only nodes above it in this list.
+/// A node of the schema. Its rows name only nodes of lower levels.
 #[derive(Clone, Copy, Debug, PartialEq, Eq)]
 pub enum NodeId {
     Boolean,

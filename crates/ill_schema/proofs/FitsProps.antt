@@ -2,21 +2,15 @@
 use Rattle.std.specs.Prelude.{◌≡◌, ℕ, List, [], ◌∷◌, Option, Some, slice_get}
 use Rattle.std.specs.Coded.{Coded, Coded-set, codes, coded_option, ×_prop, Unit-prop, le_prop}
 use mathlib.Core.HLevel.{is_prop→PathP, ×₃_prop}
-use Rattle.ber_leaf.specs.Simple.{Simple}
+use Rattle.ber_leaf.specs.{Simple.Simple, Profile.Profile}
 use Rattle.ber_leaf.specs.Leaf.{Leaf, Holds, normal_content}
-use Rattle.ber_leaf.specs.Profile.{Profile}
-use Rattle.ill_schema.specs.declared.node.NodeId.{NodeId}
-use Rattle.ill_schema.specs.declared.node.NodeId.TheVariants.{IllApdu}
-use Rattle.ill_schema.specs.declared.node.Kind.{Kind}
-use Rattle.ill_schema.specs.declared.part.Presence.{Presence}
-use Rattle.ill_schema.specs.declared.part.Row.{Row}
+use Rattle.ill_schema.specs.declared.{node.NodeId.NodeId, node.NodeId.TheVariants.IllApdu, node.Kind.Kind, part.Presence.Presence, part.Row.Row}
 use Rattle.ill_schema.specs.Apdu.{Apdu, choice_of}
 use Rattle.ill_schema.specs.Content.{Content, simple, sequence, list, alternative, Entries, no_entries, absent, present, Items, no_items, item}
 use Rattle.ill_schema.specs.Fits.{FitsSimple, Fits, FitRows, FitItems, FitsApdu}
-use Rattle.ill_schema.specs.Meaning.{IsAlternative}
+use Rattle.ill_schema.specs.{Meaning.IsAlternative, Tagging.leaf_of}
 use Rattle.ill_schema.specs.Presence.{IsCarried, MayLack}
 use Rattle.ill_schema.specs.Table.{kind_of, rows_of}
-use Rattle.ill_schema.specs.Tagging.{leaf_of}
 
 kind_set : IsSet Kind
 kind_set = Coded-set (hlevel codes)
