@@ -1,0 +1,186 @@
+use crate::rows::ROWS;
+use crate::{NormalFailure, Pieces, Room, Source, ToWrite, normalise};
+use ill_schema::{Cause, NodeId, PartId, Refusal};
+use std::alloc::{AllocError, Global};
+use std::test::Fail;
+
+const LONG_FORM: &[u8] =
+    b"\x74\x81\x29\x30\x81\x26\x80\x81\x01\x02\xa1\x81\x0e\xa1\x81\x04\x1b\x81\x01\x47\xa2\x81\x04\x1b\x81\x01\x51\xa2\x81\x0e\xa0\x81\x0b\x80\x81\x0820240229";
+
+const EXPIRED: &[u8] =
+    b"\x74\x1f\x30\x1d\x80\x01\x02\xa1\x0a\xa1\x03\x1b\x01\x47\xa2\x03\x1b\x01\x51\xa2\x0c\xa0\x0a\x80\x0820240229";
+
+fn digit(octet: u8) -> u8 {
+    match octet {
+        b'0'..=b'9' => octet - b'0',
+        b'a'..=b'f' => octet - b'a' + 10,
+        _ => 0,
+    }
+}
+
+fn add_piece(octets: &mut Vec<u8>, piece: &str) -> Result<(), AllocError> {
+    let (text, count) = match piece.split_once('*') {
+        Some((text, count)) => (text, count.parse::<u32>().unwrap_or(0)),
+        None => (piece, 1),
+    };
+    for _ in 0..count {
+        for pair in text.as_bytes().chunks(2) {
+            if let [high, low] = pair {
+                octets.push((digit(*high) & 15) * 16 + (digit(*low) & 15))?;
+            }
+        }
+    }
+    Ok(())
+}
+
+fn octets_of(alloc: Global, pieces: &str) -> Result<Vec<u8>, AllocError> {
+    let mut octets = Vec::new(alloc);
+    for piece in pieces.split(' ') {
+        add_piece(&mut octets, piece)?;
+    }
+    Ok(octets)
+}
+
+/// The normal form of the first message, with as many octets a call at most.
+fn normal_form(alloc: Global, octets: &[u8], per_call: usize) -> Result<Vec<u8>, Fail> {
+    let mut source = Pieces::new(octets, per_call.max(1), None);
+    let mut written = Vec::new(alloc);
+    let mut sink = ToWrite::new(&mut written);
+    match normalise(alloc, &mut source, &mut sink) {
+        Ok(_) => Ok(written),
+        Err(_) => Err(Fail::from("not normalised")),
+    }
+}
+
+#[test]
+fn normalises_each_row(rt: HostRuntime) -> Result<(), Fail> {
+    let alloc = rt.alloc();
+    for line in ROWS.lines() {
+        let (name, row) = line.split_once('|').ok_or("no name")?;
+        let (pieces, want) = row.split_once('|').ok_or("no normal form")?;
+        let octets = octets_of(alloc, pieces)?;
+        let want = octets_of(alloc, if want == "=" { pieces } else { want })?;
+        for per_call in [1, 4096] {
+            if octets.len() > 4096 && per_call == 1 {
+                continue;
+            }
+            let found = normal_form(alloc, &octets, per_call)?;
+            assert!(rt; found.as_slice() == want.as_slice(), "{name}");
+        }
+    }
+    Ok(())
+}
+
+#[test]
+fn nothing_is_written_of_what_is_refused(rt: HostRuntime) {
+    let rows: [(&str, &[u8], Refusal); 4] = [
+        (
+            "expired-without-service-date-time",
+            b"\x74\x11\x30\x0f\x80\x01\x02\xa1\x0a\xa1\x03\x1b\x01\x47\xa2\x03\x1b\x01\x51",
+            Refusal {
+                at: 19,
+                cause: Cause::Missing(PartId {
+                    node: NodeId::EXPIRED,
+                    row: 2,
+                }),
+            },
+        ),
+        (
+            "thirtieth-of-february",
+            b"\x74\x1f\x30\x1d\x80\x01\x02\xa1\x0a\xa1\x03\x1b\x01\x47\xa2\x03\x1b\x01\x51\xa2\x0c\xa0\x0a\x80\x0820240230",
+            Refusal {
+                at: 23,
+                cause: Cause::BadDate,
+            },
+        ),
+        (
+            "forward-notification-left-out",
+            b"\x62",
+            Refusal {
+                at: 0,
+                cause: Cause::LeftOut(PartId {
+                    node: NodeId::ILL_APDU,
+                    row: 1,
+                }),
+            },
+        ),
+        (
+            "no-such-application-number",
+            b"\x75",
+            Refusal {
+                at: 0,
+                cause: Cause::UnexpectedTag,
+            },
+        ),
+    ];
+    for (name, octets, refusal) in rows {
+        let mut source = Pieces::new(octets, 3, None);
+        let mut sink: Room<64> = Room::new(64, None);
+        let answer = normalise(rt.alloc(), &mut source, &mut sink);
+        assert!(rt; answer == Err(NormalFailure::Refused(refusal)), "{name}");
+        assert!(rt; sink.octets().is_empty(), "{name}");
+    }
+}
+
+#[test]
+fn an_empty_input_is_no_message(rt: HostRuntime) {
+    let mut source = Pieces::new(&[], 1, None);
+    let mut sink: Room<64> = Room::new(64, None);
+    assert!(rt;
+        normalise(rt.alloc(), &mut source, &mut sink) == Ok(None),
+        "empty-input-reader"
+    );
+    assert!(rt; sink.octets().is_empty());
+}
+
+#[test]
+fn octets_behind_the_message_are_not_read(rt: HostRuntime) {
+    let octets: &[u8] =
+        b"\x74\x1f\x30\x1d\x80\x01\x02\xa1\x0a\xa1\x03\x1b\x01\x47\xa2\x03\x1b\x01\x51\xa2\x0c\xa0\x0a\x80\x0820240229\x75";
+    let mut source = Pieces::new(octets, 64, None);
+    let mut sink: Room<64> = Room::new(64, None);
+    assert!(rt; normalise(rt.alloc(), &mut source, &mut sink) == Ok(Some(33)));
+    assert!(rt; sink.octets() == EXPIRED);
+    let mut rest = [0; 4];
+    assert!(rt; source.take(&mut rest) == Ok(1));
+    assert!(rt; rest[0] == 0x75);
+}
+
+#[test]
+fn a_broken_source_leaves_nothing(rt: HostRuntime) {
+    let mut source = Pieces::new(LONG_FORM, 64, Some(5));
+    let mut sink: Room<64> = Room::new(64, None);
+    let answer = normalise(rt.alloc(), &mut source, &mut sink);
+    assert!(rt;
+        answer == Err(NormalFailure::ReadFault),
+        "long-form-source-broken"
+    );
+    assert!(rt;
+        source.broken() && sink.octets().is_empty(),
+        "long-form-source-broken"
+    );
+}
+
+#[test]
+fn a_broken_sink_leaves_the_first_octets(rt: HostRuntime) {
+    for n in 0..33u32 {
+        let mut source = Pieces::new(LONG_FORM, 64, None);
+        let mut sink: Room<64> = Room::new(64, Some(n as usize));
+        let answer = normalise(rt.alloc(), &mut source, &mut sink);
+        assert!(rt;
+            answer == Err(NormalFailure::WriteFault(n)),
+            "sink-broken-after-{n}"
+        );
+        assert!(rt;
+            EXPIRED.get(..n as usize) == Some(sink.octets()),
+            "sink-broken-after-{n}"
+        );
+    }
+    let mut source = Pieces::new(LONG_FORM, 64, None);
+    let mut sink: Room<64> = Room::new(7, None);
+    assert!(rt;
+        normalise(rt.alloc(), &mut source, &mut sink) == Ok(Some(33)),
+        "sink-of-seven-octets-per-call"
+    );
+    assert!(rt; sink.octets() == EXPIRED, "sink-of-seven-octets-per-call");
+}
