@@ -1,0 +1,175 @@
+//! Messages from words.
+ghost use Rattle.std.specs.Prelude.{◌≤◌};
+
+use ber_leaf::{DateText, GeneralText, IllString, Leaf, PrintableText, TimeText, VisibleText};
+use ill_schema::{Message, Value};
+use std::alloc::{AllocError, Global};
+use std::boxed::Box;
+use std::test::Fail;
+
+/// What each APDU begins with: version 2, group "G", qualifier "Q", 29 February 2024.
+const HEAD: &str = "2 - general:G general:Q - seq:4 date:20240229 - seq:2 - seq:2 - -";
+
+/// The message of an APDU's number and the parts of its body.
+///
+/// A value is written part by part, and then what it is: `seq:n` of the last n parts, `list:n`, or
+/// `alt:n`, the alternative of row n. `-` is an absent part, `none:n` is n of them, and `head` is
+/// what each APDU begins with.
+pub fn message(alloc: Global, apdu: &str, parts: &str) -> Result<Message, Fail> {
+    match Message::new(apdu.parse::<u8>()?, value(alloc, parts)?) {
+        Ok(message) => Ok(message),
+        Err((_body, _unfit)) => Err("no message")?,
+    }
+}
+
+/// The octets that hexadecimal digits write.
+pub fn octets_of_hex(alloc: Global, hex: &str) -> Result<Vec<u8>, Fail> {
+    let mut octets = Vec::new(alloc);
+    for pair in hex.as_bytes().chunks_exact(2) {
+        octets.push(16 * digit(pair[0]) + digit(pair[1]))?;
+    }
+    Ok(octets)
+}
+
+fn digit(octet: u8) -> u8
+    ensures { result ≤ 15 }
+{
+    match octet {
+        b'0'..=b'9' => octet - b'0',
+        b'a'..=b'f' => octet - b'a' + 10,
+        _ => 0,
+    }
+}
+
+fn value(alloc: Global, words: &str) -> Result<Value, Fail> {
+    let mut parts = Vec::new(alloc);
+    for word in words.split(' ') {
+        if word == "head" {
+            for word in HEAD.split(' ') {
+                add(alloc, &mut parts, word)?;
+            }
+        } else {
+            add(alloc, &mut parts, word)?;
+        }
+    }
+    match parts.pop() {
+        Some(Some(value)) => Ok(value),
+        _ => Err("no value")?,
+    }
+}
+
+/// Adds what a word says to the parts.
+fn add(alloc: Global, parts: &mut Vec<Option<Value>>, word: &str) -> Result<(), Fail> {
+    let (kind, count) = word.split_once(':').unwrap_or((word, ""));
+    match kind {
+        "-" => Ok(parts.push(None)?),
+        "none" => Ok(skip(parts, count.parse::<usize>()?)?),
+        "seq" => {
+            let entries = last(parts, count.parse::<usize>()?)?;
+            Ok(parts.push(Some(Value::Seq(entries)))?)
+        }
+        "list" => {
+            let items = last(parts, count.parse::<usize>()?)?;
+            Ok(parts.push(Some(list(alloc, items)?))?)
+        }
+        "alt" => {
+            let value = chosen(alloc, parts, count.parse::<u8>()?)?;
+            Ok(parts.push(Some(value))?)
+        }
+        _ => Ok(parts.push(Some(leaf(alloc, word)?))?),
+    }
+}
+
+fn leaf(alloc: Global, word: &str) -> Result<Value, Fail> {
+    let (kind, text) = word.split_once(':').unwrap_or((word, ""));
+    match kind {
+        "false" => Ok(Value::Flag(false)),
+        "true" => Ok(Value::Flag(true)),
+        "general" => general(Vec::from_slice(alloc, text.as_bytes())?),
+        "hex" => general(octets_of_hex(alloc, text)?),
+        "letters" => general(vec![in alloc; b'A'; text.parse::<usize>()?]?),
+        "visible" => visible(Vec::from_slice(alloc, text.as_bytes())?),
+        "print" => printable(Vec::from_slice(alloc, text.as_bytes())?),
+        "date" => date(Vec::from_slice(alloc, text.as_bytes())?),
+        "time" => time(Vec::from_slice(alloc, text.as_bytes())?),
+        "empties" => empties(alloc, text.parse::<u32>()?),
+        _ => Ok(Value::Whole(word.parse::<i64>()?)),
+    }
+}
+
+fn general(octets: Vec<u8>) -> Result<Value, Fail> {
+    match GeneralText::new(octets) {
+        Ok(text) => Ok(Value::Str(IllString::General(text))),
+        Err(_) => Err("no GeneralString")?,
+    }
+}
+
+fn visible(octets: Vec<u8>) -> Result<Value, Fail> {
+    match VisibleText::new(octets) {
+        Ok(text) => Ok(Value::Str(IllString::Visible(text))),
+        Err(_) => Err("no VisibleString")?,
+    }
+}
+
+fn printable(octets: Vec<u8>) -> Result<Value, Fail> {
+    match PrintableText::new(octets) {
+        Ok(text) => Ok(Value::Print(text)),
+        Err(_) => Err("no PrintableString")?,
+    }
+}
+
+fn date(octets: Vec<u8>) -> Result<Value, Fail> {
+    match DateText::new(octets) {
+        Ok(text) => Ok(Value::Date(text)),
+        Err(_) => Err("no ISO-Date")?,
+    }
+}
+
+fn time(octets: Vec<u8>) -> Result<Value, Fail> {
+    match TimeText::new(octets) {
+        Ok(text) => Ok(Value::Time(text)),
+        Err(_) => Err("no ISO-Time")?,
+    }
+}
+
+/// A list of so many system ids with nothing in them.
+fn empties(alloc: Global, count: u32) -> Result<Value, Fail> {
+    let mut items = Vec::new(alloc);
+    for _ in 0..count {
+        let mut entries = Vec::new(alloc);
+        skip(&mut entries, 2)?;
+        items.push(Value::Seq(entries))?;
+    }
+    Ok(Value::List(items))
+}
+
+/// Takes off the last parts.
+fn last(parts: &mut Vec<Option<Value>>, count: usize) -> Result<Vec<Option<Value>>, Fail> {
+    if count > parts.len() {
+        return Err("too few parts")?;
+    }
+    let at = parts.len() - count;
+    Ok(parts.split_off(at)?)
+}
+
+fn skip(parts: &mut Vec<Option<Value>>, count: usize) -> Result<(), AllocError> {
+    for _ in 0..count {
+        parts.push(None)?;
+    }
+    Ok(())
+}
+
+fn list(alloc: Global, parts: Vec<Option<Value>>) -> Result<Value, Fail> {
+    let mut items = Vec::new(alloc);
+    for part in parts {
+        items.push(part.ok_or("an absent item")?)?;
+    }
+    Ok(Value::List(items))
+}
+
+fn chosen(alloc: Global, parts: &mut Vec<Option<Value>>, number: u8) -> Result<Value, Fail> {
+    match parts.pop() {
+        Some(Some(value)) => Ok(Value::Alt(number, Box::new(alloc, value)?)),
+        _ => Err("no alternative")?,
+    }
+}
