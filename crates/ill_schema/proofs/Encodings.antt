@@ -86,7 +86,7 @@ tag_valid (explicit s) t f v h k = (v true, (h, tt))
 tag_valid (explicit_or_bare s) t f v h k = (v true, (h, tt))
 
 mutual
-  normal_valid : (p : Profile) (c : Content) (node : NodeId) (g : Tagging) → ValidTagging g → Fits p c node → HasIdentifiers (normal_tree c node g)
+  pub normal_valid : (p : Profile) (c : Content) (node : NodeId) (g : Tagging) → ValidTagging g → Fits p c node → HasIdentifiers (normal_tree c node g)
   normal_valid p (simple v) node g ok fit =
       subst (λ o. HasIdentifiers (tag_tree g (elim o as (λ _. Tag) [ Some l ↦ leaf_tag l | None ↦ sequence_tag ]) (λ t. primitive t (normal_content v)))) (sym fit.1)
       (tag_valid g (leaf_tag fit.0) _ ok (leaf_id fit.0 false) (λ s h. h false))

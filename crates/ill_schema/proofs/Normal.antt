@@ -82,7 +82,7 @@ mutual
             (elim o as (λ _. Tree) [ Some r ↦ normal_tree c r.node (tagging profile_two r) | None ↦ constructed t none ])) (sym fit.1.1) m),
       )
 
-  normal_matches : (p : Profile) (es : Entries) (rows : List Row) → FitRows p es rows → Matches p es rows (normal_trees es rows)
+  pub normal_matches : (p : Profile) (es : Entries) (rows : List Row) → FitRows p es rows → Matches p es rows (normal_trees es rows)
   normal_matches p no_entries [] fit = refl
   normal_matches p no_entries (row ∷ rows) fit = absurd fit
   normal_matches p (absent es) [] fit = absurd fit

@@ -1,226 +1,270 @@
--- Worked messages.
-use Rattle.std.proofs.Common.{◌≡◌, ℕ, ◌≤◌, pos, Bool, true, false, List, [], ◌∷◌, ◌++◌, length, None, refl, inl, inr, lit≤, IsTrue}
-use Rattle.ber_core.specs.declared.id.Class.{Class}
-use Rattle.ber_core.specs.Identifier.{Tag, identifier, HasIdentifier}
-use Rattle.ber_core.specs.Length.{short}
-use Rattle.ber_core.specs.Tree.{Tree, Trees, primitive, constructed, none, more, Spells, SpellsAll}
-use Rattle.ill_schema.specs.declared.node.NodeId.TheVariants.{IllApdu, Integer, IllString, TransactionId, ServiceDateTime}
-use Rattle.std.specs.List.{list_all}
+-- Worked messages: each fits, is spelled by its octets, and has the normal form that is written.
+use Rattle.std.proofs.Common.{◌≡◌, ℕ, ◌<◌, ◌≤◌, ◌^◌, false, true, List, [], ◌∷◌, ◌++◌, length, None, refl, sym, subst, inl, inr, lit≤, arith, length-append}
 use Rattle.std.specs.Prelude.{unwrap_or, slice_get}
+use Rattle.ber_core.specs.declared.id.Class.{Class}
+use Rattle.ber_core.specs.Der.{encoding, encodings, HasIdentifiers, HaveIdentifiers}
+use Rattle.ber_core.specs.Identifier.{Tag, identifier}
+use Rattle.ber_core.specs.Tree.{Tree, Trees, primitive, constructed, none, more, Spells, SpellsAll}
+use Rattle.ber_core.proofs.Encodings.{encoding_spells}
+use Rattle.ber_leaf.specs.Leaf.{boolean, integer, enumerated, general_string, iso_date}
+use Rattle.ber_leaf.specs.Profile.{profile_two}
 use Rattle.ill_schema.specs.declared.node.NodeId.{NodeId}
-use Rattle.ill_schema.specs.declared.part.Row.{Row}
-use Rattle.ill_schema.specs.declared.part.Mode.{Mode}
-use Rattle.ill_schema.specs.declared.part.Presence.{Presence}
+use Rattle.ill_schema.specs.declared.node.NodeId.TheVariants.{IllApdu, Integer, Enumerated, TransactionId, ServiceDateTime, Boolean, RequesterOptionalMessages, ItemId, IllServiceTypes, Results, Locs, Symbol, IllAnswer, Expired}
+use Rattle.ill_schema.specs.declared.part.{Row.Row, Mode.Mode, Presence.Presence}
+use Rattle.ber_leaf.specs.Simple.{flag}
+use Rattle.ill_schema.specs.Content.{Content, simple, sequence, list, alternative, Entries, no_entries, absent, present, no_items, item}
+use Rattle.ill_schema.specs.Tagging.{untagged, implicit, explicit, sequence_tag}
+use Rattle.ill_schema.specs.Meaning.{Means, Matches}
 use Rattle.ill_schema.specs.Table.{rows_of}
-use Rattle.ber_leaf.specs.Leaf.{integer, general_string, iso_date}
-use Rattle.ber_core.specs.Octets.{are_octets}
-use Rattle.ill_schema.specs.Content.{Content, simple, sequence, Entries, no_entries, absent, present}
-use Rattle.ber_leaf.specs.Simple.{whole, date, general}
-use Rattle.ber_leaf.specs.Profile.{profile_two, is_no_shift}
-use Rattle.ill_schema.specs.Tagging.{untagged, implicit, explicit}
-use Rattle.ill_schema.specs.Meaning.{Means}
+use Rattle.ill_schema.specs.Fits.{Fits, FitRows, FitsApdu}
+use Rattle.ill_schema.specs.{Normal.normal_tree, Normal.normal_trees}
 use Rattle.ill_schema.specs.Apdu.{Apdu, choice_of, normal_form, MeansApdu, SpellsApdu}
-use Rattle.ill_schema.specs.Normal.{normal_tree}
+use Rattle.ill_schema.specs.Worked.{absents, number, transaction, service_date, head_entries, optional_messages, answer, estimate_result, unfilled_result, retry_result, expired, request, estimate, unfilled, retry, expired_octets, expired_indefinite, expired_bare, request_octets, estimate_octets, unfilled_octets, retry_octets, retry_bare, IsNormalForm}
+use Rattle.ill_schema.proofs.Normal.{normal_means, normal_matches, normal_apdu_means}
+use Rattle.ill_schema.proofs.Encodings.{normal_valid, normal_spells}
 
--- version 2, group "G", qualifier "Q", 20240229
-abbrev pub transaction : Content
-transaction = sequence (absent (present (simple (general (0x47 ∷ []))) (present (simple (general (0x51 ∷ []))) (absent no_entries))))
+abbrev row_at : NodeId → ℕ → Row
+row_at node n = unwrap_or (slice_get (rows_of node) n) (record { tag = None; mode = Mode.Untagged; presence = Presence.May; node = node })
 
-abbrev pub service_date : Content
-service_date = sequence (present (sequence (present (simple (date (0x32 ∷ 0x30 ∷ 0x32 ∷ 0x34 ∷ 0x30 ∷ 0x32 ∷ 0x32 ∷ 0x39 ∷ []))) (absent no_entries))) (absent no_entries))
+version_fits : Fits profile_two (number 2) Integer
+version_fits = (integer, refl, (refl, refl, refl))
 
-abbrev pub head_entries : Entries → Entries
-head_entries es = present (simple (whole (pos 2))) (present transaction (present service_date (absent (absent es))))
+transaction_fits : Fits profile_two transaction TransactionId
+transaction_fits = (refl, (tt, (tt, (general_string, refl, (refl, refl, refl)), (tt, (general_string, refl, (refl, refl, refl)), (tt, tt)))))
 
-abbrev pub expired : Apdu
-expired = record { number = 20; body = sequence (head_entries (absent no_entries)) }
+date_fits : Fits profile_two service_date ServiceDateTime
+date_fits = (refl, (tt, (refl, (tt, (iso_date, refl, (refl, refl, refl)), (tt, tt))), (tt, tt)))
 
-abbrev pub head_octets : List ℕ
-head_octets =
-    0x80 ∷ 0x01 ∷ 0x02 ∷ 0xA1 ∷ 0x0A ∷ 0xA1 ∷ 0x03 ∷ 0x1B ∷ 0x01 ∷ 0x47 ∷ 0xA2 ∷ 0x03 ∷ 0x1B ∷ 0x01 ∷ 0x51
-    ∷ 0xA2 ∷ 0x0C ∷ 0xA0 ∷ 0x0A ∷ 0x80 ∷ 0x08 ∷ 0x32 ∷ 0x30 ∷ 0x32 ∷ 0x34 ∷ 0x30 ∷ 0x32 ∷ 0x32 ∷ 0x39 ∷ []
+-- the entries fit that each APDU begins with, and those behind them
+headed : {R : Type 0} → R
+    → Unit {0} × Fits profile_two (number 2) Integer
+    × (Unit {0} × Fits profile_two transaction TransactionId × (Unit {0} × Fits profile_two service_date ServiceDateTime × (Unit {0} × (Unit {0} × R))))
+headed rest = (tt, version_fits, (tt, transaction_fits, (tt, date_fits, (tt, (tt, rest)))))
 
-abbrev pub expired_octets : List ℕ
-expired_octets = 0x74 ∷ 0x1F ∷ 0x30 ∷ 0x1D ∷ head_octets
+one_fits : Fits profile_two (number 1) Enumerated
+one_fits = (enumerated, refl, (refl, refl, refl))
 
-pub expired-normal : normal_form expired ≡ expired_octets
-expired-normal = refl
+abbrev expired_entries : Entries
+expired_entries = head_entries (absent no_entries)
 
-pub expired-size : length (normal_form expired) ≡ 33
-expired-size = refl
+expired_rows : FitRows profile_two expired_entries (rows_of Expired)
+expired_rows = headed (tt, tt)
 
-abbrev pub tag : Class → ℕ → Tag
+expired_fits : FitsApdu profile_two expired
+expired_fits = (lit≤ tt, (row_at IllApdu 19, (refl, refl, tt), (refl, expired_rows)))
+
+request_fits : FitsApdu profile_two request
+request_fits = (
+  lit≤ tt,
+  (
+    row_at IllApdu 0,
+    (refl, refl, tt),
+    (
+      refl,
+      headed (
+        tt,
+        one_fits,
+        (
+          tt,
+          (
+            tt,
+            (
+              tt,
+              (
+                tt,
+                (refl, (row_at IllServiceTypes 0, refl, one_fits, tt)),
+                (
+                  tt,
+                  (
+                    tt,
+                    messages,
+                    (
+                      tt,
+                      (
+                        tt,
+                        (
+                          tt,
+                          (enumerated, refl, (refl, refl, refl)),
+                          (tt, (tt, (refl, lacks), (tt, (tt, (tt, (tt, (tt, no, (tt, no, (tt, (tt, (tt, tt))))))))))),
+                        ),
+                      ),
+                    ),
+                  ),
+                ),
+              ),
+            ),
+          ),
+        ),
+      ),
+    ),
+  ),
+)
+  where
+    no : Fits profile_two (simple (flag false)) Boolean
+    no = (boolean, refl, (refl, refl, refl))
+
+    messages : Fits profile_two optional_messages RequesterOptionalMessages
+    messages = (refl, (tt, no, (tt, no, (tt, one_fits, (tt, one_fits, tt)))))
+
+    lacks : FitRows profile_two (absents 23 no_entries) (rows_of ItemId)
+    lacks = (tt, (tt, (tt, (tt, (tt, (tt, (tt, (tt, (tt, (tt, (tt, (tt, (tt, (tt, (tt, (tt, (tt, (tt, (tt, (tt, (tt, (tt, (tt, tt)))))))))))))))))))))))
+
+-- an answer fits if its results do
+answer_fits : (n : ℕ) (c : Content) → Fits profile_two (number n) Enumerated → Fits profile_two c Results → FitsApdu profile_two (answer n c)
+answer_fits n c number_fits results_fit = (
+  lit≤ tt,
+  (row_at IllApdu 3, (refl, refl, tt), (refl, headed (tt, number_fits, (tt, results_fit, (tt, (tt, (tt, (tt, (tt, (tt, (tt, tt))))))))))),
+)
+
+estimate_fits : Fits profile_two estimate_result Results
+estimate_fits = (row_at Results 6, (refl, refl, tt), (refl, (tt, (general_string, refl, (refl, refl, refl)), (tt, tt))))
+
+unfilled_fits : Fits profile_two unfilled_result Results
+unfilled_fits =
+    (row_at Results 2, (refl, refl, tt), (refl, (tt, one_fits, (tt, (refl, (row_at Locs 0, refl, (refl, (tt, (refl, (tt, (row_at Symbol 1, (refl, refl, tt), (general_string, refl, (refl, refl, refl))), (tt, tt))), (tt, (tt, tt)))), tt)), tt))))
+
+retry_fits : FitsApdu profile_two retry
+retry_fits = answer_fits 2 retry_result (enumerated, refl, (refl, refl, refl)) (row_at Results 1, (refl, refl, tt), (refl, (tt, (tt, (tt, tt)))))
+
+-- an APDU that fits is spelled by its normal form
+own : (a : Apdu) (octets : List ℕ) → FitsApdu profile_two a → normal_form a ≡ octets → length octets ≤ profile_two.limit → IsNormalForm a octets
+own a octets fit e le =
+    (subst (λ b. SpellsApdu profile_two a b) e (normal_spells profile_two a fit (lit≤ tt) (subst (λ b. length b ≤ profile_two.limit) (sym e) le)), e)
+
+pub expired_normal : IsNormalForm expired expired_octets
+expired_normal = own expired expired_octets expired_fits refl (lit≤ tt)
+
+pub request_normal : IsNormalForm request request_octets
+request_normal = own request request_octets request_fits refl (lit≤ tt)
+
+pub estimate_normal : IsNormalForm estimate estimate_octets
+estimate_normal = own estimate estimate_octets (answer_fits 7 estimate_result (enumerated, refl, (refl, refl, refl)) estimate_fits) refl (lit≤ tt)
+
+pub unfilled_normal : IsNormalForm unfilled unfilled_octets
+unfilled_normal = own unfilled unfilled_octets (answer_fits 3 unfilled_result (enumerated, refl, (refl, refl, refl)) unfilled_fits) refl (lit≤ tt)
+
+pub retry_normal : IsNormalForm retry retry_octets
+retry_normal = own retry retry_octets retry_fits refl (lit≤ tt)
+
+-- a tree's encoding with indefinite lengths
+abbrev mutual
+  indefinite : Tree → List ℕ
+  indefinite (primitive t octets) = encoding (primitive t octets)
+  indefinite (constructed t ts) = identifier t true ++ (128 ∷ indefinites ts ++ 0 ∷ 0 ∷ [])
+
+  indefinites : Trees → List ℕ
+  indefinites none = []
+  indefinites (more T ts) = indefinite T ++ indefinites ts
+
+tail_short : (xs ys : List ℕ) (n : ℕ) → length (xs ++ ys) < n → length ys < n
+tail_short xs ys n h = omega (arith, h, length-append xs ys)
+
+head_short : (xs ys : List ℕ) (n : ℕ) → length (xs ++ ys) < n → length xs < n
+head_short xs ys n h = omega (arith, h, length-append xs ys)
+
+mutual
+  indefinite_spells : (T : Tree) → HasIdentifiers T → length (encoding T) < 256 ^ 126 → Spells T (indefinite T)
+  indefinite_spells (primitive t octets) h le = encoding_spells (primitive t octets) h le
+  indefinite_spells (constructed t ts) h le =
+      (indefinites ts, indefinites_spell ts h.1 (tail_short _ (encodings ts) _ (tail_short _ (_ ++ encodings ts) _ le)), inr (record { has_identifier = h.0; joined = refl }))
+
+  indefinites_spell : (ts : Trees) → HaveIdentifiers ts → length (encodings ts) < 256 ^ 126 → SpellsAll ts (indefinites ts)
+  indefinites_spell none h le = refl
+  indefinites_spell (more T ts) h le =
+      (_, _, indefinite_spells T h.0 (head_short (encoding T) (encodings ts) _ le), indefinites_spell ts h.1 (tail_short (encoding T) (encodings ts) _ le), refl)
+
+-- the identifiers of an APDU's normal tree
+ids : (a : Apdu) → FitsApdu profile_two a → HasIdentifiers (normal_tree (choice_of a) IllApdu untagged)
+ids a fit = normal_valid profile_two (choice_of a) IllApdu untagged tt fit.1
+
+pub expired_by_indefinite : SpellsApdu profile_two expired expired_indefinite
+expired_by_indefinite = record {
+  encodes = record {
+    tree = normal_tree (choice_of expired) IllApdu untagged;
+    means = normal_apdu_means profile_two expired expired_fits;
+    spells = indefinite_spells (normal_tree (choice_of expired) IllApdu untagged) (ids expired expired_fits) (lit≤ tt);
+    shallow = lit≤ tt;
+    short = lit≤ tt;
+  };
+  normal_short = lit≤ tt;
+}
+
+abbrev tag : Class → ℕ → Tag
 tag class number = record { class = class; number = number }
 
-abbrev pub context : ℕ → Tag
-context = tag Class.Context
+-- the Expired without its inner SEQUENCE
+abbrev bare_tree : Tree
+bare_tree = constructed (tag Class.Application 20) (normal_trees expired_entries (rows_of Expired))
 
-abbrev pub version_tree : Tree
-version_tree = primitive (context 0) (2 ∷ [])
+bare_means : MeansApdu profile_two expired bare_tree
+bare_means = (lit≤ tt, (row_at IllApdu 19, (refl, refl, tt), (refl, inr (_, refl, normal_matches profile_two expired_entries (rows_of Expired) expired_rows))))
 
-abbrev pub transaction_tree : Tree
-transaction_tree = constructed (context 1) (
-    more (constructed (context 1) (more (primitive (tag Class.Universal 27) (0x47 ∷ [])) none))
-    (more (constructed (context 2) (more (primitive (tag Class.Universal 27) (0x51 ∷ [])) none)) none))
-
-abbrev pub date_octets : List ℕ
-date_octets = 0x32 ∷ 0x30 ∷ 0x32 ∷ 0x34 ∷ 0x30 ∷ 0x32 ∷ 0x32 ∷ 0x39 ∷ []
-
-abbrev pub date_tree : Tree
-date_tree = constructed (context 2) (more (constructed (context 0) (more (primitive (context 0) date_octets) none)) none)
-
-abbrev pub head_trees : Trees
-head_trees = more version_tree (more transaction_tree (more date_tree none))
-
-abbrev pub expired_tree : Tree
-expired_tree = constructed (tag Class.Application 20) (more (constructed (tag Class.Universal 16) head_trees) none)
-
-pub expired-tree : normal_tree (choice_of expired) IllApdu untagged ≡ expired_tree
-expired-tree = refl
-
--- encodings with definite and with indefinite lengths
-pub record Encoded (T : Tree) : Type 0 where
-  pub octets : List ℕ
-  pub spells : Spells T octets
-
-pub record EncodedAll (ts : Trees) : Type 0 where
-  pub octets : List ℕ
-  pub spells : SpellsAll ts octets
-
-abbrev pub nil : EncodedAll none
-nil = record { octets = []; spells = refl }
-
-abbrev pub cons : {T : Tree} {ts : Trees} → Encoded T → EncodedAll ts → EncodedAll (more T ts)
-cons a b = record { octets = a.octets ++ b.octets; spells = (a.octets, b.octets, a.spells, b.spells, refl) }
-
-abbrev prim : (t : Tag) (os : List ℕ) → HasIdentifier t false → length os ≤ 127 → Encoded (primitive t os)
-prim t os h le = record {
-  octets = identifier t false ++ ((length os ∷ []) ++ os);
-  spells = record { has_identifier = h; octets = length os ∷ []; spell_length = short le; joined = refl };
+pub expired_without_sequence : SpellsApdu profile_two expired expired_bare
+expired_without_sequence = record {
+  encodes = record {
+    tree = bare_tree;
+    means = bare_means;
+    spells = let h = ids expired expired_fits in encoding_spells bare_tree (h.0, h.1.0.1) (lit≤ tt);
+    shallow = lit≤ tt;
+    short = lit≤ tt;
+  };
+  normal_short = lit≤ tt;
 }
 
-abbrev indef : {t : Tag} {ts : Trees} → HasIdentifier t true → EncodedAll ts → Encoded (constructed t ts)
-indef {t} {ts} h a = record { octets = identifier t true ++ (128 ∷ a.octets ++ 0 ∷ 0 ∷ []); spells = (a.octets, a.spells, inr (record { has_identifier = h; joined = refl })) }
+-- the trees of the answer to retry, whose result stands without its inner SEQUENCE
+abbrev result_tree : Tree
+result_tree = constructed (tag Class.Context 32) (more (constructed (tag Class.Context 2) none) none)
 
-abbrev def : {t : Tag} {ts : Trees} → HasIdentifier t true → (a : EncodedAll ts) → length a.octets ≤ 127 → Encoded (constructed t ts)
-def {t} {ts} h a le = record {
-  octets = identifier t true ++ ((length a.octets ∷ []) ++ a.octets);
-  spells = (a.octets, a.spells, inl (record { has_identifier = h; octets = length a.octets ∷ []; spell_length = short le; joined = refl }));
-}
+abbrev head_trees : Trees → Trees
+head_trees ts =
+    more (normal_tree (number 2) Integer (implicit (tag Class.Context 0)))
+    (more (normal_tree transaction TransactionId (implicit (tag Class.Context 1)))
+    (more (normal_tree service_date ServiceDateTime (implicit (tag Class.Context 2))) ts))
 
-pub ctx : (n : ℕ) (f : Bool) → n ≤ 268_435_455 → HasIdentifier (context n) f
-ctx n f le = record { number = le; not_end = λ e _. cc }
+abbrev retry_trees : Trees
+retry_trees = head_trees (more (primitive (tag Class.Context 31) (2 ∷ [])) (more result_tree none))
 
-abbrev pub version_encoded : Encoded version_tree
-version_encoded = prim (context 0) (2 ∷ []) (ctx 0 false (lit≤ tt)) (lit≤ tt)
+abbrev retry_tree : Tree
+retry_tree = constructed (tag Class.Application 4) (more (constructed sequence_tag retry_trees) none)
 
-pub general_id : HasIdentifier (tag Class.Universal 27) false
-general_id = record { number = lit≤ tt; not_end = λ _ e. cc }
+result_means : Means profile_two retry_result Results (explicit (tag Class.Context 32)) result_tree
+result_means = (row_at Results 1, (refl, refl, tt), (_, refl, (refl, inr (none, refl, (tt, (tt, (tt, refl)))))))
 
-pub sequence_id : HasIdentifier (tag Class.Universal 16) true
-sequence_id = record { number = lit≤ tt; not_end = λ _ _. refl }
-
-abbrev indefinite_transaction : Encoded transaction_tree
-indefinite_transaction = indef (ctx 1 true (lit≤ tt)) (
-    cons (indef (ctx 1 true (lit≤ tt)) (cons (prim (tag Class.Universal 27) (0x47 ∷ []) general_id (lit≤ tt)) nil))
-    (cons (indef (ctx 2 true (lit≤ tt)) (cons (prim (tag Class.Universal 27) (0x51 ∷ []) general_id (lit≤ tt)) nil)) nil))
-
-abbrev indefinite_date : Encoded date_tree
-indefinite_date = indef (ctx 2 true (lit≤ tt)) (cons (indef (ctx 0 true (lit≤ tt)) (cons (prim (context 0) date_octets (ctx 0 false (lit≤ tt)) (lit≤ tt)) nil)) nil)
-
-pub apdu_id : (n : ℕ) → n ≤ 268_435_455 → HasIdentifier (tag Class.Application n) true
-apdu_id n le = record { number = le; not_end = λ e _. cc }
-
-abbrev expired_indefinite : Encoded expired_tree
-expired_indefinite = indef (apdu_id 20 (lit≤ tt)) (cons (indef sequence_id (cons version_encoded (cons indefinite_transaction (cons indefinite_date nil)))) nil)
-
-abbrev definite_transaction : Encoded transaction_tree
-definite_transaction = def (ctx 1 true (lit≤ tt)) (
-    cons (def (ctx 1 true (lit≤ tt)) (cons (prim (tag Class.Universal 27) (0x47 ∷ []) general_id (lit≤ tt)) nil) (lit≤ tt))
-    (cons (def (ctx 2 true (lit≤ tt)) (cons (prim (tag Class.Universal 27) (0x51 ∷ []) general_id (lit≤ tt)) nil) (lit≤ tt)) nil)) (lit≤ tt)
-
-abbrev definite_date : Encoded date_tree
-definite_date = def (ctx 2 true (lit≤ tt)) (cons (def (ctx 0 true (lit≤ tt)) (cons (prim (context 0) date_octets (ctx 0 false (lit≤ tt)) (lit≤ tt)) nil) (lit≤ tt)) nil) (lit≤ tt)
-
-abbrev pub definite_head : EncodedAll head_trees
-definite_head = cons version_encoded (cons definite_transaction (cons definite_date nil))
-
-abbrev expired_definite : Encoded expired_tree
-expired_definite = def (apdu_id 20 (lit≤ tt)) (cons (def sequence_id definite_head (lit≤ tt)) nil) (lit≤ tt)
-
-abbrev pub indefinite_octets : List ℕ
-indefinite_octets =
-    0x74 ∷ 0x80 ∷ 0x30 ∷ 0x80 ∷ 0x80 ∷ 0x01 ∷ 0x02 ∷ 0xA1 ∷ 0x80 ∷ 0xA1 ∷ 0x80 ∷ 0x1B ∷ 0x01 ∷ 0x47 ∷ 0x00 ∷ 0x00 ∷ 0xA2 ∷ 0x80 ∷ 0x1B ∷ 0x01 ∷ 0x51 ∷ 0x00 ∷ 0x00 ∷ 0x00 ∷ 0x00
-    ∷ 0xA2 ∷ 0x80 ∷ 0xA0 ∷ 0x80 ∷ 0x80 ∷ 0x08 ∷ 0x32 ∷ 0x30 ∷ 0x32 ∷ 0x34 ∷ 0x30 ∷ 0x32 ∷ 0x32 ∷ 0x39 ∷ 0x00 ∷ 0x00 ∷ 0x00 ∷ 0x00 ∷ 0x00 ∷ 0x00 ∷ 0x00 ∷ 0x00 ∷ []
-
-pub indefinite-is : expired_indefinite.octets ≡ indefinite_octets
-indefinite-is = refl
-
-pub definite-is : expired_definite.octets ≡ expired_octets
-definite-is = refl
-
--- the head's trees mean its values
-pub version_means : Means profile_two (simple (whole (pos 2))) Integer (implicit (context 0)) version_tree
-version_means = (integer, refl, (refl, tt, (refl, refl, refl)))
-
-string_means : (octet : ℕ) (n : ℕ) → IsTrue (are_octets (octet ∷ [])) → IsTrue (list_all is_no_shift (octet ∷ [])) →
-    Means profile_two (simple (general (octet ∷ []))) IllString (explicit (context n)) (constructed (context n) (more (primitive (tag Class.Universal 27) (octet ∷ [])) none))
-string_means octet n s h = (general_string, refl, (primitive (tag Class.Universal 27) (octet ∷ []), refl, (refl, tt, (s, rw h refl, refl))))
-
-pub transaction_means : Means profile_two transaction TransactionId (implicit (context 1)) transaction_tree
-transaction_means = (refl, (_, refl, (tt, (tt, inl (_, _, refl, string_means 0x47 1 refl refl, (tt, inl (_, _, refl, string_means 0x51 2 refl refl, (tt, refl))))))))
-
-pub date_means : Means profile_two service_date ServiceDateTime (implicit (context 2)) date_tree
-date_means = (
-  refl,
-  (
+retry_matches : Matches profile_two (head_entries (present (number 2) (present retry_result (absents 7 no_entries)))) (rows_of IllAnswer) retry_trees
+retry_matches = (
+  tt,
+  inl (
+    _,
     _,
     refl,
+    normal_means profile_two (number 2) Integer (implicit (tag Class.Context 0)) version_fits,
     (
       tt,
       inl (
         _,
         _,
         refl,
-        (refl, (_, refl, (tt, inl (_, _, refl, (iso_date, refl, (refl, tt, (refl, refl, refl))), (tt, refl))))),
-        (tt, refl),
-      ),
-    ),
-  ),
-)
-
-abbrev pub row_at : NodeId → ℕ → Row
-row_at node n = unwrap_or (slice_get (rows_of node) n) (record { tag = None; mode = Mode.Untagged; presence = Presence.May; node = node })
-
-pub expired_means : MeansApdu profile_two expired expired_tree
-expired_means = (
-  lit≤ tt,
-  (
-    row_at IllApdu 19,
-    (refl, refl, tt),
-    (
-      refl,
-      inl (
-        _,
-        refl,
+        normal_means profile_two transaction TransactionId (implicit (tag Class.Context 1)) transaction_fits,
         (
-          _,
-          refl,
-          (
-            tt,
-            inl (
-              _,
-              _,
-              refl,
-              version_means,
+          tt,
+          inl (
+            _,
+            _,
+            refl,
+            normal_means profile_two service_date ServiceDateTime (implicit (tag Class.Context 2)) date_fits,
+            (
+              tt,
               (
                 tt,
-                inl (
-                  _,
-                  _,
-                  refl,
-                  transaction_means,
-                  (tt, inl (_, _, refl, date_means, (tt, (tt, (tt, refl))))),
+                (
+                  tt,
+                  inl (
+                    _,
+                    _,
+                    refl,
+                    (enumerated, refl, (refl, tt, (refl, refl, refl))),
+                    (tt, inl (_, _, refl, result_means, (tt, (tt, (tt, (tt, (tt, (tt, (tt, refl))))))))),
+                  ),
                 ),
               ),
             ),
@@ -231,14 +275,18 @@ expired_means = (
   ),
 )
 
-expired_within : (b : List ℕ) → Spells expired_tree b → length b ≤ 1_048_576 → SpellsApdu profile_two expired b
-expired_within b h le = record {
-  encodes = record { tree = expired_tree; means = expired_means; spells = h; shallow = lit≤ tt; short = le };
+pub retry_without_sequence : SpellsApdu profile_two retry retry_bare
+retry_without_sequence = record {
+  encodes = record {
+    tree = retry_tree;
+    means = (lit≤ tt, (row_at IllApdu 3, (refl, refl, tt), (refl, inl (_, refl, (retry_trees, refl, retry_matches)))));
+    spells =
+        let h = ids retry retry_fits in
+        let k = h.1.0.1 in
+        let r = k.1.1.1.1.0 in
+        encoding_spells retry_tree (h.0, ((h.1.0.0, (k.0, (k.1.0, (k.1.1.0, (k.1.1.1.0, ((r.0, ((r.1.0.0, tt), tt)), tt)))))), tt)) (lit≤ tt);
+    shallow = lit≤ tt;
+    short = lit≤ tt;
+  };
   normal_short = lit≤ tt;
 }
-
-pub expired-spells_normal : SpellsApdu profile_two expired expired_octets
-expired-spells_normal = expired_within expired_octets expired_definite.spells (lit≤ tt)
-
-pub expired-spells_indefinite : SpellsApdu profile_two expired indefinite_octets
-expired-spells_indefinite = expired_within indefinite_octets expired_indefinite.spells (lit≤ tt)

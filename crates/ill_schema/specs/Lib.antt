@@ -15,3 +15,4 @@ pub mod Elements
 pub mod Sizes
 pub mod Message
 pub mod Unfit
+pub mod Worked

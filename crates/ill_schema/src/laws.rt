@@ -9,6 +9,7 @@ ghost use Rattle.ill_schema.specs.Meaning.{Means};
 ghost use Rattle.ill_schema.specs.Fits.{Fits, FitsApdu};
 ghost use Rattle.ill_schema.specs.Normal.{normal_tree};
 ghost use Rattle.ill_schema.specs.Apdu.{Apdu, choice_of, Encodes, SpellsApdu, MeansApdu, normal_form};
+ghost use Rattle.ill_schema.specs.Worked.{expired, request, estimate, unfilled, retry, expired_octets, expired_indefinite, expired_bare, request_octets, estimate_octets, unfilled_octets, retry_octets, retry_bare, IsNormalForm};
 
 use crate::node::NodeId;
 
@@ -64,4 +65,18 @@ pub fn normal_form_is_no_longer()
 pub fn profile_two_extends_profile_one()
     ensures small { (a : Apdu) (octets : List ℕ) → Encodes (profile_one 65_535) a octets → SpellsApdu profile_two a octets }
     ensures large { (a : Apdu) (octets : List ℕ) → SpellsApdu (profile_one 1_048_576) a octets → SpellsApdu profile_two a octets }
+{}
+
+/// Worked messages. An Expired, an ILL-Request and three ILL-Answers are spelled by their normal forms, one of them of the greatest
+/// depth; the Expired also by indefinite lengths and without its inner SEQUENCE, and an answer with its result without that.
+pub fn worked_messages()
+    ensures expired { IsNormalForm expired expired_octets × (length expired_octets ≡ 33) }
+    ensures expired_indefinite { SpellsApdu profile_two expired expired_indefinite }
+    ensures expired_bare { SpellsApdu profile_two expired expired_bare }
+    ensures request { IsNormalForm request request_octets }
+    ensures estimate { IsNormalForm estimate estimate_octets }
+    ensures unfilled { IsNormalForm unfilled unfilled_octets }
+    ensures depth { depth (normal_tree (choice_of unfilled) NodeId.IllApdu untagged) ≡ 11 }
+    ensures retry { IsNormalForm retry retry_octets × (length retry_octets ≡ 44) }
+    ensures retry_bare { SpellsApdu profile_two retry retry_bare }
 {}

@@ -22,7 +22,7 @@ pub use equality::equal;
 pub use laws::{
     normal_form_is_a_spelling, normal_form_is_no_longer, normal_form_is_one_to_one,
     normal_tree_means_the_value, one_meaning, one_value, profile_two_extends_profile_one,
-    tables_are_well_formed, what_is_meant_fits,
+    tables_are_well_formed, what_is_meant_fits, worked_messages,
 };
 pub use lookup::{kind, row, rows};
 pub use message::Message;

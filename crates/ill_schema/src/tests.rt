@@ -5,7 +5,7 @@ use crate::{
     apdu_node, equal, fits, is_carried, is_default, kind, may_lack, normal_form_is_a_spelling,
     normal_form_is_no_longer, normal_form_is_one_to_one, normal_size, normal_tree_means_the_value,
     one_meaning, one_value, part_name, profile_two_extends_profile_one, replacement, row, rows,
-    rows_of, tables_are_well_formed, what_is_meant_fits, wrapper,
+    rows_of, tables_are_well_formed, what_is_meant_fits, worked_messages, wrapper,
 };
 use ber_core::Class;
 use ber_leaf::{DateText, GeneralText, IllString, Leaf, VisibleText};
@@ -315,4 +315,5 @@ fn laws() {
     normal_form_is_one_to_one();
     normal_form_is_no_longer();
     profile_two_extends_profile_one();
+    worked_messages();
 }
