@@ -11,7 +11,7 @@ use Rattle.ill_normal.specs.declared.failure.NormalFailure.{NormalFailure}
 use Rattle.ill_normal.specs.Failures.{of_write}
 use Rattle.ill_normal.specs.Normalised.{Fails}
 
-pub write_fails : (held held' : Option (List ℕ)) (source_broken sink_broken : Bool) (a : Apdu) (r : Result ℕ WriteFailure) (w : WriteFailure) → FitsApdu profile_two a → r ≡ Err w
+pub write_fails : (held held' : Option (List ℕ)) (source_broken sink_broken : Bool) (a : Apdu) (r : Result ℕ WriteFailure) (w : WriteFailure) → ∥ FitsApdu profile_two a ∥₁ → r ≡ Err w
     → (IsErrOf r WriteFailure.OutOfMemory → Keeps held held')
     → IfErr r (λ e. IfPartWritten e (λ n. Appends held held' (take n (normal_form a)) × (n < length (normal_form a)) × IsTrue sink_broken))
     → Fails held held' source_broken sink_broken (of_write w)
