@@ -25,6 +25,7 @@ fn command<'a>(alloc: Global) -> Result<Command<'a>, AllocError> {
         .arg(input)?
         .arg(output)?;
     Command::new(alloc, "illcanon")
+        .bin_name("illcanon")?
         .version("0.1.0")
         .about(
             "The canonical form of ISO interlibrary loan messages (ILL APDUs of ISO 10161-1 in BER)",
