@@ -4,17 +4,19 @@ use crate::{
 };
 use std::io::{self, Error, ErrorKind, Read, Write};
 
-/// What the octets come to: the last answer, as a text.
+/// The header that the octets are, where they are one.
 fn pushed(octets: &[u8]) -> Result<Option<Header>, HeaderFault> {
     let mut state = HeaderState::new();
-    let mut last = None;
-    for octet in octets {
-        if matches!(&last, Some(_)) {
-            return Ok(None);
+    for (i, octet) in octets.iter().enumerate() {
+        if let Some(header) = state.push(*octet)? {
+            return Ok(if i as u64 + 1 == octets.len() as u64 {
+                Some(header)
+            } else {
+                None
+            });
         }
-        last = state.push(*octet)?;
     }
-    Ok(last)
+    Ok(None)
 }
 
 /// The identifier that the octets are, where they are one.
