@@ -15,14 +15,11 @@ tag_at t = record { class = t.0; number = t.1 }
 abbrev pub wrapper_at : Mode → Option (Class × ℕ) → Option (Class × ℕ)
 wrapper_at Mode.Explicit tag = tag
 wrapper_at Mode.ExplicitOrBare tag = tag
-wrapper_at Mode.Implicit tag = None
-wrapper_at Mode.Untagged tag = None
+wrapper_at _ tag = None
 
 abbrev pub replacement_at : Mode → Option (Class × ℕ) → Option (Class × ℕ)
 replacement_at Mode.Implicit tag = tag
-replacement_at Mode.Explicit tag = None
-replacement_at Mode.ExplicitOrBare tag = None
-replacement_at Mode.Untagged tag = None
+replacement_at _ tag = None
 
 -- the tag of a row's explicit wrapper
 abbrev pub wrapper : Row → Option (Class × ℕ)

@@ -26,50 +26,47 @@ abbrev pub names_of : NodeId → List ℕ × List (List ℕ)
 names_of Symbol = named (codes "Symbol") (codes "person-symbol institution-symbol")
 names_of Name = named (codes "Name") (codes "name-of-person name-of-institution")
 names_of SystemId = named (codes "System-Id") (codes "person-or-institution-symbol name-of-person-or-institution")
-names_of TransactionId = named (codes "Transaction-Id") (codes "initial-requester-id transaction-group-qualifier transaction-qualifier sub-transaction-qualifier")
+names_of TransactionId = named (codes "Transaction-Id") (codes "initial-requester-id transaction-group-qualifier transaction-qualifier "
+    ++ codes "sub-transaction-qualifier")
 names_of DateTime = named (codes "Date-Time") (codes "date time")
 names_of ServiceDateTime = named (codes "Service-Date-Time") (codes "date-time-of-this-service date-time-of-original-service")
-names_of PostalAddress = named (codes "Postal-Address")
-    (codes "name-of-person-or-institution extended-postal-delivery-address street-and-number post-office-box city region "
-    ++ codes "country postal-code")
+names_of PostalAddress = named (codes "Postal-Address") (codes "name-of-person-or-institution extended-postal-delivery-address street-and-number "
+    ++ codes "post-office-box city region country postal-code")
 names_of SystemAddress = named (codes "System-Address") (codes "telecom-service-identifier telecom-service-address")
 names_of DeliveryAddress = named (codes "Delivery-Address") (codes "postal-address electronic-address")
 names_of ClientId = named (codes "Client-Id") (codes "client-name client-status client-identifier")
 names_of DeliveryService = named (codes "Delivery-Service") (codes "physical-delivery electronic-delivery")
-names_of RequesterOptionalMessages = named (codes "Requester-Optional-Messages") (codes "can-send-received can-send-returned requester-shipped requester-checked-in")
-names_of ResponderOptionalMessages = named (codes "Responder-Optional-Messages") (codes "can-send-shipped can-send-checked-in responder-received responder-returned")
+names_of RequesterOptionalMessages = named (codes "Requester-Optional-Messages") (codes "can-send-received can-send-returned requester-shipped "
+    ++ codes "requester-checked-in")
+names_of ResponderOptionalMessages = named (codes "Responder-Optional-Messages") (codes "can-send-shipped can-send-checked-in responder-received "
+    ++ codes "responder-returned")
 names_of SearchType = named (codes "Search-Type") (codes "level-of-service need-before-date expiry-flag expiry-date")
 names_of SupplyMediumInfo = named (codes "Supply-Medium-Info") (codes "supply-medium-type medium-characteristics")
-names_of ItemId = named (codes "Item-Id")
-    (codes "item-type held-medium-type call-number author title sub-title sponsoring-body place-of-publication publisher "
-    ++ codes "series-title-number volume-issue edition publication-date publication-date-of-component author-of-article "
-    ++ codes "title-of-article pagination national-bibliography-no isbn issn system-no additional-no-letters "
+names_of ItemId = named (codes "Item-Id") (codes "item-type held-medium-type call-number author title sub-title sponsoring-body "
+    ++ codes "place-of-publication publisher series-title-number volume-issue edition publication-date publication-date-of-component "
+    ++ codes "author-of-article title-of-article pagination national-bibliography-no isbn issn system-no additional-no-letters "
     ++ codes "verification-reference-source")
 names_of Amount = named (codes "Amount") (codes "currency-code monetary-value")
 names_of CostInfo = named (codes "Cost-Info") (codes "account-number maximum-cost reciprocal-agreement will-pay-fee payment-provided")
 names_of SendTo = named (codes "Send-To") (codes "system-id account-number system-address")
 names_of SendToList = named (codes "Send-To-List") (codes "item")
 names_of AlreadyTriedList = named (codes "Already-Tried-List") (codes "item")
-names_of ThirdPartyInfo = named (codes "Third-Party-Info")
-    (codes "permission-to-forward permission-to-chain permission-to-partition permission-to-change-send-to-list "
-    ++ codes "initial-requester-address preference send-to-list already-tried-list")
+names_of ThirdPartyInfo = named (codes "Third-Party-Info") (codes "permission-to-forward permission-to-chain permission-to-partition "
+    ++ codes "permission-to-change-send-to-list initial-requester-address preference send-to-list already-tried-list")
 names_of UnitsPerMedium = named (codes "Units-Per-Medium") (codes "medium no-of-units")
 names_of UnitsPerMediumList = named (codes "") (codes "item")
 names_of DateDue = named (codes "Date-Due") (codes "date-due-field renewable")
 names_of ShippedVia = named (codes "Shipped-Via") (codes "physical-delivery electronic-delivery")
-names_of SupplyDetails = named (codes "Supply-Details")
-    (codes "date-shipped date-due chargeable-units cost shipped-conditions shipped-via insured-for "
-    ++ codes "return-insurance-require no-of-units-per-medium")
+names_of SupplyDetails = named (codes "Supply-Details") (codes "date-shipped date-due chargeable-units cost shipped-conditions shipped-via "
+    ++ codes "insured-for return-insurance-require no-of-units-per-medium")
 names_of IllServiceTypes = named (codes "") (codes "item")
 names_of SupplyMediumInfos = named (codes "") (codes "item")
-names_of IllRequest = headed (codes "ILL-Request")
-    (codes "transaction-type delivery-address delivery-service billing-address ill-service-type responder-specific-service "
-    ++ codes "requester-optional-messages search-type supply-medium-info-type place-on-hold client-id item-id "
-    ++ codes "supplemental-item-description cost-info-type copyright-compliance third-party-info-type retry-flag "
-    ++ codes "forward-flag requester-note forward-note ill-request-extensions")
-names_of Shipped = headed (codes "Shipped")
-    (codes "responder-address intermediary-id supplier-id client-id transaction-type supplemental-item-description "
-    ++ codes "shipped-service-type responder-optional-messages supply-details return-to-address responder-note "
+names_of IllRequest = headed (codes "ILL-Request") (codes "transaction-type delivery-address delivery-service billing-address ill-service-type "
+    ++ codes "responder-specific-service requester-optional-messages search-type supply-medium-info-type place-on-hold client-id item-id "
+    ++ codes "supplemental-item-description cost-info-type copyright-compliance third-party-info-type retry-flag forward-flag requester-note "
+    ++ codes "forward-note ill-request-extensions")
+names_of Shipped = headed (codes "Shipped") (codes "responder-address intermediary-id supplier-id client-id transaction-type "
+    ++ codes "supplemental-item-description shipped-service-type responder-optional-messages supply-details return-to-address responder-note "
     ++ codes "shipped-extensions")
 names_of LocationInfo = named (codes "Location-Info") (codes "location-id location-address location-note")
 names_of Locs = named (codes "Locs") (codes "item")
@@ -77,23 +74,22 @@ names_of Conditional = named (codes "Conditional") (codes "conditions date-for-r
 names_of Retry = named (codes "Retry") (codes "reason-not-available retry-date location-list")
 names_of Unfilled = named (codes "Unfilled") (codes "reason-unfilled location-list")
 names_of Locations = named (codes "Locations") (codes "reason-locs-provided location-list")
-names_of WillSupply = named (codes "Will-Supply") (codes "reason-will-supply supply-date return-to-address location-list electronic-delivery-service")
+names_of WillSupply = named (codes "Will-Supply") (codes "reason-will-supply supply-date return-to-address location-list "
+    ++ codes "electronic-delivery-service")
 names_of HoldPlaced = named (codes "Hold-Placed") (codes "estimated-date-available hold-placed-medium-type location-list")
 names_of Estimate = named (codes "Estimate") (codes "cost-estimate location-list")
-names_of Results = named (codes "Results")
-    (codes "conditional-results retry-results unfilled-results locations-results will-supply-results hold-placed-results "
-    ++ codes "estimate-results")
-names_of IllAnswer = headed (codes "ILL-Answer")
-    (codes "transaction-results results-explanation responder-specific-results supplemental-item-description send-to-list "
-    ++ codes "already-tried-list responder-optional-messages responder-note ill-answer-extensions")
+names_of Results = named (codes "Results") (codes "conditional-results retry-results unfilled-results locations-results will-supply-results "
+    ++ codes "hold-placed-results estimate-results")
+names_of IllAnswer = headed (codes "ILL-Answer") (codes "transaction-results results-explanation responder-specific-results "
+    ++ codes "supplemental-item-description send-to-list already-tried-list responder-optional-messages responder-note ill-answer-extensions")
 names_of ConditionalReply = headed (codes "Conditional-Reply") (codes "answer requester-note conditional-reply-extensions")
 names_of Cancel = headed (codes "Cancel") (codes "requester-note cancel-extensions")
 names_of CancelReply = headed (codes "Cancel-Reply") (codes "answer responder-note cancel-reply-extensions")
-names_of Received = headed (codes "Received")
-    (codes "supplier-id supplemental-item-description date-received shipped-service-type requester-note "
+names_of Received = headed (codes "Received") (codes "supplier-id supplemental-item-description date-received shipped-service-type requester-note "
     ++ codes "received-extensions")
 names_of Recall = headed (codes "Recall") (codes "responder-note recall-extensions")
-names_of Returned = headed (codes "Returned") (codes "supplemental-item-description date-returned returned-via insured-for requester-note returned-extensions")
+names_of Returned = headed (codes "Returned") (codes "supplemental-item-description date-returned returned-via insured-for requester-note "
+    ++ codes "returned-extensions")
 names_of CheckedIn = headed (codes "Checked-In") (codes "date-checked-in responder-note checked-in-extensions")
 names_of Overdue = headed (codes "Overdue") (codes "date-due responder-note overdue-extensions")
 names_of Renew = headed (codes "Renew") (codes "desired-due-date requester-note renew-extensions")
@@ -103,10 +99,8 @@ names_of Damaged = headed (codes "Damaged") (codes "damaged-details note damaged
 names_of MessageApdu = headed (codes "Message") (codes "note message-extensions")
 names_of StatusQuery = headed (codes "Status-Query") (codes "note status-query-extensions")
 names_of Expired = headed (codes "Expired") (codes "expired-extensions")
-names_of IllApdu = named (codes "ILL-APDU")
-    (codes "ILL-Request Forward-Notification Shipped ILL-Answer Conditional-Reply Cancel Cancel-Reply Received Recall "
-    ++ codes "Returned Checked-In Overdue Renew Renew-Answer Lost Damaged Message Status-Query Status-Or-Error-Report "
-    ++ codes "Expired")
+names_of IllApdu = named (codes "ILL-APDU") (codes "ILL-Request Forward-Notification Shipped ILL-Answer Conditional-Reply Cancel Cancel-Reply "
+    ++ codes "Received Recall Returned Checked-In Overdue Renew Renew-Answer Lost Damaged Message Status-Query Status-Or-Error-Report Expired")
 names_of _ = ([], [])
 
 -- the names of a part: its node's and its row's

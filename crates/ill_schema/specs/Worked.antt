@@ -9,7 +9,7 @@ abbrev digit : ℕ → ℕ
 digit letter = if nat_lt letter 0x60 then letter - 0x30 else letter - 0x57
 
 -- the octets that pairs of hexadecimal digits write, in small letters
-abbrev hex : List ℕ → List ℕ
+abbrev pub hex : List ℕ → List ℕ
 hex (a ∷ b ∷ text) = (16 * digit a + digit b) ∷ hex text
 hex _ = []
 
@@ -46,7 +46,7 @@ expired = apdu 20 (absent no_entries)
 abbrev pub optional_messages : Content
 optional_messages = sequence (present no (present no (present (number 1) (present (number 1) no_entries))))
 
--- a request with an empty Item-Id, which has each default
+-- a request to lend, with an empty Item-Id and every default
 abbrev pub request : Apdu
 request = apdu 1 (
     present (number 1) (absents 3 (present (list (item (number 1) no_items)) (absent (present optional_messages (absents 2 (
@@ -57,55 +57,20 @@ abbrev pub answer : ℕ → Content → Apdu
 answer n result = apdu 4 (present (number n) (present result (absents 7 no_entries)))
 
 -- an estimate of 12.50
-abbrev pub estimate_result : Content
-estimate_result = alternative 6 (sequence (present (letters (codes "12.50")) (absent no_entries)))
-
-abbrev pub estimate : Apdu
-estimate = answer 7 estimate_result
+abbrev pub estimate : Content
+estimate = alternative 6 (sequence (present (letters (codes "12.50")) (absent no_entries)))
 
 -- the institution "L"
-abbrev location : Content
+abbrev pub location : Content
 location = sequence (present (sequence (present (alternative 1 (letters (codes "L"))) (absent no_entries))) (absents 2 no_entries))
 
 -- unfilled for reason 1, with a location
-abbrev pub unfilled_result : Content
-unfilled_result = alternative 2 (sequence (present (number 1) (present (list (item location no_items)) no_entries)))
-
-abbrev pub unfilled : Apdu
-unfilled = answer 3 unfilled_result
+abbrev pub unfilled : Content
+unfilled = alternative 2 (sequence (present (number 1) (present (list (item location no_items)) no_entries)))
 
 -- to retry, and nothing more
-abbrev pub retry_result : Content
-retry_result = alternative 1 (sequence (absents 3 no_entries))
-
-abbrev pub retry : Apdu
-retry = answer 2 retry_result
-
-abbrev pub expired_octets : List ℕ
-expired_octets = hex (codes "741f301d800102a10aa1031b0147a2031b0151a20ca00a80083230323430323239")
-
-abbrev pub expired_indefinite : List ℕ
-expired_indefinite = hex (codes "74803080800102a180a1801b01470000a2801b015100000000a280a080800832303234303232390000000000000000")
-
--- without its inner SEQUENCE
-abbrev pub expired_bare : List ℕ
-expired_bare = hex (codes "741d800102a10aa1031b0147a2031b0151a20ca00a80083230323430323239")
-
-abbrev pub request_octets : List ℕ
-request_octets = hex (codes "61343032800102a10aa1031b0147a2031b0151a20ca00a80083230323430323239a9030a0101ab0c800100810100820101830101b000")
-
-abbrev pub estimate_octets : List ℕ
-estimate_octets = hex (codes "64333031800102a10aa1031b0147a2031b0151a20ca00a800832303234303232399f1f0107bf200da70b3009a0071b0531322e3530")
-
-abbrev pub unfilled_octets : List ℕ
-unfilled_octets = hex (codes "643a3038800102a10aa1031b0147a2031b0151a20ca00a800832303234303232399f1f0103bf2014a3123010800101a10b3009a007a005a1031b014c")
-
-abbrev pub retry_octets : List ℕ
-retry_octets = hex (codes "642a3028800102a10aa1031b0147a2031b0151a20ca00a800832303234303232399f1f0102bf2004a2023000")
-
--- where the result stands without its inner SEQUENCE
-abbrev pub retry_bare : List ℕ
-retry_bare = hex (codes "64283026800102a10aa1031b0147a2031b0151a20ca00a800832303234303232399f1f0102bf2002a200")
+abbrev pub retry : Content
+retry = alternative 1 (sequence (absents 3 no_entries))
 
 -- the octets spell the APDU, and are its normal form
 abbrev pub IsNormalForm : Apdu → List ℕ → Type 0

@@ -1,5 +1,5 @@
 //! What holds of the definitions alone. Each law is the contract of a function that does nothing.
-ghost use Rattle.std.specs.Prelude.{◌≡◌, ℕ, ◌<◌, ◌≤◌, ◌^◌, List, [], ◌++◌, length, IsTrue};
+ghost use Rattle.std.specs.Prelude.{◌≡◌, ℕ, ◌<◌, ◌≤◌, ◌^◌, List, [], ◌++◌, length, codes, IsTrue};
 ghost use Rattle.ber_core.specs.Tree.{Tree, Spells, depth};
 ghost use Rattle.ber_leaf.specs.Profile.{Profile, profile_one, profile_two};
 ghost use Rattle.ill_schema.specs.Content.{Content};
@@ -9,7 +9,7 @@ ghost use Rattle.ill_schema.specs.Meaning.{Means};
 ghost use Rattle.ill_schema.specs.Fits.{Fits, FitsApdu};
 ghost use Rattle.ill_schema.specs.Normal.{normal_tree};
 ghost use Rattle.ill_schema.specs.Apdu.{Apdu, choice_of, Encodes, SpellsApdu, MeansApdu, normal_form};
-ghost use Rattle.ill_schema.specs.Worked.{expired, request, estimate, unfilled, retry, expired_octets, expired_indefinite, expired_bare, request_octets, estimate_octets, unfilled_octets, retry_octets, retry_bare, IsNormalForm};
+ghost use Rattle.ill_schema.specs.Worked.{hex, expired, request, answer, estimate, unfilled, retry, IsNormalForm};
 
 use crate::node::NodeId;
 
@@ -70,13 +70,22 @@ pub fn profile_two_extends_profile_one()
 /// Worked messages. An Expired, an ILL-Request and three ILL-Answers are spelled by their normal forms, one of them of the greatest
 /// depth; the Expired also by indefinite lengths and without its inner SEQUENCE, and an answer with its result without that.
 pub fn worked_messages()
-    ensures expired { IsNormalForm expired expired_octets × (length expired_octets ≡ 33) }
-    ensures expired_indefinite { SpellsApdu profile_two expired expired_indefinite }
-    ensures expired_bare { SpellsApdu profile_two expired expired_bare }
-    ensures request { IsNormalForm request request_octets }
-    ensures estimate { IsNormalForm estimate estimate_octets }
-    ensures unfilled { IsNormalForm unfilled unfilled_octets }
-    ensures depth { depth (normal_tree (choice_of unfilled) NodeId.IllApdu untagged) ≡ 11 }
-    ensures retry { IsNormalForm retry retry_octets × (length retry_octets ≡ 44) }
-    ensures retry_bare { SpellsApdu profile_two retry retry_bare }
+    ensures expired { IsNormalForm expired
+        (hex (codes "741f301d800102a10aa1031b0147a2031b0151a20ca00a80083230323430323239")) }
+    ensures size { length (normal_form expired) ≡ 33 }
+    ensures indefinite { SpellsApdu profile_two expired
+        (hex (codes "74803080800102a180a1801b01470000a2801b015100000000a280a080800832303234303232390000000000000000")) }
+    ensures bare { SpellsApdu profile_two expired
+        (hex (codes "741d800102a10aa1031b0147a2031b0151a20ca00a80083230323430323239")) }
+    ensures request { IsNormalForm request
+        (hex (codes "61343032800102a10aa1031b0147a2031b0151a20ca00a80083230323430323239a9030a0101ab0c800100810100820101830101b000")) }
+    ensures estimate { IsNormalForm (answer 7 estimate)
+        (hex (codes "64333031800102a10aa1031b0147a2031b0151a20ca00a800832303234303232399f1f0107bf200da70b3009a0071b0531322e3530")) }
+    ensures unfilled { IsNormalForm (answer 3 unfilled)
+        (hex (codes "643a3038800102a10aa1031b0147a2031b0151a20ca00a800832303234303232399f1f0103bf2014a3123010800101a10b3009a007a005a1031b014c")) }
+    ensures depth { depth (normal_tree (choice_of (answer 3 unfilled)) NodeId.IllApdu untagged) ≡ 11 }
+    ensures bare_retry { SpellsApdu profile_two (answer 2 retry)
+        (hex (codes "64283026800102a10aa1031b0147a2031b0151a20ca00a800832303234303232399f1f0102bf2002a200")) }
+    ensures retry { IsNormalForm (answer 2 retry)
+        (hex (codes "642a3028800102a10aa1031b0147a2031b0151a20ca00a800832303234303232399f1f0102bf2004a2023000")) }
 {}
