@@ -89,7 +89,8 @@ fn write_message<W: Sink>(
     sink: &mut W,
 ) -> Result<(), Broken>
     requires { Ahead contents.now progress.old.next (content_sizes (tree_of message.now)) }
-    ensures puts { Puts result (normal_form (apdu_of message.now)) (W.contents sink.old) progress.old (W.contents sink.new) progress.new }
+    ensures puts { Puts result (normal_form (apdu_of message.now))
+        (W.contents sink.old) progress.old (W.contents sink.new) progress.new }
     ensures empty { IfOk result (λ _. progress.new.len ≡ 0) }
     ensures breaks { IsErr result → IsTrue (W.is_broken sink.new) }
     ensures stays { IsTrue (W.is_broken sink.old) → IsTrue (W.is_broken sink.new) }

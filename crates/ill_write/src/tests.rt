@@ -2,6 +2,7 @@
 ghost use Rattle.std.specs.Prelude.{None, false};
 
 mod build;
+mod growths;
 
 use crate::{Sizes, WriteFailure, normal_bytes, normal_size_counts_normal_forms, write_normal};
 use ber_core::{Broken, Room, Sink};
@@ -129,7 +130,12 @@ fn sizes_in_header_order(rt: HostRuntime) -> Result<(), Fail> {
 }
 
 /// What comes of an Expired in a sink that takes so many octets in a call, and breaks after so many.
-fn written(alloc: Global, message: &Message, per_call: usize, breaks_after: usize) -> Result<(Result<u32, WriteFailure>, Vec<u8>, bool), Fail> {
+fn written(
+    alloc: Global,
+    message: &Message,
+    per_call: usize,
+    breaks_after: usize,
+) -> Result<(Result<u32, WriteFailure>, Vec<u8>, bool), Fail> {
     let mut sink = Room::<64>::new(per_call.max(1), Some(breaks_after));
     let result = write_normal(alloc, message, &mut sink);
     let octets = Vec::from_slice(alloc, sink.octets())?;
@@ -144,8 +150,14 @@ fn sink_broken_after(rt: HostRuntime) -> Result<(), Fail> {
     for per_call in [1, 7, 64] {
         for n in 0..33usize {
             let (result, octets, broken) = written(rt.alloc(), &message, per_call, n)?;
-            assert!(rt; result == Err(WriteFailure::WriteFault(n as u32)), "{n} of {per_call}");
-            assert!(rt; octets.len() == n && normal.starts_with(&octets), "{n} of {per_call}");
+            assert!(rt;
+                result == Err(WriteFailure::WriteFault(n as u32)),
+                "{n} of {per_call}"
+            );
+            assert!(rt;
+                octets.len() == n && normal.starts_with(&octets),
+                "{n} of {per_call}"
+            );
             assert!(rt; broken, "{n} of {per_call}");
         }
         let (result, octets, broken) = written(rt.alloc(), &message, per_call, 33)?;
@@ -159,7 +171,10 @@ fn sink_broken_after(rt: HostRuntime) -> Result<(), Fail> {
 #[test]
 fn largest_message_one_octet_sink(rt: HostRuntime) -> Result<(), Fail> {
     let message = message(rt.alloc(), "17", "head letters:65489 - seq:7")?;
-    let expected = octets(rt.alloc(), "7182fffb3082fff7800102a10aa1031b0147a2031b0151a20ca00a80083230323430323239bf2e82ffd51b82ffd1..*65489")?;
+    let expected = octets(
+        rt.alloc(),
+        "7182fffb3082fff7800102a10aa1031b0147a2031b0151a20ca00a80083230323430323239bf2e82ffd51b82ffd1..*65489",
+    )?;
     let mut sink = Room::<65_535>::new(1, None);
     assert!(rt; write_normal(rt.alloc(), &message, &mut sink) == Ok(65_535));
     assert!(rt; sink.octets() == expected.as_slice());
@@ -170,7 +185,10 @@ fn largest_message_one_octet_sink(rt: HostRuntime) -> Result<(), Fail> {
 #[test]
 fn list_of_empty_system_ids(rt: HostRuntime) -> Result<(), Fail> {
     let message = message(rt.alloc(), "4", "head 2 none:4 empties:32744 none:3 seq:14")?;
-    let mut expected = octets_of_hex(rt.alloc(), "6482fffa3082fff6800102a10aa1031b0147a2031b0151a20ca00a800832303234303232399f1f0102bf2282ffd0")?;
+    let mut expected = octets_of_hex(
+        rt.alloc(),
+        "6482fffa3082fff6800102a10aa1031b0147a2031b0151a20ca00a800832303234303232399f1f0102bf2282ffd0",
+    )?;
     for _ in 0..32_744u32 {
         expected.extend_from_slice(b"\x30\x00")?;
     }
