@@ -1,5 +1,5 @@
 -- Elements as they are written.
-use Rattle.std.proofs.Common.{◌≡◌, ℕ, ◌+◌, ◌<◌, ◌≤◌, true, List, [], ◌∷◌, ◌++◌, length, get_or, Option, Some, refl, sym, ap, ap₂, subst, ◌∙◌, arith, append_assoc, append-nil, length-append, Result, Ok, Err}
+use Rattle.std.proofs.Common.{◌≡◌, ℕ, ◌+◌, ◌≤◌, true, List, [], ◌∷◌, ◌++◌, length, get_or, Option, Some, refl, sym, ap, ap₂, subst, ◌∙◌, arith, append_assoc, append-nil, length-append, Result, Ok, Err}
 use Rattle.ber_core.proofs.Encodings.{length-encodings}
 use Rattle.ill_write.specs.Puts.{Puts}
 use Rattle.ill_write.proofs.Putting.{puts_then, puts_failed, puts_nothing, as_failed}
@@ -37,9 +37,6 @@ at_front (y ∷ front) x rest = at_front front x rest
 
 pub ahead_first : (all : List ℕ) (at x : ℕ) (xs : List ℕ) → Ahead all at (x ∷ xs) → get_or all at 0 ≡ x
 ahead_first all at x xs a = ap₂ (λ (z : List ℕ) (i : ℕ). get_or z i 0) a.2 (sym a.3) ∙ at_front a.0 x (xs ++ a.1)
-
-pub ahead_within : (all : List ℕ) (at x : ℕ) (xs : List ℕ) → Ahead all at (x ∷ xs) → at < length all
-ahead_within all at x xs a = let l = ap length a.2 in omega (arith, l, a.3, length-append a.0 (x ∷ (xs ++ a.1)))
 
 pub ahead_next : (all : List ℕ) (at n x : ℕ) (xs : List ℕ) → n ≡ at + 1 → Ahead all at (x ∷ xs) → Ahead all n xs
 ahead_next all at n x xs e a = ahead_right all at n (x ∷ []) xs e a
@@ -79,13 +76,6 @@ reached_none all contents start p a le = record { done = []; make_up = refl; put
 -- another spelling of what is left
 pub reached_same : (all us ws : Trees) (contents : List ℕ) (a b : Option (List ℕ)) (p q : Progress) → ws ≡ us → Reached all ws contents a p b q → Reached all us contents a p b q
 reached_same all us ws contents a b p q e h = subst (λ z. Reached all z contents a p b q) e h
-
-pub reached_all : (all us : Trees) (contents : List ℕ) (a b : Option (List ℕ)) (p q : Progress) → us ≡ none → Reached all us contents a p b q
-    → Puts (Ok tt) (encodings all) a p b q × (q.next ≡ p.next + length (all_content_sizes all))
-reached_all all us contents a b p q e h = (
-  subst (λ z. Puts (Ok tt) z a p b q) (sym (append-nil h.done) ∙ ap (λ z. h.done ++ encodings z) (sym e) ∙ h.make_up) h.puts,
-  let l : length (all_content_sizes us) ≡ 0 = ap (λ z. length (all_content_sizes z)) e in omega (arith, l, h.next),
-)
 
 sizes_ahead : (contents : List ℕ) (at : ℕ) (ts us ws : Trees) → ws ≡ joined ts us → Ahead contents at (all_content_sizes ws) → Ahead contents at (all_content_sizes ts ++ all_content_sizes us)
 sizes_ahead contents at ts us ws e a = subst (λ z. Ahead contents at z) (ap all_content_sizes e ∙ content_sizes-joined ts us) a

@@ -5,7 +5,7 @@ ghost use Rattle.ill_schema.specs.Apdu.{normal_form};
 ghost use Rattle.ill_schema.specs.Message.{apdu_of};
 ghost use Rattle.ill_write.specs.Ahead.{Ahead};
 ghost use Rattle.ill_write.specs.ContentSizes.{content_sizes, tree_of};
-ghost use Rattle.ill_write.specs.Measured.{contents_of, total_of};
+ghost use Rattle.ill_write.specs.Sizes.{contents_of, total_of};
 ghost use Rattle.ill_write.specs.Puts.{Puts};
 ghost use Rattle.ill_write.specs.Written.{IfPartWritten};
 

@@ -16,7 +16,7 @@ impl Sizes {
     ghost use Rattle.ill_schema.specs.Apdu.{normal_form};
     ghost use Rattle.ill_schema.specs.Message.{apdu_of};
     ghost use Rattle.ill_write.specs.ContentSizes.{content_sizes, tree_of};
-    ghost use Rattle.ill_write.specs.Measured.{contents_of, total_of};
+    ghost use Rattle.ill_write.specs.Sizes.{contents_of, total_of};
 
     /// Measures the normal form of a message.
     pub fn measure(alloc: Global, message: &Message) -> Result<Sizes, AllocError>
