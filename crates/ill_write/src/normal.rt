@@ -19,7 +19,8 @@ use ber_core::{Broken, Sink};
 use ill_schema::Message;
 use std::alloc::{AllocError, Global};
 
-/// Writes the normal form of a message, and answers its size in octets.
+/// Writes the normal form of a message, which is its DER encoding (X.690, 10 and 11), and answers its
+/// size in octets. Memory is taken for the sizes alone, before the first octet is written.
 ///
 /// # Errors
 ///
@@ -47,7 +48,11 @@ pub fn write_normal<W: Sink>(
     }
 }
 
-/// The octets of the normal form of a message.
+/// The octets of the normal form of a message, which is its DER encoding (X.690, 10 and 11).
+///
+/// # Errors
+///
+/// [`AllocError`], where memory is refused.
 pub fn normal_bytes(alloc: Global, message: &Message) -> Result<Vec<u8>, AllocError>
     ensures { IfOk result (λ octets. octets.items ≡ normal_form (apdu_of message.now)) }
 {
