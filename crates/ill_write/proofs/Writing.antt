@@ -1,8 +1,8 @@
 -- Elements as they are written.
-use Rattle.std.proofs.Common.{◌≡◌, ℕ, ◌+◌, ◌<◌, ◌≤◌, true, List, [], ◌∷◌, ◌++◌, length, get_or, Option, Some, refl, sym, ap, ap₂, subst, ◌∙◌, arith, append_assoc, append-nil, length-append, Result, Ok, Err}
+use Rattle.std.proofs.Common.{◌≡◌, ℕ, ◌+◌, ◌≤◌, true, List, [], ◌∷◌, ◌++◌, length, get_or, Option, Some, refl, sym, ap, ap₂, subst, ◌∙◌, arith, append_assoc, append-nil, length-append, Result, Ok, Err}
 use Rattle.ber_core.proofs.Encodings.{length-encodings}
 use Rattle.ill_write.specs.Puts.{Puts}
-use Rattle.ill_write.proofs.Putting.{puts_then, puts_failed, as_failed}
+use Rattle.ill_write.proofs.Putting.{puts_then, puts_failed, puts_nothing, as_failed}
 use Rattle.ber_core.specs.Identifier.{Tag, identifier}
 use Rattle.ber_core.specs.Length.{shortest_length}
 use Rattle.ber_core.specs.Tree.{Tree, Trees, constructed, none, more}
@@ -38,9 +38,6 @@ at_front (y ∷ front) x rest = at_front front x rest
 pub ahead_first : (all : List ℕ) (at x : ℕ) (xs : List ℕ) → Ahead all at (x ∷ xs) → get_or all at 0 ≡ x
 ahead_first all at x xs a = ap₂ (λ (z : List ℕ) (i : ℕ). get_or z i 0) a.2 (sym a.3) ∙ at_front a.0 x (xs ++ a.1)
 
-pub ahead_within : (all : List ℕ) (at x : ℕ) (xs : List ℕ) → Ahead all at (x ∷ xs) → at < length all
-ahead_within all at x xs a = let l = ap length a.2 in omega (arith, l, a.3, length-append a.0 (x ∷ (xs ++ a.1)))
-
 pub ahead_next : (all : List ℕ) (at n x : ℕ) (xs : List ℕ) → n ≡ at + 1 → Ahead all at (x ∷ xs) → Ahead all n xs
 ahead_next all at n x xs e a = ahead_right all at n (x ∷ []) xs e a
 
@@ -63,37 +60,60 @@ not_opened r x a b p q T tag ts n e f fails h =
 pub only_one : (r : Result (Unit {0}) Broken) (a c : Option (List ℕ)) (p s : Progress) (E : Tree) → Puts r (encoding E) a p c s → Puts r (encodings (more E none)) a p c s
 only_one r a c p s E h = subst (λ z. Puts r z a p c s) (sym (append-nil (encoding E))) h
 
--- the elements so far, one more entry's, and those that are left
-pub step_puts : (a b c : Option (List ℕ)) (p q s : Progress) (done : List ℕ) (ts us ws all : Trees) → ws ≡ joined ts us → done ++ encodings ws ≡ encodings all
-    → Puts (Ok tt) done a p b q → Puts (Ok tt) (encodings ts) b q c s
-    → ((done ++ encodings ts) ++ encodings us ≡ encodings all) × Puts (Ok tt) (done ++ encodings ts) a p c s
-step_puts a b c p q s done ts us ws all e f h k = (
-  append_assoc done (encodings ts) (encodings us) ∙ ap (λ z. done ++ z) (sym (encodings-joined ts us)) ∙ ap (λ z. done ++ encodings z) (sym e) ∙ f,
-  puts_then tt (Ok tt) done (encodings ts) a b c p q s h k,
-)
+-- how far a loop over the elements in another has come: what is written and what is left make up all
+pub record Reached (all left : Trees) (contents : List ℕ) (start : Option (List ℕ)) (old : Progress) (now : Option (List ℕ)) (new : Progress) : Type 0 where
+  pub done : List ℕ
+  pub make_up : done ++ encodings left ≡ encodings all
+  pub puts : Puts (Ok tt) done start old now new
+  pub next : new.next + length (all_content_sizes left) ≡ old.next + length (all_content_sizes all)
+  pub ahead : Ahead contents new.next (all_content_sizes left)
+  pub small : sizes left ≤ profile_two.limit
 
-pub step_fails : (r : Result (Unit {0}) Broken) (x : Broken) (a b c : Option (List ℕ)) (p q s : Progress) (done : List ℕ) (ts us ws all : Trees) → ws ≡ joined ts us → done ++ encodings ws ≡ encodings all
-    → IsErr r → Puts (Ok tt) done a p b q → Puts (Err x) (encodings ts) b q c s → Puts r (encodings all) a p c s
-step_fails r x a b c p q s done ts us ws all e f fails h k =
-    let g : (done ++ encodings ts) ++ encodings us ≡ encodings all =
-    append_assoc done (encodings ts) (encodings us) ∙ ap (λ z. done ++ z) (sym (encodings-joined ts us)) ∙ ap (λ z. done ++ encodings z) (sym e) ∙ f in
-    subst (λ z. Puts r z a p c s) g
-    (as_failed r x _ a c p s fails (puts_failed x x (done ++ encodings ts) (encodings us) a c p s (puts_then tt (Err x) done (encodings ts) a b c p q s h k)))
+pub reached_none : (all : Trees) (contents : List ℕ) (start : Option (List ℕ)) (p : Progress) → Ahead contents p.next (all_content_sizes all) → sizes all ≤ profile_two.limit
+    → Reached all all contents start p start p
+reached_none all contents start p a le = record { done = []; make_up = refl; puts = puts_nothing tt start p; next = refl; ahead = a; small = le }
 
-pub step_ahead : (all : List ℕ) (at : ℕ) (ts us ws : Trees) → ws ≡ joined ts us → Ahead all at (all_content_sizes ws) → Ahead all at (all_content_sizes ts ++ all_content_sizes us)
-step_ahead all at ts us ws e a = subst (λ z. Ahead all at z) (ap all_content_sizes e ∙ content_sizes-joined ts us) a
+-- another spelling of what is left
+pub reached_same : (all us ws : Trees) (contents : List ℕ) (a b : Option (List ℕ)) (p q : Progress) → ws ≡ us → Reached all ws contents a p b q → Reached all us contents a p b q
+reached_same all us ws contents a b p q e h = subst (λ z. Reached all z contents a p b q) e h
 
-pub small_first : (ts us ws : Trees) → ws ≡ joined ts us → sizes ws ≤ profile_two.limit → sizes ts ≤ profile_two.limit
-small_first ts us ws e le = let a = ap sizes e in let b = sizes-joined ts us in omega arith
+sizes_ahead : (contents : List ℕ) (at : ℕ) (ts us ws : Trees) → ws ≡ joined ts us → Ahead contents at (all_content_sizes ws) → Ahead contents at (all_content_sizes ts ++ all_content_sizes us)
+sizes_ahead contents at ts us ws e a = subst (λ z. Ahead contents at z) (ap all_content_sizes e ∙ content_sizes-joined ts us) a
 
-pub small_rest : (ts us ws : Trees) → ws ≡ joined ts us → sizes ws ≤ profile_two.limit → sizes us ≤ profile_two.limit
-small_rest ts us ws e le = let a = ap sizes e in let b = sizes-joined ts us in omega arith
+-- what the next elements ask
+pub reached_ahead : (all ts us ws : Trees) (contents : List ℕ) (a b : Option (List ℕ)) (p q : Progress) → ws ≡ joined ts us → Reached all ws contents a p b q
+    → Ahead contents q.next (all_content_sizes ts)
+reached_ahead all ts us ws contents a b p q e h = ahead_left _ _ _ _ (sizes_ahead contents q.next ts us ws e h.ahead)
 
-pub step_next : (ts us ws : Trees) (at after total : ℕ) → ws ≡ joined ts us → at + length (all_content_sizes ws) ≡ total → after ≡ at + length (all_content_sizes ts) → after + length (all_content_sizes us) ≡ total
-step_next ts us ws at after total e f h =
-    let a = ap (λ z. length (all_content_sizes z)) e in
-    let b = ap length (content_sizes-joined ts us) in
-    omega (arith, a, b, f, h, length-append (all_content_sizes ts) (all_content_sizes us))
+pub reached_small : (all ts us ws : Trees) (contents : List ℕ) (a b : Option (List ℕ)) (p q : Progress) → ws ≡ joined ts us → Reached all ws contents a p b q
+    → sizes ts ≤ profile_two.limit
+reached_small all ts us ws contents a b p q e h = omega (arith, ap sizes e, sizes-joined ts us, h.small)
+
+made_up : (done : List ℕ) (all ts us ws : Trees) → ws ≡ joined ts us → done ++ encodings ws ≡ encodings all → (done ++ encodings ts) ++ encodings us ≡ encodings all
+made_up done all ts us ws e f =
+    append_assoc done (encodings ts) (encodings us) ∙ ap (λ z. done ++ z) (sym (encodings-joined ts us)) ∙ ap (λ z. done ++ encodings z) (sym e) ∙ f
+
+-- the next elements are written
+pub reached_more : (all ts us ws : Trees) (contents : List ℕ) (a b c : Option (List ℕ)) (p q s : Progress) → ws ≡ joined ts us → Reached all ws contents a p b q
+    → Puts (Ok tt) (encodings ts) b q c s → s.next ≡ q.next + length (all_content_sizes ts) → Reached all us contents a p c s
+reached_more all ts us ws contents a b c p q s e h k n = record {
+  done = h.done ++ encodings ts;
+  make_up = made_up h.done all ts us ws e h.make_up;
+  puts = puts_then tt (Ok tt) h.done (encodings ts) a b c p q s h.puts k;
+  next =
+      let x = ap (λ z. length (all_content_sizes z)) e in
+      let y = ap length (content_sizes-joined ts us) in
+      omega (arith, x, y, h.next, n, length-append (all_content_sizes ts) (all_content_sizes us));
+  ahead = ahead_right _ _ _ (all_content_sizes ts) (all_content_sizes us) n (sizes_ahead contents q.next ts us ws e h.ahead);
+  small = omega (arith, ap sizes e, sizes-joined ts us, h.small);
+}
+
+-- the sink broke in the next elements
+pub reached_failed : (r : Result (Unit {0}) Broken) (x : Broken) (all ts us ws : Trees) (contents : List ℕ) (a b c : Option (List ℕ)) (p q s : Progress) → ws ≡ joined ts us
+    → IsErr r → Reached all ws contents a p b q → Puts (Err x) (encodings ts) b q c s → Puts r (encodings all) a p c s
+reached_failed r x all ts us ws contents a b c p q s e fails h k =
+    subst (λ z. Puts r z a p c s) (made_up h.done all ts us ws e h.make_up)
+    (as_failed r x _ a c p s fails (puts_failed x x (h.done ++ encodings ts) (encodings us) a c p s (puts_then tt (Err x) h.done (encodings ts) a b c p q s h.puts k)))
 
 pub empty_element : (r : Result (Unit {0}) Broken) (a b : Option (List ℕ)) (p q : Progress) (T : Tree) (tag : Tag) (n : ℕ) → T ≡ constructed tag none → n ≡ 0 → Puts r (identifier tag true ++ shortest_length n) a p b q → Puts r (encoding T) a p b q
 empty_element r a b p q T tag n e f h = subst (λ z. Puts r z a p b q) (sym (append-nil (identifier tag true ++ shortest_length n)) ∙ opened T tag none n e f) h

@@ -1,4 +1,5 @@
 pub mod ContentSizes
+pub mod Sizes
 pub mod Measured
 pub mod Written
 pub mod Puts

@@ -25,7 +25,8 @@ use std::alloc::AllocError;
 pub fn measure_row(row: Row, value: &Value, out: &mut Vec<u32>) -> Result<u32, AllocError>
     requires valid { IsTrue (is_valid row) }
     requires small { size (row_tree row (content_of value.now)) ≤ profile_two.limit }
-    ensures { IfOk result (λ n. MeasuresOne out.old.items out.new.items n (row_tree row (content_of value.now))) }
+    ensures { IfOk result (λ n.
+        MeasuresOne out.old.items out.new.items n (row_tree row (content_of value.now))) }
 {
     match wrapper(row) {
         Some(tag) => {
@@ -49,7 +50,8 @@ fn measure_value(
 ) -> Result<u32, AllocError>
     requires valid { IsTrue (is_valid_tag replaced) }
     requires small { size (element_tree replaced node (content_of value.now)) ≤ profile_two.limit }
-    ensures { IfOk result (λ n. MeasuresOne out.old.items out.new.items n (element_tree replaced node (content_of value.now))) }
+    ensures { IfOk result (λ n.
+        MeasuresOne out.old.items out.new.items n (element_tree replaced node (content_of value.now))) }
 {
     let tag = element_tag(value, node, replaced);
     match value {
@@ -101,7 +103,8 @@ fn measure_entries(
     out: &mut Vec<u32>,
 ) -> Result<u32, AllocError>
     requires { sizes (normal_trees (entries_content entries.now.items) (rows_of node)) ≤ profile_two.limit }
-    ensures { IfOk result (λ n. Measures out.old.items out.new.items n (normal_trees (entries_content entries.now.items) (rows_of node))) }
+    ensures { IfOk result (λ n.
+        Measures out.old.items out.new.items n (normal_trees (entries_content entries.now.items) (rows_of node))) }
 {
     let mut sum = 0;
     for (i, entry) in entries.iter().enumerate() {
@@ -117,7 +120,8 @@ fn measure_entries(
 fn measure_present(row: Option<Row>, value: &Value, out: &mut Vec<u32>) -> Result<u32, AllocError>
     requires valid { IsTrue (is_valid_place row) }
     requires small { sizes (place_trees row (Some value.now)) ≤ profile_two.limit }
-    ensures { IfOk result (λ n. Measures out.old.items out.new.items n (place_trees row (Some value.now))) }
+    ensures { IfOk result (λ n.
+        Measures out.old.items out.new.items n (place_trees row (Some value.now))) }
 {
     match row {
         Some(row) => {
@@ -135,7 +139,8 @@ fn measure_present(row: Option<Row>, value: &Value, out: &mut Vec<u32>) -> Resul
 #[cycle(measure)]
 fn measure_items(items: &Vec<Value>, node: NodeId, out: &mut Vec<u32>) -> Result<u32, AllocError>
     requires { sizes (normal_items (items_content items.now.items) (rows_of node)) ≤ profile_two.limit }
-    ensures { IfOk result (λ n. Measures out.old.items out.new.items n (normal_items (items_content items.now.items) (rows_of node))) }
+    ensures { IfOk result (λ n.
+        Measures out.old.items out.new.items n (normal_items (items_content items.now.items) (rows_of node))) }
 {
     let row = row_at(node, 0);
     let mut sum = 0;

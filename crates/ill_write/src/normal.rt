@@ -5,7 +5,7 @@ ghost use Rattle.ill_schema.specs.Apdu.{normal_form};
 ghost use Rattle.ill_schema.specs.Message.{apdu_of};
 ghost use Rattle.ill_write.specs.Ahead.{Ahead};
 ghost use Rattle.ill_write.specs.ContentSizes.{content_sizes, tree_of};
-ghost use Rattle.ill_write.specs.Measured.{contents_of, total_of};
+ghost use Rattle.ill_write.specs.Sizes.{contents_of, total_of};
 ghost use Rattle.ill_write.specs.Puts.{Puts};
 ghost use Rattle.ill_write.specs.Written.{IfPartWritten};
 
@@ -19,7 +19,8 @@ use ber_core::{Broken, Sink};
 use ill_schema::Message;
 use std::alloc::{AllocError, Global};
 
-/// Writes the normal form of a message, and answers its size in octets.
+/// Writes the normal form of a message, which is its DER encoding (X.690, 10 and 11), and answers its
+/// size in octets. Memory is taken for the sizes alone, before the first octet is written.
 ///
 /// # Errors
 ///
@@ -47,7 +48,11 @@ pub fn write_normal<W: Sink>(
     }
 }
 
-/// The octets of the normal form of a message.
+/// The octets of the normal form of a message, which is its DER encoding (X.690, 10 and 11).
+///
+/// # Errors
+///
+/// [`AllocError`], where memory is refused.
 pub fn normal_bytes(alloc: Global, message: &Message) -> Result<Vec<u8>, AllocError>
     ensures { IfOk result (λ octets. octets.items ≡ normal_form (apdu_of message.now)) }
 {
@@ -89,7 +94,8 @@ fn write_message<W: Sink>(
     sink: &mut W,
 ) -> Result<(), Broken>
     requires { Ahead contents.now progress.old.next (content_sizes (tree_of message.now)) }
-    ensures puts { Puts result (normal_form (apdu_of message.now)) (W.contents sink.old) progress.old (W.contents sink.new) progress.new }
+    ensures puts { Puts result (normal_form (apdu_of message.now))
+        (W.contents sink.old) progress.old (W.contents sink.new) progress.new }
     ensures empty { IfOk result (λ _. progress.new.len ≡ 0) }
     ensures breaks { IsErr result → IsTrue (W.is_broken sink.new) }
     ensures stays { IsTrue (W.is_broken sink.old) → IsTrue (W.is_broken sink.new) }

@@ -23,7 +23,8 @@ pub fn open_element<W: Sink>(
 ) -> Result<(), Broken>
     requires id { HasIdentifier (tag_at tag) true }
     requires next { progress.old.next < length contents.now }
-    ensures puts { Puts result (identifier (tag_at tag) true ++ shortest_length (get_or contents.now progress.old.next 0)) (W.contents sink.old) progress.old (W.contents sink.new) progress.new }
+    ensures puts { Puts result (identifier (tag_at tag) true ++ shortest_length (get_or contents.now progress.old.next 0))
+        (W.contents sink.old) progress.old (W.contents sink.new) progress.new }
     ensures next { progress.new.next ≡ progress.old.next + 1 }
     ensures breaks { IsErr result → IsTrue (W.is_broken sink.new) }
     ensures stays { IsTrue (W.is_broken sink.old) → IsTrue (W.is_broken sink.new) }
@@ -42,7 +43,8 @@ pub fn write_short<L: Leaf, W: Sink>(
 ) -> Result<(), Broken>
     requires id { HasIdentifier (tag_at tag) false }
     requires short { length (normal_content (L.simple value.now)) ≤ 8 }
-    ensures puts { Puts result (encoding (primitive (tag_at tag) (normal_content (L.simple value.now)))) (W.contents sink.old) progress.old (W.contents sink.new) progress.new }
+    ensures puts { Puts result (encoding (primitive (tag_at tag) (normal_content (L.simple value.now))))
+        (W.contents sink.old) progress.old (W.contents sink.new) progress.new }
     ensures next { progress.new.next ≡ progress.old.next }
     ensures breaks { IsErr result → IsTrue (W.is_broken sink.new) }
     ensures stays { IsTrue (W.is_broken sink.old) → IsTrue (W.is_broken sink.new) }
@@ -62,7 +64,8 @@ pub fn write_primitive<W: Sink>(
 ) -> Result<(), Broken>
     requires id { HasIdentifier (tag_at tag) false }
     requires small { length octets.now ≤ profile_two.limit }
-    ensures puts { Puts result (encoding (primitive (tag_at tag) octets.now)) (W.contents sink.old) progress.old (W.contents sink.new) progress.new }
+    ensures puts { Puts result (encoding (primitive (tag_at tag) octets.now))
+        (W.contents sink.old) progress.old (W.contents sink.new) progress.new }
     ensures next { progress.new.next ≡ progress.old.next }
     ensures breaks { IsErr result → IsTrue (W.is_broken sink.new) }
     ensures stays { IsTrue (W.is_broken sink.old) → IsTrue (W.is_broken sink.new) }
@@ -80,7 +83,8 @@ fn write_header<W: Sink>(
     sink: &mut W,
 ) -> Result<(), Broken>
     requires { HasIdentifier (tag_at tag) constructed }
-    ensures puts { Puts result (identifier (tag_at tag) constructed ++ shortest_length contents) (W.contents sink.old) progress.old (W.contents sink.new) progress.new }
+    ensures puts { Puts result (identifier (tag_at tag) constructed ++ shortest_length contents)
+        (W.contents sink.old) progress.old (W.contents sink.new) progress.new }
     ensures next { progress.new.next ≡ progress.old.next }
     ensures breaks { IsErr result → IsTrue (W.is_broken sink.new) }
     ensures stays { IsTrue (W.is_broken sink.old) → IsTrue (W.is_broken sink.new) }

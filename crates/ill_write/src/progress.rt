@@ -1,14 +1,94 @@
+//! Octets on their way to a sink.
 ghost use Rattle.std.specs.Prelude.{◌≤◌};
 
-/// How many octets wait at most.
-pub(crate) const ROOM: usize = 256;
+use crate::put::send;
+use ber_core::{Broken, Sink};
 
-/// How far a message is written.
+/// How many octets wait at most.
+const ROOM: usize = 256;
+
+/// How far a message is written: the octets that wait until there are more, how many the sink has
+/// taken, and which content size is the next.
 #[derive(Drop)]
 pub struct Progress {
-    pub(crate) waiting: [u8; ROOM],
-    pub(crate) len: usize,
-    pub(crate) written: u32,
-    pub(crate) next: usize,
+    waiting: [u8; ROOM],
+    len: usize,
+    written: u32,
+    next: usize,
     ghost within: { len ≤ 256 },
+}
+
+impl Progress {
+    ghost use Rattle.std.specs.Prelude.{◌≡◌, ◌+◌, ◌-◌, ◌^◌, List, [], Option, IfOk, IsErr, IsTrue};
+    ghost use Rattle.ill_write.specs.Puts.{Puts, Stands};
+
+    /// Nothing is given yet.
+    pub fn new() -> Progress
+        ensures fresh { (told : Option (List _)) → Stands told [] told result }
+        ensures next { result.next ≡ 0 }
+    {
+        Progress {
+            waiting: [0; ROOM],
+            len: 0,
+            written: 0,
+            next: 0,
+        }
+    }
+
+    /// How many octets the sink has taken.
+    pub fn written(&self) -> u32
+        ensures { result ≡ self.now.written }
+    {
+        self.written
+    }
+
+    /// Which content size is the next.
+    pub fn next(&self) -> usize
+        ensures { result ≡ self.now.next }
+    {
+        self.next
+    }
+
+    /// Goes on to the content size behind.
+    pub fn advance(&mut self)
+        requires { self.old.next + 1 ≤ 2 ^ 64 - 1 }
+        ensures next { self.new.next ≡ self.old.next + 1 }
+        ensures puts { (told : Option (List _)) (start : Option (List _)) (given : List _) → Stands start given told self.old → Stands start given told self.new }
+    {
+        self.next += 1;
+    }
+
+    /// Puts what waits.
+    pub fn flush<W: Sink>(&mut self, sink: &mut W) -> Result<(), Broken>
+        ensures puts { Puts result []
+            (W.contents sink.old) self.old (W.contents sink.new) self.new }
+        ensures next { self.new.next ≡ self.old.next }
+        ensures empty { IfOk result (λ _. self.new.len ≡ 0) }
+        ensures breaks { IsErr result → IsTrue (W.is_broken sink.new) }
+        ensures stays { IsTrue (W.is_broken sink.old) → IsTrue (W.is_broken sink.new) }
+    {
+        send(sink, &self.waiting[..self.len], &mut self.written)?;
+        self.len = 0;
+        Ok(())
+    }
+
+    /// Puts the octets, or keeps them until there are more.
+    pub fn put<W: Sink>(&mut self, sink: &mut W, octets: &[u8]) -> Result<(), Broken>
+        ensures puts { Puts result octets.now
+            (W.contents sink.old) self.old (W.contents sink.new) self.new }
+        ensures next { self.new.next ≡ self.old.next }
+        ensures breaks { IsErr result → IsTrue (W.is_broken sink.new) }
+        ensures stays { IsTrue (W.is_broken sink.old) → IsTrue (W.is_broken sink.new) }
+    {
+        if octets.len() > ROOM - self.len {
+            self.flush(sink)?;
+            if octets.len() > ROOM {
+                return send(sink, octets, &mut self.written);
+            }
+        }
+        let end = self.len + octets.len();
+        self.waiting[self.len..end].copy_from_slice(octets);
+        self.len = end;
+        Ok(())
+    }
 }

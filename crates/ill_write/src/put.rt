@@ -1,91 +1,22 @@
-//! Octets on their way to a sink.
-ghost use Rattle.std.specs.Prelude.{◌≡◌, ◌+◌, ◌-◌, ◌^◌, ◌≤◌, List, [], Option, IfOk, IsErr, IsTrue};
-ghost use Rattle.ill_write.specs.Puts.{Puts, Sends, Stands};
+//! The loop over `put`.
+ghost use Rattle.std.specs.Prelude.{IsErr, IsTrue};
+ghost use Rattle.ill_write.specs.Puts.{Sends};
 
-use crate::progress::{Progress, ROOM};
 use ber_core::{Broken, Sink};
 
 /// Puts all the octets, and counts those that were put.
-fn send<W: Sink>(sink: &mut W, octets: &[u8], written: &mut u32) -> Result<(), Broken>
+pub fn send<W: Sink>(sink: &mut W, octets: &[u8], written: &mut u32) -> Result<(), Broken>
     ensures sends { Sends result octets.now (W.contents sink.old) written.old (W.contents sink.new) written.new }
     ensures breaks { IsErr result → IsTrue (W.is_broken sink.new) }
     ensures stays { IsTrue (W.is_broken sink.old) → IsTrue (W.is_broken sink.new) }
 {
+    // A read tells the proof that the count fits.
     let _counted = *written;
     let mut at = 0;
     while at < octets.len() {
         let count = sink.put(&octets[at..])?;
         at += count;
-        *written = written.saturating_add(count.min(0xFFFF_FFFF) as u32);
+        *written = written.saturating_add(count.min(u32::MAX as usize) as u32);
     }
     Ok(())
-}
-
-impl Progress {
-    pub fn new() -> Progress
-        ensures fresh { (told : Option (List _)) → Stands told [] told result }
-        ensures next { result.next ≡ 0 }
-    {
-        Progress {
-            waiting: [0; ROOM],
-            len: 0,
-            written: 0,
-            next: 0,
-        }
-    }
-
-    /// How many octets the sink has taken.
-    pub fn written(&self) -> u32
-        ensures { result ≡ self.now.written }
-    {
-        self.written
-    }
-
-    /// Which content size is the next.
-    pub fn next(&self) -> usize
-        ensures { result ≡ self.now.next }
-    {
-        self.next
-    }
-
-    /// Goes on to the content size behind.
-    pub fn advance(&mut self)
-        requires { self.old.next + 1 ≤ 2 ^ 64 - 1 }
-        ensures next { self.new.next ≡ self.old.next + 1 }
-        ensures puts { (told : Option (List _)) (start : Option (List _)) (given : List _) → Stands start given told self.old → Stands start given told self.new }
-    {
-        self.next += 1;
-    }
-
-    /// Puts what waits.
-    pub fn flush<W: Sink>(&mut self, sink: &mut W) -> Result<(), Broken>
-        ensures puts { Puts result [] (W.contents sink.old) self.old (W.contents sink.new) self.new }
-        ensures next { self.new.next ≡ self.old.next }
-        ensures empty { IfOk result (λ _. self.new.len ≡ 0) }
-        ensures breaks { IsErr result → IsTrue (W.is_broken sink.new) }
-        ensures stays { IsTrue (W.is_broken sink.old) → IsTrue (W.is_broken sink.new) }
-    {
-        send(sink, &self.waiting[..self.len], &mut self.written)?;
-        self.len = 0;
-        Ok(())
-    }
-
-    /// Puts the octets, or keeps them until there are more.
-    pub fn put<W: Sink>(&mut self, sink: &mut W, octets: &[u8]) -> Result<(), Broken>
-        ensures puts { Puts result octets.now (W.contents sink.old) self.old (W.contents sink.new) self.new }
-        ensures next { self.new.next ≡ self.old.next }
-        ensures breaks { IsErr result → IsTrue (W.is_broken sink.new) }
-        ensures stays { IsTrue (W.is_broken sink.old) → IsTrue (W.is_broken sink.new) }
-    {
-        if octets.len() > ROOM - self.len {
-            self.flush(sink)?;
-            if octets.len() > ROOM {
-                return send(sink, octets, &mut self.written);
-            }
-        }
-        let end = self.len + octets.len();
-        self.waiting[self.len..end].copy_from_slice(octets);
-        self.len = end;
-        Ok(())
-    }
 }

@@ -16,9 +16,14 @@ impl Sizes {
     ghost use Rattle.ill_schema.specs.Apdu.{normal_form};
     ghost use Rattle.ill_schema.specs.Message.{apdu_of};
     ghost use Rattle.ill_write.specs.ContentSizes.{content_sizes, tree_of};
-    ghost use Rattle.ill_write.specs.Measured.{contents_of, total_of};
+    ghost use Rattle.ill_write.specs.Sizes.{contents_of, total_of};
 
-    /// Measures the normal form of a message.
+    /// Measures the normal form of a message: what stands in its headers as lengths of constructed
+    /// contents (X.690, 8.1.3), in the order of the headers, and the size of the whole.
+    ///
+    /// # Errors
+    ///
+    /// [`AllocError`], where memory is refused.
     pub fn measure(alloc: Global, message: &Message) -> Result<Sizes, AllocError>
         ensures contents { IfOk result (λ s. contents_of s ≡ content_sizes (tree_of message.now)) }
         ensures total { IfOk result (λ s. total_of s ≡ length (normal_form (apdu_of message.now))) }

@@ -29,9 +29,12 @@ pub fn write_row<W: Sink>(
 ) -> Result<(), Broken>
     requires valid { IsTrue (is_valid row) }
     requires small { size (row_tree row (content_of value.now)) ≤ profile_two.limit }
-    requires ahead { Ahead contents.now progress.old.next (content_sizes (row_tree row (content_of value.now))) }
-    ensures puts { Puts result (encoding (row_tree row (content_of value.now))) (W.contents sink.old) progress.old (W.contents sink.new) progress.new }
-    ensures next { IfOk result (λ _. progress.new.next ≡ progress.old.next + length (content_sizes (row_tree row (content_of value.now)))) }
+    requires ahead { Ahead contents.now progress.old.next
+        (content_sizes (row_tree row (content_of value.now))) }
+    ensures puts { Puts result (encoding (row_tree row (content_of value.now)))
+        (W.contents sink.old) progress.old (W.contents sink.new) progress.new }
+    ensures next { IfOk result (λ _.
+        progress.new.next ≡ progress.old.next + length (content_sizes (row_tree row (content_of value.now)))) }
     ensures breaks { IsErr result → IsTrue (W.is_broken sink.new) }
     ensures stays { IsTrue (W.is_broken sink.old) → IsTrue (W.is_broken sink.new) }
 {
@@ -56,9 +59,12 @@ fn write_value<W: Sink>(
 ) -> Result<(), Broken>
     requires valid { IsTrue (is_valid_tag replaced) }
     requires small { size (element_tree replaced node (content_of value.now)) ≤ profile_two.limit }
-    requires ahead { Ahead contents.now progress.old.next (content_sizes (element_tree replaced node (content_of value.now))) }
-    ensures puts { Puts result (encoding (element_tree replaced node (content_of value.now))) (W.contents sink.old) progress.old (W.contents sink.new) progress.new }
-    ensures next { IfOk result (λ _. progress.new.next ≡ progress.old.next + length (content_sizes (element_tree replaced node (content_of value.now)))) }
+    requires ahead { Ahead contents.now progress.old.next
+        (content_sizes (element_tree replaced node (content_of value.now))) }
+    ensures puts { Puts result (encoding (element_tree replaced node (content_of value.now)))
+        (W.contents sink.old) progress.old (W.contents sink.new) progress.new }
+    ensures next { IfOk result (λ _.
+        progress.new.next ≡ progress.old.next + length (content_sizes (element_tree replaced node (content_of value.now)))) }
     ensures breaks { IsErr result → IsTrue (W.is_broken sink.new) }
     ensures stays { IsTrue (W.is_broken sink.old) → IsTrue (W.is_broken sink.new) }
 {
@@ -95,9 +101,12 @@ fn write_entries<W: Sink>(
     sink: &mut W,
 ) -> Result<(), Broken>
     requires small { sizes (normal_trees (entries_content entries.now.items) (rows_of node)) ≤ profile_two.limit }
-    requires ahead { Ahead contents.now progress.old.next (all_content_sizes (normal_trees (entries_content entries.now.items) (rows_of node))) }
-    ensures puts { Puts result (encodings (normal_trees (entries_content entries.now.items) (rows_of node))) (W.contents sink.old) progress.old (W.contents sink.new) progress.new }
-    ensures next { IfOk result (λ _. progress.new.next ≡ progress.old.next + length (all_content_sizes (normal_trees (entries_content entries.now.items) (rows_of node)))) }
+    requires ahead { Ahead contents.now progress.old.next
+        (all_content_sizes (normal_trees (entries_content entries.now.items) (rows_of node))) }
+    ensures puts { Puts result (encodings (normal_trees (entries_content entries.now.items) (rows_of node)))
+        (W.contents sink.old) progress.old (W.contents sink.new) progress.new }
+    ensures next { IfOk result (λ _.
+        progress.new.next ≡ progress.old.next + length (all_content_sizes (normal_trees (entries_content entries.now.items) (rows_of node)))) }
     ensures breaks { IsErr result → IsTrue (W.is_broken sink.new) }
     ensures stays { IsTrue (W.is_broken sink.old) → IsTrue (W.is_broken sink.new) }
 {
@@ -120,9 +129,12 @@ fn write_present<W: Sink>(
 ) -> Result<(), Broken>
     requires valid { IsTrue (is_valid_place row) }
     requires small { sizes (place_trees row (Some value.now)) ≤ profile_two.limit }
-    requires ahead { Ahead contents.now progress.old.next (all_content_sizes (place_trees row (Some value.now))) }
-    ensures puts { Puts result (encodings (place_trees row (Some value.now))) (W.contents sink.old) progress.old (W.contents sink.new) progress.new }
-    ensures next { IfOk result (λ _. progress.new.next ≡ progress.old.next + length (all_content_sizes (place_trees row (Some value.now)))) }
+    requires ahead { Ahead contents.now progress.old.next
+        (all_content_sizes (place_trees row (Some value.now))) }
+    ensures puts { Puts result (encodings (place_trees row (Some value.now)))
+        (W.contents sink.old) progress.old (W.contents sink.new) progress.new }
+    ensures next { IfOk result (λ _.
+        progress.new.next ≡ progress.old.next + length (all_content_sizes (place_trees row (Some value.now)))) }
     ensures breaks { IsErr result → IsTrue (W.is_broken sink.new) }
     ensures stays { IsTrue (W.is_broken sink.old) → IsTrue (W.is_broken sink.new) }
 {
@@ -148,9 +160,12 @@ fn write_items<W: Sink>(
     sink: &mut W,
 ) -> Result<(), Broken>
     requires small { sizes (normal_items (items_content items.now.items) (rows_of node)) ≤ profile_two.limit }
-    requires ahead { Ahead contents.now progress.old.next (all_content_sizes (normal_items (items_content items.now.items) (rows_of node))) }
-    ensures puts { Puts result (encodings (normal_items (items_content items.now.items) (rows_of node))) (W.contents sink.old) progress.old (W.contents sink.new) progress.new }
-    ensures next { IfOk result (λ _. progress.new.next ≡ progress.old.next + length (all_content_sizes (normal_items (items_content items.now.items) (rows_of node)))) }
+    requires ahead { Ahead contents.now progress.old.next
+        (all_content_sizes (normal_items (items_content items.now.items) (rows_of node))) }
+    ensures puts { Puts result (encodings (normal_items (items_content items.now.items) (rows_of node)))
+        (W.contents sink.old) progress.old (W.contents sink.new) progress.new }
+    ensures next { IfOk result (λ _.
+        progress.new.next ≡ progress.old.next + length (all_content_sizes (normal_items (items_content items.now.items) (rows_of node)))) }
     ensures breaks { IsErr result → IsTrue (W.is_broken sink.new) }
     ensures stays { IsTrue (W.is_broken sink.old) → IsTrue (W.is_broken sink.new) }
 {
@@ -172,9 +187,12 @@ fn write_item<W: Sink>(
 ) -> Result<(), Broken>
     requires valid { IsTrue (is_valid_place row) }
     requires small { sizes (item_trees row item.now) ≤ profile_two.limit }
-    requires ahead { Ahead contents.now progress.old.next (all_content_sizes (item_trees row item.now)) }
-    ensures puts { Puts result (encodings (item_trees row item.now)) (W.contents sink.old) progress.old (W.contents sink.new) progress.new }
-    ensures next { IfOk result (λ _. progress.new.next ≡ progress.old.next + length (all_content_sizes (item_trees row item.now))) }
+    requires ahead { Ahead contents.now progress.old.next
+        (all_content_sizes (item_trees row item.now)) }
+    ensures puts { Puts result (encodings (item_trees row item.now))
+        (W.contents sink.old) progress.old (W.contents sink.new) progress.new }
+    ensures next { IfOk result (λ _.
+        progress.new.next ≡ progress.old.next + length (all_content_sizes (item_trees row item.now))) }
     ensures breaks { IsErr result → IsTrue (W.is_broken sink.new) }
     ensures stays { IsTrue (W.is_broken sink.old) → IsTrue (W.is_broken sink.new) }
 {

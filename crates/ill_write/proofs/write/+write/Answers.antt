@@ -14,7 +14,7 @@ use Rattle.ill_schema.proofs.Trees.{wrapped, sequence_tree, list_tree, chosen_tr
 use Rattle.ill_write.proofs.Tags.{place_valid, row_valid}
 use Rattle.ill_write.proofs.Measured.{leaf_tree, inside_small}
 use Rattle.ill_write.proofs.Putting.{puts_nothing}
-use Rattle.ill_write.proofs.Writing.{ahead_first, ahead_next, ahead_nothing, ahead_left, ahead_right, composed, not_opened, only_one, step_puts, step_fails, step_ahead, small_first, small_rest, step_next, empty_element, default_trees}
+use Rattle.ill_write.proofs.Writing.{ahead_first, ahead_next, ahead_nothing, composed, not_opened, only_one, empty_element, default_trees, reached_none, reached_same, reached_ahead, reached_small, reached_more, reached_failed}
 use Rattle.ber_leaf.specs.Profile.{profile_two}
 use Rattle.ill_schema.specs.declared.value.Value.{the_lemmas}
 use Rattle.ill_write.proofs.write.+write.Goals as goal
@@ -54,76 +54,69 @@ write_item-returns-in-None-clause-puts g t c = rw c.in-None.is (puts_nothing tt 
 
 pub write_items-loop-item-init : goal.write_items-loop-item-init
 write_items-loop-item-init g t c =
-    ([], refl, puts_nothing tt _ c.args.progress.now, refl, rw c.deref-item-items.ensures.value c.requires.ahead, rw c.deref-item-items.ensures.value c.requires.small, λ h. h)
+    rw c.deref-item-items.ensures.value (record { reached = reached_none _ c.args.contents.now (g.W.Sink.contents c.args.sink.now) c.args.progress.now c.requires.ahead c.requires.small; stays = λ h. h })
 
 pub write_items-write_item-requires : goal.write_items-write_item-requires
 write_items-write_item-requires g t c κs within =
     let vs = c.deref-item-items.result.now in
-    let inv = c.loop-item.invariant in
     let e = item_step vs (rows_of c.args.node) c.loop-item.item-index c.item-item.result c.loop-item-test.true c.item-item.is in
+    let h = c.loop-item.invariant.reached in
     let ts = item_trees (slice_get (rows_of c.args.node) 0) c.item-item.result in
     let us = normal_items (items_content (drop (c.loop-item.item-index + 1) vs)) (rows_of c.args.node) in
-    let ws = normal_items (items_content (drop c.loop-item.item-index vs)) (rows_of c.args.node) in
-    let all = normal_items (items_content vs) (rows_of c.args.node) in
-    let a = ahead_left _ _ _ _ (step_ahead c.args.contents.now c.loop-item.progress.next ts us ws e inv.4) in
-    let s = small_first ts us ws e inv.5 in
+    let a = reached_ahead _ ts us _ c.args.contents.now _ _ c.args.progress.now c.loop-item.progress e h in
+    let s = reached_small _ ts us _ c.args.contents.now _ _ c.args.progress.now c.loop-item.progress e h in
     (search (rules, the_lemmas), (within, (rw c.row_at-row.ensures (place_valid c.args.node 0), (rw c.row_at-row.ensures s, rw c.row_at-row.ensures a))))
 
 pub write_items-returns-in_err-write_item-clause-puts : goal.write_items-returns-in_err-write_item-clause-puts
 write_items-returns-in_err-write_item-clause-puts g t c =
     let vs = c.deref-item-items.result.now in
-    let inv = c.loop-item.invariant in
     let e = item_step vs (rows_of c.args.node) c.loop-item.item-index c.item-item.result c.loop-item-test.true c.item-item.is in
+    let h = c.loop-item.invariant.reached in
     let ts = item_trees (slice_get (rows_of c.args.node) 0) c.item-item.result in
     let us = normal_items (items_content (drop (c.loop-item.item-index + 1) vs)) (rows_of c.args.node) in
-    let ws = normal_items (items_content (drop c.loop-item.item-index vs)) (rows_of c.args.node) in
-    let all = normal_items (items_content vs) (rows_of c.args.node) in
     let p = rw c.row_at-row.ensures at c.in_err-write_item.ensures.puts in
-    rw (← c.deref-item-items.ensures.value) (step_fails c.from_residual.result c.in_err-write_item.field-0.0 _ _ (g.W.Sink.contents c.write_item.new.sink) c.args.progress.now c.loop-item.progress c.write_item.new.progress inv.0 ts us ws all e inv.1 c.from_residual.ensures.0 inv.2 p)
+    rw (← c.deref-item-items.ensures.value)
+    (reached_failed c.from_residual.result c.in_err-write_item.field-0.0 _ ts us _ c.args.contents.now _ _ (g.W.Sink.contents c.write_item.new.sink) c.args.progress.now c.loop-item.progress c.write_item.new.progress e c.from_residual.ensures.0 h p)
 
 pub write_items-loop-item-preserved : goal.write_items-loop-item-preserved
 write_items-loop-item-preserved g t c =
     let vs = c.deref-item-items.result.now in
-    let inv = c.loop-item.invariant in
     let e = item_step vs (rows_of c.args.node) c.loop-item.item-index c.item-item.result c.loop-item-test.true c.item-item.is in
+    let h = c.loop-item.invariant.reached in
     let ts = item_trees (slice_get (rows_of c.args.node) 0) c.item-item.result in
     let us = normal_items (items_content (drop (c.loop-item.item-index + 1) vs)) (rows_of c.args.node) in
-    let ws = normal_items (items_content (drop c.loop-item.item-index vs)) (rows_of c.args.node) in
-    let all = normal_items (items_content vs) (rows_of c.args.node) in
     let p = rw c.row_at-row.ensures at c.in_ok-write_item.ensures.puts in
     let n = rw c.row_at-row.ensures at c.in_ok-write_item.ensures.next in
-    let b = step_puts _ _ (g.W.Sink.contents c.write_item.new.sink) c.args.progress.now c.loop-item.progress c.write_item.new.progress inv.0 ts us ws all e inv.1 inv.2 p in
-    let a = step_ahead c.args.contents.now c.loop-item.progress.next ts us ws e inv.4 in
-    (inv.0 ++ encodings ts, b.0, b.1, step_next ts us ws _ _ _ e inv.3 n, ahead_right _ _ _ (all_content_sizes ts) (all_content_sizes us) n a, small_rest ts us ws e inv.5, λ h. c.in_ok-write_item.ensures.stays (inv.6 h))
+    record {
+      reached = reached_more _ ts us _ c.args.contents.now _ _ (g.W.Sink.contents c.write_item.new.sink) c.args.progress.now c.loop-item.progress c.write_item.new.progress e h p n;
+      stays = λ k. c.in_ok-write_item.ensures.stays (c.loop-item.invariant.stays k);
+    }
 
 pub write_entries-loop-i-init : goal.write_entries-loop-i-init
 write_entries-loop-i-init g t c =
-    ([], refl, puts_nothing tt _ c.args.progress.now, refl, rw c.deref-entry-items.ensures.value c.requires.ahead, rw c.deref-entry-items.ensures.value c.requires.small, λ h. h)
+    rw c.deref-entry-items.ensures.value (record { reached = reached_none _ c.args.contents.now (g.W.Sink.contents c.args.sink.now) c.args.progress.now c.requires.ahead c.requires.small; stays = λ h. h })
 
 pub write_entries-write_present-requires : goal.write_entries-write_present-requires
 write_entries-write_present-requires g t c κs within =
     let es = c.deref-entry-items.result.now in
-    let inv = c.loop-i.invariant in
     let e = entry_step es (rows_of c.args.node) c.loop-i.i (Some c.in-Some.value) c.loop-i-test.true (rw c.in-Some.is at c.entry-item.is) in
+    let h = c.loop-i.invariant.reached in
     let ts = place_trees (slice_get (rows_of c.args.node) c.loop-i.i) (Some c.in-Some.value) in
     let us = normal_trees (entries_content (drop (c.loop-i.i + 1) es)) (drop (c.loop-i.i + 1) (rows_of c.args.node)) in
-    let ws = normal_trees (entries_content (drop c.loop-i.i es)) (drop c.loop-i.i (rows_of c.args.node)) in
-    let all = normal_trees (entries_content es) (rows_of c.args.node) in
-    let a = ahead_left _ _ _ _ (step_ahead c.args.contents.now c.loop-i.progress.next ts us ws e inv.4) in
-    let s = small_first ts us ws e inv.5 in
+    let a = reached_ahead _ ts us _ c.args.contents.now _ _ c.args.progress.now c.loop-i.progress e h in
+    let s = reached_small _ ts us _ c.args.contents.now _ _ c.args.progress.now c.loop-i.progress e h in
     (search (rules, the_lemmas), (within, (rw c.row_at.ensures (place_valid c.args.node c.loop-i.i), (rw c.row_at.ensures s, rw c.row_at.ensures a))))
 
 pub write_entries-returns-in_err-write_present-clause-puts : goal.write_entries-returns-in_err-write_present-clause-puts
 write_entries-returns-in_err-write_present-clause-puts g t c =
     let es = c.deref-entry-items.result.now in
-    let inv = c.loop-i.invariant in
     let e = entry_step es (rows_of c.args.node) c.loop-i.i (Some c.in-Some.value) c.loop-i-test.true (rw c.in-Some.is at c.entry-item.is) in
+    let h = c.loop-i.invariant.reached in
     let ts = place_trees (slice_get (rows_of c.args.node) c.loop-i.i) (Some c.in-Some.value) in
     let us = normal_trees (entries_content (drop (c.loop-i.i + 1) es)) (drop (c.loop-i.i + 1) (rows_of c.args.node)) in
-    let ws = normal_trees (entries_content (drop c.loop-i.i es)) (drop c.loop-i.i (rows_of c.args.node)) in
-    let all = normal_trees (entries_content es) (rows_of c.args.node) in
     let p = rw c.row_at.ensures at c.in_err-write_present.ensures.puts in
-    rw (← c.deref-entry-items.ensures.value) (step_fails c.from_residual.result c.in_err-write_present.field-0.0 _ _ (g.W.Sink.contents c.write_present.new.sink) c.args.progress.now c.loop-i.progress c.write_present.new.progress inv.0 ts us ws all e inv.1 c.from_residual.ensures.0 inv.2 p)
+    rw (← c.deref-entry-items.ensures.value)
+    (reached_failed c.from_residual.result c.in_err-write_present.field-0.0 _ ts us _ c.args.contents.now _ _ (g.W.Sink.contents c.write_present.new.sink) c.args.progress.now c.loop-i.progress c.write_present.new.progress e c.from_residual.ensures.0 h p)
 
 pub write_value-returns-in_err-open_element-in-Seq-clause-puts : goal.write_value-returns-in_err-open_element-in-Seq-clause-puts
 write_value-returns-in_err-open_element-in-Seq-clause-puts g t c =
@@ -190,30 +183,21 @@ write_value-returns-in_ok-open_element-in-List-clause-puts g t c =
 pub write_entries-loop-i-preserved : goal.write_entries-loop-i-preserved
 write_entries-loop-i-preserved g t c =
     let es = c.deref-entry-items.result.now in
-    let inv = c.loop-i.invariant in
+    let h = c.loop-i.invariant.reached in
     let us = normal_trees (entries_content (drop (c.loop-i.i + 1) es)) (drop (c.loop-i.i + 1) (rows_of c.args.node)) in
-    let ws = normal_trees (entries_content (drop c.loop-i.i es)) (drop c.loop-i.i (rows_of c.args.node)) in
-    let all = normal_trees (entries_content es) (rows_of c.args.node) in
     elim c.match-entry.branch [
       | write_entries-in-Some+in_ok-write_present w ↦
           let e = entry_step es (rows_of c.args.node) c.loop-i.i (Some w.in-Some.value) c.loop-i-test.true (rw w.in-Some.is at c.entry-item.is) in
           let ts = place_trees (slice_get (rows_of c.args.node) c.loop-i.i) (Some w.in-Some.value) in
           let p = rw w.row_at.ensures at w.in_ok-write_present.ensures.puts in
           let n = rw w.row_at.ensures at w.in_ok-write_present.ensures.next in
-          let b = step_puts _ _ (g.W.Sink.contents w.write_present.new.sink) c.args.progress.now c.loop-i.progress w.write_present.new.progress inv.0 ts us ws all e inv.1 inv.2 p in
-          let a = step_ahead c.args.contents.now c.loop-i.progress.next ts us ws e inv.4 in
-          rw (w.progress-is, w.sink-is) (inv.0 ++ encodings ts, b.0, b.1, step_next ts us ws _ _ _ e inv.3 n, ahead_right _ _ _ (all_content_sizes ts) (all_content_sizes us) n a, small_rest ts us ws e inv.5, λ h. w.in_ok-write_present.ensures.stays (inv.6 h))
+          rw (w.progress-is, w.sink-is) (record {
+            reached = reached_more _ ts us _ c.args.contents.now _ _ (g.W.Sink.contents w.write_present.new.sink) c.args.progress.now c.loop-i.progress w.write_present.new.progress e h p n;
+            stays = λ k. w.in_ok-write_present.ensures.stays (c.loop-i.invariant.stays k);
+          })
       | write_entries-in_default w ↦
           let e = absent_step es (rows_of c.args.node) c.loop-i.i c.loop-i-test.true (rw w.in_default.is at c.entry-item.is) in
-          rw (w.progress-is, w.sink-is) (
-            inv.0,
-            ap (λ z. inv.0 ++ encodings z) (sym e) ∙ inv.1,
-            inv.2,
-            ap (λ z. c.loop-i.progress.next + length (all_content_sizes z)) (sym e) ∙ inv.3,
-            subst (λ z. Ahead c.args.contents.now c.loop-i.progress.next (all_content_sizes z)) e inv.4,
-            subst (λ z. sizes z ≤ profile_two.limit) e inv.5,
-            inv.6,
-          )
+          rw (w.progress-is, w.sink-is) (record { reached = reached_same _ _ _ c.args.contents.now _ _ c.args.progress.now c.loop-i.progress e h; stays = c.loop-i.invariant.stays })
     ]
 
 pub write_value-write_row-requires : goal.write_value-write_row-requires
