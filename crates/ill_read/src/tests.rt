@@ -264,7 +264,6 @@ impl Source for Endless {
     ghost is_broken = { λ _. false };
 
     fn take(&mut self, buffer: &mut [u8]) -> Result<usize, Broken> {
-        let mut count = 0;
         for room in buffer.iter_mut() {
             match self.front.split_first() {
                 Some((first, rest)) => {
@@ -273,16 +272,12 @@ impl Source for Endless {
                 }
                 None => {
                     *room = self.over.get(self.at).copied().unwrap_or(0);
-                    self.at = if self.at + 1 >= self.over.len() {
-                        0
-                    } else {
-                        self.at + 1
-                    };
+                    let next = self.at.saturating_add(1);
+                    self.at = if next < self.over.len() { next } else { 0 };
                 }
             }
-            count += 1;
         }
-        Ok(count)
+        Ok(buffer.len())
     }
 
     fn broken(&self) -> bool {
