@@ -8,7 +8,8 @@ use Rattle.ill_read.specs.Outcome.{OnlyAccepts, OnlyRefuses}
 use Rattle.ill_read.specs.Place.{Open, IsPlace, IsDue}
 use Rattle.ber_leaf.specs.Profile.{Profile}
 use Rattle.ill_read.proofs.Judging.{Judged, judged}
-use Rattle.ill_read.proofs.Machine.{Step, refused, goes, whole, stuck, with_tree, close, moved, step, after, Runs, runs-step, runs-trans}
+use Rattle.ill_read.specs.Step.{Step, refused, goes, whole, stuck, with_tree, close, moved}
+use Rattle.ill_read.proofs.Machine.{step, after, Runs, runs-step, runs-trans}
 use Rattle.ill_read.proofs.Outcomes.{begin, due_run, encodes_run, refused_alone, accepted_alone, message_encodes}
 use Rattle.ill_read.proofs.Placing.{IsMessage, Placed, step_placed}
 use Rattle.ill_read.proofs.Places.{either_leads, due_placed, final_stays}

@@ -18,3 +18,4 @@ pub mod Components
 pub mod DueRows
 pub mod Enumerated
 pub mod HeadersRead
+pub mod Frames

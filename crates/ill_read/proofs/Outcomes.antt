@@ -11,7 +11,8 @@ use Rattle.ill_read.specs.Outcome.{OnlyAccepts, OnlyRefuses, HasOneOutcome}
 use Rattle.ill_read.specs.Place.{Open, IsDue}
 use Rattle.ber_leaf.specs.Profile.{Profile}
 use Rattle.ill_schema.proofs.OneMeaning.{apdu_unique}
-use Rattle.ill_read.proofs.Machine.{Step, refused, goes, whole, stuck, step, IsFinal, Runs, runs-step, runs-trans, one_end}
+use Rattle.ill_read.specs.Step.{Step, refused, goes, whole, stuck}
+use Rattle.ill_read.proofs.Machine.{step, IsFinal, Runs, runs-step, runs-trans, one_end}
 use Rattle.ill_read.proofs.Placing.{IsMessage, Placed, ends}
 use Rattle.ill_read.proofs.Readings.{take-all}
 use Rattle.ill_read.proofs.Reaching.{place_run, message_run}

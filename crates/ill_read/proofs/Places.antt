@@ -6,7 +6,8 @@ use Rattle.ber_core.specs.Octets.{are_octets}
 use Rattle.ill_read.specs.Place.{Open, IsDue}
 use Rattle.ber_leaf.specs.Profile.{Profile}
 use Rattle.ill_read.proofs.Judging.{Judged, judged, id_size}
-use Rattle.ill_read.proofs.Machine.{Step, refused, goes, whole, stuck, with_tree, close, moved, step, after, after-sum, IsFinal, Runs}
+use Rattle.ill_read.specs.Step.{Step, refused, goes, whole, stuck, with_tree, close, moved}
+use Rattle.ill_read.proofs.Machine.{step, after, after-sum, IsFinal, Runs}
 use Rattle.std.proofs.lemmas.List.{take-append-drop, length-take-le}
 use Rattle.ill_read.proofs.Placing.{Placed, step_placed}
 use Rattle.ill_read.proofs.Readings.{octets_right}

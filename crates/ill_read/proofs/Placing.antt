@@ -22,7 +22,8 @@ use Rattle.ill_read.proofs.Elements.{IsProper, IsElement}
 use Rattle.ill_read.proofs.Openings.{in_body, due_whole, due_proper, read_element, primitive_element}
 use Rattle.ill_read.proofs.Readings.{octets_left, octets_right, octets_join, take-all}
 use Rattle.ill_read.proofs.Judging.{MayEnd, Judged, Closes, Opens, Reads, judged, bound_some, id_size, length_size}
-use Rattle.ill_read.proofs.Machine.{Step, refused, goes, whole, stuck, snoc, with_tree, close, opened, moved, step, IsFinal, Runs, runs-none, runs-step, runs-trans}
+use Rattle.ill_read.specs.Step.{Step, refused, goes, whole, stuck, snoc, with_tree, close, opened, moved}
+use Rattle.ill_read.proofs.Machine.{step, IsFinal, Runs, runs-none, runs-step, runs-trans}
 use Rattle.ill_read.proofs.Running.{whole-snoc}
 use Rattle.ill_read.proofs.Reaching.{root, place_proper}
 

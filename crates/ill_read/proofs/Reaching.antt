@@ -17,7 +17,8 @@ use Rattle.ill_read.proofs.Elements.{IsProper}
 use Rattle.ill_read.proofs.Openings.{IsProperNext, inner_proper, inner_tags, due_proper, opening_proper, after_proper}
 use Rattle.ill_read.proofs.Sequences.{starting_some, due-found}
 use Rattle.ill_read.proofs.Judging.{IsStarted, bound_some, opens_judged, indefinite_judged}
-use Rattle.ill_read.proofs.Machine.{goes, whole, opened, step, after, Runs, runs-step, runs-trans}
+use Rattle.ill_read.specs.Step.{goes, whole, opened}
+use Rattle.ill_read.proofs.Machine.{step, after, Runs, runs-step, runs-trans}
 use Rattle.ill_read.proofs.Running.{step_is, tree_run, trees_run}
 
 abbrev pub root : Component

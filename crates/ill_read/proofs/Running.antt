@@ -12,7 +12,8 @@ use Rattle.ill_read.proofs.Elements.{IsElement, IsProper}
 use Rattle.ill_read.proofs.Openings.{IsProperNext, due_element, due_proper, opening_proper, element_read, element_primitive}
 use Rattle.ill_read.proofs.Sequences.{next_after-more}
 use Rattle.ill_read.proofs.Judging.{IsStarted, MayEnd, ends_judged, mark_judged, opens_judged, indefinite_judged, reads_judged}
-use Rattle.ill_read.proofs.Machine.{goes, snoc, with_tree, opened, moved, step, after, Runs, runs-step, runs-trans}
+use Rattle.ill_read.specs.Step.{goes, snoc, with_tree, opened, moved}
+use Rattle.ill_read.proofs.Machine.{step, after, Runs, runs-step, runs-trans}
 
 abbrev pub joined : Trees → Trees → Trees
 joined none us = us

@@ -10,3 +10,6 @@ pub mod DueCode
 pub mod Failures
 pub mod HeaderCode
 pub mod Progress
+pub mod Standing
+pub mod Step
+pub mod Judged

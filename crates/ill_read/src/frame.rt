@@ -21,7 +21,7 @@ pub struct Frame {
     /// The offset that no octet in it may reach: its own end, or that of the nearest element round it, or the limit.
     pub bound: u32,
     /// How many values are held for the elements round it.
-    pub base: u32,
+    pub base: usize,
     ghost within: { bound ≤ 1_048_576 },
 }
 

@@ -68,10 +68,12 @@ struct Started {
 impl Path {
     ghost use Rattle.std.specs.Prelude.{◌+◌, ◌<◌};
     ghost use Rattle.ill_read.specs.Progress.{depth_of, size_of, IsProgress, HeaderIsIn};
+    ghost use Rattle.ill_read.specs.Judged.{JudgesExactly};
 
     /// Judges the place at this offset, where the rest of the input follows.
     pub fn judge(&self, at: u32, rest: &[u8]) -> Result<Judgement, Refusal>
         requires { at ≤ 1_048_576 }
+        ensures exact { JudgesExactly self.now at rest.now result }
         ensures progress { IfOk result (λ judgement. IsProgress (depth_of self.now) (length rest.now) judgement) }
         ensures small { IfOk result (λ judgement. at + size_of judgement ≤ 1_048_576) }
     {

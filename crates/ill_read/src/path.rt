@@ -43,8 +43,10 @@ pub struct Body {
 }
 
 impl Path {
-    ghost use Rattle.std.specs.Prelude.{◌+◌, ◌-◌, ◌<◌, ◌↔◌, IsNone, MatchOption};
+    ghost use Rattle.std.specs.Prelude.{◌+◌, ◌-◌, ◌<◌, ◌↔◌, IsNone, slice_get};
     ghost use Rattle.ill_read.specs.Progress.{depth_of, StepsTo, IsProgress};
+    ghost use Rattle.ill_read.specs.Judged.{StepsExactly};
+    ghost use Rattle.ill_read.specs.Standing.{next_at};
 
     pub fn new(alloc: Global) -> Path {
         Path {
@@ -56,17 +58,22 @@ impl Path {
     }
 
     pub fn innermost(&self) -> Option<Frame>
-        ensures { IsNone result ↔ (depth_of self.now ≡ 0) }
+        ensures none { IsNone result ↔ (depth_of self.now ≡ 0) }
+        ensures last { result ≡ slice_get self.now.frames.items (depth_of self.now - 1) }
     {
         self.frames.as_slice().last().copied()
     }
 
-    pub fn depth(&self) -> usize {
+    pub fn depth(&self) -> usize
+        ensures { result ≡ depth_of self.now }
+    {
         self.frames.len()
     }
 
     /// What may come next.
-    pub fn next(&self) -> Next {
+    pub fn next(&self) -> Next
+        ensures { result ≡ next_at self.now.frames.items }
+    {
         match self.innermost() {
             Some(frame) => frame.next,
             None => TOP,
@@ -117,7 +124,8 @@ impl Path {
         octets: &[u8],
     ) -> Result<Option<Body>, Failure>
         requires { IsProgress (depth_of self.old) (length octets.now) judgement }
-        ensures { IfOk result (λ _. StepsTo judgement (depth_of self.old) (depth_of self.new)) }
+        ensures exact { StepsExactly self.old judgement at octets.now self.new result }
+        ensures depth { IfOk result (λ _. StepsTo judgement (depth_of self.old) (depth_of self.new)) }
     {
         match judgement {
             Judgement::Closes(_) => {

@@ -45,8 +45,8 @@ impl Values {
         }
     }
 
-    pub fn len(&self) -> u32 {
-        self.held.len().min(u32::MAX as usize) as u32
+    pub fn len(&self) -> usize {
+        self.held.len()
     }
 
     pub fn push(&mut self, value: Value) -> Result<(), AllocError> {
@@ -66,14 +66,14 @@ impl Values {
     }
 
     /// The sequence whose entries are held from a base on.
-    pub fn sequence(&mut self, base: u32) -> Result<Value, AllocError> {
-        let base = (base as usize).min(self.held.len());
+    pub fn sequence(&mut self, base: usize) -> Result<Value, AllocError> {
+        let base = base.min(self.held.len());
         Ok(Value::Seq(self.held.split_off(base)?))
     }
 
     /// The list whose items are held from a base on.
-    pub fn list(&mut self, alloc: Global, base: u32) -> Result<Value, AllocError> {
-        let base = (base as usize).min(self.held.len());
+    pub fn list(&mut self, alloc: Global, base: usize) -> Result<Value, AllocError> {
+        let base = base.min(self.held.len());
         let mut items = Vec::with_capacity(alloc, self.held.len() - base)?;
         for held in self.held.split_off(base)? {
             if let Some(item) = held {
