@@ -160,7 +160,7 @@ after_proper p n (more T ts) h = go (λ d q. after_proper p (next_of d) ts q) (d
     go later None e = h
 
 -- a skipped row's entry: none, or its default
-same_simple : (k : Kind) (x : ℤ) → same_value (default_value k x) (default_value k x) ≡ true
+pub same_simple : (k : Kind) (x : ℤ) → same_value (default_value k x) (default_value k x) ≡ true
 same_simple (Kind.Leaf LeafKind.Boolean) x = same_flag (int_eq x (pos 1))
   where
     same_flag : (b : Bool) → same_value (flag b) (flag b) ≡ true
@@ -186,7 +186,7 @@ entry_skip p row rs ts n m = skipped row.presence refl n
     skipped (Presence.Default x) e n =
         (present (simple (default_value (kind_of row.node) x)) m.0, (subst IsCarried (sym e) tt, inr (subst (λ pr. IsTrue (is_default_of pr (kind_of row.node) (simple (default_value (kind_of row.node) x)))) (sym e) (same_simple (kind_of row.node) x), m.1)))
 
-first_none : (c : Component) (cs : List Component) → first_mandatory (c ∷ cs) ≡ None → (c.presence ≡ Presence.Must → ⊥) × (first_mandatory cs ≡ None)
+pub first_none : (c : Component) (cs : List Component) → first_mandatory (c ∷ cs) ≡ None → (c.presence ≡ Presence.Must → ⊥) × (first_mandatory cs ≡ None)
 first_none c cs h = go c.presence refl
   where
     go : (pr : Presence) → c.presence ≡ pr → (c.presence ≡ Presence.Must → ⊥) × (first_mandatory cs ≡ None)

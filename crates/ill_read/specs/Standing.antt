@@ -6,9 +6,12 @@ use Rattle.ber_core.specs.Octets.{are_octets}
 use Rattle.ber_leaf.specs.Leaf.{is_string, value, content_fault}
 use Rattle.ber_leaf.specs.Profile.{profile_two}
 use Rattle.ill_schema.specs.declared.node.NodeId.TheVariants.{IllApdu}
+use Rattle.ill_schema.specs.declared.part.Presence.{Presence}
+use Rattle.ill_schema.specs.declared.part.Row.{Row}
 use Rattle.ill_schema.specs.declared.value.Value.{Value}
 use Rattle.ill_schema.specs.Meaning.{Means, Matches, MatchItems, IsLeaf}
-use Rattle.ill_schema.specs.Table.{rows_of}
+use Rattle.ill_schema.specs.Presence.{default_value}
+use Rattle.ill_schema.specs.Table.{kind_of, rows_of}
 use Rattle.ill_schema.specs.Tagging.{untagged}
 use Rattle.ill_schema.specs.Value.{content_of, entries_content, items_content}
 use Rattle.ill_schema.specs.Content.{Content, simple, alternative, Entries, Items as Contents}
@@ -61,6 +64,10 @@ IsValueOf (left_out part) c T = ⊥
 abbrev pub with_alternative : Option ℕ → Content → Content
 with_alternative None c = c
 with_alternative (Some n) c = alternative n c
+
+-- the entry of a row that has no element
+abbrev pub absent_content : Row → Option Content
+absent_content row = elim row.presence as (λ _. Option Content) [ Presence.Default d ↦ Some (simple (default_value (kind_of row.node) d)) | _ ↦ None ]
 
 -- a wrapper holds its one part
 abbrev pub HoldsPart : Wrapped → List (Option Value) → Trees → Type 0
