@@ -21,3 +21,4 @@ pub mod HeadersRead
 pub mod Frames
 pub mod Entries
 pub mod Meanings
+pub mod Wanting
