@@ -22,3 +22,4 @@ pub mod Frames
 pub mod Entries
 pub mod Meanings
 pub mod Wanting
+pub mod Bodies

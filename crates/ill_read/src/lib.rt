@@ -13,6 +13,7 @@ mod leaf_type;
 mod path;
 mod read;
 mod values;
+mod whole;
 
 pub use decoder::{Decoder, Progress};
 pub use failure::{Failure, ReadFailure};
