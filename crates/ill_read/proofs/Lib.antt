@@ -23,3 +23,4 @@ pub mod Entries
 pub mod Meanings
 pub mod Wanting
 pub mod Bodies
+pub mod Fed

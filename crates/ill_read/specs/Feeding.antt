@@ -13,10 +13,12 @@ use Rattle.ill_read.specs.Place.{Open, IsPlace}
 use Rattle.ill_read.specs.Standing.{StandsAt}
 use Rattle.ill_read.specs.declared.decoder.Decoder.{Decoder}
 use Rattle.ill_read.specs.declared.decoder.Progress.{Progress}
+use Rattle.ill_read.specs.declared.decoder.State.{State}
 use Rattle.ill_read.specs.declared.decoder.State.TheVariants as state
 use Rattle.ill_read.specs.declared.failure.Failure.{Failure}
 use Rattle.ill_read.specs.declared.judge.Judgement.{Judgement}
 use Rattle.ill_read.specs.declared.path.Body.{Body}
+use Rattle.ill_read.specs.declared.path.Path.{Path}
 
 -- the octets begin with the message and no other, and aren't refused
 abbrev pub IsRead : List ℕ → Message → Type 0
@@ -31,33 +33,34 @@ abbrev pub IsRefused : List ℕ → Failure → Type 0
 IsRefused s (Failure.Refused refusal) = OnlyRefuses profile_two s (fault_is refusal) × (refusal.cause ≢ Cause.Truncated)
 IsRefused s Failure.OutOfMemory = Unit {0}
 
--- the decoder stands at a place of the octets, and the rest of them follows
-pub record StandsBefore (d : Decoder) (s rest : List ℕ) : Type 0 where
+-- a path that stands at a place of the octets, with the rest of them behind it
+pub record StandsBefore (path : Path) (at : ℕ) (s rest : List ℕ) : Type 0 where
   pub place : List Open
   pub before : List ℕ
   pub joined : s ≡ before ++ rest
-  pub at : d.at ≡ length before
-  pub stands : StandsAt d.path place
+  pub offset : at ≡ length before
+  pub stands : StandsAt path place
   pub is_place : IsPlace profile_two before place
 
-abbrev pub IsRunning : Decoder → List ℕ → List ℕ → Type 0
-IsRunning d s rest = elim d.state as (λ _. Type 0) [
-  | state.Open ↦ StandsBefore d s rest
-  | state.Whole m ↦ IsRead s m
-  | state.Failed f ↦ IsRefused s f
-]
+-- the rest doesn't reach the next place
+abbrev pub StandsLast : Path → ℕ → List ℕ → List ℕ → Type 0
+StandsLast path at s rest = (b : StandsBefore path at s rest) × (judge profile_two b.place at rest ≡ faulty (fault Cause.Truncated (length s)))
 
--- it stands at the last place that the octets reach, or has come to an end
+-- a message was read of the octets, or they are refused, or else this holds
+abbrev pub InState : State → List ℕ → Type 0 → Type 0
+InState state.Open s IfOpen = IfOpen
+InState (state.Whole m) s IfOpen = IsRead s m
+InState (state.Failed f) s IfOpen = IsRefused s f
+
+abbrev pub IsRunning : Decoder → List ℕ → List ℕ → Type 0
+IsRunning d s rest = InState d.state s (StandsBefore d.path d.at s rest)
+
 abbrev pub HasStopped : Decoder → List ℕ → List ℕ → Type 0
-HasStopped d s rest = elim d.state as (λ _. Type 0) [
-  | state.Open ↦ (b : StandsBefore d s rest) × (judge profile_two b.place d.at rest ≡ faulty (fault Cause.Truncated (length s)))
-  | state.Whole m ↦ IsRead s m
-  | state.Failed f ↦ IsRefused s f
-]
+HasStopped d s rest = InState d.state s (StandsLast d.path d.at s rest)
 
 -- the judgement is the definitions' one at its place
 abbrev pub CanStep : Decoder → List ℕ → List ℕ → Judgement → Type 0
-CanStep d s rest judgement = (b : StandsBefore d s rest) × IsJudgement d.path b.place d.at rest judgement (judge profile_two b.place d.at rest)
+CanStep d s rest judgement = (b : StandsBefore d.path d.at s rest) × IsJudgement d.path b.place d.at rest judgement (judge profile_two b.place d.at rest)
 
 -- it went on behind so many octets, or stopped
 abbrev pub HasAdvanced : Decoder → List ℕ → List ℕ → Option ℕ → Type 0
@@ -74,11 +77,7 @@ IsMessageOf a octets (Some m) = (apdu_of m ≡ a) × (octets_of m ≡ octets) ×
 
 -- nothing is open any more
 abbrev pub HasEnded : Decoder → List ℕ → Type 0
-HasEnded d s = elim d.state as (λ _. Type 0) [
-  | state.Open ↦ ⊥
-  | state.Whole m ↦ IsRead s m
-  | state.Failed f ↦ IsRefused s f
-]
+HasEnded d s = InState d.state s ⊥
 
 -- the decoder has been fed these octets
 abbrev pub IsFed : Decoder → List ℕ → Type 0
