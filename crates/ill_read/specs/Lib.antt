@@ -13,3 +13,4 @@ pub mod Progress
 pub mod Standing
 pub mod Step
 pub mod Judged
+pub mod JudgeCode
