@@ -20,3 +20,4 @@ pub mod Enumerated
 pub mod HeadersRead
 pub mod Frames
 pub mod DueElements
+pub mod Judges
