@@ -7,7 +7,7 @@ use Rattle.ber_leaf.specs.Profile.{Profile, profile_two}
 use Rattle.ill_schema.specs.declared.refusal.Cause.{Cause}
 use Rattle.ill_schema.specs.declared.refusal.Refusal.{Refusal}
 use Rattle.ill_read.specs.Code.{element_is, found_is}
-use Rattle.ill_read.specs.Fault.{Fault, fault, Judgement, faulty, judge_form, judge_length, judge_tag}
+use Rattle.ill_read.specs.Fault.{Fault, fault, Judgement, faulty, judge_form, judge_tag}
 use Rattle.ill_read.specs.Judged.{fault_is, IsBegin, IsJudged}
 use Rattle.ill_read.specs.Place.{Open, bound, allows}
 use Rattle.ill_read.specs.Standing.{StandsAt}

@@ -1,12 +1,11 @@
-use Rattle.std.proofs.Common.{◌≡◌, ◌<◌, ◌++◌, Bool, List, ℕ, get_or, IsTrue, refl, sym, ap, subst, ◌∙◌, arith}
+use Rattle.std.proofs.Common.{◌≡◌, ◌<◌, ◌++◌, get_or, IsTrue, sym, ap, subst, ◌∙◌, arith}
 use Rattle.ber_core.specs.Id.{tag_of_id, form_of_id}
 use Rattle.ber_core.specs.Identifier.{identifier}
 use Rattle.ber_core.specs.Octets.{are_octets}
 use Rattle.ber_leaf.proofs.Leaves.{octets_fit}
-use Rattle.ill_read.specs.Fault.{Judgement}
 use Rattle.ill_read.specs.HeaderCode.{IsLengthRead}
 use Rattle.ill_read.specs.Judged.{IsJudged, fault_is}
-use Rattle.ill_read.specs.Reading.{identified, read_identifier, read_length}
+use Rattle.ill_read.specs.Reading.{identified, read_length}
 use Rattle.ill_read.proofs.Judges.{behind_identifier, begun_judged}
 use Rattle.ill_read.proofs.Readings.{read_is_identifier}
 use Rattle.ill_read.proofs.path.Path.judge_element.Goals as goal

@@ -1,4 +1,4 @@
-use Rattle.std.proofs.Common.{◌≡◌, ◌<◌, ◌++◌, Bool, List, ℕ, get_or, drop, IsTrue, refl, sym, ap, subst, ◌∙◌, arith}
+use Rattle.std.proofs.Common.{◌≡◌, ◌<◌, get_or, drop, IsTrue, sym, ap, subst, ◌∙◌, arith}
 use Rattle.ber_core.specs.Octets.{are_octets}
 use Rattle.ber_core.specs.declared.header.Len.TheVariants.{Definite}
 use Rattle.ber_leaf.proofs.Leaves.{octets_fit}

@@ -1,5 +1,5 @@
-use Rattle.std.proofs.Common.{◌≡◌, ◌<◌, ◌≤◌, ℕ, Option, Some, None, MatchOption, sym, ap, subst, ◌∙◌, length, arith}
-use Rattle.ber_core.specs.Id.{tag_of_id, form_of_id}
+use Rattle.std.proofs.Common.{◌<◌, ◌≤◌, ℕ, sym, ap, subst, ◌∙◌}
+use Rattle.ber_core.specs.Id.{tag_of_id}
 use Rattle.ber_leaf.specs.Profile.{profile_two}
 use Rattle.ill_read.specs.DueCode.{IsDueIn, next_is}
 use Rattle.ill_read.specs.Next.{due}
