@@ -24,3 +24,5 @@ pub mod Meanings
 pub mod Wanting
 pub mod Bodies
 pub mod Fed
+pub mod DueElements
+pub mod Judges

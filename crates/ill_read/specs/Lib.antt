@@ -14,3 +14,4 @@ pub mod Standing
 pub mod Step
 pub mod Judged
 pub mod Feeding
+pub mod JudgeCode

@@ -1,6 +1,6 @@
 //! The values of the elements that have been read, until those round them are whole.
 use crate::element::Wrapped;
-use ill_schema::{Kind, LeafKind, NodeId, PartId, Presence, Row, Value, kind, rows_of};
+use ill_schema::{Kind, LeafKind, NodeId, Presence, Row, Value, kind, rows_of};
 use std::alloc::{AllocError, Global};
 
 /// The values in the open elements, those of the innermost last. A sequence has an entry for each row up to that of its last element.
@@ -22,20 +22,6 @@ fn default_value(node: NodeId, number: i64) -> Value {
         Kind::Leaf(LeafKind::Boolean) => Value::Flag(number == 1),
         _ => Value::Whole(number),
     }
-}
-
-/// The first mandatory row from a position on.
-pub fn first_mandatory(node: NodeId, position: u8) -> Option<PartId> {
-    let rows = rows_of(node);
-    for number in position..rows.len() as u8 {
-        match rows.get(number as usize) {
-            Some(row) if row.presence == Presence::Must => {
-                return Some(PartId { node, row: number });
-            }
-            _ => {}
-        }
-    }
-    None
 }
 
 impl Values {
