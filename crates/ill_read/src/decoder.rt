@@ -73,9 +73,7 @@ impl Decoder {
         ensures fed { (fed : List ℕ) → IsFed self.old fed → IsFed self.new (fed ++ piece.now) }
         ensures answers { (fed : List ℕ) → IsFed self.old fed → FeedAnswers (fed ++ piece.now) result }
     {
-        if matches!(&self.state, State::Open) {
-            self.take(piece);
-        }
+        self.take(piece);
         match &self.state {
             State::Failed(failure) => Err(*failure),
             State::Whole(_) => Ok(Progress::Done),
@@ -84,9 +82,11 @@ impl Decoder {
     }
 
     fn take(&mut self, piece: &[u8])
-        requires { self.old.state ≡ State.Open }
         ensures { (fed : List ℕ) → IsFed self.old fed → IsFed self.new (fed ++ piece.now) }
     {
+        if !matches!(&self.state, State::Open) {
+            return;
+        }
         if self.pending.is_empty() {
             let count = self.run(piece);
             self.keep(&piece[count..]);

@@ -6,25 +6,5 @@ use Rattle.ill_read.specs.Progress.{depth_of, size_of, IsProgress, StepsTo}
 use Rattle.ill_read.proofs.decoder.Decoder.feed.Goals as goal
 
 -- src/decoder.rt:72:5
-pub returns-in-Failed-clause-fed : goal.returns-in-Failed-clause-fed
-returns-in-Failed-clause-fed c = ?
-
--- src/decoder.rt:72:5
-pub returns-in-Failed-clause-answers : goal.returns-in-Failed-clause-answers
-returns-in-Failed-clause-answers c = ?
-
--- src/decoder.rt:72:5
-pub returns-in-Whole-clause-fed : goal.returns-in-Whole-clause-fed
-returns-in-Whole-clause-fed c = ?
-
--- src/decoder.rt:72:5
-pub returns-in-Whole-clause-answers : goal.returns-in-Whole-clause-answers
-returns-in-Whole-clause-answers c = ?
-
--- src/decoder.rt:72:5
-pub returns-in-Open-state-clause-fed : goal.returns-in-Open-state-clause-fed
-returns-in-Open-state-clause-fed c = ?
-
--- src/decoder.rt:72:5
-pub returns-in-Open-state-clause-answers : goal.returns-in-Open-state-clause-answers
-returns-in-Open-state-clause-answers c = ?
+pub returns-in-Open-clause-answers : goal.returns-in-Open-clause-answers
+returns-in-Open-clause-answers c = ?

@@ -5,10 +5,14 @@ use Rattle.ill_read.specs.Feeding.{body_apdu, CanStep, FeedAnswers, HasAdvanced,
 use Rattle.ill_read.specs.Progress.{depth_of, size_of, IsProgress, StepsTo}
 use Rattle.ill_read.proofs.decoder.Decoder.take.Goals as goal
 
+-- src/decoder.rt:88:13
+pub returns-then-not-matches : goal.returns-then-not-matches
+returns-then-not-matches c = ?
+
 -- src/decoder.rt:93:13
 pub returns-then-is_empty : goal.returns-then-is_empty
 returns-then-is_empty c = ?
 
--- src/decoder.rt:86:5
+-- src/decoder.rt:84:5
 pub returns-in-Ok : goal.returns-in-Ok
 returns-in-Ok c = ?
