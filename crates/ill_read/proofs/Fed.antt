@@ -1,6 +1,7 @@
 -- What a decoder knows at the end of a message, and of octets that follow.
 use Rattle.std.proofs.Common.{◌≡◌, ◌≢◌, ℕ, ◌<◌, ◌≤◌, List, ◌++◌, length, length-append, take, Option, Some, None, IsTrue, refl, sym, ap, subst, ◌∙◌, inl, inr, arith, append_assoc}
 use Rattle.std.proofs.lemmas.List.{take-append-le}
+use Rattle.ber_core.specs.Octets.{are_octets}
 use Rattle.ber_leaf.specs.Profile.{profile_two}
 use Rattle.ill_schema.specs.declared.message.Message.{Message}
 use Rattle.ill_schema.specs.declared.refusal.Cause.{Cause}
@@ -17,6 +18,7 @@ use Rattle.ill_read.specs.declared.decoder.State.TheVariants as state
 use Rattle.ill_read.specs.declared.path.Path.{Path}
 use Rattle.ill_read.proofs.Feeding.{refused_at}
 use Rattle.ill_read.proofs.Longer.{refusal_stays}
+use Rattle.ill_read.proofs.Readings.{octets_join}
 use Rattle.ill_read.proofs.Outcomes.{accepted_alone, long_alone, refused_alone, fault_run}
 
 pub read_message : (s : List ℕ) (a : Apdu) (n : ℕ) (m : Message) → n ≤ length s → Encodes profile_two a (take n s) → IsMessageOf a n (Some m) → IsRead s m
@@ -50,19 +52,20 @@ ended_longer (state.Whole m) s x A B n h = accepts_longer s x (apdu_of m) (octet
 ended_longer (state.Failed f) s x A B n h = refused_longer s x f h
 
 -- octets that come behind those that wait
-pub running_longer : (st : State) (path : Path) (at : ℕ) (s rest x : List ℕ) → InState st s (StandsLast path at s rest) → InState st (s ++ x) (StandsBefore path at (s ++ x) (rest ++ x))
-running_longer state.Open path at s rest x h =
+pub running_longer : (st : State) (path : Path) (at : ℕ) (s rest x : List ℕ) → IsTrue (are_octets x) → InState st s (StandsLast path at s rest) → InState st (s ++ x) (StandsBefore path at (s ++ x) (rest ++ x))
+running_longer state.Open path at s rest x ok h =
     let b = h.0 in
     record {
       place = b.place;
       before = b.before;
       joined = ap (λ z. z ++ x) b.joined ∙ append_assoc b.before rest x;
+      octets = octets_join s x b.octets ok;
       offset = b.offset;
       stands = b.stands;
       is_place = b.is_place;
     }
-running_longer (state.Whole m) path at s rest x h = accepts_longer s x (apdu_of m) (octets_of m) h.0
-running_longer (state.Failed f) path at s rest x h = refused_longer s x f h
+running_longer (state.Whole m) path at s rest x ok h = accepts_longer s x (apdu_of m) (octets_of m) h.0
+running_longer (state.Failed f) path at s rest x ok h = refused_longer s x f h
 
 -- a place whose next octets are wanting: the input ends too early
 pub stands_part : (path : Path) (at : ℕ) (s rest : List ℕ) → StandsLast path at s rest → IsPart s

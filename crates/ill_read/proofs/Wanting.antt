@@ -19,7 +19,7 @@ abbrev IsWanting : Fault → Judgement → Type 0
 IsWanting want (faulty f) = (f ≡ want) ⊎ (f.cause ≡ Cause.Truncated → ⊥)
 IsWanting want _ = Unit {0}
 
-leaf_cause : (c : LeafFault) → cause_of c ≡ Cause.Truncated → ⊥
+pub leaf_cause : (c : LeafFault) → cause_of c ≡ Cause.Truncated → ⊥
 leaf_cause LeafFault.BadBoolean e = cc
 leaf_cause LeafFault.BadInteger e = cc
 leaf_cause LeafFault.IntegerTooLong e = cc
@@ -27,7 +27,7 @@ leaf_cause LeafFault.BadText e = cc
 leaf_cause LeafFault.BadDate e = cc
 leaf_cause LeafFault.BadTime e = cc
 
-pub or_wanting : (want : Fault) (c : Option LeafFault) (at : ℕ) (j : Judgement) → IsWanting want j → IsWanting want (or_faulty c at j)
+or_wanting : (want : Fault) (c : Option LeafFault) (at : ℕ) (j : Judgement) → IsWanting want j → IsWanting want (or_faulty c at j)
 or_wanting want None at j h = h
 or_wanting want (Some c) at j h = inr (leaf_cause c)
 

@@ -1,5 +1,6 @@
 -- What a decoder has been fed, and what its calls answer.
-use Rattle.std.specs.Prelude.{◌≡◌, ◌≢◌, ◌⊎◌, ℕ, ◌+◌, ◌<◌, ◌≤◌, List, [], ◌++◌, length, drop, Option, Some, None, Result, Ok, Err}
+use Rattle.std.specs.Prelude.{◌≡◌, ◌≢◌, ◌⊎◌, ℕ, ◌+◌, ◌<◌, ◌≤◌, List, [], ◌++◌, length, drop, Option, Some, None, Result, Ok, Err, IsTrue}
+use Rattle.ber_core.specs.Octets.{are_octets}
 use Rattle.ber_leaf.specs.Profile.{profile_two}
 use Rattle.ill_schema.specs.declared.message.Message.{Message}
 use Rattle.ill_schema.specs.declared.refusal.Cause.{Cause}
@@ -38,6 +39,7 @@ pub record StandsBefore (path : Path) (at : ℕ) (s rest : List ℕ) : Type 0 wh
   pub place : List Open
   pub before : List ℕ
   pub joined : s ≡ before ++ rest
+  pub octets : IsTrue (are_octets s)
   pub offset : at ≡ length before
   pub stands : StandsAt path place
   pub is_place : IsPlace profile_two before place
