@@ -74,3 +74,9 @@ stands_part path at s rest h =
     subst (λ z. OnlyRefuses profile_two z (fault Cause.Truncated (length s))) (sym b.joined)
     (refused_at profile_two b.place b.before rest (fault Cause.Truncated (length s)) b.is_place
     (subst (λ k. judge profile_two b.place k rest ≡ faulty (fault Cause.Truncated (length s))) b.offset h.1))
+
+-- nothing is open behind the end
+pub after_end : (st : State) (s : List ℕ) (A : Type 0) → InState st s ⊥ → InState st s A
+after_end state.Open s A h = absurd h
+after_end (state.Whole m) s A h = h
+after_end (state.Failed f) s A h = h
