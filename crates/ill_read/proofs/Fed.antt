@@ -1,5 +1,5 @@
 -- What a decoder knows at the end of a message, and of octets that follow.
-use Rattle.std.proofs.Common.{◌≡◌, ◌≢◌, ℕ, ◌<◌, ◌≤◌, List, ◌++◌, length, length-append, take, Option, Some, None, IsTrue, refl, sym, ap, subst, ◌∙◌, inl, inr, arith, append_assoc}
+use Rattle.std.proofs.Common.{◌≡◌, ◌≢◌, ℕ, ◌+◌, ◌≤◌, List, ◌++◌, length, length-append, take, Option, Some, None, IsTrue, refl, sym, ap, subst, ◌∙◌, inl, inr, arith, append_assoc}
 use Rattle.std.proofs.lemmas.List.{take-append-le}
 use Rattle.ber_core.specs.Octets.{are_octets}
 use Rattle.ber_leaf.specs.Profile.{profile_two}
@@ -19,6 +19,7 @@ use Rattle.ill_read.specs.declared.path.Path.{Path}
 use Rattle.ill_read.proofs.Feeding.{refused_at}
 use Rattle.ill_read.proofs.Longer.{refusal_stays}
 use Rattle.ill_read.proofs.Readings.{octets_join}
+use Rattle.ill_read.proofs.Wanting.{truncated_at}
 use Rattle.ill_read.proofs.Outcomes.{accepted_alone, long_alone, refused_alone, fault_run}
 
 pub read_message : (s : List ℕ) (a : Apdu) (n : ℕ) (m : Message) → n ≤ length s → Encodes profile_two a (take n s) → IsMessageOf a n (Some m) → IsRead s m
@@ -80,3 +81,18 @@ pub after_end : (st : State) (s : List ℕ) (A : Type 0) → InState st s ⊥ �
 after_end state.Open s A h = absurd h
 after_end (state.Whole m) s A h = h
 after_end (state.Failed f) s A h = h
+
+-- the refusal of the place where a path stands
+pub stops_refused : (path : Path) (at : ℕ) (s rest : List ℕ) (r : Refusal) → (b : StandsBefore path at s rest) → judge profile_two b.place at rest ≡ faulty (fault_is r) → r.cause ≢ Cause.Truncated
+    → IsRefused s (Failure.Refused r)
+stops_refused path at s rest r b e n =
+    (subst (λ z. OnlyRefuses profile_two z (fault_is r)) (sym b.joined)
+    (refused_at profile_two b.place b.before rest (fault_is r) b.is_place (subst (λ k. judge profile_two b.place k rest ≡ faulty (fault_is r)) b.offset e)), n)
+
+-- or the octets end
+pub stops_open : (path : Path) (at : ℕ) (s rest : List ℕ) (r : Refusal) → (b : StandsBefore path at s rest) → judge profile_two b.place at rest ≡ faulty (fault_is r) → r.cause ≡ Cause.Truncated
+    → StandsLast path at s rest
+stops_open path at s rest r b e c =
+    let q = truncated_at profile_two b.place at rest (fault_is r) e c in
+    let n : at + length rest ≡ length s = omega (arith, b.offset, ap length b.joined, length-append b.before rest) in
+    (b, e ∙ ap faulty (q.1 ∙ ap (fault Cause.Truncated) n))

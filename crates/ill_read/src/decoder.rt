@@ -42,7 +42,7 @@ impl Decoder {
     ghost use Rattle.std.specs.Prelude.{◌≡◌, ◌≢◌, ℕ, ◌+◌, ◌-◌, ◌*◌, ◌<◌, List, [], ◌++◌, length, drop, take, IfSome, OnSome};
     ghost use Rattle.ber_leaf.specs.Profile.{profile_two};
     ghost use Rattle.ill_schema.specs.Apdu.{Encodes};
-    ghost use Rattle.ill_read.specs.Feeding.{body_apdu, CanStep, FeedAnswers, HasAdvanced, HasEnded, HasStopped, IsFed, IsRunning};
+    ghost use Rattle.ill_read.specs.Feeding.{body_apdu, CanRefuse, CanStep, FeedAnswers, HasAdvanced, HasEnded, HasStopped, IsFed, IsRunning};
     ghost use Rattle.ill_read.specs.Progress.{depth_of, size_of, IsProgress, StepsTo};
 
     pub fn new(alloc: Global) -> Decoder {
@@ -161,11 +161,11 @@ impl Decoder {
 
     /// Fails with a refusal, unless it is only that the octets end.
     fn refuse(&mut self, refusal: Refusal)
+        requires open { self.old.state ≡ State.Open }
         ensures pending { self.new.pending ≡ self.old.pending }
-        ensures ends { refusal.cause ≡ Cause.Truncated → self.new ≡ self.old }
-        ensures fails { refusal.cause ≢ Cause.Truncated → self.new.state ≡ State.Failed (Failure.Refused refusal) }
+        ensures stopped { (s rest : List ℕ) → CanRefuse self.old s rest refusal → HasStopped self.new s rest }
     {
-        if refusal.cause != Cause::Truncated {
+        if !matches!(&refusal.cause, Cause::Truncated) {
             self.state = State::Failed(Failure::Refused(refusal));
         }
     }
