@@ -1,10 +1,8 @@
-use Rattle.std.proofs.Common.{rules, ◌≤◌, ◌≡◌, ◌≢◌, ℕ, ◌+◌, ◌-◌, ◌*◌, ◌<◌, List, [], ◌++◌, length, drop, take, IfSome, OnSome, ◌/◌, ◌%◌, Bool, true, false, nat_eq, nat_lt, ◌∷◌, slice_index_or, slice_set, bit_and, bit_or, Fits, w8, w32, w64, Bor, MutBor}
-use Rattle.ber_leaf.specs.Profile.{profile_two}
-use Rattle.ill_schema.specs.Apdu.{Encodes}
-use Rattle.ill_read.specs.Feeding.{body_apdu, CanStep, FeedAnswers, HasAdvanced, HasEnded, HasStopped, IsFed, IsRunning}
-use Rattle.ill_read.specs.Progress.{depth_of, size_of, IsProgress, StepsTo}
+use Rattle.std.proofs.Common.{subst}
+use Rattle.ill_read.specs.Feeding.{HasStopped}
 use Rattle.ill_read.proofs.decoder.Decoder.run.Goals as goal
 
--- src/decoder.rt:132:5
 pub returns-clause-stopped : goal.returns-clause-stopped
-returns-clause-stopped c = ?
+returns-clause-stopped c s h =
+    let i = c.loop-size.invariant in
+    subst (HasStopped c.advance.new.self s) i.1 (c.in_default.ensures.goes s (i.3 s h))
