@@ -19,3 +19,4 @@ pub mod DueRows
 pub mod Enumerated
 pub mod HeadersRead
 pub mod Frames
+pub mod DueElements

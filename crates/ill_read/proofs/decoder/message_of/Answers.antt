@@ -1,4 +1,4 @@
-use Rattle.std.proofs.Common.{◌≡◌, sym, ap, ◌∙◌, length, arith}
+use Rattle.std.proofs.Common.{sym, ap, ◌∙◌, length, arith}
 use Rattle.ill_schema.specs.Value.{apdu_with}
 use Rattle.ill_schema.proofs.Carried.{node_form-apdu}
 use Rattle.ill_read.proofs.decoder.message_of.Goals as goal

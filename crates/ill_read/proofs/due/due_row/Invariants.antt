@@ -1,4 +1,4 @@
-use Rattle.std.proofs.Common.{◌≡◌, ◌≤◌, ◌<◌}
+use Rattle.std.proofs.Common.{◌≡◌, ◌≤◌}
 use Rattle.ber_core.specs.Id.{tag_of_id}
 use Rattle.ill_read.specs.DueCode.{MayAllLack}
 use Rattle.ill_read.proofs.DueRows.{due_from}

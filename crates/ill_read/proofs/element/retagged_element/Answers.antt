@@ -1,4 +1,4 @@
-use Rattle.std.proofs.Common.{◌≡◌, sym, ap, ◌∙◌}
+use Rattle.std.proofs.Common.{sym, ap, ◌∙◌}
 use Rattle.ill_schema.specs.declared.node.Kind.{Kind}
 use Rattle.ill_read.specs.Code.{first_element}
 use Rattle.ill_read.specs.Element.{own_starts}

@@ -1,11 +1,11 @@
 use Rattle.std.proofs.Common.{◌≡◌, sym, ap, ◌∙◌, None, true}
-use Rattle.std.specs.Prelude.{if◌then◌else◌, Bool, Option}
+use Rattle.std.specs.Prelude.{if◌then◌else◌, Bool}
 use Rattle.ber_core.specs.Identifier.{Tag}
 use Rattle.ber_core.specs.Id.{tag_of_id}
 use Rattle.ill_schema.specs.Tagging.{Tagging, same_tag}
 use Rattle.ill_schema.specs.Table.{kind_of}
 use Rattle.ill_read.specs.Code.{element_with, component_at, tagging_is, first_element}
-use Rattle.ill_read.specs.Element.{Element, own_starts, tagged_starts}
+use Rattle.ill_read.specs.Element.{own_starts, tagged_starts}
 use Rattle.ill_read.proofs.Starts.{element_with-retag}
 use Rattle.ill_read.proofs.element.tagged_element.Goals as goal
 

@@ -1,9 +1,9 @@
-use Rattle.std.proofs.Common.{◌≡◌, ◌<◌, ◌≤◌, ℕ, ◌+◌, List, [], ◌∷◌, ◌++◌, take, drop, length, get_or, Option, Some, None, Result, Ok, Err, IsTrue, IsNone, refl, sym, ap, subst, ◌∙◌, arith, take-append-drop}
+use Rattle.std.proofs.Common.{◌≡◌, ◌<◌, ◌+◌, [], ◌∷◌, ◌++◌, take, drop, get_or, Option, Ok, IsTrue, IsNone, refl, sym, ap, subst, ◌∙◌, arith, take-append-drop}
 use Rattle.std.proofs.lemmas.List.{take_more}
 use Rattle.ber_core.specs.declared.header.Header.{Header}
 use Rattle.ber_core.specs.declared.header.HeaderFault.{HeaderFault}
 use Rattle.ber_core.specs.Header.{Judged, IsFault, IsPartHeader, HasWholeId, BeginsWithId}
-use Rattle.ber_core.specs.HeaderState.{Fed, IsOpen}
+use Rattle.ber_core.specs.HeaderState.{Fed}
 use Rattle.ber_core.specs.Octets.{are_octets}
 use Rattle.ber_leaf.proofs.Leaves.{octets_fit}
 use Rattle.ill_read.proofs.HeadersRead.{whole_header_read, no_identifier_read, no_length_read, part_identifier_read, part_length_read, take-past}

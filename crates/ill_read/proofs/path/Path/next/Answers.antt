@@ -1,4 +1,4 @@
-use Rattle.std.proofs.Common.{◌≡◌, sym, ◌∙◌}
+use Rattle.std.proofs.Common.{sym, ◌∙◌}
 use Rattle.ill_read.proofs.Frames.{next_last}
 use Rattle.ill_read.proofs.path.Path.next.Goals as goal
 

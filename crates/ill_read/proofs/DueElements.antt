@@ -1,0 +1,71 @@
+-- What is due by the decoder's words is due by the definitions.
+use Rattle.std.proofs.Common.{◌≡◌, ℕ, ◌+◌, Bool, true, false, List, [], ◌∷◌, drop, Option, Some, None, option_map, refl, sym, ap, ◌∙◌, inl, inr, if◌then◌else◌}
+use Rattle.ber_core.specs.Identifier.{Tag}
+use Rattle.ber_core.specs.Tree.{octet_string}
+use Rattle.ber_leaf.specs.Profile.{profile_two}
+use Rattle.ill_schema.specs.declared.node.NodeId.{NodeId}
+use Rattle.ill_schema.specs.declared.part.Row.{Row}
+use Rattle.ill_schema.specs.Tagging.{same_tag, sequence_tag}
+use Rattle.ill_read.specs.Element.{Component, Element, Start, segment, list, components, starts}
+use Rattle.ill_read.specs.Next as next
+use Rattle.ill_read.specs.Next.{part, octets, rows, items, element_of, next_of, due, due_in, opening, start_of}
+use Rattle.ill_read.specs.Code.{component_of, component_at, element_with, found_is}
+use Rattle.ill_read.specs.DueCode.{IsDueIn, IsDueInRows, IsRowDue, IsInnerDue, IsItemDue, IsSegmentDue, next_is, behind}
+use Rattle.ill_read.specs.declared.due.Due.{Due}
+use Rattle.ill_read.specs.declared.due.Slot.{Slot}
+use Rattle.ill_read.specs.declared.due.Slot.TheVariants.{Row as AtRow, Item, Inner as Inside, Segment}
+use Rattle.ill_read.specs.declared.due.Next.{Next}
+use Rattle.ill_read.specs.declared.due.Next.TheVariants.{Rows, Inner, Items, Either, Segments, Nothing}
+use Rattle.ill_read.specs.declared.element.Found.{Found}
+use Rattle.ill_read.specs.declared.element.Wrapped.{Wrapped}
+use Rattle.ill_read.proofs.DueRows.{due_in-found, items-at}
+
+-- an element that is due, and what may come behind it
+abbrev Answer : Option next.Due → Element → next.Next → Type 0
+Answer o e n = (D : next.Due) × (o ≡ Some D) × (element_of D ≡ e) × (next_of D ≡ n)
+
+item-found : (t : Tag) (c : Component) (e : Element) → element_with t (starts profile_two c) ≡ Some e → due profile_two t (items c) ≡ Some (part c e (items c))
+item-found t c e h = at (start_of profile_two t c) h
+  where
+    at : (o : Option Start) → option_map (λ (s : Start). s.element) o ≡ Some e → (elim o as (λ _. Option next.Due) [ Some s ↦ Some (part c s.element (items c)) | None ↦ None ]) ≡ Some (part c e (items c))
+    at None k = absurd cc
+    at (Some s) k = let q : s.element ≡ e = cc in ap (λ x. Some (part c x (items c))) q
+
+in_rows : (t : Tag) (node : NodeId) (n : ℕ) (d : Due) → IsDueInRows t node n d
+    → (r : ℕ) × (d.slot ≡ AtRow r) × Answer (due_in profile_two t (drop n (components profile_two node))) (found_is d.found) (next_is (Rows node (r + 1)))
+in_rows t node n d h = go d.slot h
+  where
+    go : (s : Slot) → (elim s as (λ _. Type 0) [ AtRow r ↦ IsRowDue t node n r d.alternative d.found | _ ↦ ⊥ ])
+        → (r : ℕ) × (s ≡ AtRow r) × Answer (due_in profile_two t (drop n (components profile_two node))) (found_is d.found) (next_is (Rows node (r + 1)))
+    go (AtRow r) k = (r, refl, (part (component_at (record { node = node; row = r }) k.row) (found_is d.found) (rows (drop (r + 1) (components profile_two node))), k.is, refl, refl))
+    go Item k = absurd k
+    go Inside k = absurd k
+    go Segment k = absurd k
+
+inside : (t : Tag) (w : Wrapped) (d : Due) → IsInnerDue t w d → Answer (due_in profile_two t (component_of w ∷ [])) (found_is d.found) (next_is Nothing)
+inside t w d h = (part (component_of w) (found_is d.found) (rows []), due_in-found t (component_of w) [] (found_is d.found) h.begun.is, refl, refl)
+
+-- the element that is due, and what may come behind it
+pub due_element_is : (t : Tag) (n : Next) (d : Due) → IsDueIn t n d
+    → (D : next.Due) × (due profile_two t (next_is n) ≡ Some D) × (element_of D ≡ found_is d.found) × (next_of D ≡ next_is (behind n d.slot))
+due_element_is t (Rows node n) d h =
+    let a = in_rows t node n d h in
+    (a.2.0, a.2.1, a.2.2, a.2.3 ∙ ap (λ s. next_is (behind (Rows node n) s)) (sym a.1))
+due_element_is t (Inner w) d h =
+    let a = inside t w d h in
+    (a.0, a.1, a.2, a.3 ∙ ap (λ s. next_is (behind (Inner w) s)) (sym h.slot))
+due_element_is t (Items node) d h =
+    let c : Component = component_at (record { node = node; row = 0 }) h.row in
+    let e = items-at node h.row h.is_row in
+    (part c (found_is d.found) (items c), ap (due profile_two t) e ∙ item-found t c (found_is d.found) h.begun.is, refl, sym e ∙ ap (λ s. next_is (behind (Items node) s)) (sym h.slot))
+due_element_is t (Either w) d (inl h) =
+    let a = inside t w d h.1 in
+    let e = ap (λ b. elim b as (λ _. Option next.Due) [ true ↦ due_in profile_two t (component_of w ∷ []) | false ↦ due_in profile_two t (components profile_two w.node) ]) h.0 in
+    (a.0, e ∙ a.1, a.2, a.3 ∙ ap (λ s. next_is (behind (Either w) s)) (sym h.1.slot))
+due_element_is t (Either w) d (inr h) =
+    let a = in_rows t w.node 0 d h.1 in
+    let e = ap (λ b. elim b as (λ _. Option next.Due) [ true ↦ due_in profile_two t (component_of w ∷ []) | false ↦ due_in profile_two t (components profile_two w.node) ]) h.0 in
+    (a.2.0, e ∙ a.2.1, a.2.2, a.2.3 ∙ ap (λ s. next_is (behind (Either w) s)) (sym a.1))
+due_element_is t Segments d h =
+    (octets, ap (λ (b : Bool). if b then Some octets else None) h.tag, sym h.found, ap (λ s. next_is (behind Segments s)) (sym h.slot))
+due_element_is t Nothing d h = absurd h
