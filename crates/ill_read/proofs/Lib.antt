@@ -19,4 +19,5 @@ pub mod DueRows
 pub mod Enumerated
 pub mod HeadersRead
 pub mod Frames
+pub mod Holding
 pub mod DueElements

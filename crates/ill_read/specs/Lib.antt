@@ -11,5 +11,7 @@ pub mod Failures
 pub mod HeaderCode
 pub mod Progress
 pub mod Standing
+pub mod Held
 pub mod Step
 pub mod Judged
+pub mod Stepping
