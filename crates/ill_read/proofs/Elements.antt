@@ -43,7 +43,7 @@ element_at Kind.SeqOf node n = list node
 element_at Kind.Choice node n = segment
 element_at kind node n = leaf (leaf_at kind n)
 
-one_start : (t u : Tag) (e : Element) (s : Start) → starting t (start u e ∷ []) ≡ Some s → (u ≡ t) × (s.element ≡ e)
+pub one_start : (t u : Tag) (e : Element) (s : Start) → starting t (start u e ∷ []) ≡ Some s → (u ≡ t) × (s.element ≡ e)
 one_start t u e s h = elim (two_cases (same_tag u t)) [
   | inl k ↦ let q : starting t (start u e ∷ []) ≡ Some (start u e) = rw k refl in let r : Some (start u e) ≡ Some s = sym q ∙ h in
       let w : start u e ≡ s = cc in (same_tag-is u t k, sym (ap (λ (x : Start). x.element) w))
@@ -58,7 +58,7 @@ found_first t x xs s h = elim (two_cases (same_tag x.tag t)) [
 ]
 
 -- the start that a kind has of its own for a tag
-own_start : (k : Kind) (node : NodeId) (t : Tag) (s : Start) → starting t (own_starts k node) ≡ Some s → Mem t (own_tags k) × (s.element ≡ element_at k node t.number)
+pub own_start : (k : Kind) (node : NodeId) (t : Tag) (s : Start) → starting t (own_starts k node) ≡ Some s → Mem t (own_tags k) × (s.element ≡ element_at k node t.number)
 unfolding leaf_at
 own_start Kind.Seq node t s h = let q = one_start t _ _ s h in (inl (sym q.0), q.1)
 own_start Kind.SeqOf node t s h = let q = one_start t _ _ s h in (inl (sym q.0), q.1)
@@ -74,7 +74,7 @@ own_start Kind.IllString node t s h = elim (found_first t (leaf_start general_st
   | inr r ↦ let q = one_start t _ _ s r in (inr (inl (sym q.0)), q.1 ∙ ap (λ (x : Tag). leaf (leaf_at Kind.IllString x.number)) q.0)
 ]
 
-implicit_start : (k : Kind) (node : NodeId) (t u : Tag) (s : Start) → IsTrue (is_proper (implicit u) k) → starting t (retag u (own_starts k node)) ≡ Some s
+pub implicit_start : (k : Kind) (node : NodeId) (t u : Tag) (s : Start) → IsTrue (is_proper (implicit u) k) → starting t (retag u (own_starts k node)) ≡ Some s
     → (u ≡ t) × (k ≡ Kind.IllString → ⊥) × (s.element ≡ element_at k node t.number)
 unfolding leaf_at
 implicit_start Kind.Seq node t u s ok h = let q = one_start t _ _ s h in (q.0, λ e. cc, q.1)
@@ -109,7 +109,7 @@ own_element p (content.list is) node T n h =
     subst (λ k. IsElement p (element_at k node (tag_of T).number) T) (sym h.0) (sequence_tag, h.1.0, h.1.1, (is, h.1.2))
 own_element p (alternative m w) node T n h = absurd (n h.1.0)
 
-improper_choice : (t : Tag) (k : Kind) → IsTrue (is_proper (implicit t) k) → k ≡ Kind.Choice → ⊥
+pub improper_choice : (t : Tag) (k : Kind) → IsTrue (is_proper (implicit t) k) → k ≡ Kind.Choice → ⊥
 improper_choice t k ok e = let x : IsTrue (is_proper (implicit t) Kind.Choice) = subst (λ z. IsTrue (is_proper (implicit t) z)) e ok in cc
 
 -- under an implicit tag
@@ -124,13 +124,13 @@ implicit_element p (content.list is) node t T ok h =
 implicit_element p (alternative m w) node t T ok h = absurd (improper_choice t (kind_of node) ok h.1.0)
 
 -- the tag of an element of a kind where no other stands in its place
-own_of : Kind → ℕ → Tag
+unfoldable pub own_of : Kind → ℕ → Tag
 own_of Kind.Seq n = sequence_tag
 own_of Kind.SeqOf n = sequence_tag
 own_of Kind.Choice n = sequence_tag
 own_of kind n = leaf_tag (leaf_at kind n)
 
-own_is : (k : Kind) (t : Tag) → Mem t (own_tags k) → t ≡ own_of k t.number
+pub own_is : (k : Kind) (t : Tag) → Mem t (own_tags k) → t ≡ own_of k t.number
 unfolding leaf_at own_of
 own_is Kind.Seq t (inl e) = e
 own_is Kind.SeqOf t (inl e) = e
@@ -153,7 +153,7 @@ own_is (Kind.Leaf LeafKind.Printable) t (inr m) = absurd m
 own_is Kind.IllString t (inr (inr m)) = absurd m
 own_is Kind.Choice t m = absurd m
 
-leaf_value : (k : Kind) (n : ℕ) (octets : List ℕ) → ((k ≡ Kind.Seq) ⊎ (k ≡ Kind.SeqOf) ⊎ (k ≡ Kind.Choice) → ⊥) → leaf_of k (value (leaf_at k n) octets) ≡ Some (leaf_at k n)
+pub leaf_value : (k : Kind) (n : ℕ) (octets : List ℕ) → ((k ≡ Kind.Seq) ⊎ (k ≡ Kind.SeqOf) ⊎ (k ≡ Kind.Choice) → ⊥) → leaf_of k (value (leaf_at k n) octets) ≡ Some (leaf_at k n)
 unfolding leaf_at
 leaf_value Kind.Seq n octets h = absurd (h (inl refl))
 leaf_value Kind.SeqOf n octets h = absurd (h (inr (inl refl)))
@@ -202,7 +202,7 @@ implicit_value : (p : Profile) (node : NodeId) (t : Tag) (T : Tree) → IsTrue (
 implicit_value p node t T ok e h = kind_value p node (implicit t) T (kind_of node) refl (λ k. improper_choice t (kind_of node) ok k) (λ E x. subst (λ u. E u T) (sym e) x) h
 
 -- an explicit tag stands round what means the value
-explicit_means : (p : Profile) (v : Content) (node : NodeId) (t : Tag) (T : Tree) → Means p v node (explicit t) T ↔ ((U : Tree) × (T ≡ constructed t (more U none)) × Means p v node untagged U)
+pub explicit_means : (p : Profile) (v : Content) (node : NodeId) (t : Tag) (T : Tree) → Means p v node (explicit t) T ↔ ((U : Tree) × (T ≡ constructed t (more U none)) × Means p v node untagged U)
 explicit_means p (simple v) node t T = ((λ h. (h.2.0, h.2.1, (h.0, h.1, h.2.2))), (λ h. (h.2.0, h.2.1, (h.0, h.1, h.2.2))))
 explicit_means p (content.sequence es) node t T = ((λ h. (h.1.0, h.1.1, (h.0, h.1.2))), (λ h. (h.2.0, (h.0, h.1, h.2.1))))
 explicit_means p (content.list is) node t T = ((λ h. (h.1.0, h.1.1, (h.0, h.1.2))), (λ h. (h.2.0, (h.0, h.1, h.2.1))))
@@ -227,7 +227,7 @@ IsProper p (loose_wrapper c) = (c.presence ≡ Presence.Must) × (c.tagging ≡ 
 IsProper p segment = Unit {0}
 IsProper p (left_out part) = Unit {0}
 
-bare_kind : (t : Tag) (k : Kind) → IsTrue (is_proper (explicit_or_bare t) k) → k ≡ Kind.Seq
+pub bare_kind : (t : Tag) (k : Kind) → IsTrue (is_proper (explicit_or_bare t) k) → k ≡ Kind.Seq
 bare_kind t Kind.Seq h = refl
 bare_kind t Kind.SeqOf h = absurd cc
 bare_kind t Kind.Choice h = absurd cc
@@ -247,7 +247,7 @@ tagged_proper p (implicit u) c t s ok h = subst (λ x. IsProper p x) (sym ((impl
 tagged_proper p (explicit u) c t s ok h = subst (λ x. IsProper p x) (sym ((one_start t u (wrapper (inner c)) s h).1)) (refl, refl)
 tagged_proper p (explicit_or_bare u) c t s ok h = subst (λ x. IsProper p x) (sym ((one_start t u (loose_wrapper (inner c)) s h).1)) (refl, refl, bare_kind u (kind_of c.node) ok)
 
-choice_starts : (k : Kind) (node : NodeId) (t : Tag) (s : Start) → starting t (own_starts k node) ≡ Some s → k ≡ Kind.Choice → ⊥
+pub choice_starts : (k : Kind) (node : NodeId) (t : Tag) (s : Start) → starting t (own_starts k node) ≡ Some s → k ≡ Kind.Choice → ⊥
 choice_starts k node t s h e = let r : starting t (own_starts Kind.Choice node) ≡ Some s = subst (λ x. starting t (own_starts x node) ≡ Some s) e h in cc
 
 tagged_element : (p : Profile) (g : Tagging) (c : Component) (s : Start) (v : Content) (T : Tree) → IsTrue (is_proper g (kind_of c.node)) → starting (tag_of T) (tagged_starts g c) ≡ Some s
@@ -296,26 +296,26 @@ tagged_value p (explicit_or_bare u) c s T ok h m =
     loose e (inr x) = (content.sequence x.3.0, (bare_kind u (kind_of c.node) ok, inr (x.1, x.2 ∙ ap (λ t. constructed t x.1) (sym (ap tag_of x.2) ∙ sym e), x.3.1)))
 
 -- the starts of a component that is carried, and of one that is left out
-carried_starts : (c : Component) (pr : Presence) → c.presence ≡ pr → IsCarried pr → component_starts c ≡ tagged_starts c.tagging c
+pub carried_starts : (c : Component) (pr : Presence) → c.presence ≡ pr → IsCarried pr → component_starts c ≡ tagged_starts c.tagging c
 carried_starts c Presence.Must e h = rw e refl
 carried_starts c Presence.May e h = rw e refl
 carried_starts c (Presence.Default d) e h = rw e refl
 carried_starts c Presence.LeftOut e h = absurd h
 
-left_found : (t : Tag) (part : PartId) (ss : List Start) (s : Start) → starting t (leave_out part ss) ≡ Some s → s.element ≡ left_out part
+pub left_found : (t : Tag) (part : PartId) (ss : List Start) (s : Start) → starting t (leave_out part ss) ≡ Some s → s.element ≡ left_out part
 left_found t part [] s h = absurd cc
 left_found t part (x ∷ xs) s h = elim (found_first t (start x.tag (left_out part)) (leave_out part xs) s h) [
   | inl q ↦ ap (λ (z : Start). z.element) q.1
   | inr q ↦ left_found t part xs s q
 ]
 
-carried_or_left : (pr : Presence) → IsCarried pr ⊎ (pr ≡ Presence.LeftOut)
+pub carried_or_left : (pr : Presence) → IsCarried pr ⊎ (pr ≡ Presence.LeftOut)
 carried_or_left Presence.Must = inl tt
 carried_or_left Presence.May = inl tt
 carried_or_left (Presence.Default d) = inl tt
 carried_or_left Presence.LeftOut = inr refl
 
-left_starts : (c : Component) → c.presence ≡ Presence.LeftOut → component_starts c ≡ leave_out c.part (tagged_starts c.tagging c)
+pub left_starts : (c : Component) → c.presence ≡ Presence.LeftOut → component_starts c ≡ leave_out c.part (tagged_starts c.tagging c)
 left_starts c e = rw e refl
 
 component_element : (p : Profile) (c : Component) (s : Start) (v : Content) (T : Tree) → IsTrue (is_proper c.tagging (kind_of c.node)) → starting (tag_of T) (component_starts c) ≡ Some s
@@ -435,7 +435,7 @@ start_element p c s v T ok h i m = elim (starts_found p c.tagging c (tag_of T) s
         component_element p (component_of p node r.2 row) s w T proper
         (subst (λ z. starting (tag_of T) (component_starts (component_of p node r.2 z)) ≡ Some s) (sym same.1) r.4) x.1.2 x.2
 
-untagged_carried : (pr : Presence) (g : Tagging) → g ≡ untagged → IsTrue (is_tagged g || is_carried pr) → IsCarried pr
+pub untagged_carried : (pr : Presence) (g : Tagging) → g ≡ untagged → IsTrue (is_tagged g || is_carried pr) → IsCarried pr
 untagged_carried Presence.Must g e h = tt
 untagged_carried Presence.May g e h = tt
 untagged_carried (Presence.Default d) g e h = tt

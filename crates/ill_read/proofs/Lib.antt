@@ -21,3 +21,6 @@ pub mod HeadersRead
 pub mod Frames
 pub mod Holding
 pub mod DueElements
+pub mod Entries
+pub mod Meanings
+pub mod Wanting

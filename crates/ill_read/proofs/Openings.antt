@@ -1,5 +1,5 @@
 -- What may stand in an open element, one tree after another, and what it is when it ends.
-use Rattle.std.proofs.Common.{◌≡◌, ℕ, ℤ, pos, ◌+◌, Bool, true, false, ◌||◌, List, [], ◌∷◌, Option, Some, None, IsTrue, refl, sym, ap, ap₂, subst, ◌∙◌, inl, inr, map}
+use Rattle.std.proofs.Common.{◌≡◌, ℕ, ℤ, pos, ◌+◌, Bool, true, false, ◌||◌, List, [], ◌∷◌, Option, Some, None, IsTrue, refl, sym, ap, ap₂, subst, ◌∙◌, inl, inr, map, slice_get}
 use Rattle.std.specs.Prelude.{flat_map, if◌then◌else◌}
 use Rattle.std.specs.List.{list_all}
 use Rattle.std.specs.Ordering.{int_eq}
@@ -22,12 +22,12 @@ use Rattle.ber_core.specs.Octets.{are_octets}
 use Rattle.ill_schema.specs.Meaning.{Means, Matches, MatchItems}
 use Rattle.ill_read.specs.Next.{Next, rows, items, either, segments, Due, part, octets, due, due_in, start_of, element_of, next_of, next_after, missing, first_mandatory, opening, IsWhole, AreWhole}
 use Rattle.ill_read.specs.Place.{allows}
-use Rattle.ber_leaf.specs.Profile.{Profile}
+use Rattle.ber_leaf.specs.Profile.{Profile, profile_two}
 use Rattle.ill_schema.specs.Tagging.{Tagging, untagged, tagging, same_tag, sequence_tag}
 use Rattle.ill_schema.specs.Presence.{IsCarried, MayLack, is_default_of, default_value, same_value}
 use Rattle.ill_schema.specs.Table.{kind_of, rows_of}
 use Rattle.ill_schema.specs.TableFacts.{node_tags, row_tags}
-use Rattle.ill_schema.proofs.Tags.{is_proper, is_proper_row, is_tagged, Mem, tables_proper}
+use Rattle.ill_schema.proofs.Tags.{is_proper, is_proper_row, is_tagged, Mem, tables_proper, at_row}
 use Rattle.std.proofs.lemmas.Bool.{and_parts}
 use Rattle.ill_schema.proofs.Unique.{means_begins, matches_begins, no_leaf, sequence_apart}
 use Rattle.ill_read.proofs.Sequences.{AreRead, starting, starting_some, two_cases, same_tag-is, sequence_read, tables_started, are_started, same_tags, same_tags-is, tag_at, next_after-more, due-found}
@@ -51,6 +51,13 @@ at_carried f true l Boolean = refl
 at_carried f true l _ = refl
 at_carried f false l Boolean = refl
 at_carried f false l _ = refl
+
+-- the component of a row
+pub row_proper : (node : NodeId) (n : ℕ) (row : Row) → slice_get (rows_of node) n ≡ Some row → IsProperComponent profile_two (component_of profile_two node n row)
+row_proper node n row e = record {
+  proper = at_row (is_proper_row profile_two) (rows_of node) n row (tables_proper profile_two node) e;
+  carried = at_row (is_carried_row profile_two) (rows_of node) n row (at_carried profile_two.general profile_two.bare profile_two.limit node) e;
+}
 
 rows_proper : (p : Profile) (node : NodeId) (n : ℕ) (rs : List Row) → IsTrue (list_all (is_proper_row p) rs) → IsTrue (list_all (is_carried_row p) rs) → AllProper p (components_from p node n rs)
 rows_proper p node n [] h k = tt
@@ -160,7 +167,7 @@ after_proper p n (more T ts) h = go (λ d q. after_proper p (next_of d) ts q) (d
     go later None e = h
 
 -- a skipped row's entry: none, or its default
-same_simple : (k : Kind) (x : ℤ) → same_value (default_value k x) (default_value k x) ≡ true
+pub same_simple : (k : Kind) (x : ℤ) → same_value (default_value k x) (default_value k x) ≡ true
 same_simple (Kind.Leaf LeafKind.Boolean) x = same_flag (int_eq x (pos 1))
   where
     same_flag : (b : Bool) → same_value (flag b) (flag b) ≡ true
@@ -186,7 +193,7 @@ entry_skip p row rs ts n m = skipped row.presence refl n
     skipped (Presence.Default x) e n =
         (present (simple (default_value (kind_of row.node) x)) m.0, (subst IsCarried (sym e) tt, inr (subst (λ pr. IsTrue (is_default_of pr (kind_of row.node) (simple (default_value (kind_of row.node) x)))) (sym e) (same_simple (kind_of row.node) x), m.1)))
 
-first_none : (c : Component) (cs : List Component) → first_mandatory (c ∷ cs) ≡ None → (c.presence ≡ Presence.Must → ⊥) × (first_mandatory cs ≡ None)
+pub first_none : (c : Component) (cs : List Component) → first_mandatory (c ∷ cs) ≡ None → (c.presence ≡ Presence.Must → ⊥) × (first_mandatory cs ≡ None)
 first_none c cs h = go c.presence refl
   where
     go : (pr : Presence) → c.presence ≡ pr → (c.presence ≡ Presence.Must → ⊥) × (first_mandatory cs ≡ None)

@@ -67,6 +67,10 @@ abbrev pub with_alternative : Option ℕ → Content → Content
 with_alternative None c = c
 with_alternative (Some n) c = alternative n c
 
+-- the entry of a row that has no element
+abbrev pub absent_content : Row → Option Content
+absent_content row = elim row.presence as (λ _. Option Content) [ Presence.Default d ↦ Some (simple (default_value (kind_of row.node) d)) | _ ↦ None ]
+
 -- a wrapper holds its one part
 abbrev pub HoldsPart : Wrapped → List (Option Value) → Trees → Type 0
 HoldsPart w entries ts = (v : Value) × (U : Tree) × (entries ≡ Some v ∷ []) × (ts ≡ more U none) × Means profile_two (content_of v) w.node untagged U
@@ -107,10 +111,6 @@ abbrev pub AreFrames : List Open → List Frame → List (Option Value) → Type
 AreFrames [] frames held = (frames ≡ []) × (held ≡ [])
 AreFrames (o ∷ path) frames held = (outer : List Frame) × (f : Frame) × (below : List (Option Value)) × (entries : List (Option Value))
     × (frames ≡ outer ++ f ∷ []) × (held ≡ below ++ entries) × IsFrame f o path outer (length below) entries × AreFrames path outer below
-
--- the content of a row that has no element: its default, or none
-abbrev pub absent_content : Row → Option Content
-absent_content row = elim row.presence as (λ _. Option Content) [ Presence.Default d ↦ Some (simple (default_value (kind_of row.node) d)) | _ ↦ None ]
 
 -- the path stands at a place where these elements are open
 abbrev pub StandsAt : Path → List Open → Type 0

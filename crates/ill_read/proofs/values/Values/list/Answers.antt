@@ -17,7 +17,7 @@ loop-held-preserved c = c.loop-held.invariant ∙ sym (somes-none c.loop-held.yi
 pub returns : goal.returns
 returns c below items e n =
     let parts = split_held below (map Some items) c.args.self.now.held.items c.args.base c.min-base.result e n (c.min-base.ensures ∙ ap (min c.args.base) c.len.ensures) in
-    let given : c.into_iter-held-iterator.result.rest.items ≡ c.in_ok-held-items.held-items.items = c.into_iter-held-iterator.ensures.into_iter_gives in
+    let given : c.into_iter-held-iterator.result.rest.items ≡ c.in_ok-held-items.held-items.items = c.into_iter-held-iterator.ensures.into_iter_gives.0 in
     let all : c.loop-held.yielded ≡ c.into_iter-held-iterator.result.rest.items =
     taken_all c.into_iter-held-iterator.result c.loop-held.yielded c.loop-held.held-iterator c.loop-held.yielded_by c.in-None.ensures.steps.0 in
     let tail : c.in_ok-held-items.held-items.items ≡ drop c.min-base.result c.args.self.now.held.items = c.in_ok-held-items.ensures.tail in
