@@ -3,12 +3,13 @@ use Rattle.std.proofs.Common.{◌≡◌, ℕ, ◌+◌, ◌≤◌, List, [], ◌�
 use Rattle.ber_core.specs.Identifier.{Tag}
 use Rattle.ber_leaf.specs.Profile.{profile_two}
 use Rattle.ill_schema.specs.declared.node.NodeId.{NodeId}
+use Rattle.ill_schema.specs.declared.part.PartId.{PartId}
 use Rattle.ill_schema.specs.declared.part.Presence.{Presence}
 use Rattle.ill_schema.specs.declared.part.Row.{Row}
 use Rattle.ill_schema.specs.Table.{rows_of}
 use Rattle.ill_read.specs.Code.{component_at, element_with}
 use Rattle.ill_read.specs.Element.{Component, Element, Start, list, components, starts}
-use Rattle.ill_read.specs.Next.{Next, Due, part, rows, items, due, due_in, opening, start_of}
+use Rattle.ill_read.specs.Next.{Next, Due, part, rows, items, due, due_in, first_mandatory, opening, start_of}
 use Rattle.ill_read.proofs.Components.{components-at, components-end}
 
 -- what due_in answers for a component before others
@@ -82,3 +83,27 @@ no_item t c h = at (start_of profile_two t c) h
 pub items-none : (t : Tag) (node : NodeId) (row : Row) → slice_get (rows_of node) 0 ≡ Some row
     → element_with t (starts profile_two (component_at (record { node = node; row = 0 }) row)) ≡ None → due profile_two t (opening profile_two (list node)) ≡ None
 items-none t node row h k = ap (due profile_two t) (items-at node row h) ∙ no_item t _ k
+
+-- the first mandatory row of a node from a row on
+abbrev pub mandatory_from : NodeId → ℕ → Option PartId
+mandatory_from node i = first_mandatory (drop i (components profile_two node))
+
+abbrev first_of : PartId → Option PartId → Presence → Option PartId
+first_of id others x = elim x as (λ _. Option PartId) [ Presence.Must ↦ Some id | _ ↦ others ]
+
+pub mandatory_from-found : (node : NodeId) (i : ℕ) (row : Row) → slice_get (rows_of node) i ≡ Some row → row.presence ≡ Presence.Must
+    → mandatory_from node i ≡ Some (record { node = node; row = i })
+mandatory_from-found node i row h m = ap first_mandatory (components-at node i row h) ∙ ap (first_of (record { node = node; row = i }) (mandatory_from node (i + 1))) m
+
+pub mandatory_from-skip : (node : NodeId) (i : ℕ) (row : Row) → slice_get (rows_of node) i ≡ Some row → (row.presence ≡ Presence.Must → ⊥)
+    → mandatory_from node i ≡ mandatory_from node (i + 1)
+mandatory_from-skip node i row h m = ap first_mandatory (components-at node i row h) ∙ go row.presence m
+  where
+    go : (x : Presence) → (x ≡ Presence.Must → ⊥) → first_of (record { node = node; row = i }) (mandatory_from node (i + 1)) x ≡ mandatory_from node (i + 1)
+    go Presence.Must k = absurd (k refl)
+    go Presence.May k = refl
+    go Presence.LeftOut k = refl
+    go (Presence.Default d) k = refl
+
+pub mandatory_from-end : (node : NodeId) (i : ℕ) → length (rows_of node) ≤ i → mandatory_from node i ≡ None
+mandatory_from-end node i h = ap first_mandatory (components-end node i h)

@@ -15,3 +15,4 @@ pub mod Held
 pub mod Step
 pub mod Judged
 pub mod Stepping
+pub mod JudgeCode

@@ -7,7 +7,7 @@ ghost use Rattle.ill_schema.specs.declared.part.Presence.{Presence};
 ghost use Rattle.ill_schema.specs.Table.{kind_of, rows_of};
 ghost use Rattle.ill_schema.specs.Tagging.{tagging, untagged};
 ghost use Rattle.ill_read.specs.Element.{components, component_starts, starts};
-ghost use Rattle.ill_read.specs.Next.{due, due_in};
+ghost use Rattle.ill_read.specs.Next.{due, due_in, first_mandatory, missing};
 ghost use Rattle.ill_read.specs.Code.{element_with, component_at, component_of, alternative_starts, found_is};
 ghost use Rattle.ill_read.specs.DueCode.{IsAlternativeOf, IsBegun, IsDueIn, IsDueInRows, IsInnerDue, IsItemDue, IsSegmentDue, behind, next_is};
 ghost use Rattle.ill_read.specs.Held.{HasNext};
@@ -168,6 +168,22 @@ fn due_row(node: NodeId, position: u8, id: Id) -> Option<Due>
     None
 }
 
+/// The first mandatory row from a position on.
+fn first_mandatory(node: NodeId, position: u8) -> Option<PartId>
+    ensures { result ≡ first_mandatory (drop position (components profile_two node)) }
+{
+    let rows = rows_of(node);
+    for row in position..rows.len() as u8 {
+        let Some(component) = row_in(rows, row) else {
+            return None;
+        };
+        if is_mandatory(component) {
+            return Some(PartId { node, row });
+        }
+    }
+    None
+}
+
 /// What is due in a wrapper without elements.
 fn due_inner(wrapped: Wrapped, id: Id) -> Option<Due>
     ensures { MatchOption result (due profile_two (tag_of_id id) (next_is (Next.Inner wrapped)) ≡ None) (λ due. IsInnerDue (tag_of_id id) wrapped due) }
@@ -232,6 +248,18 @@ impl Next {
             Next::Either(wrapped) => due_loose(wrapped, id),
             Next::Segments => due_segment(id),
             Next::Nothing => None,
+        }
+    }
+
+    /// The first mandatory part that is still to come.
+    pub fn missing(self) -> Option<PartId>
+        ensures { result ≡ missing profile_two (next_is self) }
+    {
+        match self {
+            Next::Rows(node, position) => first_mandatory(node, position),
+            Next::Inner(wrapped) => Some(wrapped.part),
+            Next::Either(wrapped) => first_mandatory(wrapped.node, 0),
+            Next::Items(_) | Next::Segments | Next::Nothing => None,
         }
     }
 

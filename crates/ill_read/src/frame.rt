@@ -1,5 +1,5 @@
 //! The open elements of a message.
-ghost use Rattle.std.specs.Prelude.{◌≤◌};
+ghost use Rattle.std.specs.Prelude.{◌≡◌, ◌≤◌};
 
 use crate::due::{Next, Slot};
 use crate::element::Element;
@@ -26,8 +26,12 @@ pub struct Frame {
 }
 
 impl Frame {
+    ghost use Rattle.ill_read.specs.JudgeCode.{end_at};
+
     /// Whether it is definite and ends there.
-    pub fn ends_at(&self, at: u32) -> bool {
+    pub fn ends_at(&self, at: u32) -> bool
+        ensures { result ≡ end_at self.now.end at }
+    {
         match self.end {
             Some(end) => end == at,
             None => false,

@@ -2,13 +2,12 @@
 ghost use Rattle.std.specs.Prelude.{◌≡◌, ◌≤◌, IfOk, length};
 ghost use Rattle.std.specs.Option.{ForSome};
 
-use crate::due::{Due, Next, Slot};
+use crate::due::{Due, Slot};
 use crate::element::{Element, Found};
 use crate::header::{HeaderRead, LengthRead, read_header};
 use crate::path::{DEPTH, Path};
-use crate::values::first_mandatory;
 use ber_core::{Id, Len};
-use ill_schema::{Cause, PartId, Refusal};
+use ill_schema::{Cause, Refusal};
 
 /// What is done at a place where nothing is at fault but, perhaps, the text or content of a leaf.
 #[derive(Clone, Copy, Debug)]
@@ -119,7 +118,7 @@ impl Path {
         requires { 0 < depth_of self.now }
         ensures { IfOk result (λ judgement. judgement ≡ Judgement.Closes marks) }
     {
-        match missing(self.next()) {
+        match self.next().missing() {
             Some(part) => Err(Refusal {
                 at,
                 cause: Cause::Missing(part),
@@ -279,15 +278,5 @@ fn judge_form(at: u32, due: Due, constructed: bool) -> Result<Started, Refusal> 
                 constructed,
             })
         }
-    }
-}
-
-/// The first mandatory part that is still to come.
-fn missing(next: Next) -> Option<PartId> {
-    match next {
-        Next::Rows(node, position) => first_mandatory(node, position),
-        Next::Inner(wrapped) => Some(wrapped.part),
-        Next::Either(wrapped) => first_mandatory(wrapped.node, 0),
-        Next::Items(_) | Next::Segments | Next::Nothing => None,
     }
 }

@@ -56,6 +56,11 @@ impl Path {
     ghost use Rattle.ill_read.specs.Judged.{StepsExactly};
     ghost use Rattle.ill_read.specs.Standing.{next_at};
     ghost use Rattle.ill_read.specs.Stepping.{EndsExactly, DeliversExactly, ClosesExactly, OpensExactly, ReadsExactly};
+    ghost use Rattle.std.specs.Prelude.{IsTrue};
+    ghost use Rattle.ber_leaf.specs.Profile.{profile_two};
+    ghost use Rattle.ill_read.specs.Fault.{ends_at, is_indefinite, past_end};
+    ghost use Rattle.ill_read.specs.Place.{bound};
+    ghost use Rattle.ill_read.specs.JudgeCode.{WhereItStands, outermost_end};
 
     pub fn new(alloc: Global) -> Path {
         Path {
@@ -91,7 +96,8 @@ impl Path {
 
     /// The offset that no octet may reach.
     pub fn bound(&self) -> u32
-        ensures { result ≤ 1_048_576 }
+        ensures small { result ≤ 1_048_576 }
+        ensures exact { WhereItStands self.now (λ place. result ≡ bound profile_two place) }
     {
         match self.innermost() {
             Some(frame) => frame.bound,
@@ -100,7 +106,9 @@ impl Path {
     }
 
     /// The end of the outermost element of definite length.
-    pub fn outermost_end(&self) -> Option<u32> {
+    pub fn outermost_end(&self) -> Option<u32>
+        ensures { result ≡ outermost_end self.now.frames.items }
+    {
         for frame in self.frames.as_slice() {
             if let Some(end) = frame.end {
                 return Some(end);
@@ -110,7 +118,9 @@ impl Path {
     }
 
     /// Why an octet at the bound can't be read.
-    pub fn past_end(&self) -> Cause {
+    pub fn past_end(&self) -> Cause
+        ensures { WhereItStands self.now (λ place. result ≡ past_end place) }
+    {
         match self.outermost_end() {
             Some(_) => Cause::Overrun,
             None => Cause::TooLong,
@@ -118,9 +128,23 @@ impl Path {
     }
 
     /// Whether the innermost element is indefinite.
-    pub fn awaits_end_mark(&self) -> bool {
+    pub fn awaits_end_mark(&self) -> bool
+        ensures open { IsTrue result → 0 < depth_of self.now }
+        ensures exact { WhereItStands self.now (λ place. result ≡ is_indefinite place) }
+    {
         match self.innermost() {
             Some(frame) => frame.end.is_none(),
+            None => false,
+        }
+    }
+
+    /// Whether the innermost element is definite and ends there.
+    pub fn ends_at(&self, at: u32) -> bool
+        ensures open { IsTrue result → 0 < depth_of self.now }
+        ensures exact { WhereItStands self.now (λ place. result ≡ ends_at place at) }
+    {
+        match self.innermost() {
+            Some(frame) => frame.ends_at(at),
             None => false,
         }
     }

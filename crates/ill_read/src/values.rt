@@ -36,20 +36,6 @@ fn default_value(node: NodeId, number: i64) -> Value
     }
 }
 
-/// The first mandatory row from a position on.
-pub fn first_mandatory(node: NodeId, position: u8) -> Option<PartId> {
-    let rows = rows_of(node);
-    for number in position..rows.len() as u8 {
-        match rows.get(number as usize) {
-            Some(row) if row.presence == Presence::Must => {
-                return Some(PartId { node, row: number });
-            }
-            _ => {}
-        }
-    }
-    None
-}
-
 impl Values {
     pub fn new(alloc: Global) -> Values
         ensures { result.held.items ≡ [] }
