@@ -20,6 +20,9 @@ pub mod Enumerated
 pub mod HeadersRead
 pub mod Frames
 pub mod Holding
+pub mod Segments
+pub mod Adding
+pub mod Growing
 pub mod DueElements
 pub mod Entries
 pub mod Meanings

@@ -287,7 +287,7 @@ impl Path {
         ensures depth { depth_of self.new ≡ depth_of self.old }
     {
         let last = self.frames.len().saturating_sub(1);
-        if let Some(frame) = self.frames.as_mut_slice().get_mut(last) {
+        if let Some(frame) = self.frames.get_mut(last) {
             frame.next = next;
         }
     }
