@@ -63,7 +63,7 @@ in_list T node d c v values ts h m e k =
     let q = begun_means (component_at (record { node = node; row = 0 }) h.row) d.alternative d.found c T (row_proper node 0 h.row h.is_row) h.begun m in
     item_added node h.row values v ts T h.is_row (subst (λ x. Means profile_two x h.row.node (tagging profile_two h.row) T) (sym e) q.1) k
 
-abbrev due_with : Slot → Option ℕ → CodeElement → Due
+abbrev pub due_with : Slot → Option ℕ → CodeElement → Due
 due_with slot alt e = record { slot = slot; alternative = alt; found = Found.Element e }
 
 -- what an open element holds with one element more

@@ -39,7 +39,7 @@ last_open o path frames held h f e =
     let q : Some h.1 ≡ Some f = sym (last_behind h.0 h.1) ∙ ap (λ (x : List Frame). slice_get x (length x - 1)) (sym h.4) ∙ e in
     cc
 
-no_last : (frames : List Frame) (f : Frame) → frames ≡ [] → slice_get frames (length frames - 1) ≡ Some f → ⊥
+pub no_last : (frames : List Frame) (f : Frame) → frames ≡ [] → slice_get frames (length frames - 1) ≡ Some f → ⊥
 no_last frames f h e = let q : None ≡ Some f = ap (λ (x : List Frame). slice_get x (length x - 1)) (sym h) ∙ e in cc
 
 pub bound_last : (place : List Open) (frames : List Frame) (held : List (Option Value)) (f : Frame) → AreFrames place frames held

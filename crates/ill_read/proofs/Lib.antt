@@ -23,6 +23,7 @@ pub mod Holding
 pub mod Segments
 pub mod Adding
 pub mod Growing
+pub mod Delivery
 pub mod DueElements
 pub mod Entries
 pub mod Meanings
