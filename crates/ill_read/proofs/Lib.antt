@@ -24,6 +24,7 @@ pub mod Segments
 pub mod Adding
 pub mod Growing
 pub mod Delivery
+pub mod Ending
 pub mod DueElements
 pub mod Entries
 pub mod Meanings
