@@ -20,7 +20,7 @@ use Rattle.ill_read.specs.declared.frame.Frame.{Frame}
 use Rattle.ill_read.proofs.DueElements.{due_element_is}
 use Rattle.ill_read.proofs.Sequences.{next_after-more}
 
-next-added : (n : following.Next) (ts : Trees) (T : Tree) (d : following.Due) → AreDue n ts → due profile_two (tag_of T) (next_after profile_two n ts) ≡ Some d
+pub next-added : (n : following.Next) (ts : Trees) (T : Tree) (d : following.Due) → AreDue n ts → due profile_two (tag_of T) (next_after profile_two n ts) ≡ Some d
     → (next_after profile_two n (snoc ts T) ≡ next_of d) × AreDue n (snoc ts T)
 next-added n none T d h e = (next_after-more profile_two n T none d e, (d, e, tt))
 next-added n (more U ts) T d h e =

@@ -25,6 +25,8 @@ pub mod Adding
 pub mod Growing
 pub mod Delivery
 pub mod Ending
+pub mod Strings
+pub mod Closing
 pub mod DueElements
 pub mod Entries
 pub mod Meanings

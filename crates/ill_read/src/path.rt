@@ -239,7 +239,7 @@ impl Path {
     /// The value of an element that has ended.
     fn end_value(&mut self, frame: Frame) -> Result<Option<Value>, Failure>
         ensures exact { EndsExactly self.old frame self.new result }
-        ensures frames { self.new.frames ≡ self.old.frames }
+        ensures frames { self.new.frames.items ≡ self.old.frames.items }
     {
         match frame.element {
             Element::Segment => Ok(None),
