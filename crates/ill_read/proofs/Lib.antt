@@ -27,6 +27,7 @@ pub mod Delivery
 pub mod Ending
 pub mod Strings
 pub mod Closing
+pub mod Opening
 pub mod DueElements
 pub mod Entries
 pub mod Meanings

@@ -19,9 +19,11 @@ use Rattle.ill_read.specs.Judged.{IsEnd, IsBegin, IsStep, fault_is}
 use Rattle.ill_read.specs.LeafTypes.{leaf_is}
 use Rattle.ill_read.specs.Standing.{next_at, text_so_far, IsValueOf, IsFrame, StandsAt}
 use Rattle.ill_read.specs.Step.{moved, opened, with_tree}
+use Rattle.ill_read.specs.declared.due.Next.{Next}
+use Rattle.ill_read.specs.declared.due.Next.TheVariants.{Rows, Inner, Items, Either, Segments}
 use Rattle.ill_read.specs.declared.due.Slot.{Slot}
 use Rattle.ill_read.specs.declared.element.Element.{Element as CodeElement}
-use Rattle.ill_read.specs.declared.element.Element.TheVariants.{Segment}
+use Rattle.ill_read.specs.declared.element.Element.TheVariants.{Leaf, Sequence, List as ListOf, Wrapper, LooseWrapper, Segment}
 use Rattle.ill_read.specs.declared.element.Found.TheVariants as found
 use Rattle.ill_read.specs.declared.failure.Failure.{Failure}
 use Rattle.ill_read.specs.declared.frame.Frame.{Frame}
@@ -30,6 +32,15 @@ use Rattle.ill_read.specs.declared.judge.Reading.{Reading}
 use Rattle.ill_read.specs.declared.leaf_type.LeafType.{LeafType}
 use Rattle.ill_read.specs.declared.path.Body.{Body}
 use Rattle.ill_read.specs.declared.path.Path.{Path}
+
+-- what may come in an element when it opens, in the decoder's words
+abbrev pub IsFirst : CodeElement → Next → Type 0
+IsFirst (Leaf l) n = n ≡ Segments
+IsFirst (Sequence node) n = n ≡ Rows node 0
+IsFirst (ListOf node) n = n ≡ Items node
+IsFirst (Wrapper w) n = n ≡ Inner w
+IsFirst (LooseWrapper w) n = n ≡ Either w
+IsFirst Segment n = n ≡ Segments
 
 -- the leaf's value in the octets, or their fault
 abbrev pub IsLeafValue : LeafType → ℕ → List ℕ → Result Value Failure → Type 0

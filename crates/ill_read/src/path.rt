@@ -6,7 +6,7 @@ ghost use Rattle.ill_read.specs.Code.{element_is};
 ghost use Rattle.ill_read.specs.DueCode.{next_is};
 ghost use Rattle.ill_read.specs.Next.{opening};
 ghost use Rattle.ill_read.specs.Standing.{with_alternative};
-ghost use Rattle.ill_read.specs.Stepping.{IsLeafValue};
+ghost use Rattle.ill_read.specs.Stepping.{IsFirst, IsLeafValue};
 ghost use Rattle.ill_read.specs.declared.frame.Frame.{Frame};
 
 use crate::due::{Next, Slot};
@@ -178,6 +178,9 @@ impl Path {
         ensures exact { OpensExactly self.old opening start self.new }
         ensures depth { depth_of self.new ≤ depth_of self.old + 1 }
     {
+        if self.frames.is_full() {
+            return;
+        }
         let Opening {
             slot,
             alternative,
@@ -195,7 +198,7 @@ impl Path {
             bound: end.unwrap_or(self.bound()),
             base: self.values.len(),
         };
-        let _ = self.frames.try_push(frame);
+        self.frames.push(frame);
     }
 
     /// Takes the content of a primitive element that is due and begins at `start`.
@@ -305,7 +308,8 @@ fn chosen(alloc: Global, alternative: Option<u8>, value: Value) -> Result<Value,
 
 /// What may come in an element when it opens.
 fn first_next(element: Element) -> Next
-    ensures { next_is result ≡ opening profile_two (element_is element) }
+    ensures first { IsFirst element result }
+    ensures next { next_is result ≡ opening profile_two (element_is element) }
 {
     match element {
         Element::Leaf(_) | Element::Segment => Next::Segments,
