@@ -28,6 +28,7 @@ pub mod Ending
 pub mod Strings
 pub mod Closing
 pub mod Opening
+pub mod Taking
 pub mod DueElements
 pub mod Entries
 pub mod Meanings
