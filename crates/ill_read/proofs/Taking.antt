@@ -1,23 +1,25 @@
 -- A primitive element is read.
-use Rattle.std.proofs.Common.{◌≡◌, ℕ, ◌+◌, ◌≤◌, List, [], ◌∷◌, ◌++◌, length, take, drop, Option, Some, None, Result, Ok, Err, true, false, refl, sym, ap, subst, ◌∙◌, arith}
+use Rattle.std.proofs.Common.{◌≡◌, ℕ, ◌+◌, ◌-◌, ◌≤◌, List, [], ◌∷◌, ◌++◌, length, take, drop, min, Option, Some, None, Result, Ok, Err, true, false, refl, sym, ap, subst, ◌∙◌, arith}
+use Rattle.std.proofs.lemmas.List.{drop-take, take_rest}
 use Rattle.ber_core.specs.Identifier.{Tag}
 use Rattle.ber_core.specs.Tree.{Tree, primitive}
 use Rattle.ber_leaf.specs.Profile.{profile_two}
 use Rattle.ill_schema.specs.declared.value.Value.{Value}
 use Rattle.ill_read.specs.Code.{element_is}
 use Rattle.ill_read.specs.DueCode.{IsDueIn}
-use Rattle.ill_read.specs.Fault.{element_fault, or_faulty, reads}
-use Rattle.ill_read.specs.Judged.{IsBegin, IsStep, fault_is}
+use Rattle.ill_read.specs.Fault.{Judgement, element_fault, or_faulty, reads}
+use Rattle.ill_read.specs.Judged.{IsBegin, IsJudgement, IsStep}
 use Rattle.ill_read.specs.LeafTypes.{leaf_is}
 use Rattle.ill_read.specs.Place.{Open, allows}
 use Rattle.ill_read.specs.Standing.{next_at, text_so_far, AreFrames, StandsAt}
 use Rattle.ill_read.specs.Step.{Step, moved}
-use Rattle.ill_read.specs.Stepping.{IsLeafValue, DeliversExactly}
+use Rattle.ill_read.specs.Stepping.{IsLeafValue, DeliversExactly, ReadsExactly}
 use Rattle.ill_read.specs.declared.due.Next.TheVariants.{Segments}
 use Rattle.ill_read.specs.declared.due.Slot.{Slot}
 use Rattle.ill_read.specs.declared.element.Element.{Element as CodeElement}
 use Rattle.ill_read.specs.declared.element.Element.TheVariants.{Leaf, Sequence, List as ListOf, Wrapper, LooseWrapper, Segment}
 use Rattle.ill_read.specs.declared.failure.Failure.{Failure}
+use Rattle.ill_read.specs.declared.judge.Judgement.TheVariants.{Reads}
 use Rattle.ill_read.specs.declared.judge.Reading.{Reading}
 use Rattle.ill_read.specs.declared.leaf_type.LeafType.{LeafType}
 use Rattle.ill_read.specs.declared.path.Body.{Body}
@@ -68,3 +70,19 @@ segment_read old new place slot alt e start octets tag header at rest stands beg
     let added = segment_added new place (due_with slot alt e) (primitive tag octets) (at + header + length octets) (drop (header + length octets) rest) outer due string tt (text ∙ ap (λ xs. xs ++ octets) stands.1) in
     let none : element_fault profile_two (element_is e) octets ≡ None = ap (λ x. element_fault profile_two (element_is x) octets) is in
     subst (λ f. IsStep new (Ok None) (moved (or_faulty f start (reads tag header octets)) place at rest)) (sym none) added
+
+-- the contents lie behind the header
+content_behind : (header size m : ℕ) (octets rest : List ℕ) → octets ≡ take (header + size) rest → header + size ≤ length octets → m ≡ min header (length octets) → take (length octets - m) (drop m octets) ≡ take size (drop header rest)
+content_behind header size m octets rest e h is =
+    let q : m ≡ header = omega (arith, is, h) in
+    take_rest octets m ∙ ap (λ i. drop i octets) q ∙ ap (drop header) e ∙ drop-take header size rest
+
+-- what was judged to be read is
+pub reads_judged : (old new : Path) (place : List Open) (r : Reading) (at m : ℕ) (octets rest : List ℕ) (j : Judgement) (result : Result (Option Body) Failure) → StandsAt old place
+    → IsJudgement old place at rest (Reads r) j → octets ≡ take (r.header + r.size) rest → r.header + r.size ≤ length octets → m ≡ min r.header (length octets)
+    → ReadsExactly old r at (take (length octets - m) (drop m octets)) new result → IsStep new result (moved j place at rest)
+reads_judged old new place r at m octets rest j result stands judged taken fits is reads_on =
+    let tag = judged.0 in
+    let content : take (length octets - m) (drop m octets) ≡ take r.size (drop r.header rest) = content_behind r.header r.size m octets rest taken fits is in
+    let read = reads_on place tag r.header at rest stands judged.1 in
+    subst (λ x. IsStep new result (moved x place at rest)) (sym judged.2) (subst (λ c. IsStep new result (content_read r.element place tag r.header c at at rest)) content read)
