@@ -26,3 +26,4 @@ pub mod Bodies
 pub mod Fed
 pub mod DueElements
 pub mod Judges
+pub mod Needing

@@ -15,3 +15,4 @@ pub mod Step
 pub mod Judged
 pub mod Feeding
 pub mod JudgeCode
+pub mod Need
