@@ -38,10 +38,12 @@ enum State {
 }
 
 impl Decoder {
-    ghost use Rattle.std.specs.Prelude.{◌≡◌, ◌≢◌, ℕ, ◌+◌, ◌-◌, ◌*◌, ◌<◌, List, [], ◌++◌, length, drop, take, IfSome, OnSome};
+    ghost use Rattle.std.specs.Prelude.{◌≡◌, ◌≢◌, ℕ, ◌+◌, ◌-◌, ◌*◌, ◌<◌, List, [], ◌++◌, length, drop, take, IfSome, OnSome, IsTrue};
     ghost use Rattle.ber_leaf.specs.Profile.{profile_two};
-    ghost use Rattle.ill_schema.specs.Apdu.{Encodes};
-    ghost use Rattle.ill_read.specs.Feeding.{body_apdu, CanStep, FeedAnswers, HasAdvanced, HasEnded, HasStopped, IsFed, IsRunning};
+    ghost use Rattle.ill_schema.specs.Apdu.{Apdu, Accepts, Encodes};
+    ghost use Rattle.ber_core.specs.Octets.{are_octets};
+    ghost use Rattle.ill_read.specs.Feeding.{body_apdu, CanStep, FeedAnswers, HasAdvanced, HasEnded, HasStopped, IsFed, IsRunning, StandsLast};
+    ghost use Rattle.ill_read.specs.Need.{IsNeed};
     ghost use Rattle.ill_read.specs.Progress.{depth_of, size_of, IsProgress, StepsTo};
 
     pub fn new(alloc: Global) -> Decoder {
@@ -55,7 +57,14 @@ impl Decoder {
     }
 
     /// How many octets surely still belong to the message; 0 once it is whole or a failure was answered.
-    pub fn need(&self) -> u32 {
+    pub fn need(&self) -> u32
+        ensures closed { self.now.state ≢ State.Open → result ≡ 0 }
+        ensures exact { (fed : List ℕ) (stands : StandsLast self.now.path self.now.at fed self.now.pending.items) → self.now.state ≡ State.Open
+            → IsNeed stands.0.place self.now.at self.now.pending.items result }
+        ensures some { (fed : List ℕ) → IsFed self.now fed → self.now.state ≡ State.Open → 0 < result }
+        ensures surely { (fed more : List ℕ) (a : Apdu) (n : ℕ) → IsFed self.now fed → IsTrue (are_octets (fed ++ more)) → self.now.state ≡ State.Open
+            → Accepts profile_two (fed ++ more) a n → length fed + result ≤ n }
+    {
         if !matches!(&self.state, State::Open) {
             return 0;
         }
