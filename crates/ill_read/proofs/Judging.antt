@@ -97,7 +97,7 @@ no_mark p path k want (a ∷ w) h =
     and_false true = refl
     and_false false = refl
 
-form_judged : (p : Profile) (path : List Open) (e : Element) (tag : Tag) (f : Bool) (k i : ℕ) (want : Fault) (w : List ℕ) → allows e f ≡ true
+pub form_judged : (p : Profile) (path : List Open) (e : Element) (tag : Tag) (f : Bool) (k i : ℕ) (want : Fault) (w : List ℕ) → allows e f ≡ true
     → judge_form p path e tag f k i want w ≡ judge_length p path e tag f k i want w
 form_judged p path (leaf l) tag f k i want w h = ap (λ x. elim x as (λ _. Judgement) [ true ↦ judge_length p path (leaf l) tag f k i want w | false ↦ faulty (fault Cause.WrongForm k) ]) h
 form_judged p path (sequence node) tag f k i want w h = ap (λ x. elim x as (λ _. Judgement) [ true ↦ judge_length p path (sequence node) tag f k i want w | false ↦ faulty (fault Cause.WrongForm k) ]) h
@@ -124,7 +124,7 @@ element_judged p path tag f d k want w h =
     ∙ ap (λ x. elim x as (λ _. Judgement) [ None ↦ faulty (fault Cause.UnexpectedTag k) | Some d ↦ judge_form p path (element_of d) tag f k (length (identifier tag f)) want w ]) h.is_due
     ∙ form_judged p path (element_of d) tag f k (length (identifier tag f)) want w h.allowed
 
-abbrev length_body : Profile → List Open → Element → Tag → Bool → ℕ → ℕ → Fault → List ℕ → LengthRead → Judgement
+abbrev pub length_body : Profile → List Open → Element → Tag → Bool → ℕ → ℕ → Fault → List ℕ → LengthRead → Judgement
 length_body p path e tag f k i want w r = elim r as (λ _. Judgement) [
   | part_length ↦ faulty want
   | no_length ↦ faulty (fault Cause.BadLength k)

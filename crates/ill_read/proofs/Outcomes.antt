@@ -97,7 +97,7 @@ accepted_alone p s a n le h short =
       ]),
     )
 
-long_alone : (p : Profile) (s : List ℕ) (a : Apdu) (n : ℕ) → n ≤ length s → (h : Encodes p a (take n s)) → p.limit < length (normal_form a) → OnlyRefuses p s (fault Cause.NormalTooLong 0)
+pub long_alone : (p : Profile) (s : List ℕ) (a : Apdu) (n : ℕ) → n ≤ length s → (h : Encodes p a (take n s)) → p.limit < length (normal_form a) → OnlyRefuses p s (fault Cause.NormalTooLong 0)
 long_alone p s a n le h long =
     let r = encodes_run p s a n le h in (
       inr (refl, (a, n, le, h, long)),

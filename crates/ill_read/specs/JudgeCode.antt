@@ -3,11 +3,11 @@ use Rattle.std.specs.Prelude.{◌≡◌, ℕ, ◌-◌, ◌≤◌, Bool, true, fa
 use Rattle.ber_core.specs.Id.{tag_of_id, form_of_id}
 use Rattle.ber_core.specs.Identifier.{Tag}
 use Rattle.ber_core.specs.declared.id.Id.{Id}
-use Rattle.ber_leaf.specs.Profile.{profile_two}
+use Rattle.ber_leaf.specs.Profile.{Profile, profile_two}
 use Rattle.ill_schema.specs.declared.refusal.Cause.{Cause}
 use Rattle.ill_schema.specs.declared.refusal.Refusal.{Refusal}
 use Rattle.ill_read.specs.Code.{element_is, found_is}
-use Rattle.ill_read.specs.Fault.{Fault, fault, Judgement, faulty, judge_form, judge_length, judge_tag}
+use Rattle.ill_read.specs.Fault.{Fault, fault, Judgement, faulty, judge_form, judge_tag}
 use Rattle.ill_read.specs.Judged.{fault_is, IsBegin, IsJudged}
 use Rattle.ill_read.specs.Place.{Open, bound, allows}
 use Rattle.ill_read.specs.Standing.{StandsAt}
@@ -15,6 +15,7 @@ use Rattle.ill_read.specs.declared.due.Due.{Due}
 use Rattle.ill_read.specs.declared.element.Found.TheVariants as found
 use Rattle.ill_read.specs.declared.frame.Frame.{Frame}
 use Rattle.ill_read.specs.declared.judge.Judgement.{Judgement as CodeJudgement}
+use Rattle.ill_read.specs.declared.judge.Started.{Started}
 use Rattle.ill_read.specs.declared.path.Path.{Path}
 
 -- a fact of the place that the path stands at
@@ -29,3 +30,38 @@ outermost_end (f ∷ fs) = elim f.end as (λ _. Option ℕ) [ Some e ↦ Some e 
 -- whether an end is there
 abbrev pub end_at : Option ℕ → ℕ → Bool
 end_at end at = elim end as (λ _. Bool) [ Some e ↦ nat_eq e at | None ↦ false ]
+
+-- the judgement is the definitions', where these are the octets
+abbrev pub Judges : Path → ℕ → List ℕ → Result CodeJudgement Refusal → (List Open → Judgement) → Type 0
+Judges path at octets result judged = (place : List Open) → StandsAt path place → IsJudged path place at octets result (judged place)
+
+-- the same where the octets lie before the bound
+abbrev pub JudgesWithin : Path → ℕ → List ℕ → Result CodeJudgement Refusal → (List Open → Judgement) → Type 0
+JudgesWithin path at octets result judged =
+    (place : List Open) → StandsAt path place → length octets ≤ bound profile_two place - at → IsJudged path place at octets result (judged place)
+
+-- what is due may have the form, or is at fault
+abbrev pub IsFormed : Due → ℕ → Bool → Result Started Refusal → Type 0
+IsFormed due at constructed (Ok started) =
+    (due ≡ record { slot = started.slot; alternative = started.alternative; found = found.Element started.element })
+    × (started.constructed ≡ constructed) × (allows (element_is started.element) constructed ≡ true)
+IsFormed due at constructed (Err refusal) =
+    (p : Profile) (place : List Open) (tag : Tag) (i : ℕ) (want : Fault) (w : List ℕ) → judge_form p place (found_is due.found) tag constructed at i want w ≡ faulty (fault_is refusal)
+
+-- what is judged behind an identifier of i octets
+abbrev pub judge_identified : List Open → Tag → Bool → ℕ → ℕ → Fault → List ℕ → Judgement
+judge_identified place tag constructed at i want w =
+    if nat_le 32 (length place) then faulty (fault Cause.TooDeep at) else judge_tag profile_two place tag constructed at i want w
+
+-- an element with the identifier may begin there, or is at fault
+abbrev pub IsIdentified : Path → List Open → ℕ → Id → Result Started Refusal → Type 0
+IsIdentified path place at id (Ok started) =
+    IsBegin path place (tag_of_id id) started.slot started.alternative started.element started.constructed × (started.constructed ≡ form_of_id id)
+IsIdentified path place at id (Err refusal) =
+    (i : ℕ) (want : Fault) (w : List ℕ) → judge_identified place (tag_of_id id) (form_of_id id) at i want w ≡ faulty (fault_is refusal)
+
+-- the judgement is the definitions', of an element that may begin there
+abbrev pub JudgesStarted : Path → Started → ℕ → List ℕ → Result CodeJudgement Refusal → (List Open → Tag → Judgement) → Type 0
+JudgesStarted path started at octets result judged =
+    (place : List Open) (tag : Tag) → StandsAt path place → IsBegin path place tag started.slot started.alternative started.element started.constructed
+    → length octets ≤ bound profile_two place - at → IsJudged path place at octets result (judged place tag)

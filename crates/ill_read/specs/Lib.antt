@@ -15,4 +15,6 @@ pub mod Held
 pub mod Step
 pub mod Judged
 pub mod Stepping
+pub mod Feeding
 pub mod JudgeCode
+pub mod Need

@@ -2,11 +2,11 @@
 ghost use Rattle.std.specs.Prelude.{◌≤◌};
 
 use crate::failure::Failure;
-use crate::header::{HeaderRead, LengthRead, read_header};
 use crate::judge::Judgement;
+use crate::need::need_at;
 use crate::path::{Body, Path};
-use ber_core::{HeaderState, Len};
-use ill_schema::{Cause, LIMIT, Message, Refusal, apdu_node, fits, normal_size};
+use crate::whole::message_of;
+use ill_schema::{Cause, LIMIT, Message, Refusal};
 use std::alloc::Global;
 use std::mem;
 
@@ -38,8 +38,12 @@ enum State {
 }
 
 impl Decoder {
-    ghost use Rattle.std.specs.Prelude.{◌≡◌, ◌+◌, length};
-    ghost use Rattle.std.specs.Bool.{OnTrue};
+    ghost use Rattle.std.specs.Prelude.{◌≡◌, ◌≢◌, ℕ, ◌+◌, ◌-◌, ◌*◌, ◌<◌, List, [], ◌++◌, length, drop, take, IfSome, OnSome, IsTrue};
+    ghost use Rattle.ber_leaf.specs.Profile.{profile_two};
+    ghost use Rattle.ill_schema.specs.Apdu.{Apdu, Accepts, Encodes};
+    ghost use Rattle.ber_core.specs.Octets.{are_octets};
+    ghost use Rattle.ill_read.specs.Feeding.{body_apdu, CanStep, FeedAnswers, HasAdvanced, HasEnded, HasStopped, IsFed, IsRunning, StandsLast};
+    ghost use Rattle.ill_read.specs.Need.{IsNeed};
     ghost use Rattle.ill_read.specs.Progress.{depth_of, size_of, IsProgress, StepsTo};
 
     pub fn new(alloc: Global) -> Decoder {
@@ -53,19 +57,27 @@ impl Decoder {
     }
 
     /// How many octets surely still belong to the message; 0 once it is whole or a failure was answered.
-    pub fn need(&self) -> u32 {
+    pub fn need(&self) -> u32
+        ensures closed { self.now.state ≢ State.Open → result ≡ 0 }
+        ensures exact { (fed : List ℕ) (stands : StandsLast self.now.path self.now.at fed self.now.pending.items) → self.now.state ≡ State.Open
+            → IsNeed stands.0.place self.now.at self.now.pending.items result }
+        ensures some { (fed : List ℕ) → IsFed self.now fed → self.now.state ≡ State.Open → 0 < result }
+        ensures surely { (fed more : List ℕ) (a : Apdu) (n : ℕ) → IsFed self.now fed → IsTrue (are_octets (fed ++ more)) → self.now.state ≡ State.Open
+            → Accepts profile_two (fed ++ more) a n → length fed + result ≤ n }
+    {
         if !matches!(&self.state, State::Open) {
             return 0;
         }
-        let pending = self.pending.len().min(LIMIT as usize) as u32;
-        match self.path.outermost_end() {
-            Some(end) => end.saturating_sub(self.at).saturating_sub(pending),
-            None => due_in_element(&self.pending, self.path.awaits_end_mark()),
-        }
+        let room = self.pending.len().min(LIMIT as usize);
+        need_at(&self.path, self.at, &self.pending[..room])
     }
 
-    /// Takes a piece of at most `need()` octets.
-    pub fn feed(&mut self, piece: &[u8]) -> Result<Progress, Failure> {
+    /// Takes a piece of at most `need()` octets. With all octets that were fed so far, it answers Done where they begin with a message,
+    /// More where one may still become of them, and else their fault; a failure is answered again by each further call.
+    pub fn feed(&mut self, piece: &[u8]) -> Result<Progress, Failure>
+        ensures fed { (fed : List ℕ) → IsFed self.old fed → IsFed self.new (fed ++ piece.now) }
+        ensures answers { (fed : List ℕ) → IsFed self.old fed → FeedAnswers (fed ++ piece.now) result }
+    {
         if matches!(&self.state, State::Open) {
             self.take(piece);
         }
@@ -76,7 +88,10 @@ impl Decoder {
         }
     }
 
-    fn take(&mut self, piece: &[u8]) {
+    fn take(&mut self, piece: &[u8])
+        requires { self.old.state ≡ State.Open }
+        ensures { (fed : List ℕ) → IsFed self.old fed → IsFed self.new (fed ++ piece.now) }
+    {
         if self.pending.is_empty() {
             let count = self.run(piece);
             self.keep(&piece[count..]);
@@ -86,18 +101,30 @@ impl Decoder {
         match octets.extend_from_slice(piece) {
             Ok(()) => {
                 let count = self.run(&octets);
-                if count == 0 {
-                    self.pending = octets;
-                } else {
-                    self.keep(&octets[count..]);
-                }
+                self.keep_behind(octets, count);
             }
             Err(error) => self.state = State::Failed(Failure::from(error)),
         }
     }
 
+    /// Keeps the octets behind those that were passed.
+    fn keep_behind(&mut self, octets: Vec<u8>, count: usize)
+        requires within { count ≤ length octets.items }
+        requires empty { self.old.pending.items ≡ [] }
+        ensures { (fed : List ℕ) → HasStopped self.old fed (drop count octets.items) → IsFed self.new fed }
+    {
+        if count == 0 {
+            self.pending = octets;
+        } else {
+            self.keep(&octets[count..]);
+        }
+    }
+
     /// Keeps octets that the place needs more of.
-    fn keep(&mut self, octets: &[u8]) {
+    fn keep(&mut self, octets: &[u8])
+        requires { self.old.pending.items ≡ [] }
+        ensures { (fed : List ℕ) → HasStopped self.old fed octets.now → IsFed self.new fed }
+    {
         if !matches!(&self.state, State::Open) {
             return;
         }
@@ -108,59 +135,77 @@ impl Decoder {
 
     /// Goes from place to place as far as the octets reach, and answers how many belong to the elements that were passed.
     pub(crate) fn run(&mut self, octets: &[u8]) -> usize
-        ensures { result ≤ length octets.now }
+        ensures count { result ≤ length octets.now }
+        ensures pending { self.new.pending ≡ self.old.pending }
+        ensures stopped { (s : List ℕ) → IsRunning self.old s octets.now → HasStopped self.new s (drop result octets.now) }
     {
         let mut rest = octets;
-        while matches!(&self.state, State::Open) {
-            match self.path.judge(self.at, rest) {
-                Ok(judgement) => {
-                    let size = judgement.size() as usize;
-                    if !self.step(judgement, &rest[..size]) {
-                        break;
-                    }
-                    rest = &rest[size..];
-                }
-                Err(refusal) => {
-                    self.refuse(refusal);
-                    break;
-                }
-            }
+        while let Some(size) = self.advance(rest) {
+            rest = &rest[size..];
         }
         octets.len() - rest.len()
     }
 
+    /// Goes on to the next place, and answers how many octets that took, or None where the rest doesn't reach it or nothing is open.
+    fn advance(&mut self, rest: &[u8]) -> Option<usize>
+        ensures pending { self.new.pending ≡ self.old.pending }
+        ensures progress { IfSome result (λ size. (size ≤ length rest.now) × (2 * (length rest.now - size) + depth_of self.new.path < 2 * length rest.now + depth_of self.old.path)) }
+        ensures goes { (s : List ℕ) → IsRunning self.old s rest.now → HasAdvanced self.new s rest.now result }
+    {
+        if !matches!(&self.state, State::Open) {
+            return None;
+        }
+        match self.path.judge(self.at, rest) {
+            Ok(judgement) => self.step(judgement, rest),
+            Err(refusal) => {
+                self.refuse(refusal);
+                None
+            }
+        }
+    }
+
     /// Fails with a refusal, unless it is only that the octets end.
-    fn refuse(&mut self, refusal: Refusal) {
+    fn refuse(&mut self, refusal: Refusal)
+        ensures pending { self.new.pending ≡ self.old.pending }
+        ensures ends { refusal.cause ≡ Cause.Truncated → self.new ≡ self.old }
+        ensures fails { refusal.cause ≢ Cause.Truncated → self.new.state ≡ State.Failed (Failure.Refused refusal) }
+    {
         if refusal.cause != Cause::Truncated {
             self.state = State::Failed(Failure::Refused(refusal));
         }
     }
 
-    /// Does what was judged with the octets that it takes, and answers whether that didn't fail.
-    fn step(&mut self, judgement: Judgement, octets: &[u8]) -> bool
-        requires progress { IsProgress (depth_of self.old.path) (length octets.now) judgement }
+    /// Does what was judged, and answers how many octets that took, or None where it failed.
+    fn step(&mut self, judgement: Judgement, rest: &[u8]) -> Option<usize>
+        requires open { self.old.state ≡ State.Open }
+        requires progress { IsProgress (depth_of self.old.path) (length rest.now) judgement }
         requires small { self.old.at + size_of judgement ≤ 1_048_576 }
-        requires whole { length octets.now ≡ size_of judgement }
-        ensures { OnTrue result (StepsTo judgement (depth_of self.old.path) (depth_of self.new.path)) }
+        ensures pending { self.new.pending ≡ self.old.pending }
+        ensures size { IfSome result (λ size. size ≡ size_of judgement) }
+        ensures depth { OnSome result (StepsTo judgement (depth_of self.old.path) (depth_of self.new.path)) }
+        ensures goes { (s : List ℕ) → CanStep self.old s rest.now judgement → HasAdvanced self.new s rest.now result }
     {
-        match self.path.step(judgement, self.at, octets) {
+        let size = judgement.size() as usize;
+        match self.path.step(judgement, self.at, &rest[..size]) {
             Ok(body) => {
-                self.at += octets.len() as u32;
+                self.at += size as u32;
                 if let Some(body) = body {
                     self.finish_body(body);
                 }
-                true
+                Some(size)
             }
             Err(failure) => {
                 self.state = State::Failed(failure);
-                false
+                None
             }
         }
     }
 
     /// The message is whole.
     fn finish_body(&mut self, body: Body)
-        ensures { self.new.path ≡ self.old.path }
+        ensures path { self.new.path ≡ self.old.path }
+        ensures pending { self.new.pending ≡ self.old.pending }
+        ensures ended { (s : List ℕ) → self.old.at ≤ length s → Encodes profile_two (body_apdu body) (take self.old.at s) → HasEnded self.new s }
     {
         self.state = match message_of(body, self.at) {
             Some(message) => State::Whole(message),
@@ -206,45 +251,4 @@ impl Decoder {
             }
         }
     }
-}
-
-/// How many octets surely still belong to the element that is being read, where no definite element is open round it.
-fn due_in_element(pending: &[u8], may_end: bool) -> u32 {
-    if may_end && matches!(pending, [0, ..]) {
-        return 1;
-    }
-    let room = pending.len().min(LIMIT as usize);
-    match read_header(&pending[..room]) {
-        HeaderRead::Identified(_, LengthRead::Whole(Len::Definite(size), header)) => {
-            size.saturating_sub(
-                pending
-                    .len()
-                    .saturating_sub(header as usize)
-                    .min(LIMIT as usize) as u32,
-            )
-        }
-        _ => due_in_header(pending),
-    }
-}
-
-/// How many octets surely still belong to the header that is being read.
-fn due_in_header(octets: &[u8]) -> u32 {
-    let mut state = HeaderState::new();
-    for octet in octets {
-        if !matches!(&state.push(*octet), Ok(None)) {
-            return 0;
-        }
-    }
-    state.due()
-}
-
-/// The message of a body, unless its normal form passes the limit.
-fn message_of(body: Body, octets: u32) -> Option<Message> {
-    let apdu = body.row.saturating_add(1);
-    let node = apdu_node(apdu)?;
-    if !fits(&body.value, node) {
-        return None;
-    }
-    normal_size(&body.value, node)?;
-    Some(Message::of(apdu, body.value, octets))
 }

@@ -64,10 +64,46 @@ struct Started {
     constructed: bool,
 }
 
+impl Started {
+    ghost use Rattle.ill_read.specs.JudgeCode.{IsFormed};
+
+    /// The form of an element that is due.
+    fn judge_form(at: u32, due: Due, constructed: bool) -> Result<Started, Refusal>
+        ensures { IsFormed due at constructed result }
+    {
+        match due.found {
+            Found::LeftOut(part) => Err(Refusal {
+                at,
+                cause: Cause::LeftOut(part),
+            }),
+            Found::Element(element) => {
+                if !element.allows(constructed) {
+                    return Err(Refusal {
+                        at,
+                        cause: Cause::WrongForm,
+                    });
+                }
+                Ok(Started {
+                    slot: due.slot,
+                    alternative: due.alternative,
+                    element,
+                    constructed,
+                })
+            }
+        }
+    }
+}
+
 impl Path {
-    ghost use Rattle.std.specs.Prelude.{◌+◌, ◌<◌};
+    ghost use Rattle.std.specs.Prelude.{◌+◌, ◌<◌, ℕ, List, ◌++◌, min, drop};
     ghost use Rattle.ill_read.specs.Progress.{depth_of, size_of, IsProgress, HeaderIsIn};
-    ghost use Rattle.ill_read.specs.Judged.{JudgesExactly};
+    ghost use Rattle.ill_read.specs.Judged.{JudgesExactly, fault_is};
+    ghost use Rattle.ill_read.specs.JudgeCode.{WhereItStands, Judges, JudgesWithin, JudgesStarted, IsIdentified};
+    ghost use Rattle.ill_read.specs.Code.{element_is};
+    ghost use Rattle.ill_read.specs.Fault.{wanting, judge_end, judge_mark, judge_octets, judge_element, judge_length, judge_size};
+    ghost use Rattle.ill_read.specs.HeaderCode.{IsLengthRead};
+    ghost use Rattle.ill_read.specs.Reading.{read_length};
+    ghost use Rattle.ber_leaf.specs.Profile.{profile_two};
 
     /// Judges the place at this offset, where the rest of the input follows.
     pub fn judge(&self, at: u32, rest: &[u8]) -> Result<Judgement, Refusal>
@@ -76,11 +112,8 @@ impl Path {
         ensures progress { IfOk result (λ judgement. IsProgress (depth_of self.now) (length rest.now) judgement) }
         ensures small { IfOk result (λ judgement. at + size_of judgement ≤ 1_048_576) }
     {
-        let innermost = self.innermost();
-        if let Some(frame) = innermost {
-            if frame.ends_at(at) {
-                return self.judge_end(at, 0);
-            }
+        if self.ends_at(at) {
+            return self.judge_end(at, 0);
         }
         let room = self.bound().saturating_sub(at) as usize;
         let window = if rest.len() < room {
@@ -88,17 +121,27 @@ impl Path {
         } else {
             &rest[..room]
         };
-        let want = self.wanting(at, rest.len());
-        if let Some(frame) = innermost {
-            if let (None, Some(0)) = (frame.end, window.first()) {
-                return self.judge_mark(at, window, want);
-            }
+        self.judge_octets(at, window, self.wanting(at, rest.len()))
+    }
+
+    /// An end mark or an element, in the octets that may be read.
+    fn judge_octets(&self, at: u32, window: &[u8], want: Refusal) -> Result<Judgement, Refusal>
+        requires { at + length window.now ≤ 1_048_576 }
+        ensures exact { JudgesWithin self.now at window.now result (λ place. judge_octets profile_two place at (fault_is want) window.now) }
+        ensures progress { IfOk result (λ judgement. IsProgress (depth_of self.now) (length window.now) judgement) }
+        ensures small { IfOk result (λ judgement. at + size_of judgement ≤ 1_048_576) }
+    {
+        match window {
+            [] => Err(want),
+            [0, ..] if self.awaits_end_mark() => self.judge_mark(at, window, want),
+            _ => self.judge_element(at, window, want),
         }
-        self.judge_element(at, window, want)
     }
 
     /// The fault where an octet is wanting: the bound comes first, or the input's end.
-    fn wanting(&self, at: u32, rest: usize) -> Refusal {
+    fn wanting(&self, at: u32, rest: usize) -> Refusal
+        ensures { (octets : List ℕ) → length octets ≡ rest → WhereItStands self.now (λ place. fault_is result ≡ wanting profile_two place at octets) }
+    {
         let room = self.bound().saturating_sub(at);
         if rest >= room as usize {
             Refusal {
@@ -116,7 +159,8 @@ impl Path {
     /// The innermost element ends: is a part of it missing?
     fn judge_end(&self, at: u32, marks: u32) -> Result<Judgement, Refusal>
         requires { 0 < depth_of self.now }
-        ensures { IfOk result (λ judgement. judgement ≡ Judgement.Closes marks) }
+        ensures closes { IfOk result (λ judgement. judgement ≡ Judgement.Closes marks) }
+        ensures exact { (octets : List ℕ) → Judges self.now at octets result (λ place. judge_end profile_two place at marks) }
     {
         match self.next().missing() {
             Some(part) => Err(Refusal {
@@ -131,6 +175,7 @@ impl Path {
     fn judge_mark(&self, at: u32, window: &[u8], want: Refusal) -> Result<Judgement, Refusal>
         requires fits { at + length window.now ≤ 1_048_576 }
         requires open { 0 < depth_of self.now }
+        ensures exact { Judges self.now at window.now result (λ place. judge_mark profile_two place at (fault_is want) (drop 1 window.now)) }
         ensures progress { IfOk result (λ judgement. IsProgress (depth_of self.now) (length window.now) judgement) }
         ensures small { IfOk result (λ judgement. at + size_of judgement ≤ 1_048_576) }
     {
@@ -147,6 +192,7 @@ impl Path {
     /// An element from its first octet on.
     fn judge_element(&self, at: u32, window: &[u8], want: Refusal) -> Result<Judgement, Refusal>
         requires { at + length window.now ≤ 1_048_576 }
+        ensures exact { JudgesWithin self.now at window.now result (λ place. judge_element profile_two place at (fault_is want) window.now) }
         ensures progress { IfOk result (λ judgement. IsProgress (depth_of self.now) (length window.now) judgement) }
         ensures small { IfOk result (λ judgement. at + size_of judgement ≤ 1_048_576) }
     {
@@ -164,7 +210,9 @@ impl Path {
     }
 
     /// The depth, tag and form of an element.
-    fn judge_tag(&self, at: u32, id: Id) -> Result<Started, Refusal> {
+    fn judge_tag(&self, at: u32, id: Id) -> Result<Started, Refusal>
+        ensures { WhereItStands self.now (λ place. IsIdentified self.now place at id result) }
+    {
         if self.depth() >= DEPTH {
             return Err(Refusal {
                 at,
@@ -177,7 +225,7 @@ impl Path {
                 cause: Cause::UnexpectedTag,
             });
         };
-        judge_form(at, due, id.constructed())
+        Started::judge_form(at, due, id.constructed())
     }
 
     /// The length of an element.
@@ -191,11 +239,14 @@ impl Path {
     ) -> Result<Judgement, Refusal>
         requires fits { at + length window.now ≤ 1_048_576 }
         requires header { HeaderIsIn length_read (length window.now) }
+        ensures exact { (front behind : List ℕ) → window.now ≡ front ++ behind → IsLengthRead length_read (read_length started.constructed behind) window.now
+            → JudgesStarted self.now started at window.now result
+            (λ place tag. judge_length profile_two place (element_is started.element) tag started.constructed at (length front) (fault_is want) behind) }
         ensures progress { IfOk result (λ judgement. IsProgress (depth_of self.now) (length window.now) judgement) }
         ensures small { IfOk result (λ judgement. at + size_of judgement ≤ 1_048_576) }
     {
         match length_read {
-            LengthRead::PartLength => Err(want),
+            LengthRead::PartLength(_) => Err(want),
             LengthRead::NoLength => Err(Refusal {
                 at,
                 cause: Cause::BadLength,
@@ -225,6 +276,8 @@ impl Path {
     ) -> Result<Judgement, Refusal>
         requires fits { at + length window.now ≤ 1_048_576 }
         requires header { (0 < header) × (header ≤ length window.now) }
+        ensures exact { (n : ℕ) → size ≡ min n 4_294_967_295 → JudgesStarted self.now started at window.now result
+            (λ place tag. judge_size profile_two place (element_is started.element) tag started.constructed at header (fault_is want) n (drop header window.now)) }
         ensures progress { IfOk result (λ judgement. IsProgress (depth_of self.now) (length window.now) judgement) }
         ensures small { IfOk result (λ judgement. at + size_of judgement ≤ 1_048_576) }
     {
@@ -254,29 +307,5 @@ impl Path {
             header,
             size,
         }))
-    }
-}
-
-/// The form of an element that is due.
-fn judge_form(at: u32, due: Due, constructed: bool) -> Result<Started, Refusal> {
-    match due.found {
-        Found::LeftOut(part) => Err(Refusal {
-            at,
-            cause: Cause::LeftOut(part),
-        }),
-        Found::Element(element) => {
-            if !element.allows(constructed) {
-                return Err(Refusal {
-                    at,
-                    cause: Cause::WrongForm,
-                });
-            }
-            Ok(Started {
-                slot: due.slot,
-                alternative: due.alternative,
-                element,
-                constructed,
-            })
-        }
     }
 }

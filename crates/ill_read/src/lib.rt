@@ -10,9 +10,11 @@ mod header;
 mod judge;
 mod laws;
 mod leaf_type;
+mod need;
 mod path;
 mod read;
 mod values;
+mod whole;
 
 pub use decoder::{Decoder, Progress};
 pub use failure::{Failure, ReadFailure};

@@ -1,0 +1,158 @@
+-- What the decoder judges at a place, part by part.
+use Rattle.std.proofs.Common.{◌≡◌, ℕ, ◌+◌, ◌-◌, ◌<◌, ◌≤◌, Bool, true, false, List, [], ◌∷◌, ◌++◌, length, take, drop, min, Option, Some, None, Result, Ok, Err, IfOk, IsTrue, refl, sym, ap, ap₂, subst, ◌∙◌, arith, take-append-drop, if◌then◌else◌, length-append, length-drop}
+use Rattle.std.specs.Prelude.{nat_le}
+use Rattle.std.proofs.lemmas.List.{take-append-le, drop-append-le}
+use Rattle.ber_core.specs.Id.{tag_of_id, form_of_id}
+use Rattle.ber_core.specs.Identifier.{Tag}
+use Rattle.ber_core.specs.Octets.{are_octets}
+use Rattle.ber_core.specs.Tree.{text_all}
+use Rattle.ber_core.specs.declared.id.Id.{Id}
+use Rattle.ber_leaf.specs.Profile.{profile_two}
+use Rattle.ill_schema.specs.declared.part.PartId.{PartId}
+use Rattle.ill_schema.specs.declared.refusal.Cause.{Cause}
+use Rattle.ill_schema.specs.declared.refusal.Refusal.{Refusal}
+use Rattle.ill_read.specs.Code.{element_is, found_is}
+use Rattle.ill_read.specs.DueCode.{IsDueIn, next_is}
+use Rattle.ill_read.specs.Element.{Element}
+use Rattle.ill_read.specs.Fault.{Fault, fault, Judgement, faulty, closes, opens, reads, element_fault, or_faulty, ends_at, wanting, judge_end, judge_size, judge_length, judge_form, judge_tag, judge_element, judge_octets, judge}
+use Rattle.ill_read.specs.JudgeCode.{IsFormed, IsIdentified, judge_identified}
+use Rattle.ill_read.specs.Judged.{IsBegin, IsEnd, IsJudged, content_in, fault_is}
+use Rattle.ill_read.specs.Next.{Due, due, element_of, missing}
+use Rattle.ill_read.specs.Place.{Open, next_in, bound, allows}
+use Rattle.ill_read.specs.Progress.{IsProgress}
+use Rattle.ill_read.specs.Reading.{IdentifierRead, identified, part_identifier, no_identifier, read_identifier, definite, read_length}
+use Rattle.ill_read.specs.Standing.{StandsAt, next_at}
+use Rattle.ill_read.specs.declared.due.Due.{Due as CodeDue}
+use Rattle.ill_read.specs.declared.due.Slot.{Slot}
+use Rattle.ill_read.specs.declared.element.Element.{Element as CodeElement}
+use Rattle.ill_read.specs.declared.element.Found.TheVariants as found
+use Rattle.ill_read.specs.declared.judge.Judgement.{Judgement as CodeJudgement}
+use Rattle.ill_read.specs.declared.judge.Judgement.TheVariants as code
+use Rattle.ill_read.specs.declared.judge.Started.{Started}
+use Rattle.ill_read.specs.declared.path.Path.{Path}
+use Rattle.ill_read.proofs.DueElements.{due_element_is}
+use Rattle.ill_read.proofs.Frames.{next_open}
+use Rattle.ill_read.proofs.Judging.{form_judged, length_body}
+use Rattle.ill_read.proofs.Readings.{read_is_length}
+
+abbrev end_body : Open → List Open → ℕ → ℕ → Option PartId → Judgement
+end_body o path at marks x = elim x as (λ _. Judgement) [
+  | Some part ↦ faulty (fault (Cause.Missing part) at)
+  | None ↦ or_faulty (element_fault profile_two o.element (text_all o.trees)) o.start (closes marks)
+]
+
+-- the innermost element ends, and a part is missing
+pub end_missing : (place : List Open) (at marks : ℕ) (part : PartId) → 0 < length place → missing profile_two (next_in profile_two place) ≡ Some part
+    → judge_end profile_two place at marks ≡ faulty (fault (Cause.Missing part) at)
+end_missing [] at marks part h e = absurd (omega (arith, h))
+end_missing (o ∷ path) at marks part h e = ap (end_body o path at marks) e
+
+-- none is
+pub end_complete : (place : List Open) (at marks : ℕ) → 0 < length place → missing profile_two (next_in profile_two place) ≡ None → IsEnd place marks (judge_end profile_two place at marks)
+end_complete [] at marks h e = absurd (omega (arith, h))
+end_complete (o ∷ path) at marks h e = record { innermost = o; outer = path; is_path = refl; complete = e; is = ap (end_body o path at marks) e }
+
+abbrev tag_body : List Open → Tag → Bool → ℕ → ℕ → Fault → List ℕ → Option Due → Judgement
+tag_body place tag f at i want w x = elim x as (λ _. Judgement) [
+  | None ↦ faulty (fault Cause.UnexpectedTag at)
+  | Some d ↦ judge_form profile_two place (element_of d) tag f at i want w
+]
+
+abbrev depth_body : List Open → Tag → Bool → ℕ → ℕ → Fault → List ℕ → Bool → Judgement
+depth_body place tag f at i want w b = if b then faulty (fault Cause.TooDeep at) else judge_tag profile_two place tag f at i want w
+
+-- too deep
+pub deep_judged : (place : List Open) (tag : Tag) (f : Bool) (at i : ℕ) (want : Fault) (w : List ℕ) → 32 ≤ length place
+    → judge_identified place tag f at i want w ≡ faulty (fault Cause.TooDeep at)
+deep_judged place tag f at i want w h = let q : nat_le 32 (length place) ≡ true = grind (arith, h) in ap (depth_body place tag f at i want w) q
+
+-- not too deep
+shallow_judged : (place : List Open) (tag : Tag) (f : Bool) (at i : ℕ) (want : Fault) (w : List ℕ) → length place < 32
+    → judge_identified place tag f at i want w ≡ judge_tag profile_two place tag f at i want w
+shallow_judged place tag f at i want w h = let q : nat_le 32 (length place) ≡ false = grind (arith, h) in ap (depth_body place tag f at i want w) q
+
+-- nothing is due with the tag
+pub unexpected_judged : (path : Path) (place : List Open) (tag : Tag) (f : Bool) (at i : ℕ) (want : Fault) (w : List ℕ) → StandsAt path place → length place < 32
+    → due profile_two tag (next_is (next_at path.frames.items)) ≡ None → judge_identified place tag f at i want w ≡ faulty (fault Cause.UnexpectedTag at)
+unexpected_judged path place tag f at i want w h s e =
+    shallow_judged place tag f at i want w s ∙ ap (tag_body place tag f at i want w) (ap (due profile_two tag) (sym (next_open place _ _ h.0)) ∙ e)
+
+-- what is due with the tag is judged by its form
+due_judged : (path : Path) (place : List Open) (tag : Tag) (f : Bool) (d : CodeDue) (at i : ℕ) (want : Fault) (w : List ℕ) → StandsAt path place → length place < 32
+    → IsDueIn tag (next_at path.frames.items) d → judge_identified place tag f at i want w ≡ judge_form profile_two place (found_is d.found) tag f at i want w
+due_judged path place tag f d at i want w h s k =
+    let e = due_element_is tag (next_at path.frames.items) d k in
+    shallow_judged place tag f at i want w s
+    ∙ ap (tag_body place tag f at i want w) (ap (due profile_two tag) (sym (next_open place _ _ h.0)) ∙ e.1)
+    ∙ ap (λ x. judge_form profile_two place x tag f at i want w) e.2
+
+pub identified_judged : (path : Path) (place : List Open) (at : ℕ) (id : Id) (d : CodeDue) (r : Result Started Refusal) → StandsAt path place → length place < 32
+    → IsDueIn (tag_of_id id) (next_at path.frames.items) d → IsFormed d at (form_of_id id) r → IsIdentified path place at id r
+identified_judged path place at id d (Ok started) h s k f =
+    (record { is_due = subst (IsDueIn (tag_of_id id) (next_at path.frames.items)) f.0 k; allowed = ap (allows (element_is started.element)) f.1 ∙ f.2; shallow = s }, f.1)
+identified_judged path place at id d (Err refusal) h s k f = λ i want w.
+    due_judged path place (tag_of_id id) (form_of_id id) d at i want w h s k ∙ f profile_two place (tag_of_id id) i want w
+
+abbrev element_body : List Open → ℕ → Fault → List ℕ → IdentifierRead → Judgement
+element_body place at want w x = elim x as (λ _. Judgement) [
+  | part_identifier ↦ faulty want
+  | no_identifier ↦ faulty (fault Cause.BadTag at)
+  | identified tag f rest ↦ judge_identified place tag f at (length w - length rest) want rest
+]
+
+-- an element is judged behind its identifier
+pub behind_identifier : (place : List Open) (at : ℕ) (want : Fault) (w front behind : List ℕ) (tag : Tag) (f : Bool) → w ≡ front ++ behind → read_identifier w ≡ identified tag f behind
+    → judge_element profile_two place at want w ≡ judge_identified place tag f at (length front) want behind
+behind_identifier place at want w front behind tag f e r =
+    let n : length w - length behind ≡ length front = omega (arith, ap length e, length-append front behind) in
+    ap (element_body place at want w) r ∙ ap (λ i. judge_identified place tag f at i want behind) n
+
+-- an element that may begin there is judged by its length
+pub begun_judged : (path : Path) (place : List Open) (tag : Tag) (slot : Slot) (alternative : Option ℕ) (element : CodeElement) (f : Bool) (at i : ℕ) (want : Fault) (w : List ℕ)
+    → StandsAt path place → IsBegin path place tag slot alternative element f
+    → judge_identified place tag f at i want w ≡ judge_length profile_two place (element_is element) tag f at i want w
+begun_judged path place tag slot alternative element f at i want w h b =
+    due_judged path place tag f (record { slot = slot; alternative = alternative; found = found.Element element }) at i want w h b.shallow b.is_due
+    ∙ form_judged profile_two place (element_is element) tag f at i want w b.allowed
+
+-- an element of definite length, whose header has so many octets
+pub definite_judged : (place : List Open) (e : Element) (tag : Tag) (f : Bool) (at : ℕ) (want : Fault) (w front behind : List ℕ) (header n : ℕ) → IsTrue (are_octets behind)
+    → w ≡ front ++ behind → header ≤ length w → read_length f behind ≡ definite n (drop header w)
+    → judge_length profile_two place e tag f at (length front) want behind ≡ judge_size profile_two place e tag f at header want n (drop header w)
+definite_judged place e tag f at want w front behind header n ok s h r =
+    let l = read_is_length f behind n (drop header w) ok r in
+    let i : length front + (length behind - length (drop header w)) ≡ header =
+    omega (arith, h, ap length s, length-append front behind, length-drop header w, ap length l.2, length-append l.0 (drop header w)) in
+    ap (length_body profile_two place e tag f at (length front) want behind) r ∙ ap (λ x. judge_size profile_two place e tag f at x want n (drop header w)) i
+
+content_further : (header size : ℕ) (w y : List ℕ) → header + size ≤ length w → content_in header size w ≡ content_in header size (w ++ y)
+content_further header size w y h =
+    sym (ap (take size) (drop-append-le header w y (omega (arith, h))) ∙ take-append-le size (drop header w) y (omega (arith, h, length-drop header w)))
+
+-- what is judged in the octets before the bound is judged where the others follow
+pub judged_further : (path : Path) (place : List Open) (at depth : ℕ) (w y : List ℕ) (r : Result CodeJudgement Refusal) (j : Judgement)
+    → IfOk r (λ judgement. IsProgress depth (length w) judgement) → IsJudged path place at w r j → IsJudged path place at (w ++ y) r j
+judged_further path place at depth w y (Err refusal) j k h = h
+judged_further path place at depth w y (Ok (code.Closes marks)) j k h = h
+judged_further path place at depth w y (Ok (code.Opens opening)) j k h = h
+judged_further path place at depth w y (Ok (code.Reads reading)) j k h =
+    let c = content_further reading.header reading.size w y k.1 in
+    (h.0, h.1, h.2 ∙ ap (λ x. or_faulty (element_fault profile_two (element_is reading.element) x) at (reads h.0 reading.header x)) c)
+
+abbrev place_body : List Open → ℕ → List ℕ → Bool → Judgement
+place_body place at rest b = elim b as (λ _. Judgement) [
+  | true ↦ judge_end profile_two place at 0
+  | false ↦ judge_octets profile_two place at (wanting profile_two place at rest) (take (bound profile_two place - at) rest)
+]
+
+-- no definite element ends there
+pub octets_judged : (path : Path) (place : List Open) (at depth : ℕ) (rest window : List ℕ) (want : Fault) (r : Result CodeJudgement Refusal) → ends_at place at ≡ false
+    → window ≡ take (bound profile_two place - at) rest → want ≡ wanting profile_two place at rest
+    → IfOk r (λ judgement. IsProgress depth (length window) judgement) → IsJudged path place at window r (judge_octets profile_two place at want window)
+    → IsJudged path place at rest r (judge profile_two place at rest)
+octets_judged path place at depth rest window want r e s f k h =
+    let m = bound profile_two place - at in
+    let same : judge_octets profile_two place at want window ≡ judge profile_two place at rest = ap₂ (judge_octets profile_two place at) f s ∙ sym (ap (place_body place at rest) e) in
+    let whole : window ++ drop m rest ≡ rest = ap (λ x. x ++ drop m rest) s ∙ take-append-drop m rest in
+    subst (λ x. IsJudged path place at x r (judge profile_two place at rest)) whole
+    (judged_further path place at depth window (drop m rest) r _ k (subst (IsJudged path place at window r) same h))

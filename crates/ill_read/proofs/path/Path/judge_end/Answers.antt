@@ -1,0 +1,22 @@
+use Rattle.std.proofs.Common.{◌≡◌, ◌<◌, ℕ, Some, None, sym, ap, subst, ◌∙◌}
+use Rattle.ber_leaf.specs.Profile.{profile_two}
+use Rattle.ill_read.specs.DueCode.{next_is}
+use Rattle.ill_read.specs.Next.{missing}
+use Rattle.ill_read.specs.Place.{next_in}
+use Rattle.ill_read.proofs.Frames.{frames_open, next_open}
+use Rattle.ill_read.proofs.Judges.{end_missing, end_complete}
+use Rattle.ill_read.proofs.path.Path.judge_end.Goals as goal
+
+pub returns-in-Some-clause-exact : goal.returns-in-Some-clause-exact
+returns-in-Some-clause-exact c octets place h =
+    let n = next_open place _ _ h.0 in
+    let e : missing profile_two (next_in profile_two place) ≡ Some c.in-Some.part =
+    ap (missing profile_two) (sym n) ∙ ap (λ x. missing profile_two (next_is x)) (sym c.next.ensures) ∙ sym c.missing.ensures ∙ c.in-Some.is in
+    end_missing place c.args.at c.args.marks c.in-Some.part (subst (λ (x : ℕ). 0 < x) (frames_open place _ _ h.0) c.requires) e
+
+pub returns-in-None-clause-exact : goal.returns-in-None-clause-exact
+returns-in-None-clause-exact c octets place h =
+    let n = next_open place _ _ h.0 in
+    let e : missing profile_two (next_in profile_two place) ≡ None =
+    ap (missing profile_two) (sym n) ∙ ap (λ x. missing profile_two (next_is x)) (sym c.next.ensures) ∙ sym c.missing.ensures ∙ c.in-None.is in
+    end_complete place c.args.at c.args.marks (subst (λ (x : ℕ). 0 < x) (frames_open place _ _ h.0) c.requires) e

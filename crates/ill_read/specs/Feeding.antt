@@ -1,0 +1,106 @@
+-- What a decoder has been fed, and what its calls answer.
+use Rattle.std.specs.Prelude.{◌≡◌, ◌≢◌, ◌⊎◌, ℕ, ◌+◌, ◌<◌, ◌≤◌, List, [], ◌++◌, length, drop, Option, Some, None, Result, Ok, Err}
+use Rattle.ber_leaf.specs.Profile.{profile_two}
+use Rattle.ill_schema.specs.declared.message.Message.{Message}
+use Rattle.ill_schema.specs.declared.refusal.Cause.{Cause}
+use Rattle.ill_schema.specs.Apdu.{Apdu, normal_form}
+use Rattle.ill_schema.specs.Message.{apdu_of, octets_of}
+use Rattle.ill_schema.specs.Value.{apdu_with}
+use Rattle.ill_read.specs.Fault.{Fault, fault, faulty, judge}
+use Rattle.ill_read.specs.Judged.{fault_is, IsJudgement}
+use Rattle.ill_read.specs.Outcome.{OnlyAccepts, OnlyRefuses}
+use Rattle.ill_read.specs.Place.{Open, IsPlace}
+use Rattle.ill_read.specs.Standing.{StandsAt}
+use Rattle.ill_read.specs.declared.decoder.Decoder.{Decoder}
+use Rattle.ill_read.specs.declared.decoder.Progress.{Progress}
+use Rattle.ill_read.specs.declared.decoder.State.{State}
+use Rattle.ill_read.specs.declared.decoder.State.TheVariants as state
+use Rattle.ill_read.specs.declared.failure.Failure.{Failure}
+use Rattle.ill_read.specs.declared.judge.Judgement.{Judgement}
+use Rattle.ill_read.specs.declared.path.Body.{Body}
+use Rattle.ill_read.specs.declared.path.Path.{Path}
+
+-- the octets begin with the message and no other, and aren't refused
+abbrev pub IsRead : List ℕ → Message → Type 0
+IsRead s m = OnlyAccepts profile_two s (apdu_of m) (octets_of m)
+
+-- the octets end too early, and are at no other fault
+abbrev pub IsPart : List ℕ → Type 0
+IsPart s = OnlyRefuses profile_two s (fault Cause.Truncated (length s))
+
+-- a refusal is the one fault of the octets, which more octets don't mend; want of memory says nothing
+abbrev pub IsRefused : List ℕ → Failure → Type 0
+IsRefused s (Failure.Refused refusal) = OnlyRefuses profile_two s (fault_is refusal) × (refusal.cause ≢ Cause.Truncated)
+IsRefused s Failure.OutOfMemory = Unit {0}
+
+-- a path that stands at a place of the octets, with the rest of them behind it
+pub record StandsBefore (path : Path) (at : ℕ) (s rest : List ℕ) : Type 0 where
+  pub place : List Open
+  pub before : List ℕ
+  pub joined : s ≡ before ++ rest
+  pub offset : at ≡ length before
+  pub stands : StandsAt path place
+  pub is_place : IsPlace profile_two before place
+
+-- the rest doesn't reach the next place
+abbrev pub StandsLast : Path → ℕ → List ℕ → List ℕ → Type 0
+StandsLast path at s rest = (b : StandsBefore path at s rest) × (judge profile_two b.place at rest ≡ faulty (fault Cause.Truncated (length s)))
+
+-- a message was read of the octets, or they are refused, or else this holds
+abbrev pub InState : State → List ℕ → Type 0 → Type 0
+InState state.Open s IfOpen = IfOpen
+InState (state.Whole m) s IfOpen = IsRead s m
+InState (state.Failed f) s IfOpen = IsRefused s f
+
+abbrev pub IsRunning : Decoder → List ℕ → List ℕ → Type 0
+IsRunning d s rest = InState d.state s (StandsBefore d.path d.at s rest)
+
+abbrev pub HasStopped : Decoder → List ℕ → List ℕ → Type 0
+HasStopped d s rest = InState d.state s (StandsLast d.path d.at s rest)
+
+-- the judgement is the definitions' one at its place
+abbrev pub CanStep : Decoder → List ℕ → List ℕ → Judgement → Type 0
+CanStep d s rest judgement = (b : StandsBefore d.path d.at s rest) × IsJudgement d.path b.place d.at rest judgement (judge profile_two b.place d.at rest)
+
+-- it went on behind so many octets, or stopped
+abbrev pub HasAdvanced : Decoder → List ℕ → List ℕ → Option ℕ → Type 0
+HasAdvanced d s rest (Some size) = IsRunning d s (drop size rest)
+HasAdvanced d s rest None = HasStopped d s rest
+
+abbrev pub body_apdu : Body → Apdu
+body_apdu body = apdu_with (body.row + 1) body.value
+
+-- the message of an APDU that was read from so many octets, None where its normal form passes the limit
+abbrev pub IsMessageOf : Apdu → ℕ → Option Message → Type 0
+IsMessageOf a octets None = profile_two.limit < length (normal_form a)
+IsMessageOf a octets (Some m) = (apdu_of m ≡ a) × (octets_of m ≡ octets) × (length (normal_form a) ≤ profile_two.limit)
+
+-- nothing is open any more
+abbrev pub HasEnded : Decoder → List ℕ → Type 0
+HasEnded d s = InState d.state s ⊥
+
+-- the decoder has been fed these octets
+abbrev pub IsFed : Decoder → List ℕ → Type 0
+IsFed d s = HasStopped d s d.pending.items
+
+-- after some octets more: a message is whole, or one may still become so, or none does
+abbrev pub FeedAnswers : List ℕ → Result Progress Failure → Type 0
+FeedAnswers s (Ok Progress.Done) = (a : Apdu) × (n : ℕ) × OnlyAccepts profile_two s a n
+FeedAnswers s (Ok Progress.More) = IsPart s
+FeedAnswers s (Err failure) = IsRefused s failure
+
+-- after the last octet
+abbrev pub FinishAnswers : List ℕ → Result (Option Message) Failure → Type 0
+FinishAnswers s (Ok (Some m)) = IsRead s m
+FinishAnswers s (Ok None) = s ≡ []
+FinishAnswers s (Err (Failure.Refused refusal)) = OnlyRefuses profile_two s (fault_is refusal) × (0 < length s)
+FinishAnswers s (Err Failure.OutOfMemory) = Unit {0}
+
+-- the one fault of octets that are to be one message
+abbrev pub RefusesWhole : List ℕ → Fault → Type 0
+RefusesWhole s f = OnlyRefuses profile_two s f ⊎ ((a : Apdu) × (n : ℕ) × OnlyAccepts profile_two s a n × (n < length s) × (f ≡ fault Cause.TrailingBytes n))
+
+abbrev pub DecodeAnswers : List ℕ → Result Message Failure → Type 0
+DecodeAnswers s (Ok m) = IsRead s m × (octets_of m ≡ length s)
+DecodeAnswers s (Err (Failure.Refused refusal)) = RefusesWhole s (fault_is refusal)
+DecodeAnswers s (Err Failure.OutOfMemory) = Unit {0}
