@@ -33,11 +33,7 @@ pub mod DueElements
 pub mod Entries
 pub mod Meanings
 pub mod Wanting
-pub mod Entries
-pub mod Meanings
-pub mod Wanting
 pub mod Bodies
 pub mod Fed
-pub mod DueElements
 pub mod Judges
 pub mod Needing
