@@ -66,10 +66,13 @@ matches_joined [] ys (row ∷ rs) ss ts us h k = absurd h
 matches_joined (None ∷ xs) ys [] ss ts us h k = absurd h
 matches_joined (Some c ∷ xs) ys [] ss ts us h k = absurd h
 matches_joined (None ∷ xs) ys (row ∷ rs) ss ts us h k = (h.0, matches_joined xs ys rs ss ts us h.1 k)
-matches_joined (Some c ∷ xs) ys (row ∷ rs) ss ts us h k = (h.0, elim h.1 [
-  | inl x ↦ inl (x.0, joined x.1 us, ap (λ z. joined z us) x.2, x.3, matches_joined xs ys rs ss x.1 us x.4 k)
-  | inr x ↦ inr (x.0, matches_joined xs ys rs ss ts us x.1 k)
-])
+matches_joined (Some c ∷ xs) ys (row ∷ rs) ss ts us h k = (
+  h.0,
+  elim h.1 [
+    | inl x ↦ inl (x.0, joined x.1 us, ap (λ z. joined z us) x.2, x.3, matches_joined xs ys rs ss x.1 us x.4 k)
+    | inr x ↦ inr (x.0, matches_joined xs ys rs ss ts us x.1 k)
+  ],
+)
 
 joined_one : (ts : Trees) (T : Tree) → joined (joined ts none) (more T none) ≡ snoc ts T
 joined_one none T = refl

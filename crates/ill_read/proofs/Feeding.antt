@@ -47,7 +47,7 @@ Keeps e (whole T n) = e ≤ n
 Keeps e (refused f) = Unit {0}
 Keeps e stuck = Unit {0}
 
-with_keeps : (e : ℕ) (path : List Open) (T : Tree) (k : ℕ) (rest : List ℕ) → HasEnd e path ⊎ (e ≤ k) → Keeps e (with_tree path T k rest)
+pub with_keeps : (e : ℕ) (path : List Open) (T : Tree) (k : ℕ) (rest : List ℕ) → HasEnd e path ⊎ (e ≤ k) → Keeps e (with_tree path T k rest)
 with_keeps e [] T k rest (inl h) = absurd h
 with_keeps e [] T k rest (inr h) = h
 with_keeps e (o ∷ path) T k rest h = h

@@ -4,6 +4,7 @@ use Rattle.ill_schema.specs.declared.value.Value.{Value}
 use Rattle.ber_leaf.specs.Profile.{profile_two}
 use Rattle.ill_read.specs.DueCode.{next_is}
 use Rattle.ill_read.specs.JudgeCode.{outermost_end}
+use Rattle.ill_read.specs.Need.{outermost}
 use Rattle.ill_read.specs.Place.{Open, next_in, innermost_end, bound}
 use Rattle.ill_read.specs.Standing.{next_at, IsFrame, AreFrames}
 use Rattle.ill_read.specs.declared.frame.Frame.{Frame}
@@ -39,7 +40,7 @@ last_open o path frames held h f e =
     let q : Some h.1 ≡ Some f = sym (last_behind h.0 h.1) ∙ ap (λ (x : List Frame). slice_get x (length x - 1)) (sym h.4) ∙ e in
     cc
 
-no_last : (frames : List Frame) (f : Frame) → frames ≡ [] → slice_get frames (length frames - 1) ≡ Some f → ⊥
+pub no_last : (frames : List Frame) (f : Frame) → frames ≡ [] → slice_get frames (length frames - 1) ≡ Some f → ⊥
 no_last frames f h e = let q : None ≡ Some f = ap (λ (x : List Frame). slice_get x (length x - 1)) (sym h) ∙ e in cc
 
 pub bound_last : (place : List Open) (frames : List Frame) (held : List (Option Value)) (f : Frame) → AreFrames place frames held
@@ -71,6 +72,11 @@ outermost_behind (g ∷ fs) f = ap (or_end g.end) (outermost_behind fs f) ∙ go
     go : (x y : Option ℕ) → or_end x (or_end y f.end) ≡ or_end (or_end x y) f.end
     go (Some e) y = refl
     go None y = refl
+
+pub outermost_open : (place : List Open) (frames : List Frame) (held : List (Option Value)) → AreFrames place frames held → outermost_end frames ≡ outermost place
+outermost_open [] frames held h = ap outermost_end h.0
+outermost_open (o ∷ path) frames held h =
+    ap outermost_end h.4 ∙ outermost_behind h.0 h.1 ∙ ap (or_end (outermost_end h.0)) h.6.end ∙ ap (λ x. or_end x o.end) (outermost_open path h.0 h.2 h.7)
 
 -- an end is found outermost where one is found innermost
 pub ends_found : (place : List Open) (frames : List Frame) (held : List (Option Value)) → AreFrames place frames held

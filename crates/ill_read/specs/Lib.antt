@@ -11,7 +11,10 @@ pub mod Failures
 pub mod HeaderCode
 pub mod Progress
 pub mod Standing
+pub mod Held
 pub mod Step
 pub mod Judged
+pub mod Stepping
 pub mod Feeding
 pub mod JudgeCode
+pub mod Need

@@ -1,6 +1,6 @@
 -- How the decoder's path stands for the elements that are open at a place.
 use Rattle.std.specs.Prelude.{◌≡◌, ◌⊎◌, ℕ, List, [], ◌∷◌, ◌++◌, length, take, map, Option, Some, None, IsTrue}
-use Rattle.ber_core.specs.Tree.{Tree, Trees, constructed, none, more, text, text_all, AreSegments}
+use Rattle.ber_core.specs.Tree.{Tree, Trees, constructed, none, more, tag_of, text, text_all, AreSegments}
 use Rattle.ber_core.specs.Identifier.{Tag}
 use Rattle.ber_core.specs.Octets.{are_octets}
 use Rattle.ber_leaf.specs.Leaf.{is_string, value, content_fault}
@@ -17,6 +17,8 @@ use Rattle.ill_schema.specs.Value.{content_of, entries_content, items_content}
 use Rattle.ill_schema.specs.Content.{Content, simple, alternative, Entries, Items as Contents}
 use Rattle.ill_schema.specs.Content as content
 use Rattle.ill_read.specs.Element.{Element, leaf, sequence, list, wrapper, loose_wrapper, segment, left_out}
+use Rattle.ill_read.specs.Next.{due, next_of, opening}
+use Rattle.ill_read.specs.Next as following
 use Rattle.ill_read.specs.Place.{Open, next_in, bound}
 use Rattle.ill_read.specs.Code.{element_is}
 use Rattle.ill_read.specs.DueCode.{next_is, IsDueIn}
@@ -87,6 +89,11 @@ IsHeld (LooseWrapper w) (Rows same n) entries ts = (same ≡ w.node) × Matches 
 IsHeld (LooseWrapper w) Nothing entries ts = HoldsPart w entries ts
 IsHeld _ _ _ _ = ⊥
 
+-- each of the trees was due behind those before it
+abbrev pub AreDue : following.Next → Trees → Type 0
+AreDue n none = Unit {0}
+AreDue n (more T ts) = (d : following.Due) × (due profile_two (tag_of T) n ≡ Some d) × AreDue (next_of d) ts
+
 -- a frame is an open element in a path, where the frames of the path are these and hold so many entries
 pub record IsFrame (f : Frame) (o : Open) (path : List Open) (outer : List Frame) (below : ℕ) (entries : List (Option Value)) : Type 0 where
   pub element : element_is f.element ≡ o.element
@@ -97,6 +104,7 @@ pub record IsFrame (f : Frame) (o : Open) (path : List Open) (outer : List Frame
   pub next : next_is f.next ≡ next_in profile_two (o ∷ path)
   pub is_due : IsDueIn o.tag (next_at outer) (record { slot = f.slot; alternative = f.alternative; found = found.Element f.element })
   pub held : IsHeld f.element f.next entries o.trees
+  pub were_due : AreDue (opening profile_two o.element) o.trees
 
 -- the frames are the open elements, outermost first, and hold these entries
 abbrev pub AreFrames : List Open → List Frame → List (Option Value) → Type 0

@@ -2,11 +2,10 @@
 ghost use Rattle.std.specs.Prelude.{◌≤◌};
 
 use crate::failure::Failure;
-use crate::header::{HeaderRead, LengthRead, read_header};
 use crate::judge::Judgement;
+use crate::need::need_at;
 use crate::path::{Body, Path};
 use crate::whole::message_of;
-use ber_core::{HeaderState, Len};
 use ill_schema::{Cause, LIMIT, Message, Refusal};
 use std::alloc::Global;
 use std::mem;
@@ -39,10 +38,12 @@ enum State {
 }
 
 impl Decoder {
-    ghost use Rattle.std.specs.Prelude.{◌≡◌, ◌≢◌, ℕ, ◌+◌, ◌-◌, ◌*◌, ◌<◌, List, [], ◌++◌, length, drop, take, IfSome, OnSome};
+    ghost use Rattle.std.specs.Prelude.{◌≡◌, ◌≢◌, ℕ, ◌+◌, ◌-◌, ◌*◌, ◌<◌, List, [], ◌++◌, length, drop, take, IfSome, OnSome, IsTrue};
     ghost use Rattle.ber_leaf.specs.Profile.{profile_two};
-    ghost use Rattle.ill_schema.specs.Apdu.{Encodes};
-    ghost use Rattle.ill_read.specs.Feeding.{body_apdu, CanRefuse, CanStep, FeedAnswers, FinishAnswers, HasAdvanced, HasEnded, HasOutcome, HasStopped, IsFed, IsRunning};
+    ghost use Rattle.ill_schema.specs.Apdu.{Apdu, Accepts, Encodes};
+    ghost use Rattle.ber_core.specs.Octets.{are_octets};
+    ghost use Rattle.ill_read.specs.Feeding.{body_apdu, CanRefuse, CanStep, FeedAnswers, FinishAnswers, HasAdvanced, HasEnded, HasOutcome, HasStopped, IsFed, IsRunning, StandsLast};
+    ghost use Rattle.ill_read.specs.Need.{IsNeed};
     ghost use Rattle.ill_read.specs.Progress.{depth_of, size_of, IsProgress, StepsTo};
 
     /// A decoder that nothing was fed.
@@ -60,15 +61,19 @@ impl Decoder {
     }
 
     /// How many octets surely still belong to the message; 0 once it is whole or a failure was answered.
-    pub fn need(&self) -> u32 {
+    pub fn need(&self) -> u32
+        ensures closed { self.now.state ≢ State.Open → result ≡ 0 }
+        ensures exact { (fed : List ℕ) (stands : StandsLast self.now.path self.now.at fed self.now.pending.items) → self.now.state ≡ State.Open
+            → IsNeed stands.0.place self.now.at self.now.pending.items result }
+        ensures some { (fed : List ℕ) → IsFed self.now fed → self.now.state ≡ State.Open → 0 < result }
+        ensures surely { (fed more : List ℕ) (a : Apdu) (n : ℕ) → IsFed self.now fed → IsTrue (are_octets (fed ++ more)) → self.now.state ≡ State.Open
+            → Accepts profile_two (fed ++ more) a n → length fed + result ≤ n }
+    {
         if !matches!(&self.state, State::Open) {
             return 0;
         }
-        let pending = self.pending.len().min(LIMIT as usize) as u32;
-        match self.path.outermost_end() {
-            Some(end) => end.saturating_sub(self.at).saturating_sub(pending),
-            None => due_in_element(&self.pending, self.path.awaits_end_mark()),
-        }
+        let room = self.pending.len().min(LIMIT as usize);
+        need_at(&self.path, self.at, &self.pending[..room])
     }
 
     /// Takes a piece of at most `need()` octets. With all octets that were fed so far, it answers Done where they begin with a message,
@@ -258,34 +263,4 @@ impl Decoder {
             }
         }
     }
-}
-
-/// How many octets surely still belong to the element that is being read, where no definite element is open round it.
-fn due_in_element(pending: &[u8], may_end: bool) -> u32 {
-    if may_end && matches!(pending, [0, ..]) {
-        return 1;
-    }
-    let room = pending.len().min(LIMIT as usize);
-    match read_header(&pending[..room]) {
-        HeaderRead::Identified(_, LengthRead::Whole(Len::Definite(size), header)) => {
-            size.saturating_sub(
-                pending
-                    .len()
-                    .saturating_sub(header as usize)
-                    .min(LIMIT as usize) as u32,
-            )
-        }
-        _ => due_in_header(pending),
-    }
-}
-
-/// How many octets surely still belong to the header that is being read.
-fn due_in_header(octets: &[u8]) -> u32 {
-    let mut state = HeaderState::new();
-    for octet in octets {
-        if !matches!(&state.push(*octet), Ok(None)) {
-            return 0;
-        }
-    }
-    state.due()
 }

@@ -9,7 +9,8 @@ ghost use Rattle.ill_schema.specs.Tagging.{tagging, untagged};
 ghost use Rattle.ill_read.specs.Element.{components, component_starts, starts};
 ghost use Rattle.ill_read.specs.Next.{due, due_in, first_mandatory, missing};
 ghost use Rattle.ill_read.specs.Code.{element_with, component_at, component_of, alternative_starts, found_is};
-ghost use Rattle.ill_read.specs.DueCode.{IsAlternativeOf, IsBegun, IsDueIn, IsDueInRows, IsInnerDue, IsItemDue, IsSegmentDue, next_is};
+ghost use Rattle.ill_read.specs.DueCode.{IsAlternativeOf, IsBegun, IsDueIn, IsDueInRows, IsInnerDue, IsItemDue, IsSegmentDue, behind, next_is};
+ghost use Rattle.ill_read.specs.Held.{HasNext};
 
 use crate::element::{
     Element, Found, Tagging, Wrapped, component_element, is_universal, own_element, tagging_of,
@@ -263,7 +264,9 @@ impl Next {
     }
 
     /// What comes behind an element at the slot.
-    pub fn behind(self, slot: Slot) -> Next {
+    pub fn behind(self, slot: Slot) -> Next
+        ensures { HasNext slot → result ≡ behind self slot }
+    {
         match (self, slot) {
             (Next::Rows(node, _), Slot::Row(row)) => Next::Rows(node, row.saturating_add(1)),
             (Next::Either(wrapped), Slot::Row(row)) => Next::Rows(

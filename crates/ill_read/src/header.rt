@@ -17,7 +17,8 @@ pub enum HeaderRead {
 #[derive(Clone, Copy, Debug, PartialEq, Eq)]
 pub enum LengthRead {
     NoLength,
-    PartLength,
+    /// How many octets surely still belong to the header.
+    PartLength(u32),
     /// The length, and how many octets the header has.
     Whole(Len, u32),
 }
@@ -48,6 +49,6 @@ pub fn read_header(octets: &[u8]) -> HeaderRead
     }
     match state.id() {
         None => HeaderRead::PartIdentifier,
-        Some(id) => HeaderRead::Identified(id, LengthRead::PartLength),
+        Some(id) => HeaderRead::Identified(id, LengthRead::PartLength(state.due())),
     }
 }

@@ -246,7 +246,7 @@ impl Path {
         ensures small { IfOk result (λ judgement. at + size_of judgement ≤ 1_048_576) }
     {
         match length_read {
-            LengthRead::PartLength => Err(want),
+            LengthRead::PartLength(_) => Err(want),
             LengthRead::NoLength => Err(Refusal {
                 at,
                 cause: Cause::BadLength,

@@ -10,6 +10,7 @@ mod header;
 mod judge;
 mod laws;
 mod leaf_type;
+mod need;
 mod path;
 mod read;
 mod values;

@@ -1,5 +1,13 @@
 //! The path of open elements, with the values and the text that they hold so far.
-ghost use Rattle.std.specs.Prelude.{◌≡◌, ◌≤◌, IfOk, length};
+ghost use Rattle.std.specs.Prelude.{◌≡◌, ◌≤◌, ◌++◌, List, [], ◌∷◌, IfOk, length};
+ghost use Rattle.ber_leaf.specs.Profile.{profile_two};
+ghost use Rattle.ill_schema.specs.Value.{content_of};
+ghost use Rattle.ill_read.specs.Code.{element_is};
+ghost use Rattle.ill_read.specs.DueCode.{next_is};
+ghost use Rattle.ill_read.specs.Next.{opening};
+ghost use Rattle.ill_read.specs.Standing.{with_alternative};
+ghost use Rattle.ill_read.specs.Stepping.{IsFirst, IsLeafValue};
+ghost use Rattle.ill_read.specs.declared.frame.Frame.{Frame};
 
 use crate::due::{Next, Slot};
 use crate::element::{Element, Wrapped};
@@ -9,7 +17,7 @@ use crate::judge::{Judgement, Opening, Reading};
 use crate::leaf_type::LeafType;
 use crate::values::Values;
 use arrayvec::ArrayVec;
-use ill_schema::{Cause, LIMIT, NodeId, PartId, Value, rows};
+use ill_schema::{Cause, LIMIT, NodeId, PartId, Value};
 use std::alloc::{AllocError, Global};
 use std::mem;
 
@@ -47,6 +55,7 @@ impl Path {
     ghost use Rattle.ill_read.specs.Progress.{depth_of, StepsTo, IsProgress};
     ghost use Rattle.ill_read.specs.Judged.{StepsExactly};
     ghost use Rattle.ill_read.specs.Standing.{next_at, StandsAt};
+    ghost use Rattle.ill_read.specs.Stepping.{EndsExactly, DeliversExactly, ClosesExactly, OpensExactly, ReadsExactly};
     ghost use Rattle.std.specs.Prelude.{IsTrue};
     ghost use Rattle.ber_leaf.specs.Profile.{profile_two};
     ghost use Rattle.ill_read.specs.Fault.{ends_at, is_indefinite, past_end};
@@ -154,10 +163,7 @@ impl Path {
         ensures depth { IfOk result (λ _. StepsTo judgement (depth_of self.old) (depth_of self.new)) }
     {
         match judgement {
-            Judgement::Closes(_) => {
-                self.pass_last_rows()?;
-                self.close()
-            }
+            Judgement::Closes(_) => self.close(),
             Judgement::Opens(opening) => {
                 self.open(opening, at);
                 Ok(None)
@@ -171,8 +177,12 @@ impl Path {
 
     /// Opens the element that is due and begins at `start`.
     fn open(&mut self, opening: Opening, start: u32)
-        ensures { depth_of self.new ≤ depth_of self.old + 1 }
+        ensures exact { OpensExactly self.old opening start self.new }
+        ensures depth { depth_of self.new ≤ depth_of self.old + 1 }
     {
+        if self.frames.is_full() {
+            return;
+        }
         let Opening {
             slot,
             alternative,
@@ -190,7 +200,7 @@ impl Path {
             bound: end.unwrap_or(self.bound()),
             base: self.values.len(),
         };
-        let _ = self.frames.try_push(frame);
+        self.frames.push(frame);
     }
 
     /// Takes the content of a primitive element that is due and begins at `start`.
@@ -200,12 +210,13 @@ impl Path {
         start: u32,
         content: &[u8],
     ) -> Result<Option<Body>, Failure>
-        ensures { depth_of self.new ≡ depth_of self.old }
+        ensures exact { ReadsExactly self.old reading start content.now self.new result }
+        ensures depth { depth_of self.new ≡ depth_of self.old }
     {
         match reading.element {
             Element::Leaf(leaf) => {
                 let value = leaf_value(self.alloc, leaf, start, content)?;
-                Ok(self.deliver(reading.slot, reading.alternative, value)?)
+                self.deliver(reading.slot, reading.alternative, value)
             }
             _ => {
                 self.text.extend_from_slice(content)?;
@@ -217,32 +228,37 @@ impl Path {
     /// Closes the innermost element, in which nothing is missing.
     fn close(&mut self) -> Result<Option<Body>, Failure>
         requires { 0 < depth_of self.old }
-        ensures { depth_of self.new + 1 ≡ depth_of self.old }
+        ensures exact { ClosesExactly self.old self.new result }
+        ensures depth { depth_of self.new + 1 ≡ depth_of self.old }
     {
         let frame = self.frames.pop().unwrap();
-        let value = match frame.element {
-            Element::Segment => return Ok(None),
-            Element::Leaf(leaf) => {
-                let text = mem::replace(&mut self.text, Vec::new(self.alloc));
-                text_value(leaf, frame.start, text)?
-            }
-            Element::Sequence(_) => self.values.sequence(frame.base)?,
-            Element::List(_) => self.values.list(self.alloc, frame.base)?,
-            Element::Wrapper(_) => return self.unwrap(frame),
-            Element::LooseWrapper(_) => match frame.next {
-                Next::Nothing => return self.unwrap(frame),
-                _ => self.values.sequence(frame.base)?,
-            },
-        };
-        Ok(self.deliver(frame.slot, frame.alternative, value)?)
+        if let Element::Segment = frame.element {
+            return Ok(None);
+        }
+        match self.end_value(frame)? {
+            Some(value) => self.deliver(frame.slot, frame.alternative, value),
+            None => Ok(None),
+        }
     }
 
-    fn unwrap(&mut self, frame: Frame) -> Result<Option<Body>, Failure>
-        ensures { depth_of self.new ≡ depth_of self.old }
+    /// The value of an element that has ended.
+    fn end_value(&mut self, frame: Frame) -> Result<Option<Value>, Failure>
+        ensures exact { EndsExactly self.old frame self.new result }
+        ensures frames { self.new.frames.items ≡ self.old.frames.items }
     {
-        match self.values.last() {
-            Some(value) => Ok(self.deliver(frame.slot, frame.alternative, value)?),
-            None => Ok(None),
+        match frame.element {
+            Element::Segment => Ok(None),
+            Element::Leaf(leaf) => {
+                let text = mem::replace(&mut self.text, Vec::new(self.alloc));
+                Ok(Some(text_value(leaf, frame.start, text)?))
+            }
+            Element::Sequence(_) => Ok(Some(self.values.sequence(frame.next, frame.base)?)),
+            Element::List(_) => Ok(Some(self.values.list(self.alloc, frame.base)?)),
+            Element::Wrapper(_) => Ok(self.values.last()),
+            Element::LooseWrapper(_) => match frame.next {
+                Next::Nothing => Ok(self.values.last()),
+                _ => Ok(Some(self.values.sequence(frame.next, frame.base)?)),
+            },
         }
     }
 
@@ -252,8 +268,9 @@ impl Path {
         slot: Slot,
         alternative: Option<u8>,
         value: Value,
-    ) -> Result<Option<Body>, AllocError>
-        ensures { depth_of self.new ≡ depth_of self.old }
+    ) -> Result<Option<Body>, Failure>
+        ensures exact { DeliversExactly self.old slot alternative value self.new result }
+        ensures depth { depth_of self.new ≡ depth_of self.old }
     {
         let Some(frame) = self.innermost() else {
             return Ok(Some(Body {
@@ -261,52 +278,41 @@ impl Path {
                 value,
             }));
         };
-        let value = match alternative {
-            Some(row) => Value::Alt(row, Box::new(self.alloc, value)?),
-            None => value,
-        };
-        if let Slot::Row(row) = slot {
-            self.pass_rows(frame.next, row)?;
-        }
-        self.values.push(value)?;
+        let value = chosen(self.alloc, alternative, value)?;
+        self.values.add(frame.next, slot, value)?;
         self.advance(frame.next.behind(slot));
         Ok(None)
     }
 
-    /// Passes the rows before this one.
-    fn pass_rows(&mut self, next: Next, row: u8) -> Result<(), AllocError>
-        ensures { depth_of self.new ≡ depth_of self.old }
-    {
-        match next {
-            Next::Rows(node, position) => self.values.pass(node, position, row),
-            Next::Either(wrapped) => self.values.pass(wrapped.node, 0, row),
-            _ => Ok(()),
-        }
-    }
-
+    /// Sets what may come next in the innermost element.
     fn advance(&mut self, next: Next)
-        ensures { depth_of self.new ≡ depth_of self.old }
+        ensures frame { (outer : List Frame) (f : Frame) → self.old.frames.items ≡ outer ++ f ∷ [] → self.new.frames.items ≡ outer ++ record f { next = next } ∷ [] }
+        ensures values { self.new.values ≡ self.old.values }
+        ensures text { self.new.text ≡ self.old.text }
+        ensures depth { depth_of self.new ≡ depth_of self.old }
     {
         let last = self.frames.len().saturating_sub(1);
-        if let Some(frame) = self.frames.as_mut_slice().get_mut(last) {
+        if let Some(frame) = self.frames.get_mut(last) {
             frame.next = next;
-        }
-    }
-
-    /// Passes the last rows of the sequence that ends.
-    fn pass_last_rows(&mut self) -> Result<(), AllocError>
-        ensures { depth_of self.new ≡ depth_of self.old }
-    {
-        match self.next() {
-            Next::Rows(node, position) => self.values.pass(node, position, rows(node)),
-            Next::Either(wrapped) => self.values.pass(wrapped.node, 0, rows(wrapped.node)),
-            _ => Ok(()),
         }
     }
 }
 
+/// The value as the alternative of a choice that it is.
+fn chosen(alloc: Global, alternative: Option<u8>, value: Value) -> Result<Value, AllocError>
+    ensures { IfOk result (λ v. content_of v ≡ with_alternative alternative (content_of value)) }
+{
+    match alternative {
+        Some(row) => Ok(Value::Alt(row, Box::new(alloc, value)?)),
+        None => Ok(value),
+    }
+}
+
 /// What may come in an element when it opens.
-fn first_next(element: Element) -> Next {
+fn first_next(element: Element) -> Next
+    ensures first { IsFirst element result }
+    ensures next { next_is result ≡ opening profile_two (element_is element) }
+{
     match element {
         Element::Leaf(_) | Element::Segment => Next::Segments,
         Element::Sequence(node) => Next::Rows(node, 0),
@@ -317,14 +323,18 @@ fn first_next(element: Element) -> Next {
 }
 
 /// The value that octets hold as a leaf of the element at `start`.
-fn text_value(leaf: LeafType, start: u32, octets: Vec<u8>) -> Result<Value, Failure> {
+fn text_value(leaf: LeafType, start: u32, octets: Vec<u8>) -> Result<Value, Failure>
+    ensures { IsLeafValue leaf start octets.items result }
+{
     match leaf.fault(&octets) {
         Some(fault) => Err(Failure::refused(start, Cause::from(fault))),
         None => Ok(leaf.value(octets)),
     }
 }
 
-fn leaf_value(alloc: Global, leaf: LeafType, start: u32, content: &[u8]) -> Result<Value, Failure> {
+fn leaf_value(alloc: Global, leaf: LeafType, start: u32, content: &[u8]) -> Result<Value, Failure>
+    ensures { IsLeafValue leaf start content.now result }
+{
     match leaf.fault(content) {
         Some(fault) => Err(Failure::refused(start, Cause::from(fault))),
         None => Ok(leaf.value(Vec::from_slice(alloc, content)?)),

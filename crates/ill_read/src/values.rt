@@ -1,6 +1,14 @@
 //! The values of the elements that have been read, until those round them are whole.
-use crate::element::Wrapped;
-use ill_schema::{Kind, LeafKind, NodeId, Presence, Row, Value, kind, rows_of};
+ghost use Rattle.std.specs.Prelude.{◌≡◌, ◌++◌, [], ◌∷◌, Some, length, take, drop, option_map, IfOk, OnOk};
+ghost use Rattle.ill_schema.specs.Content.{simple};
+ghost use Rattle.ill_schema.specs.Presence.{default_value};
+ghost use Rattle.ill_schema.specs.Table.{kind_of, rows_of};
+ghost use Rattle.ill_schema.specs.Value.{content_of};
+ghost use Rattle.ill_read.specs.Held.{HasPassed, HasAdded, IsSequence, IsList, IsLast, rows_before, rows_left};
+ghost use Rattle.ill_read.specs.Standing.{absent_content};
+
+use crate::due::{Next, Slot};
+use ill_schema::{Kind, LeafKind, NodeId, PartId, Presence, Row, Value, kind, row, rows, rows_of};
 use std::alloc::{AllocError, Global};
 
 /// The values in the open elements, those of the innermost last. A sequence has an entry for each row up to that of its last element.
@@ -10,14 +18,18 @@ pub struct Values {
 }
 
 /// The entry of a row that has no element: its default, or none.
-fn absent(row: Row) -> Option<Value> {
+fn absent(row: Row) -> Option<Value>
+    ensures { option_map content_of result ≡ absent_content row }
+{
     match row.presence {
         Presence::Default(number) => Some(default_value(row.node, number)),
         _ => None,
     }
 }
 
-fn default_value(node: NodeId, number: i64) -> Value {
+fn default_value(node: NodeId, number: i64) -> Value
+    ensures { content_of result ≡ simple (default_value (kind_of node) number) }
+{
     match kind(node) {
         Kind::Leaf(LeafKind::Boolean) => Value::Flag(number == 1),
         _ => Value::Whole(number),
@@ -25,8 +37,6 @@ fn default_value(node: NodeId, number: i64) -> Value {
 }
 
 impl Values {
-    ghost use Rattle.std.specs.Prelude.{◌≡◌, []};
-
     pub fn new(alloc: Global) -> Values
         ensures { result.held.items ≡ [] }
     {
@@ -35,36 +45,63 @@ impl Values {
         }
     }
 
-    pub fn len(&self) -> usize {
+    pub fn len(&self) -> usize
+        ensures { result ≡ length self.now.held.items }
+    {
         self.held.len()
     }
 
-    pub fn push(&mut self, value: Value) -> Result<(), AllocError> {
+    /// Adds the value of an element at the slot, where this may come next in the element round it.
+    pub fn add(&mut self, next: Next, slot: Slot, value: Value) -> Result<(), AllocError>
+        ensures { OnOk result (HasAdded (rows_before next slot) value self.old.held.items self.new.held.items) }
+    {
+        match (next, slot) {
+            (Next::Rows(node, position), Slot::Row(row)) => self.pass(node, position, row)?,
+            (Next::Either(wrapped), Slot::Row(row)) => self.pass(wrapped.node, 0, row)?,
+            _ => {}
+        }
         self.held.push(Some(value))?;
         Ok(())
     }
 
+    /// Passes the rows that are still to come.
+    fn pass_last(&mut self, next: Next) -> Result<(), AllocError>
+        ensures { OnOk result (HasPassed (rows_left next) self.old.held.items self.new.held.items) }
+    {
+        match next {
+            Next::Rows(node, position) => self.pass(node, position, rows(node)),
+            Next::Either(wrapped) => self.pass(wrapped.node, 0, rows(wrapped.node)),
+            _ => Ok(()),
+        }
+    }
+
     /// Passes rows that have no element.
-    pub fn pass(&mut self, node: NodeId, from: u8, until: u8) -> Result<(), AllocError> {
-        let rows = rows_of(node);
+    fn pass(&mut self, node: NodeId, from: u8, until: u8) -> Result<(), AllocError>
+        ensures { OnOk result (HasPassed (drop from (take until (rows_of node))) self.old.held.items self.new.held.items) }
+    {
         for number in from..until {
-            if let Some(row) = rows.get(number as usize) {
-                self.held.push(absent(*row))?;
+            if let Some(row) = row(PartId { node, row: number }) {
+                self.held.push(absent(row))?;
             }
         }
         Ok(())
     }
 
-    /// The sequence whose entries are held from a base on.
-    pub fn sequence(&mut self, base: usize) -> Result<Value, AllocError> {
-        let base = base.min(self.held.len());
+    /// The sequence whose entries are held from a base on, where this may come next in it.
+    pub fn sequence(&mut self, next: Next, base: usize) -> Result<Value, AllocError>
+        ensures { IfOk result (λ v. IsSequence (rows_left next) base v self.old.held.items self.new.held.items) }
+    {
+        self.pass_last(next)?;
+        let base = base.min(self.len());
         Ok(Value::Seq(self.held.split_off(base)?))
     }
 
     /// The list whose items are held from a base on.
-    pub fn list(&mut self, alloc: Global, base: usize) -> Result<Value, AllocError> {
-        let base = base.min(self.held.len());
-        let mut items = Vec::with_capacity(alloc, self.held.len() - base)?;
+    pub fn list(&mut self, alloc: Global, base: usize) -> Result<Value, AllocError>
+        ensures { IfOk result (λ v. IsList base v self.old.held.items self.new.held.items) }
+    {
+        let base = base.min(self.len());
+        let mut items = Vec::with_capacity(alloc, self.len() - base)?;
         for held in self.held.split_off(base)? {
             if let Some(item) = held {
                 items.push(item)?;
@@ -74,7 +111,9 @@ impl Values {
     }
 
     /// The value that is held last.
-    pub fn last(&mut self) -> Option<Value> {
+    pub fn last(&mut self) -> Option<Value>
+        ensures { IsLast result self.old.held.items self.new.held.items }
+    {
         self.held.pop().flatten()
     }
 }

@@ -65,4 +65,8 @@ returns-in-Some-id c =
     let w = c.args.octets.now in
     let ok : IsTrue (are_octets w) = octets_fit w (λ k. let h : get_or w k 0 < 256 = omega (arith, c.type_inv.octets k) in h) in
     let all : take c.loop-i.i w ≡ w = take-past c.loop-i.i w c.loop-i-test.false in
-    part_length_read w c.in-Some-id.id ok (subst IsPartHeader all c.loop-i.invariant.2) (subst (BeginsWithId c.in-Some-id.id) all (c.in-Some-id.ensures (take c.loop-i.i w) c.loop-i.invariant.1))
+    let part : IsPartHeader w = subst IsPartHeader all c.loop-i.invariant.2 in
+    let fed : Fed c.loop-i.state w = subst (Fed c.loop-i.state) all c.loop-i.invariant.1 in
+    let begins : BeginsWithId c.in-Some-id.id w = subst (BeginsWithId c.in-Some-id.id) all (c.in-Some-id.ensures (take c.loop-i.i w) c.loop-i.invariant.1) in
+    let read = part_length_read w c.in-Some-id.id ok part begins in
+    (read.0, read.1, (read.2, (λ header rest is. c.due.ensures.surely w rest header fed is, c.due.ensures.reached w fed (c.in-Some-id.id, begins) part)))

@@ -1,0 +1,67 @@
+-- An open element with one more tree in it.
+use Rattle.std.proofs.Common.{◌≡◌, ◌≤◌, ◌<◌, ℕ, ◌+◌, ◌-◌, List, [], ◌∷◌, ◌++◌, length, length-append, append_assoc, Option, Some, None, refl, sym, ap, ap₂, subst, ◌∙◌, arith, get_or, set, slice_get}
+use Rattle.std.proofs.Math.Bridge.{le_prop}
+use Rattle.std.proofs.lemmas.List.{set_at, get_or_at}
+use Rattle.ber_core.specs.Identifier.{Tag}
+use Rattle.ber_core.specs.Tree.{Tree, Trees, none, more, tag_of, text, text_all, IsString, AreSegments}
+use Rattle.ber_leaf.specs.Profile.{profile_two}
+use Rattle.ill_schema.specs.declared.value.Value.{Value}
+use Rattle.ill_read.specs.Element.{Element}
+use Rattle.ill_read.specs.Code.{element_is}
+use Rattle.ill_read.specs.DueCode.{IsDueIn, next_is, behind}
+use Rattle.ill_read.specs.Next.{due, next_of, next_after, opening}
+use Rattle.ill_read.specs.Next as following
+use Rattle.ill_read.specs.Place.{Open, next_in}
+use Rattle.ill_read.specs.Standing.{next_at, text_so_far, AreDue, IsHeld, IsFrame, AreFrames}
+use Rattle.ill_read.specs.Step.{snoc}
+use Rattle.ill_read.specs.declared.due.Due.{Due}
+use Rattle.ill_read.specs.declared.due.Next.{Next}
+use Rattle.ill_read.specs.declared.frame.Frame.{Frame}
+use Rattle.ill_read.proofs.DueElements.{due_element_is}
+use Rattle.ill_read.proofs.Sequences.{next_after-more}
+
+pub next-added : (n : following.Next) (ts : Trees) (T : Tree) (d : following.Due) → AreDue n ts → due profile_two (tag_of T) (next_after profile_two n ts) ≡ Some d
+    → (next_after profile_two n (snoc ts T) ≡ next_of d) × AreDue n (snoc ts T)
+next-added n none T d h e = (next_after-more profile_two n T none d e, (d, e, tt))
+next-added n (more U ts) T d h e =
+    let a = next_after-more profile_two n U ts h.0 h.1 in
+    let r = next-added (next_of h.0) ts T d h.2 (ap (due profile_two (tag_of T)) (sym a) ∙ e) in
+    (next_after-more profile_two n U (snoc ts T) h.0 h.1 ∙ r.0, (h.0, h.1, r.1))
+
+abbrev pub with_one : Open → Tree → Open
+with_one o T = record o { trees = snoc o.trees T }
+
+-- the frame of an open element, behind a tree that was due
+pub frame_added : (f : Frame) (o : Open) (path : List Open) (outer : List Frame) (below : ℕ) (entries added : List (Option Value)) (T : Tree) (d : Due) → IsFrame f o path outer below entries
+    → IsDueIn (tag_of T) f.next d → IsHeld f.element (behind f.next d.slot) (entries ++ added) (snoc o.trees T)
+    → IsFrame (record f { next = behind f.next d.slot }) (with_one o T) path outer below (entries ++ added)
+frame_added f o path outer below entries added T d h is held =
+    let D = due_element_is (tag_of T) f.next d is in
+    let e : due profile_two (tag_of T) (next_after profile_two (opening profile_two o.element) o.trees) ≡ Some D.0 = ap (due profile_two (tag_of T)) (sym h.next) ∙ D.1 in
+    let more = next-added (opening profile_two o.element) o.trees T D.0 h.were_due e in
+    record {
+      element = h.element;
+      start = h.start;
+      end = h.end;
+      bound = h.bound;
+      base = h.base;
+      next = sym D.3 ∙ sym more.0;
+      is_due = h.is_due;
+      held = held;
+      were_due = more.1;
+    }
+
+-- the last frame with another next
+pub advanced : (outer : List Frame) (f x : Frame) (frames : List Frame) (i : ℕ) (n : Next) (p : x.bound ≤ 1048576) → frames ≡ outer ++ f ∷ [] → i ≡ length frames - 1
+    → x ≡ get_or frames i x → set frames i (record x { next = n; within = p }) ≡ outer ++ record f { next = n } ∷ []
+advanced outer f x frames i n p e last is =
+    let len : length frames ≡ length outer + length (f ∷ []) = ap length e ∙ length-append outer (f ∷ []) in
+    let at : length outer ≡ i = omega (arith, len, last) in
+    let same : x ≡ f = is ∙ ap (λ fs. get_or fs i x) e ∙ get_or_at outer f [] x i at in
+    ap (λ fs. set fs i (record x { next = n; within = p })) e ∙ set_at outer f [] (record x { next = n; within = p }) i at
+    ∙ ap (λ g. outer ++ g ∷ []) (alike x same p)
+  where
+    alike : (y : Frame) → y ≡ f → (q : y.bound ≤ 1048576) → record y { next = n; within = q } ≡ record f { next = n }
+    alike y s q =
+        let P : Frame → Type 0 = λ z. (r : z.bound ≤ 1048576) → record z { next = n; within = r } ≡ record f { next = n } in
+        subst P (sym s) (λ r. ap (λ w. let g : Frame = record f { next = n; within = w } in g) (le_prop r f.within)) q

@@ -1,0 +1,91 @@
+-- Strings in segments: a segment more, read or closed.
+use Rattle.std.proofs.Common.{◌≡◌, ℕ, List, [], ◌∷◌, ◌++◌, length, append_assoc, append-nil, Option, Some, None, Ok, refl, sym, ap, subst, ◌∙◌}
+use Rattle.ber_core.specs.Identifier.{Tag}
+use Rattle.ber_core.specs.Tree.{Tree, Trees, none, more, tag_of, octet_string, IsString, text, text_all, AreSegments}
+use Rattle.ber_leaf.specs.Profile.{profile_two}
+use Rattle.ill_schema.specs.declared.value.Value.{Value}
+use Rattle.ill_read.specs.Code.{element_is}
+use Rattle.ill_read.specs.DueCode.{IsDueIn, next_is, behind}
+use Rattle.ill_read.specs.Judged.{IsStep}
+use Rattle.ill_read.specs.Next.{due, next_of, next_after, opening}
+use Rattle.ill_read.specs.Place.{Open}
+use Rattle.ill_read.specs.Standing.{next_at, top, text_so_far, IsHeld, IsFrame, AreFrames}
+use Rattle.ill_read.specs.Step.{snoc, with_tree}
+use Rattle.ill_read.specs.declared.due.Due.{Due}
+use Rattle.ill_read.specs.declared.due.Next.{Next}
+use Rattle.ill_read.specs.declared.due.Next.TheVariants.{Segments}
+use Rattle.ill_read.specs.declared.element.Element.{Element as CodeElement}
+use Rattle.ill_read.specs.declared.element.Element.TheVariants.{Leaf, Sequence, List as ListOf, Wrapper, LooseWrapper, Segment}
+use Rattle.ill_read.specs.declared.frame.Frame.{Frame}
+use Rattle.ill_read.specs.declared.path.Path.{Path}
+use Rattle.ill_read.proofs.DueElements.{due_element_is}
+use Rattle.ill_read.proofs.Frames.{next_behind}
+use Rattle.ill_read.proofs.Growing.{next-added, with_one}
+use Rattle.ill_read.proofs.Segments.{text_with}
+use Rattle.ill_read.proofs.Sequences.{same_tag-is}
+
+segments_more : (ts : Trees) (T : Tree) → AreSegments ts → tag_of T ≡ octet_string → IsString T → AreSegments (snoc ts T)
+segments_more none T h e s = (e, s, tt)
+segments_more (more U ts) T h e s = (h.0, h.1, segments_more ts T h.2 e s)
+
+text_more : (ts : Trees) (T : Tree) → text_all (snoc ts T) ≡ text_all ts ++ text T
+text_more none T = append-nil (text T)
+text_more (more U ts) T = ap (λ xs. text U ++ xs) (text_more ts T) ∙ sym (append_assoc (text U) (text_all ts) (text T))
+
+-- what a string holds, with a segment more
+string_held : (e : CodeElement) (entries : List (Option Value)) (ts : Trees) (T : Tree) → IsHeld e Segments entries ts → tag_of T ≡ octet_string → IsString T → IsHeld e Segments entries (snoc ts T)
+string_held (Leaf l) entries ts T h e s = (h.0, h.1, segments_more ts T h.2 e s)
+string_held Segment entries ts T h e s = (h.0, segments_more ts T h.1 e s)
+string_held (Sequence node) entries ts T h e s = absurd h
+string_held (ListOf node) entries ts T h e s = absurd h
+string_held (Wrapper w) entries ts T h e s = absurd h
+string_held (LooseWrapper w) entries ts T h e s = absurd h
+
+string_text : (e : CodeElement) (entries : List (Option Value)) (ts : Trees) (T : Tree) (before : List ℕ) → IsHeld e Segments entries ts
+    → text_with (element_is e) before (snoc ts T) ≡ text_with (element_is e) before ts ++ text T
+string_text (Leaf l) entries ts T before h = text_more ts T
+string_text Segment entries ts T before h = ap (λ xs. before ++ xs) (text_more ts T) ∙ sym (append_assoc before (text_all ts) (text T))
+string_text (Sequence node) entries ts T before h = absurd h
+string_text (ListOf node) entries ts T before h = absurd h
+string_text (Wrapper w) entries ts T before h = absurd h
+string_text (LooseWrapper w) entries ts T before h = absurd h
+
+segment_tag : (t : Tag) (n : Next) (d : Due) → IsDueIn t n d → n ≡ Segments → t ≡ octet_string
+segment_tag t n d h e = let k : IsDueIn t Segments d = subst (λ x. IsDueIn t x d) e h in same_tag-is t octet_string k.tag
+
+string_frame : (f : Frame) (o : Open) (path : List Open) (outer : List Frame) (below : ℕ) (entries : List (Option Value)) (T : Tree) (d : Due) → IsFrame f o path outer below entries
+    → IsDueIn (tag_of T) f.next d → f.next ≡ Segments → IsString T → IsFrame f (with_one o T) path outer below entries
+string_frame f o path outer below entries T d h is e s =
+    let D = due_element_is (tag_of T) f.next d is in
+    let found : due profile_two (tag_of T) (next_after profile_two (opening profile_two o.element) o.trees) ≡ Some D.0 = ap (due profile_two (tag_of T)) (sym h.next) ∙ D.1 in
+    let one_more = next-added (opening profile_two o.element) o.trees T D.0 h.were_due found in
+    let stays : behind f.next d.slot ≡ f.next = ap (λ n. behind n d.slot) e ∙ sym e in
+    let held : IsHeld f.element Segments entries o.trees = subst (λ n. IsHeld f.element n entries o.trees) e h.held in
+    record {
+      element = h.element;
+      start = h.start;
+      end = h.end;
+      bound = h.bound;
+      base = h.base;
+      next = ap next_is (sym stays) ∙ sym D.3 ∙ sym one_more.0;
+      is_due = h.is_due;
+      held = subst (λ n. IsHeld f.element n entries (snoc o.trees T)) (sym e) (string_held f.element entries o.trees T held (segment_tag (tag_of T) f.next d is e) s);
+      were_due = one_more.1;
+    }
+
+-- a segment in the string round it
+pub segment_added : (path : Path) (place : List Open) (d : Due) (T : Tree) (at : ℕ) (rest : List ℕ) → AreFrames place path.frames.items path.values.held.items
+    → IsDueIn (tag_of T) (next_at path.frames.items) d → next_at path.frames.items ≡ Segments → IsString T → path.text.items ≡ text_so_far place ++ text T → IsStep path (Ok None) (with_tree place T at rest)
+segment_added path [] d T at rest h is e s t = absurd (let q : top ≡ Segments = sym (ap next_at h.0) ∙ e in cc)
+segment_added path (o ∷ outside) d T at rest h is e s t =
+    let f = h.1 in
+    let k : IsFrame f o outside h.0 (length h.2) h.3 = h.6 in
+    let here : next_at path.frames.items ≡ f.next = ap next_at h.4 ∙ next_behind h.0 f in
+    let due : IsDueIn (tag_of T) f.next d = subst (λ n. IsDueIn (tag_of T) n d) here is in
+    let string : f.next ≡ Segments = sym here ∙ e in
+    let held : IsHeld f.element Segments h.3 o.trees = subst (λ n. IsHeld f.element n h.3 o.trees) string k.held in
+    let joined = string_text f.element h.3 o.trees T (text_so_far outside) held in
+    let as_element = λ (us : Trees). ap (λ x. text_with x (text_so_far outside) us) k.element in (
+      (h.0, f, h.2, h.3, h.4, h.5, string_frame f o outside h.0 (length h.2) h.3 T d k due string s, h.7),
+      t ∙ ap (λ xs. xs ++ text T) (sym (as_element o.trees)) ∙ sym joined ∙ as_element (snoc o.trees T),
+    )

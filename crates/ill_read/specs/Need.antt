@@ -1,0 +1,55 @@
+-- How many octets surely still belong to a message.
+use Rattle.std.specs.Prelude.{◌≡◌, ℕ, ◌+◌, ◌-◌, Bool, true, false, ◌&&◌, nat_eq, List, [], ◌∷◌, length, Option, Some, None}
+use Rattle.ber_core.specs.declared.header.Len.TheVariants.{Definite}
+use Rattle.ill_read.specs.Fault.{is_indefinite}
+use Rattle.ill_read.specs.HeaderCode.{Lacks}
+use Rattle.ill_read.specs.Place.{Open}
+use Rattle.ill_read.specs.Reading.{IdentifierRead, identified, part_identifier, no_identifier, read_identifier, LengthRead, definite, indefinite, part_length, no_length, read_length}
+use Rattle.ill_read.specs.declared.header.HeaderRead.{HeaderRead}
+use Rattle.ill_read.specs.declared.header.HeaderRead.TheVariants.{PartIdentifier, Identified}
+use Rattle.ill_read.specs.declared.header.LengthRead.TheVariants.{PartLength, Whole}
+
+-- the end of the outermost element of definite length
+abbrev pub outermost : List Open → Option ℕ
+outermost [] = None
+outermost (o ∷ path) = elim (outermost path) as (λ _. Option ℕ) [ Some e ↦ Some e | None ↦ o.end ]
+
+abbrev pub begins_zero : List ℕ → Bool
+begins_zero [] = false
+begins_zero (octet ∷ rest) = nat_eq octet 0
+
+-- whether the octets begin with an end mark's first
+abbrev pub in_mark : List Open → List ℕ → Bool
+in_mark place octets = is_indefinite place && begins_zero octets
+
+-- the rest of a content, or of a header
+abbrev pub NeedsOfLength : LengthRead → List ℕ → ℕ → Type 0
+NeedsOfLength (definite size content) octets n = size ≡ length content + n
+NeedsOfLength part_length octets n = Lacks octets n
+NeedsOfLength (indefinite rest) octets n = ⊥
+NeedsOfLength no_length octets n = ⊥
+
+-- so many octets of an element, and one where its identifier isn't whole
+abbrev pub NeedsOfElement : IdentifierRead → List ℕ → ℕ → Type 0
+NeedsOfElement (identified tag constructed rest) octets n = NeedsOfLength (read_length constructed rest) octets n
+NeedsOfElement part_identifier octets n = n ≡ 1
+NeedsOfElement no_identifier octets n = ⊥
+
+abbrev pub NeedsAfterMark : Bool → List ℕ → ℕ → Type 0
+NeedsAfterMark true octets n = n ≡ 1
+NeedsAfterMark false octets n = NeedsOfElement (read_identifier octets) octets n
+
+abbrev pub NeedsBefore : Option ℕ → List Open → ℕ → List ℕ → ℕ → Type 0
+NeedsBefore (Some e) place at octets n = e ≡ at + length octets + n
+NeedsBefore None place at octets n = NeedsAfterMark (in_mark place octets) octets n
+
+-- behind octets that don't reach the next place: the octets up to the end of the outermost definite element, else of an end mark or of what is read there
+abbrev pub IsNeed : List Open → ℕ → List ℕ → ℕ → Type 0
+IsNeed place at octets n = NeedsBefore (outermost place) place at octets n
+
+-- the number for what was read of an element, of which so many octets came
+abbrev pub need_read : HeaderRead → ℕ → ℕ
+need_read PartIdentifier count = 1
+need_read (Identified id (PartLength due)) count = due
+need_read (Identified id (Whole (Definite size) header)) count = size - (count - header)
+need_read _ count = 0
