@@ -27,3 +27,4 @@ pub mod Fed
 pub mod DueElements
 pub mod Judges
 pub mod Needing
+pub mod Stepping

@@ -42,7 +42,7 @@ impl Decoder {
     ghost use Rattle.ber_leaf.specs.Profile.{profile_two};
     ghost use Rattle.ill_schema.specs.Apdu.{Apdu, Accepts, Encodes};
     ghost use Rattle.ber_core.specs.Octets.{are_octets};
-    ghost use Rattle.ill_read.specs.Feeding.{body_apdu, CanStep, FeedAnswers, HasAdvanced, HasEnded, HasStopped, IsFed, IsRunning, StandsLast};
+    ghost use Rattle.ill_read.specs.Feeding.{body_apdu, CanRefuse, CanStep, FeedAnswers, HasAdvanced, HasEnded, HasStopped, IsFed, IsRunning, StandsLast};
     ghost use Rattle.ill_read.specs.Need.{IsNeed};
     ghost use Rattle.ill_read.specs.Progress.{depth_of, size_of, IsProgress, StepsTo};
 
@@ -78,9 +78,7 @@ impl Decoder {
         ensures fed { (fed : List ℕ) → IsFed self.old fed → IsFed self.new (fed ++ piece.now) }
         ensures answers { (fed : List ℕ) → IsFed self.old fed → FeedAnswers (fed ++ piece.now) result }
     {
-        if matches!(&self.state, State::Open) {
-            self.take(piece);
-        }
+        self.take(piece);
         match &self.state {
             State::Failed(failure) => Err(*failure),
             State::Whole(_) => Ok(Progress::Done),
@@ -89,9 +87,11 @@ impl Decoder {
     }
 
     fn take(&mut self, piece: &[u8])
-        requires { self.old.state ≡ State.Open }
         ensures { (fed : List ℕ) → IsFed self.old fed → IsFed self.new (fed ++ piece.now) }
     {
+        if !matches!(&self.state, State::Open) {
+            return;
+        }
         if self.pending.is_empty() {
             let count = self.run(piece);
             self.keep(&piece[count..]);
@@ -166,11 +166,11 @@ impl Decoder {
 
     /// Fails with a refusal, unless it is only that the octets end.
     fn refuse(&mut self, refusal: Refusal)
+        requires open { self.old.state ≡ State.Open }
         ensures pending { self.new.pending ≡ self.old.pending }
-        ensures ends { refusal.cause ≡ Cause.Truncated → self.new ≡ self.old }
-        ensures fails { refusal.cause ≢ Cause.Truncated → self.new.state ≡ State.Failed (Failure.Refused refusal) }
+        ensures stopped { (s rest : List ℕ) → CanRefuse self.old s rest refusal → HasStopped self.new s rest }
     {
-        if refusal.cause != Cause::Truncated {
+        if !matches!(&refusal.cause, Cause::Truncated) {
             self.state = State::Failed(Failure::Refused(refusal));
         }
     }
