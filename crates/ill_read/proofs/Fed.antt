@@ -1,5 +1,5 @@
 -- What a decoder knows at the end of a message, and of octets that follow.
-use Rattle.std.proofs.Common.{◌≡◌, ◌≢◌, ℕ, ◌+◌, ◌≤◌, List, ◌++◌, length, length-append, take, Option, Some, None, IsTrue, refl, sym, ap, subst, ◌∙◌, inl, inr, arith, append_assoc}
+use Rattle.std.proofs.Common.{◌≡◌, ◌≢◌, ℕ, ◌+◌, ◌<◌, ◌≤◌, List, [], ◌∷◌, ◌++◌, length, length-append, take, Option, Some, None, Err, IsTrue, refl, sym, ap, subst, ◌∙◌, inl, inr, arith, append_assoc}
 use Rattle.std.proofs.lemmas.List.{take-append-le}
 use Rattle.ber_core.specs.Octets.{are_octets}
 use Rattle.ber_leaf.specs.Profile.{profile_two}
@@ -9,9 +9,10 @@ use Rattle.ill_schema.specs.declared.refusal.Refusal.{Refusal}
 use Rattle.ill_schema.specs.Apdu.{Apdu, Encodes, Accepts, normal_form}
 use Rattle.ill_schema.specs.Message.{apdu_of, octets_of}
 use Rattle.ill_read.specs.Fault.{Fault, fault, faulty, judge, Refuses}
-use Rattle.ill_read.specs.Feeding.{IsRead, IsPart, IsRefused, IsMessageOf, StandsBefore, StandsLast, InState}
+use Rattle.ill_read.specs.Feeding.{IsRead, IsPart, IsRefused, IsMessageOf, FinishAnswers, DecodeAnswers, StandsBefore, StandsLast, InState}
 use Rattle.ill_read.specs.Judged.{fault_is}
 use Rattle.ill_read.specs.Outcome.{OnlyAccepts, OnlyRefuses}
+use Rattle.ill_read.specs.Place.{Open, IsPlace, bound}
 use Rattle.ill_read.specs.declared.failure.Failure.{Failure}
 use Rattle.ill_read.specs.declared.decoder.State.{State}
 use Rattle.ill_read.specs.declared.decoder.State.TheVariants as state
@@ -96,3 +97,36 @@ stops_open path at s rest r b e c =
     let q = truncated_at profile_two b.place at rest (fault_is r) e c in
     let n : at + length rest ≡ length s = omega (arith, b.offset, ap length b.joined, length-append b.before rest) in
     (b, e ∙ ap faulty (q.1 ∙ ap (fault Cause.Truncated) n))
+
+-- no place reaches past the limit
+pub place_bound : (path : List Open) (u : List ℕ) → IsPlace profile_two u path → bound profile_two path ≤ 1_048_576
+place_bound [] u h = omega arith
+place_bound (o ∷ path) u h = let r = place_bound path h.0 h.3 in let inside = h.4.inside in omega arith
+
+-- the octets that lead to a place and those that wait there
+pub last_size : (path : Path) (at : ℕ) (s rest : List ℕ) → StandsLast path at s rest → (at + length rest ≡ length s) × (length s < 1_048_576)
+last_size path at s rest h =
+    let b = h.0 in
+    let n : at + length rest ≡ length s = omega (arith, b.offset, ap length b.joined, length-append b.before rest) in
+    let within = (truncated_at profile_two b.place at rest (fault Cause.Truncated (length s)) h.1 refl).0 in
+    let limit = place_bound b.place b.before b.is_place in
+    (n, omega arith)
+
+-- nothing refuses an empty input but that it ends
+pub failed_finish : (s : List ℕ) (failure : Failure) → IsRefused s failure → FinishAnswers s (Err failure)
+failed_finish s (Failure.Refused r) h = (h.0, filled s (λ e. h.1 (ap (λ (f : Fault). f.cause) (sym (h.0.1 (fault Cause.Truncated 0) (subst (λ z. Refuses profile_two z (fault Cause.Truncated 0)) (sym e) empty))))))
+  where
+    empty : Refuses profile_two [] (fault Cause.Truncated 0)
+    empty = inl ([], 0, (omega arith, refl), refl)
+
+    filled : (s : List ℕ) → (s ≡ [] → ⊥) → 0 < length s
+    filled [] n = absurd (n refl)
+    filled (x ∷ s) n = omega arith
+failed_finish s Failure.OutOfMemory h = tt
+
+pub decode_fails : (s : List ℕ) (failure : Failure) → IsRefused s failure → DecodeAnswers s (Err failure)
+decode_fails s (Failure.Refused r) h = inl h.0
+decode_fails s Failure.OutOfMemory h = tt
+
+pub decode_short : (s : List ℕ) → IsPart s → DecodeAnswers s (Err (Failure.Refused (record { at = length s; cause = Cause.Truncated })))
+decode_short s h = inl h

@@ -96,6 +96,12 @@ FeedAnswers s (Ok Progress.Done) = (a : Apdu) × (n : ℕ) × OnlyAccepts profil
 FeedAnswers s (Ok Progress.More) = IsPart s
 FeedAnswers s (Err failure) = IsRefused s failure
 
+-- what has come of the octets
+abbrev pub HasOutcome : List ℕ → Result (Option Message) Failure → Type 0
+HasOutcome s (Ok (Some m)) = IsRead s m
+HasOutcome s (Ok None) = IsPart s × (length s < 1_048_576)
+HasOutcome s (Err failure) = IsRefused s failure
+
 -- after the last octet
 abbrev pub FinishAnswers : List ℕ → Result (Option Message) Failure → Type 0
 FinishAnswers s (Ok (Some m)) = IsRead s m

@@ -42,11 +42,15 @@ impl Decoder {
     ghost use Rattle.ber_leaf.specs.Profile.{profile_two};
     ghost use Rattle.ill_schema.specs.Apdu.{Apdu, Accepts, Encodes};
     ghost use Rattle.ber_core.specs.Octets.{are_octets};
-    ghost use Rattle.ill_read.specs.Feeding.{body_apdu, CanRefuse, CanStep, FeedAnswers, HasAdvanced, HasEnded, HasStopped, IsFed, IsRunning, StandsLast};
+    ghost use Rattle.ill_read.specs.Feeding.{body_apdu, CanRefuse, CanStep, FeedAnswers, FinishAnswers, HasAdvanced, HasEnded, HasOutcome, HasStopped, IsFed, IsRunning, StandsLast};
     ghost use Rattle.ill_read.specs.Need.{IsNeed};
     ghost use Rattle.ill_read.specs.Progress.{depth_of, size_of, IsProgress, StepsTo};
 
-    pub fn new(alloc: Global) -> Decoder {
+    /// A decoder that nothing was fed.
+    pub fn new(alloc: Global) -> Decoder
+        ensures fed { IsFed result [] }
+        ensures pending { result.pending.items ≡ [] }
+    {
         Decoder {
             alloc,
             path: Path::new(alloc),
@@ -214,7 +218,9 @@ impl Decoder {
     }
 
     /// The message, if it is whole, or None while it is open.
-    pub(crate) fn outcome(self) -> Result<Option<Message>, Failure> {
+    pub(crate) fn outcome(self) -> Result<Option<Message>, Failure>
+        ensures { (s rest : List ℕ) → HasStopped self s rest → HasOutcome s result }
+    {
         let Decoder {
             alloc: _,
             path: _,
@@ -230,7 +236,13 @@ impl Decoder {
     }
 
     /// The message, once it is whole, or None where nothing was fed.
-    pub fn finish(self) -> Result<Option<Message>, Failure> {
+    ///
+    /// # Errors
+    ///
+    /// The failure that was answered, or Truncated at the end of what was fed.
+    pub fn finish(self) -> Result<Option<Message>, Failure>
+        ensures { (fed : List ℕ) → IsFed self fed → FinishAnswers fed result }
+    {
         let Decoder {
             alloc: _,
             path: _,

@@ -25,7 +25,11 @@ fn default_value(node: NodeId, number: i64) -> Value {
 }
 
 impl Values {
-    pub fn new(alloc: Global) -> Values {
+    ghost use Rattle.std.specs.Prelude.{◌≡◌, []};
+
+    pub fn new(alloc: Global) -> Values
+        ensures { result.held.items ≡ [] }
+    {
         Values {
             held: Vec::new(alloc),
         }
