@@ -38,3 +38,5 @@ pub mod Fed
 pub mod Judges
 pub mod Stepping
 pub mod Needing
+pub mod Needing
+pub mod Stepping
