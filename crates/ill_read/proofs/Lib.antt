@@ -39,3 +39,4 @@ pub mod Judges
 pub mod Stepping
 pub mod Needing
 pub mod Filled
+pub mod ShortHeaders

@@ -1,8 +1,9 @@
 //! The header at the front of the octets that are there.
-ghost use Rattle.std.specs.Prelude.{◌≤◌, length};
+ghost use Rattle.std.specs.Prelude.{◌≡◌, ◌≤◌, length, IfSome};
 ghost use Rattle.ill_read.specs.HeaderCode.{IsHeaderRead};
+ghost use Rattle.ill_read.specs.Reading.{class_of};
 
-use ber_core::{HeaderFault, HeaderState, Id, Len};
+use ber_core::{Class, HeaderFault, HeaderState, Id, Len};
 
 /// What the octets at hand show of a header.
 #[derive(Clone, Copy, Debug, PartialEq, Eq)]
@@ -28,6 +29,17 @@ pub fn read_header(octets: &[u8]) -> HeaderRead
     requires { length octets.now ≤ 1_048_576 }
     ensures { IsHeaderRead result octets.now }
 {
+    match read_short(octets) {
+        Some(read) => read,
+        None => read_any(octets),
+    }
+}
+
+/// Reads a header octet by octet.
+fn read_any(octets: &[u8]) -> HeaderRead
+    requires { length octets.now ≤ 1_048_576 }
+    ensures { IsHeaderRead result octets.now }
+{
     let mut state = HeaderState::new();
     for (i, octet) in octets.iter().enumerate() {
         match state.push(*octet) {
@@ -50,5 +62,31 @@ pub fn read_header(octets: &[u8]) -> HeaderRead
     match state.id() {
         None => HeaderRead::PartIdentifier,
         Some(id) => HeaderRead::Identified(id, LengthRead::PartLength(state.due())),
+    }
+}
+
+/// A header of two octets, as most elements have: a number below 31 and a length below 128. None where the octets begin with no such.
+fn read_short(octets: &[u8]) -> Option<HeaderRead>
+    ensures { IfSome result (λ read. IsHeaderRead read octets.now) }
+{
+    let [first, length, ..] = octets else {
+        return None;
+    };
+    if *first == 0 || *first % 32 == 31 || *length >= 128 {
+        return None;
+    }
+    let id = Id::new(class_in(*first), *first % 64 >= 32, (*first % 32) as u32)?;
+    Some(HeaderRead::Identified(id, LengthRead::Whole(Len::Definite(*length as u32), 2)))
+}
+
+/// The class in the first octet of an identifier.
+fn class_in(octet: u8) -> Class
+    ensures { result ≡ class_of octet }
+{
+    match octet / 64 {
+        0 => Class::Universal,
+        1 => Class::Application,
+        2 => Class::Context,
+        _ => Class::Private,
     }
 }
