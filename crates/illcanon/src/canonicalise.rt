@@ -1,7 +1,7 @@
 //! The command `canonicalise`.
 use crate::command_line::{self, Files as Words};
 use crate::fault::Fault;
-use ill_normal::{FromRead, Source, ToWrite, normalise};
+use ill_normal::{FromRead, Source, ToWrite, normalise_stream};
 use std::alloc::{AllocError, Global};
 use std::io::{self, BufReader, BufWriter, Write};
 use std::rt::{Env, Files};
@@ -42,22 +42,24 @@ fn to_output<R: Print + Files + AllocGlobal, S: Source + Drop>(
     let alloc = rt.alloc();
     if files.output == "-" {
         let writer = BufWriter::new(alloc, io::writer(rt)).map_err(|_| Fault::OutOfMemory)?;
-        return first_message(alloc, source, writer);
+        return messages(alloc, source, writer);
     }
     let file = fs::create(rt, files.output).map_err(|_| cannot_open(alloc, files.output))?;
     let writer = BufWriter::new(alloc, file).map_err(|_| Fault::OutOfMemory)?;
-    first_message(alloc, source, writer)
+    messages(alloc, source, writer)
 }
 
-/// Writes the normal form of the first message, if there is one.
-fn first_message<S: Source + Drop, W: Write + Drop>(
+/// Writes the normal forms of the messages; those before one that fails aren't lost.
+fn messages<S: Source + Drop, W: Write + Drop>(
     alloc: Global,
     mut source: S,
     mut writer: W,
 ) -> Result<(), Fault> {
     let mut sink = ToWrite::new(&mut writer);
-    match normalise(alloc, &mut source, &mut sink) {
-        Ok(_) => writer.flush().map_err(|_| Fault::FlushFault),
-        Err(failure) => Err(Fault::in_message(1, failure)),
+    let done = normalise_stream(alloc, &mut source, &mut sink);
+    let flushed = writer.flush();
+    match done {
+        Ok(_) => flushed.map_err(|_| Fault::FlushFault),
+        Err(failure) => Err(Fault::from(failure)),
     }
 }

@@ -18,9 +18,9 @@ fn command<'a>(alloc: Global) -> Result<Command<'a>, AllocError> {
         .required(true)
         .help("The file that is written; `-` is standard output");
     let canonicalise = Command::new(alloc, "canonicalise")
-        .about("Writes the DER normal form of the message that IN begins with to OUT")
+        .about("Writes the DER normal forms of the messages in IN to OUT")
         .after_help(
-            "Example: illcanon canonicalise message.ber message.der\n\nStatus: 0 done; 1 the message is refused; 2 usage; 3 memory, files or pipes.",
+            "Example: illcanon canonicalise messages.ber messages.der\n\nStatus: 0 done; 1 a message is refused (those before it are written); 2 usage; 3 memory, files or pipes.",
         )
         .arg(input)?
         .arg(output)?;

@@ -1,6 +1,6 @@
 //! What the program says where it fails, and with which status it ends.
 use clap::Error as LineError;
-use ill_normal::{Cause, NormalFailure, PartId, Refusal, part_name};
+use ill_normal::{Cause, NormalFailure, PartId, Refusal, StreamCause, StreamFailure, part_name};
 use std::{fmt, io};
 use thiserror::Error;
 
@@ -19,6 +19,8 @@ pub enum Fault {
         message: u32,
         cause: CauseName,
     },
+    #[error("more than 1000000 messages")]
+    TooManyMessages,
     #[error("out of memory")]
     OutOfMemory,
     #[error("read fault")]
@@ -51,27 +53,30 @@ fn write_part<W: fmt::Write>(f: &mut fmt::Formatter<W>, cause: &str, part: PartI
     }
 }
 
-impl Fault {
-    /// The fault of a message by its number, from 1.
-    pub fn in_message(message: u32, failure: NormalFailure) -> Fault {
-        match failure {
-            NormalFailure::Refused(Refusal { at, cause }) => Fault::Refused {
+/// Messages are numbered from 1, and offsets are within a message.
+impl From<StreamFailure> for Fault {
+    fn from(failure: StreamFailure) -> Fault {
+        match failure.why {
+            StreamCause::TooManyMessages => Fault::TooManyMessages,
+            StreamCause::Normal(NormalFailure::Refused(Refusal { at, cause })) => Fault::Refused {
                 at,
-                message,
+                message: failure.whole.saturating_add(1),
                 cause: CauseName(cause),
             },
-            NormalFailure::OutOfMemory => Fault::OutOfMemory,
-            NormalFailure::ReadFault => Fault::ReadFault,
-            NormalFailure::WriteFault(written) => Fault::WriteFault(written),
+            StreamCause::Normal(NormalFailure::OutOfMemory) => Fault::OutOfMemory,
+            StreamCause::Normal(NormalFailure::ReadFault) => Fault::ReadFault,
+            StreamCause::Normal(NormalFailure::WriteFault(written)) => Fault::WriteFault(written),
         }
     }
+}
 
+impl Fault {
     /// 1 for what is wrong with the input, 2 for the command line, 3 for memory, files and pipes; 0 for help that was asked for.
     pub fn status(&self) -> u8 {
         match self {
             Fault::Line(error) => line_status(error),
             Fault::SameWord => 2,
-            Fault::Refused { .. } => 1,
+            Fault::Refused { .. } | Fault::TooManyMessages => 1,
             Fault::OutOfMemory | Fault::ReadFault | Fault::WriteFault(_) => 3,
             Fault::FlushFault | Fault::CannotOpen(_) => 3,
         }
