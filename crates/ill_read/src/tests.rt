@@ -112,13 +112,23 @@ fn answers_each_row_in_pieces(rt: HostRuntime) -> Result<(), Fail> {
         let (name, row) = line.split_once('|').ok_or("no name")?;
         let (pieces, want) = row.split_once('|').ok_or("no outcome")?;
         let octets = octets_of(alloc, pieces)?;
-        for most in [1, 7, 1_048_576] {
-            if octets.len() > 4096 && most < 4096 {
-                continue;
-            }
+        for most in [7, 1_048_576] {
             let answer = outcome(alloc, in_pieces(alloc, &octets, most))?;
             assert_eq!(rt; answer.as_str(), want, "{name} in pieces of {most}");
         }
+    }
+    Ok(())
+}
+
+#[test]
+fn answers_each_row_octet_by_octet(rt: HostRuntime) -> Result<(), Fail> {
+    let alloc = rt.alloc();
+    for line in ROWS.lines() {
+        let (name, row) = line.split_once('|').ok_or("no name")?;
+        let (pieces, want) = row.split_once('|').ok_or("no outcome")?;
+        let octets = octets_of(alloc, pieces)?;
+        let answer = outcome(alloc, in_pieces(alloc, &octets, 1))?;
+        assert_eq!(rt; answer.as_str(), want, "{name}");
     }
     Ok(())
 }
@@ -135,12 +145,18 @@ fn needs(alloc: Global, octets: &[u8]) -> Result<Vec<u32>, Fail> {
         if size == 0 {
             break;
         }
-        decoder
+        let progress = decoder
             .feed(&rest[..size])
             .map_err(|_| Fail::from("refused"))?;
         rest = &rest[size..];
+        if (progress == Progress::Done) != rest.is_empty() {
+            return Err(Fail::from("done elsewhere"));
+        }
     }
-    Ok(needs)
+    match decoder.finish() {
+        Ok(Some(_)) => Ok(needs),
+        _ => Err(Fail::from("no message")),
+    }
 }
 
 #[test]
