@@ -74,17 +74,19 @@ held_added (Leaf l) Segments entries ts T slot alt el c v passed h d m e p = abs
 held_added (Leaf l) _ entries ts T slot alt el c v passed h d m e p = absurd h
 held_added Segment Segments entries ts T slot alt el c v passed h d m e p = absurd (subst (λ x. IsValueOf x c T) d.found m)
 held_added Segment _ entries ts T slot alt el c v passed h d m e p = absurd h
-held_added (Sequence node) (Rows own n) entries ts T (AtRow r) alt el c v passed h d m e p =
-    (h.0, subst (λ x. Matches profile_two (entries_content (entries ++ (passed ++ Some v ∷ []))) (take (r + 1) (rows_of x)) (snoc ts T)) h.0
-    (in_row T own n r alt (Found.Element el) c v entries passed ts d m e p (subst (λ x. Matches profile_two (entries_content entries) (take n (rows_of x)) ts) (sym h.0) h.1)))
+held_added (Sequence node) (Rows own n) entries ts T (AtRow r) alt el c v passed h d m e p = (
+  h.0,
+  subst (λ x. Matches profile_two (entries_content (entries ++ (passed ++ Some v ∷ []))) (take (r + 1) (rows_of x)) (snoc ts T)) h.0
+      (in_row T own n r alt (Found.Element el) c v entries passed ts d m e p (subst (λ x. Matches profile_two (entries_content entries) (take n (rows_of x)) ts) (sym h.0) h.1)),
+)
 held_added (Sequence node) (Rows own n) entries ts T _ alt el c v passed h d m e p = absurd d
 held_added (Sequence node) _ entries ts T slot alt el c v passed h d m e p = absurd h
 held_added (ListOf node) (Items own) entries ts T slot alt el c v passed h d m e p = (
-    h.0,
-    h.1 ++ v ∷ [],
-    one_more entries passed v p ∙ ap (λ xs. xs ++ Some v ∷ []) h.2 ∙ some-append h.1 v,
-    in_list T node (due_with slot alt el) c v h.1 ts (subst (λ x. IsItemDue (tag_of T) x (due_with slot alt el)) h.0 d) m e h.3,
-  )
+  h.0,
+  h.1 ++ v ∷ [],
+  one_more entries passed v p ∙ ap (λ xs. xs ++ Some v ∷ []) h.2 ∙ some-append h.1 v,
+  in_list T node (due_with slot alt el) c v h.1 ts (subst (λ x. IsItemDue (tag_of T) x (due_with slot alt el)) h.0 d) m e h.3,
+)
 held_added (ListOf node) _ entries ts T slot alt el c v passed h d m e p = absurd h
 held_added (Wrapper w) (Inner own) entries ts T slot alt el c v passed h d m e p =
     let part = in_wrapper T w (due_with slot alt el) c v (subst (λ x. IsInnerDue (tag_of T) x (due_with slot alt el)) h.0 d) m e in
@@ -94,13 +96,13 @@ held_added (Wrapper w) Nothing entries ts T slot alt el c v passed h d m e p = a
 held_added (Wrapper w) _ entries ts T slot alt el c v passed h d m e p = absurd h
 held_added (LooseWrapper w) (Either own) entries ts T (AtRow r) alt el c v passed h (inl d) m e p = absurd (let q : AtRow r ≡ Inside = d.1.slot in cc)
 held_added (LooseWrapper w) (Either own) entries ts T (AtRow r) alt el c v passed h (inr d) m e p = (
-    ap (λ (x : Wrapped). x.node) h.0,
-    let row : IsRowDue (tag_of T) w.node 0 r alt (Found.Element el) = subst (λ (x : Wrapped). IsRowDue (tag_of T) x.node 0 r alt (Found.Element el)) h.0 d.1 in
-    let over : ArePassed passed (drop 0 (take r (rows_of w.node))) = subst (λ (x : Wrapped). ArePassed passed (drop 0 (take r (rows_of x.node)))) h.0 p in
-    subst (λ xs. Matches profile_two (entries_content (xs ++ (passed ++ Some v ∷ []))) (take (r + 1) (rows_of w.node)) (snoc ts T)) (sym h.1)
-    (subst (λ us. Matches profile_two (entries_content (passed ++ Some v ∷ [])) (take (r + 1) (rows_of w.node)) (snoc us T)) (sym h.2)
-    (in_row T w.node 0 r alt (Found.Element el) c v [] passed none row m e over refl)),
-  )
+  ap (λ (x : Wrapped). x.node) h.0,
+  let row : IsRowDue (tag_of T) w.node 0 r alt (Found.Element el) = subst (λ (x : Wrapped). IsRowDue (tag_of T) x.node 0 r alt (Found.Element el)) h.0 d.1 in
+      let over : ArePassed passed (drop 0 (take r (rows_of w.node))) = subst (λ (x : Wrapped). ArePassed passed (drop 0 (take r (rows_of x.node)))) h.0 p in
+      subst (λ xs. Matches profile_two (entries_content (xs ++ (passed ++ Some v ∷ []))) (take (r + 1) (rows_of w.node)) (snoc ts T)) (sym h.1)
+      (subst (λ us. Matches profile_two (entries_content (passed ++ Some v ∷ [])) (take (r + 1) (rows_of w.node)) (snoc us T)) (sym h.2)
+      (in_row T w.node 0 r alt (Found.Element el) c v [] passed none row m e over refl)),
+)
 held_added (LooseWrapper w) (Either own) entries ts T Inside alt el c v passed h (inl d) m e p =
     let part = in_wrapper T w (due_with Inside alt el) c v (subst (λ x. IsInnerDue (tag_of T) x (due_with Inside alt el)) h.0 d.1) m e in
     subst (λ us. HoldsPart w (entries ++ (passed ++ Some v ∷ [])) (snoc us T)) (sym h.2)
@@ -108,9 +110,11 @@ held_added (LooseWrapper w) (Either own) entries ts T Inside alt el c v passed h
 held_added (LooseWrapper w) (Either own) entries ts T Item alt el c v passed h (inl d) m e p = absurd (let q : Item ≡ Inside = d.1.slot in cc)
 held_added (LooseWrapper w) (Either own) entries ts T InString alt el c v passed h (inl d) m e p = absurd (let q : InString ≡ Inside = d.1.slot in cc)
 held_added (LooseWrapper w) (Either own) entries ts T _ alt el c v passed h (inr d) m e p = absurd d.1
-held_added (LooseWrapper w) (Rows own n) entries ts T (AtRow r) alt el c v passed h d m e p =
-    (h.0, subst (λ x. Matches profile_two (entries_content (entries ++ (passed ++ Some v ∷ []))) (take (r + 1) (rows_of x)) (snoc ts T)) h.0
-    (in_row T own n r alt (Found.Element el) c v entries passed ts d m e p (subst (λ x. Matches profile_two (entries_content entries) (take n (rows_of x)) ts) (sym h.0) h.1)))
+held_added (LooseWrapper w) (Rows own n) entries ts T (AtRow r) alt el c v passed h d m e p = (
+  h.0,
+  subst (λ x. Matches profile_two (entries_content (entries ++ (passed ++ Some v ∷ []))) (take (r + 1) (rows_of x)) (snoc ts T)) h.0
+      (in_row T own n r alt (Found.Element el) c v entries passed ts d m e p (subst (λ x. Matches profile_two (entries_content entries) (take n (rows_of x)) ts) (sym h.0) h.1)),
+)
 held_added (LooseWrapper w) (Rows own n) entries ts T _ alt el c v passed h d m e p = absurd d
 held_added (LooseWrapper w) Nothing entries ts T slot alt el c v passed h d m e p = absurd d
 held_added (LooseWrapper w) _ entries ts T slot alt el c v passed h d m e p = absurd h

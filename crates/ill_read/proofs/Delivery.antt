@@ -67,10 +67,6 @@ has_next t (Either w) d (inr h) = rows_next t w.node 0 d h.1
 has_next t Segments d h = subst HasNext (sym h.slot) tt
 has_next t Nothing d h = absurd h
 
-
-
-
-
 -- a message's body
 pub body_delivered : (path : Path) (place : List Open) (slot : Slot) (alt : Option ℕ) (el : CodeElement) (row : ℕ) (v : Value) (T : Tree) (at : ℕ) (rest : List ℕ) → StandsAt path place
     → length path.frames.items ≡ 0 → IsDueIn (tag_of T) (next_at path.frames.items) (due_with slot alt el) → IsValueOf (element_is el) (content_of v) T → row ≡ unwrap_or alt 0
