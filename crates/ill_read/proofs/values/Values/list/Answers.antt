@@ -1,6 +1,5 @@
-use Rattle.std.proofs.Common.{◌≡◌, ◌++◌, [], ◌∷◌, Option, Some, None, length, take, drop, map, min, ℕ, ◌+◌, List, arith, sym, ap, ◌∙◌, subst}
-use Rattle.ill_schema.specs.declared.value.Value.{Value}
-use Rattle.ill_schema.specs.Value.{content_of, items_content}
+use Rattle.std.proofs.Common.{◌≡◌, ◌++◌, [], ◌∷◌, Some, take, drop, map, min, sym, ap, ◌∙◌}
+use Rattle.ill_schema.specs.Value.{items_content}
 use Rattle.ill_schema.specs.Content.{list}
 use Rattle.ill_schema.proofs.Contents.{content_of-List}
 use Rattle.ill_read.proofs.Holding.{somes, somes-some, somes-none, somes-all, taken_all, split_held}
