@@ -1,18 +1,27 @@
 -- What a decoder knows at the end of a message, and of octets that follow.
-use Rattle.std.proofs.Common.{◌≡◌, ◌≢◌, ℕ, ◌<◌, ◌≤◌, List, ◌++◌, length, length-append, take, Option, Some, None, IsTrue, refl, sym, ap, subst, ◌∙◌, inl, inr, arith}
+use Rattle.std.proofs.Common.{◌≡◌, ◌≢◌, ℕ, ◌+◌, ◌<◌, ◌≤◌, List, [], ◌∷◌, ◌++◌, length, length-append, take, Option, Some, None, Err, IsTrue, refl, sym, ap, subst, ◌∙◌, inl, inr, arith, append_assoc}
 use Rattle.std.proofs.lemmas.List.{take-append-le}
+use Rattle.ber_core.specs.Octets.{are_octets}
 use Rattle.ber_leaf.specs.Profile.{profile_two}
 use Rattle.ill_schema.specs.declared.message.Message.{Message}
 use Rattle.ill_schema.specs.declared.refusal.Cause.{Cause}
 use Rattle.ill_schema.specs.declared.refusal.Refusal.{Refusal}
 use Rattle.ill_schema.specs.Apdu.{Apdu, Encodes, Accepts, normal_form}
 use Rattle.ill_schema.specs.Message.{apdu_of, octets_of}
-use Rattle.ill_read.specs.Fault.{fault, Refuses}
-use Rattle.ill_read.specs.Feeding.{IsRead, IsRefused, IsMessageOf}
+use Rattle.ill_read.specs.Fault.{Fault, fault, faulty, judge, Refuses}
+use Rattle.ill_read.specs.Feeding.{IsRead, IsPart, IsRefused, IsMessageOf, FinishAnswers, DecodeAnswers, StandsBefore, StandsLast, InState}
 use Rattle.ill_read.specs.Judged.{fault_is}
 use Rattle.ill_read.specs.Outcome.{OnlyAccepts, OnlyRefuses}
+use Rattle.ill_read.specs.Place.{Open, IsPlace, bound}
 use Rattle.ill_read.specs.declared.failure.Failure.{Failure}
-use Rattle.ill_read.proofs.Outcomes.{accepted_alone, long_alone}
+use Rattle.ill_read.specs.declared.decoder.State.{State}
+use Rattle.ill_read.specs.declared.decoder.State.TheVariants as state
+use Rattle.ill_read.specs.declared.path.Path.{Path}
+use Rattle.ill_read.proofs.Feeding.{refused_at}
+use Rattle.ill_read.proofs.Longer.{refusal_stays}
+use Rattle.ill_read.proofs.Readings.{octets_join}
+use Rattle.ill_read.proofs.Wanting.{truncated_at}
+use Rattle.ill_read.proofs.Outcomes.{accepted_alone, long_alone, refused_alone, fault_run}
 
 pub read_message : (s : List ℕ) (a : Apdu) (n : ℕ) (m : Message) → n ≤ length s → Encodes profile_two a (take n s) → IsMessageOf a n (Some m) → IsRead s m
 read_message s a n m le h is =
@@ -22,3 +31,102 @@ read_message s a n m le h is =
 pub too_long : (s : List ℕ) (a : Apdu) (n : ℕ) → n ≤ length s → Encodes profile_two a (take n s) → IsMessageOf a n None
     → IsRefused s (Failure.Refused (record { at = 0; cause = Cause.NormalTooLong }))
 too_long s a n le h long = (long_alone profile_two s a n le h long, λ e. cc)
+
+-- a refusal is the one fault
+pub refuses_alone : (s : List ℕ) (f : Fault) → Refuses profile_two s f → OnlyRefuses profile_two s f
+refuses_alone s f (inl h) = refused_alone profile_two s f (inl h) (fault_run profile_two s h.0 h.1 f h.2 h.3)
+refuses_alone s f (inr h) = subst (OnlyRefuses profile_two s) (sym h.0) (long_alone profile_two s h.1.0 h.1.1 h.1.2 h.1.3 h.1.4)
+
+-- more octets change neither a message nor a refusal
+accepts_longer : (s x : List ℕ) (a : Apdu) (n : ℕ) → Accepts profile_two s a n → OnlyAccepts profile_two (s ++ x) a n
+accepts_longer s x a n h =
+    let le = h.0 in
+    accepted_alone profile_two (s ++ x) a n (omega (arith, length-append s x)) (subst (λ z. Encodes profile_two a z) (sym (take-append-le n s x h.0)) h.1.encodes) h.1.normal_short
+
+refused_longer : (s x : List ℕ) (failure : Failure) → IsRefused s failure → IsRefused (s ++ x) failure
+refused_longer s x (Failure.Refused r) h = (refuses_alone (s ++ x) (fault_is r) (refusal_stays profile_two s x (fault_is r) h.1 h.0.0), h.1)
+refused_longer s x Failure.OutOfMemory h = tt
+
+-- once nothing is open
+pub ended_longer : (st : State) (s x : List ℕ) (A B : Type 0) → (st ≡ state.Open → ⊥) → InState st s A → InState st (s ++ x) B
+ended_longer state.Open s x A B n h = absurd (n refl)
+ended_longer (state.Whole m) s x A B n h = accepts_longer s x (apdu_of m) (octets_of m) h.0
+ended_longer (state.Failed f) s x A B n h = refused_longer s x f h
+
+-- octets that come behind those that wait
+pub running_longer : (st : State) (path : Path) (at : ℕ) (s rest x : List ℕ) → IsTrue (are_octets x) → InState st s (StandsLast path at s rest) → InState st (s ++ x) (StandsBefore path at (s ++ x) (rest ++ x))
+running_longer state.Open path at s rest x ok h =
+    let b = h.0 in
+    record {
+      place = b.place;
+      before = b.before;
+      joined = ap (λ z. z ++ x) b.joined ∙ append_assoc b.before rest x;
+      octets = octets_join s x b.octets ok;
+      offset = b.offset;
+      stands = b.stands;
+      is_place = b.is_place;
+    }
+running_longer (state.Whole m) path at s rest x ok h = accepts_longer s x (apdu_of m) (octets_of m) h.0
+running_longer (state.Failed f) path at s rest x ok h = refused_longer s x f h
+
+-- a place whose next octets are wanting: the input ends too early
+pub stands_part : (path : Path) (at : ℕ) (s rest : List ℕ) → StandsLast path at s rest → IsPart s
+stands_part path at s rest h =
+    let b = h.0 in
+    subst (λ z. OnlyRefuses profile_two z (fault Cause.Truncated (length s))) (sym b.joined)
+    (refused_at profile_two b.place b.before rest (fault Cause.Truncated (length s)) b.is_place
+    (subst (λ k. judge profile_two b.place k rest ≡ faulty (fault Cause.Truncated (length s))) b.offset h.1))
+
+-- nothing is open behind the end
+pub after_end : (st : State) (s : List ℕ) (A : Type 0) → InState st s ⊥ → InState st s A
+after_end state.Open s A h = absurd h
+after_end (state.Whole m) s A h = h
+after_end (state.Failed f) s A h = h
+
+-- the refusal of the place where a path stands
+pub stops_refused : (path : Path) (at : ℕ) (s rest : List ℕ) (r : Refusal) → (b : StandsBefore path at s rest) → judge profile_two b.place at rest ≡ faulty (fault_is r) → r.cause ≢ Cause.Truncated
+    → IsRefused s (Failure.Refused r)
+stops_refused path at s rest r b e n =
+    (subst (λ z. OnlyRefuses profile_two z (fault_is r)) (sym b.joined)
+    (refused_at profile_two b.place b.before rest (fault_is r) b.is_place (subst (λ k. judge profile_two b.place k rest ≡ faulty (fault_is r)) b.offset e)), n)
+
+-- or the octets end
+pub stops_open : (path : Path) (at : ℕ) (s rest : List ℕ) (r : Refusal) → (b : StandsBefore path at s rest) → judge profile_two b.place at rest ≡ faulty (fault_is r) → r.cause ≡ Cause.Truncated
+    → StandsLast path at s rest
+stops_open path at s rest r b e c =
+    let q = truncated_at profile_two b.place at rest (fault_is r) e c in
+    let n : at + length rest ≡ length s = omega (arith, b.offset, ap length b.joined, length-append b.before rest) in
+    (b, e ∙ ap faulty (q.1 ∙ ap (fault Cause.Truncated) n))
+
+-- no place reaches past the limit
+pub place_bound : (path : List Open) (u : List ℕ) → IsPlace profile_two u path → bound profile_two path ≤ 1_048_576
+place_bound [] u h = omega arith
+place_bound (o ∷ path) u h = let r = place_bound path h.0 h.3 in let inside = h.4.inside in omega arith
+
+-- the octets that lead to a place and those that wait there
+pub last_size : (path : Path) (at : ℕ) (s rest : List ℕ) → StandsLast path at s rest → (at + length rest ≡ length s) × (length s < 1_048_576)
+last_size path at s rest h =
+    let b = h.0 in
+    let n : at + length rest ≡ length s = omega (arith, b.offset, ap length b.joined, length-append b.before rest) in
+    let within = (truncated_at profile_two b.place at rest (fault Cause.Truncated (length s)) h.1 refl).0 in
+    let limit = place_bound b.place b.before b.is_place in
+    (n, omega arith)
+
+-- nothing refuses an empty input but that it ends
+pub failed_finish : (s : List ℕ) (failure : Failure) → IsRefused s failure → FinishAnswers s (Err failure)
+failed_finish s (Failure.Refused r) h = (h.0, filled s (λ e. h.1 (ap (λ (f : Fault). f.cause) (sym (h.0.1 (fault Cause.Truncated 0) (subst (λ z. Refuses profile_two z (fault Cause.Truncated 0)) (sym e) empty))))))
+  where
+    empty : Refuses profile_two [] (fault Cause.Truncated 0)
+    empty = inl ([], 0, (omega arith, refl), refl)
+
+    filled : (s : List ℕ) → (s ≡ [] → ⊥) → 0 < length s
+    filled [] n = absurd (n refl)
+    filled (x ∷ s) n = omega arith
+failed_finish s Failure.OutOfMemory h = tt
+
+pub decode_fails : (s : List ℕ) (failure : Failure) → IsRefused s failure → DecodeAnswers s (Err failure)
+decode_fails s (Failure.Refused r) h = inl h.0
+decode_fails s Failure.OutOfMemory h = tt
+
+pub decode_short : (s : List ℕ) → IsPart s → DecodeAnswers s (Err (Failure.Refused (record { at = length s; cause = Cause.Truncated })))
+decode_short s h = inl h

@@ -6,7 +6,7 @@ use Rattle.ill_read.specs.DueCode.{next_is}
 use Rattle.ill_read.specs.JudgeCode.{outermost_end}
 use Rattle.ill_read.specs.Need.{outermost}
 use Rattle.ill_read.specs.Place.{Open, next_in, innermost_end, bound}
-use Rattle.ill_read.specs.Standing.{next_at, IsFrame, AreFrames}
+use Rattle.ill_read.specs.Standing.{next_at, AreFrames}
 use Rattle.ill_read.specs.declared.frame.Frame.{Frame}
 
 pub next_last : (frames : List Frame) (f : Frame) → slice_get frames (length frames - 1) ≡ Some f → next_at frames ≡ f.next

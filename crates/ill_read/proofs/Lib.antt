@@ -36,4 +36,7 @@ pub mod Wanting
 pub mod Bodies
 pub mod Fed
 pub mod Judges
+pub mod Stepping
 pub mod Needing
+pub mod Needing
+pub mod Stepping

@@ -1,5 +1,5 @@
 -- How many octets surely still belong to a message, at a place that the octets don't pass.
-use Rattle.std.proofs.Common.{◌≡◌, ◌⊎◌, ℕ, ◌+◌, ◌-◌, ◌<◌, ◌≤◌, min, Bool, true, false, ◌&&◌, List, [], ◌∷◌, ◌++◌, length, length-append, take, drop, Option, Some, None, IsTrue, refl, sym, ap, ap₂, subst, ◌∙◌, inl, inr, arith, append_assoc, append-nil, nat_eq}
+use Rattle.std.proofs.Common.{◌≡◌, ◌⊎◌, ℕ, ◌+◌, ◌-◌, ◌<◌, ◌≤◌, min, Bool, true, false, ◌&&◌, List, [], ◌∷◌, ◌++◌, length, length-append, take, drop, Option, Some, None, IsTrue, refl, sym, ap, subst, ◌∙◌, inl, inr, arith, append_assoc, append-nil, nat_eq}
 use Rattle.std.specs.Prelude.{nat_le}
 use Rattle.std.proofs.lemmas.List.{take-append-drop, take-append-le, length-drop, nil_from_length}
 use Rattle.std.proofs.lemmas.Bool.{and_parts}
@@ -13,15 +13,14 @@ use Rattle.ber_core.specs.Identifier.{Tag, identifier, HasIdentifier}
 use Rattle.ber_core.specs.Octets.{are_octets}
 use Rattle.ber_core.proofs.Identifiers.{IsEnd, identifier_no_end}
 use Rattle.ber_leaf.specs.Profile.{Profile, profile_two}
-use Rattle.ill_schema.specs.declared.refusal.Cause.{Cause}
 use Rattle.ill_schema.specs.Apdu.{Apdu, Accepts}
-use Rattle.ill_read.specs.Fault.{Fault, fault, Judgement, faulty, closes, opens, reads, is_indefinite, judge}
+use Rattle.ill_read.specs.Fault.{Judgement, faulty, closes, opens, reads, is_indefinite, judge}
 use Rattle.ill_read.specs.Feeding.{StandsLast}
 use Rattle.ill_read.specs.HeaderCode.{Lacks, IsHeaderRead, IsLengthRead, IsWholeLength}
 use Rattle.ill_read.specs.JudgeCode.{outermost_end}
 use Rattle.ill_read.specs.Need.{outermost, begins_zero, in_mark, NeedsOfLength, NeedsOfElement, NeedsAfterMark, NeedsBefore, IsNeed, need_read}
 use Rattle.ill_read.specs.Place.{Open, bound, IsPlace, IsDue}
-use Rattle.ill_read.specs.Reading.{IdentifierRead, identified, part_identifier, no_identifier, read_identifier, LengthRead, definite, indefinite, part_length, no_length, read_length}
+use Rattle.ill_read.specs.Reading.{identified, part_identifier, no_identifier, read_identifier, definite, indefinite, part_length, no_length, read_length}
 use Rattle.ill_read.specs.Step.{close, moved}
 use Rattle.ill_read.specs.declared.header.HeaderRead.{HeaderRead}
 use Rattle.ill_read.specs.declared.header.HeaderRead.TheVariants.{NoIdentifier, PartIdentifier, Identified}
@@ -31,7 +30,7 @@ use Rattle.ill_read.specs.declared.path.Path.{Path}
 use Rattle.ill_read.proofs.Feeding.{HasEnd, Keeps, with_keeps, due_at, ends_before, reads_before}
 use Rattle.ill_read.proofs.Frames.{outermost_open}
 use Rattle.ill_read.proofs.HeadersRead.{whole_header_read}
-use Rattle.ill_read.proofs.Judging.{Judged, judged, bound_some, Opens, Reads}
+use Rattle.ill_read.proofs.Judging.{Judged, judged, bound_some}
 use Rattle.ill_read.proofs.Readings.{identifier_longer, length_longer, identifier_read, length_read, octets_right, take-all, drop-all}
 use Rattle.ill_read.proofs.Machine.{step}
 use Rattle.ill_read.proofs.Sequences.{two_cases}
@@ -59,6 +58,7 @@ bound_small p (o ∷ path) u h = let i = h.4.inside in let r = bound_small p pat
 short : (path : Path) (at : ℕ) (s octets : List ℕ) → (l : StandsLast path at s octets) → (at + length octets < bound profile_two l.0.place) × Wants profile_two l.0.place octets
 short path at s octets l = ((truncated_at profile_two l.0.place at octets _ l.1 refl).0, truncated_in profile_two l.0.place at octets _ l.1 refl)
 
+-- and they are no more than a message may have
 pub few : (path : Path) (at : ℕ) (s octets : List ℕ) → StandsLast path at s octets → length octets ≤ 1_048_576
 few path at s octets l =
     let near = (short path at s octets l).0 in
@@ -144,7 +144,7 @@ not_whole : (f : Bool) (r behind : List ℕ) (len : Len) → read_length f r ≡
 not_whole f r behind (Definite held) q h = absurd (let e : part_length ≡ definite h.0 behind = sym q ∙ h.1 in cc)
 not_whole f r behind Indefinite q h = absurd (let e : part_length ≡ indefinite behind = sym q ∙ h in cc)
 
--- begin with none
+-- and begin with no whole one
 no_header : (header : Header) (b x w : List ℕ) → IsHeader header b → w ≡ b ++ x → EndInHeader w → ⊥
 no_header header b x w h e (inl q) =
     let r = whole_header_read header b x w e h in
@@ -196,7 +196,7 @@ reaches_keeps p path k e rest (closes m) r h =
 reaches_keeps p path k e rest (opens tag x n end) r h = inr h
 reaches_keeps p path k e rest (reads tag n content) r h = with_keeps e path _ (k + n + length content) (drop (n + length content) rest) (inr h)
 
--- an element that ends at a place has no definite end past it
+-- before the bound no definite element ends
 no_end_here : (p : Profile) (o : Open) (outer : List Open) (k : ℕ) → k < bound p (o ∷ outer) → o.end ≡ Some k → ⊥
 no_end_here p o outer k lt h = let b = bound_some p o outer k h in omega arith
 
@@ -210,7 +210,7 @@ mark_reaches p path k w (closes m) lt r = elim r.how [
 mark_reaches p path k w (opens tag x h end) lt r = absurd (identifier_no_end tag true (r.octets ++ r.behind) r.started.has_identifier (subst IsEnd r.spelled refl))
 mark_reaches p path k w (reads tag h content) lt r = absurd (identifier_no_end tag false (r.octets ++ (content ++ r.behind)) r.started.has_identifier (subst IsEnd r.spelled refl))
 
--- where an end mark begins
+-- an end mark that no octet was there of
 no_zero : (w more v : List ℕ) → w ++ more ≡ 0 ∷ 0 ∷ v → begins_zero w ≡ false → w ≡ []
 no_zero [] more v e h = refl
 no_zero (a ∷ w) more v e h = absurd (let z : a ≡ 0 = cc in let q : nat_eq a 0 ≡ true = grind (arith, z) in let r : true ≡ false = sym q ∙ h in cc)
@@ -218,6 +218,7 @@ no_zero (a ∷ w) more v e h = absurd (let z : a ≡ 0 = cc in let q : nat_eq a 
 open_ended : (o : Open) (outer : List Open) (w : List ℕ) → o.end ≡ None → in_mark (o ∷ outer) w ≡ false → begins_zero w ≡ false
 open_ended o outer w h m = sym (ap (λ x. elim x as (λ _. Bool) [ Some e ↦ false | None ↦ true ] && begins_zero w) h) ∙ m
 
+-- within a header
 header_end : (p : Profile) (path : List Open) (k n : ℕ) (w more : List ℕ) (j : Judgement) → k < bound p path → in_mark path w ≡ false → EndInHeader w → NeedsOfElement (read_identifier w) w n
     → Judged p path k (w ++ more) j → Reaches (k + length w + n) k j
 header_end p path k n w more (faulty f) lt m part need r = tt
@@ -338,6 +339,7 @@ need_surely path at s octets l n need more a m ok h =
     let le = reach (outermost b.place) refl need in
     omega arith
 
+-- of a part of a length, or of a content, octets are wanting
 length_open : (place : List Open) (octets r : List ℕ) (f : Bool) (n : ℕ) → LengthWants profile_two place f r → (tag : Tag) → read_identifier octets ≡ identified tag f r → NeedsOfLength (read_length f r) octets n → 0 < n
 length_open place octets r f n (inr w) tag q h =
     let size : w.0 ≡ length w.1 + n = subst (λ x. NeedsOfLength x octets n) w.3 h in

@@ -40,7 +40,7 @@ map_wanting V W want (closes m) g h = tt
 map_wanting V W want (opens tag e n end) g h = tt
 map_wanting V W want (reads tag n content) g h = tt
 
-leaf_cause : (c : LeafFault) → cause_of c ≡ Cause.Truncated → ⊥
+pub leaf_cause : (c : LeafFault) → cause_of c ≡ Cause.Truncated → ⊥
 leaf_cause LeafFault.BadBoolean e = cc
 leaf_cause LeafFault.BadInteger e = cc
 leaf_cause LeafFault.IntegerTooLong e = cc

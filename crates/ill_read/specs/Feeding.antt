@@ -1,8 +1,10 @@
 -- What a decoder has been fed, and what its calls answer.
-use Rattle.std.specs.Prelude.{◌≡◌, ◌≢◌, ◌⊎◌, ℕ, ◌+◌, ◌<◌, ◌≤◌, List, [], ◌++◌, length, drop, Option, Some, None, Result, Ok, Err}
+use Rattle.std.specs.Prelude.{◌≡◌, ◌≢◌, ◌⊎◌, ℕ, ◌+◌, ◌<◌, ◌≤◌, List, [], ◌++◌, length, drop, Option, Some, None, Result, Ok, Err, IsTrue}
+use Rattle.ber_core.specs.Octets.{are_octets}
 use Rattle.ber_leaf.specs.Profile.{profile_two}
 use Rattle.ill_schema.specs.declared.message.Message.{Message}
 use Rattle.ill_schema.specs.declared.refusal.Cause.{Cause}
+use Rattle.ill_schema.specs.declared.refusal.Refusal.{Refusal}
 use Rattle.ill_schema.specs.Apdu.{Apdu, normal_form}
 use Rattle.ill_schema.specs.Message.{apdu_of, octets_of}
 use Rattle.ill_schema.specs.Value.{apdu_with}
@@ -38,6 +40,7 @@ pub record StandsBefore (path : Path) (at : ℕ) (s rest : List ℕ) : Type 0 wh
   pub place : List Open
   pub before : List ℕ
   pub joined : s ≡ before ++ rest
+  pub octets : IsTrue (are_octets s)
   pub offset : at ≡ length before
   pub stands : StandsAt path place
   pub is_place : IsPlace profile_two before place
@@ -61,6 +64,10 @@ HasStopped d s rest = InState d.state s (StandsLast d.path d.at s rest)
 -- the judgement is the definitions' one at its place
 abbrev pub CanStep : Decoder → List ℕ → List ℕ → Judgement → Type 0
 CanStep d s rest judgement = (b : StandsBefore d.path d.at s rest) × IsJudgement d.path b.place d.at rest judgement (judge profile_two b.place d.at rest)
+
+-- the refusal is the definitions' judgement there
+abbrev pub CanRefuse : Decoder → List ℕ → List ℕ → Refusal → Type 0
+CanRefuse d s rest refusal = (b : StandsBefore d.path d.at s rest) × (judge profile_two b.place d.at rest ≡ faulty (fault_is refusal))
 
 -- it went on behind so many octets, or stopped
 abbrev pub HasAdvanced : Decoder → List ℕ → List ℕ → Option ℕ → Type 0
@@ -88,6 +95,12 @@ abbrev pub FeedAnswers : List ℕ → Result Progress Failure → Type 0
 FeedAnswers s (Ok Progress.Done) = (a : Apdu) × (n : ℕ) × OnlyAccepts profile_two s a n
 FeedAnswers s (Ok Progress.More) = IsPart s
 FeedAnswers s (Err failure) = IsRefused s failure
+
+-- what has come of the octets
+abbrev pub HasOutcome : List ℕ → Result (Option Message) Failure → Type 0
+HasOutcome s (Ok (Some m)) = IsRead s m
+HasOutcome s (Ok None) = IsPart s × (length s < 1_048_576)
+HasOutcome s (Err failure) = IsRefused s failure
 
 -- after the last octet
 abbrev pub FinishAnswers : List ℕ → Result (Option Message) Failure → Type 0

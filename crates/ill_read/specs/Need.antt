@@ -22,7 +22,7 @@ begins_zero (octet ∷ rest) = nat_eq octet 0
 abbrev pub in_mark : List Open → List ℕ → Bool
 in_mark place octets = is_indefinite place && begins_zero octets
 
--- the rest of a content, or of a header
+-- the rest of a content, or the least that makes a header
 abbrev pub NeedsOfLength : LengthRead → List ℕ → ℕ → Type 0
 NeedsOfLength (definite size content) octets n = size ≡ length content + n
 NeedsOfLength part_length octets n = Lacks octets n
@@ -35,19 +35,21 @@ NeedsOfElement (identified tag constructed rest) octets n = NeedsOfLength (read_
 NeedsOfElement part_identifier octets n = n ≡ 1
 NeedsOfElement no_identifier octets n = ⊥
 
+-- the end mark's second octet
 abbrev pub NeedsAfterMark : Bool → List ℕ → ℕ → Type 0
 NeedsAfterMark true octets n = n ≡ 1
 NeedsAfterMark false octets n = NeedsOfElement (read_identifier octets) octets n
 
+-- the octets up to an end
 abbrev pub NeedsBefore : Option ℕ → List Open → ℕ → List ℕ → ℕ → Type 0
 NeedsBefore (Some e) place at octets n = e ≡ at + length octets + n
 NeedsBefore None place at octets n = NeedsAfterMark (in_mark place octets) octets n
 
--- behind octets that don't reach the next place: the octets up to the end of the outermost definite element, else of an end mark or of what is read there
+-- behind octets that don't reach the next place: as many as lie before the end of the outermost definite element, else what the end mark or the element there still needs
 abbrev pub IsNeed : List Open → ℕ → List ℕ → ℕ → Type 0
 IsNeed place at octets n = NeedsBefore (outermost place) place at octets n
 
--- the number for what was read of an element, of which so many octets came
+-- the same, as the decoder reads it from so many octets
 abbrev pub need_read : HeaderRead → ℕ → ℕ
 need_read PartIdentifier count = 1
 need_read (Identified id (PartLength due)) count = due

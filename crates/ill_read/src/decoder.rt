@@ -42,11 +42,15 @@ impl Decoder {
     ghost use Rattle.ber_leaf.specs.Profile.{profile_two};
     ghost use Rattle.ill_schema.specs.Apdu.{Apdu, Accepts, Encodes};
     ghost use Rattle.ber_core.specs.Octets.{are_octets};
-    ghost use Rattle.ill_read.specs.Feeding.{body_apdu, CanStep, FeedAnswers, HasAdvanced, HasEnded, HasStopped, IsFed, IsRunning, StandsLast};
+    ghost use Rattle.ill_read.specs.Feeding.{body_apdu, CanRefuse, CanStep, FeedAnswers, FinishAnswers, HasAdvanced, HasEnded, HasOutcome, HasStopped, IsFed, IsRunning, StandsLast};
     ghost use Rattle.ill_read.specs.Need.{IsNeed};
     ghost use Rattle.ill_read.specs.Progress.{depth_of, size_of, IsProgress, StepsTo};
 
-    pub fn new(alloc: Global) -> Decoder {
+    /// A decoder that nothing was fed.
+    pub fn new(alloc: Global) -> Decoder
+        ensures fed { IsFed result [] }
+        ensures pending { result.pending.items ≡ [] }
+    {
         Decoder {
             alloc,
             path: Path::new(alloc),
@@ -78,9 +82,7 @@ impl Decoder {
         ensures fed { (fed : List ℕ) → IsFed self.old fed → IsFed self.new (fed ++ piece.now) }
         ensures answers { (fed : List ℕ) → IsFed self.old fed → FeedAnswers (fed ++ piece.now) result }
     {
-        if matches!(&self.state, State::Open) {
-            self.take(piece);
-        }
+        self.take(piece);
         match &self.state {
             State::Failed(failure) => Err(*failure),
             State::Whole(_) => Ok(Progress::Done),
@@ -89,9 +91,11 @@ impl Decoder {
     }
 
     fn take(&mut self, piece: &[u8])
-        requires { self.old.state ≡ State.Open }
         ensures { (fed : List ℕ) → IsFed self.old fed → IsFed self.new (fed ++ piece.now) }
     {
+        if !matches!(&self.state, State::Open) {
+            return;
+        }
         if self.pending.is_empty() {
             let count = self.run(piece);
             self.keep(&piece[count..]);
@@ -166,11 +170,11 @@ impl Decoder {
 
     /// Fails with a refusal, unless it is only that the octets end.
     fn refuse(&mut self, refusal: Refusal)
+        requires open { self.old.state ≡ State.Open }
         ensures pending { self.new.pending ≡ self.old.pending }
-        ensures ends { refusal.cause ≡ Cause.Truncated → self.new ≡ self.old }
-        ensures fails { refusal.cause ≢ Cause.Truncated → self.new.state ≡ State.Failed (Failure.Refused refusal) }
+        ensures stopped { (s rest : List ℕ) → CanRefuse self.old s rest refusal → HasStopped self.new s rest }
     {
-        if refusal.cause != Cause::Truncated {
+        if !matches!(&refusal.cause, Cause::Truncated) {
             self.state = State::Failed(Failure::Refused(refusal));
         }
     }
@@ -214,7 +218,9 @@ impl Decoder {
     }
 
     /// The message, if it is whole, or None while it is open.
-    pub(crate) fn outcome(self) -> Result<Option<Message>, Failure> {
+    pub(crate) fn outcome(self) -> Result<Option<Message>, Failure>
+        ensures { (s rest : List ℕ) → HasStopped self s rest → HasOutcome s result }
+    {
         let Decoder {
             alloc: _,
             path: _,
@@ -230,7 +236,13 @@ impl Decoder {
     }
 
     /// The message, once it is whole, or None where nothing was fed.
-    pub fn finish(self) -> Result<Option<Message>, Failure> {
+    ///
+    /// # Errors
+    ///
+    /// The failure that was answered, or Truncated at the end of what was fed.
+    pub fn finish(self) -> Result<Option<Message>, Failure>
+        ensures { (fed : List ℕ) → IsFed self fed → FinishAnswers fed result }
+    {
         let Decoder {
             alloc: _,
             path: _,

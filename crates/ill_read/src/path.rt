@@ -51,10 +51,10 @@ pub struct Body {
 }
 
 impl Path {
-    ghost use Rattle.std.specs.Prelude.{◌+◌, ◌-◌, ◌<◌, ◌↔◌, IsNone, slice_get};
+    ghost use Rattle.std.specs.Prelude.{◌+◌, ◌-◌, ◌<◌, ◌↔◌, [], IsNone, slice_get};
     ghost use Rattle.ill_read.specs.Progress.{depth_of, StepsTo, IsProgress};
     ghost use Rattle.ill_read.specs.Judged.{StepsExactly};
-    ghost use Rattle.ill_read.specs.Standing.{next_at};
+    ghost use Rattle.ill_read.specs.Standing.{next_at, StandsAt};
     ghost use Rattle.ill_read.specs.Stepping.{EndsExactly, DeliversExactly, ClosesExactly, OpensExactly, ReadsExactly};
     ghost use Rattle.std.specs.Prelude.{IsTrue};
     ghost use Rattle.ber_leaf.specs.Profile.{profile_two};
@@ -62,7 +62,9 @@ impl Path {
     ghost use Rattle.ill_read.specs.Place.{bound};
     ghost use Rattle.ill_read.specs.JudgeCode.{WhereItStands, outermost_end};
 
-    pub fn new(alloc: Global) -> Path {
+    pub fn new(alloc: Global) -> Path
+        ensures { StandsAt result [] }
+    {
         Path {
             alloc,
             frames: ArrayVec::new(),

@@ -1,5 +1,6 @@
 //! Messages out of sources and slices.
-ghost use Rattle.std.specs.Prelude.{IsTrue, IsErrOf};
+ghost use Rattle.std.specs.Prelude.{◌≡◌, ℕ, List, length, IsTrue, IsErrOf};
+ghost use Rattle.ill_read.specs.Feeding.{DecodeAnswers, HasOutcome, IsRead};
 ghost use Rattle.ill_read.specs.declared.failure.ReadFailure.{ReadFailure};
 
 use crate::decoder::{Decoder, Progress};
@@ -35,12 +36,36 @@ pub fn read_message<R: Source>(
 }
 
 /// Reads the message that the whole slice is.
-pub fn decode(alloc: Global, octets: &[u8]) -> Result<Message, Failure> {
+///
+/// # Errors
+///
+/// The one fault of the octets, TrailingBytes at the end of a message that they only begin with, or want of memory.
+pub fn decode(alloc: Global, octets: &[u8]) -> Result<Message, Failure>
+    ensures { DecodeAnswers octets.now result }
+{
+    match begun(alloc, octets) {
+        Ok(Some(message)) => whole(message, octets.len()),
+        Ok(None) => Err(Failure::refused(octets.len() as u32, Cause::Truncated)),
+        Err(failure) => Err(failure),
+    }
+}
+
+/// The message that the octets begin with, None where they end before it is whole.
+fn begun(alloc: Global, octets: &[u8]) -> Result<Option<Message>, Failure>
+    ensures { HasOutcome octets.now result }
+{
     let mut decoder = Decoder::new(alloc);
-    let size = decoder.run(octets);
-    match decoder.outcome()? {
-        Some(message) if size == octets.len() => Ok(message),
-        Some(_) => Err(Failure::refused(size.min(u32::MAX as usize) as u32, Cause::TrailingBytes)),
-        None => Err(Failure::refused(octets.len().min(u32::MAX as usize) as u32, Cause::Truncated)),
+    let _ = decoder.run(octets);
+    decoder.outcome()
+}
+
+/// The message, if it has as many octets.
+fn whole(message: Message, size: usize) -> Result<Message, Failure>
+    ensures { (s : List ℕ) → size ≡ length s → IsRead s message → DecodeAnswers s result }
+{
+    if message.octets() as usize == size {
+        Ok(message)
+    } else {
+        Err(Failure::refused(message.octets(), Cause::TrailingBytes))
     }
 }

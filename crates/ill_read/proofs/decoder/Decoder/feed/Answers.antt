@@ -1,30 +1,20 @@
-use Rattle.std.proofs.Common.{rules, ◌≤◌, ◌≡◌, ◌≢◌, ℕ, ◌+◌, ◌-◌, ◌*◌, ◌<◌, List, [], ◌++◌, length, drop, take, IfSome, OnSome, ◌/◌, ◌%◌, Bool, true, false, nat_eq, nat_lt, ◌∷◌, slice_index_or, slice_set, bit_and, bit_or, Fits, w8, w32, w64, Bor, MutBor}
-use Rattle.ber_leaf.specs.Profile.{profile_two}
-use Rattle.ill_schema.specs.Apdu.{Encodes}
-use Rattle.ill_read.specs.Feeding.{body_apdu, CanStep, FeedAnswers, HasAdvanced, HasEnded, HasStopped, IsFed, IsRunning}
-use Rattle.ill_read.specs.Progress.{depth_of, size_of, IsProgress, StepsTo}
+use Rattle.std.proofs.Common.{◌++◌, subst}
+use Rattle.ill_schema.specs.Message.{apdu_of, octets_of}
+use Rattle.ill_read.specs.Feeding.{InState, StandsLast}
+use Rattle.ill_read.proofs.Fed.{stands_part}
 use Rattle.ill_read.proofs.decoder.Decoder.feed.Goals as goal
 
--- src/decoder.rt:72:5
-pub returns-in-Failed-clause-fed : goal.returns-in-Failed-clause-fed
-returns-in-Failed-clause-fed c = ?
-
--- src/decoder.rt:72:5
 pub returns-in-Failed-clause-answers : goal.returns-in-Failed-clause-answers
-returns-in-Failed-clause-answers c = ?
+returns-in-Failed-clause-answers c fed h =
+    let s = fed ++ c.args.piece.now in let d = c.take.new.self in
+    subst (λ st. InState st s (StandsLast d.path d.at s d.pending.items)) c.in-Failed.is (c.take.ensures fed h)
 
--- src/decoder.rt:72:5
-pub returns-in-Whole-clause-fed : goal.returns-in-Whole-clause-fed
-returns-in-Whole-clause-fed c = ?
-
--- src/decoder.rt:72:5
 pub returns-in-Whole-clause-answers : goal.returns-in-Whole-clause-answers
-returns-in-Whole-clause-answers c = ?
+returns-in-Whole-clause-answers c fed h =
+    let s = fed ++ c.args.piece.now in let d = c.take.new.self in
+    (apdu_of c.in-Whole.field-0, octets_of c.in-Whole.field-0, subst (λ st. InState st s (StandsLast d.path d.at s d.pending.items)) c.in-Whole.is (c.take.ensures fed h))
 
--- src/decoder.rt:72:5
-pub returns-in-Open-state-clause-fed : goal.returns-in-Open-state-clause-fed
-returns-in-Open-state-clause-fed c = ?
-
--- src/decoder.rt:72:5
-pub returns-in-Open-state-clause-answers : goal.returns-in-Open-state-clause-answers
-returns-in-Open-state-clause-answers c = ?
+pub returns-in-Open-clause-answers : goal.returns-in-Open-clause-answers
+returns-in-Open-clause-answers c fed h =
+    let s = fed ++ c.args.piece.now in let d = c.take.new.self in
+    stands_part d.path d.at s d.pending.items (subst (λ st. InState st s (StandsLast d.path d.at s d.pending.items)) c.in-Open.is (c.take.ensures fed h))

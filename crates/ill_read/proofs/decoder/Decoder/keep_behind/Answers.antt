@@ -1,14 +1,16 @@
-use Rattle.std.proofs.Common.{rules, ◌≤◌, ◌≡◌, ◌≢◌, ℕ, ◌+◌, ◌-◌, ◌*◌, ◌<◌, List, [], ◌++◌, length, drop, take, IfSome, OnSome, ◌/◌, ◌%◌, Bool, true, false, nat_eq, nat_lt, ◌∷◌, slice_index_or, slice_set, bit_and, bit_or, Fits, w8, w32, w64, Bor, MutBor}
-use Rattle.ber_leaf.specs.Profile.{profile_two}
-use Rattle.ill_schema.specs.Apdu.{Encodes}
-use Rattle.ill_read.specs.Feeding.{body_apdu, CanStep, FeedAnswers, HasAdvanced, HasEnded, HasStopped, IsFed, IsRunning}
-use Rattle.ill_read.specs.Progress.{depth_of, size_of, IsProgress, StepsTo}
+use Rattle.std.proofs.Common.{◌≡◌, List, length, drop, take, ◌-◌, sym, subst, ap, ◌∙◌, arith}
+use Rattle.std.proofs.lemmas.List.{length-drop}
+use Rattle.ill_read.specs.Feeding.{InState, StandsLast, HasStopped}
+use Rattle.ill_read.proofs.HeadersRead.{take-past}
 use Rattle.ill_read.proofs.decoder.Decoder.keep_behind.Goals as goal
 
--- src/decoder.rt:106:5
 pub returns-then-count-eq0 : goal.returns-then-count-eq0
-returns-then-count-eq0 c = ?
+returns-then-count-eq0 c fed h = subst (λ n. HasStopped c.args.self.now fed (drop n c.args.octets.items)) c.if-count-eq0.true h
 
--- src/decoder.rt:106:5
 pub returns-else-count-eq0 : goal.returns-else-count-eq0
-returns-else-count-eq0 c = ?
+returns-else-count-eq0 c fed h =
+    let n = c.args.count in
+    let all = c.deref.result.now in
+    let whole : take (length all - n) (drop n all) ≡ drop n c.args.octets.items =
+    take-past (length all - n) (drop n all) (omega (arith, length-drop n all)) ∙ ap (drop n) c.deref.ensures.value in
+    c.keep.ensures fed (subst (HasStopped c.args.self.now fed) (sym whole) h)

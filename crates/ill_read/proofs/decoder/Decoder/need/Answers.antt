@@ -1,8 +1,7 @@
-use Rattle.std.proofs.Common.{◌≡◌, ◌≤◌, ℕ, List, length, take, sym, ap, subst, ◌∙◌, arith}
+use Rattle.std.proofs.Common.{◌≡◌, ◌≤◌, ℕ, List, length, take, ap, subst, ◌∙◌, arith}
 use Rattle.std.proofs.lemmas.List.{take_all}
 use Rattle.ill_read.specs.Feeding.{InState, StandsLast}
 use Rattle.ill_read.specs.Need.{IsNeed}
-use Rattle.ill_read.specs.declared.decoder.Decoder.{Decoder}
 use Rattle.ill_read.proofs.Needing.{few, need_open, need_surely}
 use Rattle.ill_read.proofs.decoder.Decoder.need.Goals as goal
 

@@ -1,10 +1,12 @@
-use Rattle.std.proofs.Common.{◌≡◌, ℕ, ◌+◌, ◌*◌, ◌≤◌, List, length, drop}
+use Rattle.std.proofs.Common.{◌≡◌, ℕ, ◌+◌, ◌-◌, ◌*◌, ◌≤◌, List, length, drop}
 use Rattle.ill_read.specs.Feeding.{IsRunning}
 use Rattle.ill_read.specs.Progress.{depth_of}
 use Rattle.ill_read.proofs.decoder.Decoder.run.Given as goal
 
 abbrev pub invariant-loop-size : goal.invariant-loop-size
-invariant-loop-size l = ?
+invariant-loop-size l = (length l.rest ≤ length l.octets) × (l.rest ≡ drop (length l.octets - length l.rest) l.octets) × (l.self.pending ≡ l.fn.self.pending)
+    × ((s : List ℕ) → IsRunning l.fn.self s l.octets → IsRunning l.self s l.rest)
 
+-- Each step takes an octet at least, or closes an element.
 abbrev pub decreases-loop-size : goal.decreases-loop-size
 decreases-loop-size l = 2 * length l.rest + depth_of l.self.path

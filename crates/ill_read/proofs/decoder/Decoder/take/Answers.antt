@@ -1,14 +1,43 @@
-use Rattle.std.proofs.Common.{rules, ◌≤◌, ◌≡◌, ◌≢◌, ℕ, ◌+◌, ◌-◌, ◌*◌, ◌<◌, List, [], ◌++◌, length, drop, take, IfSome, OnSome, ◌/◌, ◌%◌, Bool, true, false, nat_eq, nat_lt, ◌∷◌, slice_index_or, slice_set, bit_and, bit_or, Fits, w8, w32, w64, Bor, MutBor}
-use Rattle.ber_leaf.specs.Profile.{profile_two}
-use Rattle.ill_schema.specs.Apdu.{Encodes}
-use Rattle.ill_read.specs.Feeding.{body_apdu, CanStep, FeedAnswers, HasAdvanced, HasEnded, HasStopped, IsFed, IsRunning}
-use Rattle.ill_read.specs.Progress.{depth_of, size_of, IsProgress, StepsTo}
+use Rattle.std.proofs.Common.{◌≡◌, ◌<◌, ◌+◌, ◌-◌, ◌++◌, List, [], drop, take, length, get_or, Vec, Global, ℕ, IsTrue, true, false, sym, subst, ap, ◌∙◌, arith}
+use Rattle.std.proofs.lemmas.List.{length-drop, nil_from_length}
+use Rattle.ber_core.specs.Octets.{are_octets}
+use Rattle.ber_leaf.proofs.Leaves.{octets_fit}
+use Rattle.ill_read.specs.Feeding.{HasStopped, InState, IsRunning, StandsBefore}
+use Rattle.ill_read.specs.declared.decoder.State.TheVariants.{Open}
+use Rattle.ill_read.proofs.Fed.{running_longer, ended_longer}
+use Rattle.ill_read.proofs.HeadersRead.{take-past}
 use Rattle.ill_read.proofs.decoder.Decoder.take.Goals as goal
+use Rattle.ill_read.proofs.decoder.Decoder.take.Goals.{in-Open, in_default}
 
--- src/decoder.rt:93:13
+pub returns-then-not-matches : goal.returns-then-not-matches
+returns-then-not-matches c fed h =
+    let d = c.args.self.now in
+    let ended : d.state ≡ Open → ⊥ = elim c.match-matches.branch [
+      | in-Open w ↦ absurd (let q : false ≡ true = sym c.if-not-matches.true ∙ w.matches-is in cc)
+      | in_default w ↦ λ e. w.in_default.not-Open e
+    ] in
+    ended_longer d.state fed c.args.piece.now _ _ ended h
+
 pub returns-then-is_empty : goal.returns-then-is_empty
-returns-then-is_empty c = ?
+returns-then-is_empty c fed h =
+    let d = c.args.self.now in
+    let piece = c.args.piece.now in
+    let n = c.run-count.result in
+    let ok : IsTrue (are_octets piece) = octets_fit piece (λ k. let small : get_or piece k 0 < 256 = omega (arith, c.type_inv.piece k) in small) in
+    let running = running_longer d.state d.path d.at fed d.pending.items piece ok h in
+    let none : d.pending.items ≡ [] = nil_from_length d.pending.items (grind (arith, c.is_empty.ensures, c.if-is_empty.true)) in
+    let from : IsRunning d (fed ++ piece) piece = subst (λ z. IsRunning d (fed ++ piece) (z ++ piece)) none running in
+    let whole : take (length piece - n) (drop n piece) ≡ drop n piece = take-past (length piece - n) (drop n piece) (omega (arith, length-drop n piece)) in
+    c.keep.ensures (fed ++ piece) (subst (HasStopped c.run-count.new.self (fed ++ piece)) (sym whole) (c.run-count.ensures.stopped (fed ++ piece) from))
 
--- src/decoder.rt:86:5
 pub returns-in-Ok : goal.returns-in-Ok
-returns-in-Ok c = ?
+returns-in-Ok c fed h =
+    let d = c.args.self.now in
+    let piece = c.args.piece.now in
+    let octets = c.deref.result.now in
+    let ok : IsTrue (are_octets piece) = octets_fit piece (λ k. let small : get_or piece k 0 < 256 = omega (arith, c.type_inv.piece k) in small) in
+    let running = running_longer d.state d.path d.at fed d.pending.items piece ok h in
+    let all : octets ≡ d.pending.items ++ piece = c.deref.ensures.value ∙ c.in-Ok.ensures.items ∙ ap (λ (v : Vec ℕ Global). v.items ++ piece) c.replace-octets.ensures.value in
+    let from = subst (λ z. InState d.state (fed ++ piece) (StandsBefore d.path d.at (fed ++ piece) z)) (sym all) running in
+    c.keep_behind.ensures (fed ++ piece) (subst (λ z. HasStopped c.run-count-in-Ok.new.self (fed ++ piece) (drop c.run-count-in-Ok.result z)) c.deref.ensures.value
+        (c.run-count-in-Ok.ensures.stopped (fed ++ piece) from))

@@ -1,0 +1,126 @@
+-- Where the decoder stands after a step.
+use Rattle.std.proofs.Common.{◌≡◌, ℕ, ◌+◌, ◌-◌, ◌≤◌, List, [], ◌∷◌, ◌++◌, length, take, drop, Option, Some, None, Ok, Err, refl, sym, ap, subst, ◌∙◌, inl, arith}
+use Rattle.std.proofs.lemmas.List.{length-drop, length-take-le}
+use Rattle.ber_core.specs.Tree.{Tree}
+use Rattle.ber_leaf.specs.declared.fault.LeafFault.{LeafFault}
+use Rattle.ber_leaf.specs.Profile.{profile_two}
+use Rattle.ill_schema.specs.declared.node.NodeId.TheVariants.{IllApdu}
+use Rattle.ill_schema.specs.declared.refusal.Cause.{Cause}
+use Rattle.ill_schema.specs.Apdu.{Encodes, MeansApdu}
+use Rattle.ill_schema.specs.Content.{alternative}
+use Rattle.ill_schema.specs.Meaning.{Means}
+use Rattle.ill_schema.specs.Tagging.{untagged}
+use Rattle.ill_schema.specs.Value.{content_of}
+use Rattle.ill_read.specs.Fault.{Fault, Judgement, closes, reads, judge, or_faulty}
+use Rattle.ill_read.specs.Feeding.{StandsBefore, IsRefused, body_apdu}
+use Rattle.ill_read.specs.Judged.{fault_is, IsJudgement, IsBody, IsStep}
+use Rattle.ill_read.specs.Place.{Open}
+use Rattle.ill_read.specs.Progress.{size_of, depth_of, IsProgress}
+use Rattle.ill_read.specs.Step.{Step, refused, goes, whole, stuck, with_tree, close, moved}
+use Rattle.ill_read.specs.declared.failure.Failure.{Failure}
+use Rattle.ill_read.specs.declared.judge.Judgement.{Judgement as CodeJudgement}
+use Rattle.ill_read.specs.declared.judge.Judgement.TheVariants as code
+use Rattle.ill_read.specs.declared.path.Body.{Body}
+use Rattle.ill_read.specs.declared.path.Path.{Path}
+use Rattle.ill_read.proofs.Fed.{refuses_alone}
+use Rattle.ill_read.proofs.Outcomes.{message_encodes}
+use Rattle.ill_read.proofs.Placing.{IsMessage, Placed, step_placed}
+use Rattle.ill_read.proofs.Wanting.{leaf_cause}
+
+-- the step ends at this offset, or with a fault that isn't that the octets end
+abbrev EndsAt : ℕ → List ℕ → Step → Type 0
+EndsAt k rest (goes place l after) = (l ≡ k) × (after ≡ rest)
+EndsAt k rest (whole T n) = n ≡ k
+EndsAt k rest (refused f) = f.cause ≡ Cause.Truncated → ⊥
+EndsAt k rest stuck = Unit {0}
+
+with_end : (place : List Open) (T : Tree) (k l : ℕ) (rest after : List ℕ) → l ≡ k → after ≡ rest → EndsAt k rest (with_tree place T l after)
+with_end [] T k l rest after e f = e
+with_end (o ∷ place) T k l rest after e f = (e, f)
+
+or_end : (c : Option LeafFault) (at : ℕ) (j : Judgement) (place : List Open) (k l : ℕ) (rest after : List ℕ) → EndsAt k after (moved j place l rest) → EndsAt k after (moved (or_faulty c at j) place l rest)
+or_end None at j place k l rest after h = h
+or_end (Some c) at j place k l rest after h = leaf_cause c
+
+moved_end : (path : Path) (place : List Open) (at : ℕ) (rest : List ℕ) (judgement : CodeJudgement) (j : Judgement) → IsProgress (depth_of path) (length rest) judgement
+    → IsJudgement path place at rest judgement j → EndsAt (at + size_of judgement) (drop (size_of judgement) rest) (moved j place at rest)
+moved_end path place at rest (code.Closes m) j p h =
+    subst (λ x. EndsAt (at + m) (drop m rest) (moved x place at rest)) (sym h.is)
+    (or_end _ _ (closes m) place (at + m) at rest (drop m rest)
+    (subst (λ x. EndsAt (at + m) (drop m rest) (close x (at + m) (drop m rest))) (sym h.is_path) (with_end h.outer _ (at + m) (at + m) (drop m rest) (drop m rest) refl refl)))
+moved_end path place at rest (code.Opens o) j p h = subst (λ x. EndsAt (at + o.header) (drop o.header rest) (moved x place at rest)) (sym h.2) (refl, refl)
+moved_end path place at rest (code.Reads r) j p h =
+    let content = take r.size (drop r.header rest) in
+    let le = p.1 in
+    let n : length content ≡ r.size = length-take-le r.size (drop r.header rest) (omega (arith, length-drop r.header rest)) in
+    subst (λ x. EndsAt (at + (r.header + r.size)) (drop (r.header + r.size) rest) (moved x place at rest)) (sym h.2)
+    (or_end _ at (reads h.0 r.header content) place (at + (r.header + r.size)) at rest (drop (r.header + r.size) rest)
+    (with_end place _ (at + (r.header + r.size)) (at + r.header + length content) (drop (r.header + r.size) rest) (drop (r.header + length content) rest)
+    (omega (arith, n)) (ap (λ k. drop (r.header + k) rest) n)))
+
+-- the step of a path that stands there
+record IsMade (path new : Path) (at : ℕ) (s rest : List ℕ) (judgement : CodeJudgement) (st : Step) : Type 0 where
+  placed : Placed profile_two s st
+  ends : EndsAt (at + size_of judgement) (drop (size_of judgement) rest) st
+
+made : (path new : Path) (at : ℕ) (s rest : List ℕ) (judgement : CodeJudgement) → (b : StandsBefore path at s rest) → IsProgress (depth_of path) (length rest) judgement
+    → IsJudgement path b.place at rest judgement (judge profile_two b.place at rest)
+    → IsMade path new at s rest judgement (moved (judge profile_two b.place at rest) b.place at rest)
+made path new at s rest judgement b p h = record {
+  placed = step_placed profile_two s b.place at rest b.octets (b.before, b.joined, b.offset, b.is_place);
+  ends = moved_end path b.place at rest judgement (judge profile_two b.place at rest) p h;
+}
+
+-- it stands at the next place
+pub goes_on : (path new : Path) (at : ℕ) (s rest : List ℕ) (judgement : CodeJudgement) → (b : StandsBefore path at s rest) → IsProgress (depth_of path) (length rest) judgement
+    → IsJudgement path b.place at rest judgement (judge profile_two b.place at rest) → IsStep new (Ok None) (moved (judge profile_two b.place at rest) b.place at rest)
+    → StandsBefore new (at + size_of judgement) s (drop (size_of judgement) rest)
+goes_on path new at s rest judgement b p h is = go (moved (judge profile_two b.place at rest) b.place at rest) (made path new at s rest judgement b p h) is
+  where
+    go : (st : Step) → IsMade path new at s rest judgement st → IsStep new (Ok None) st → StandsBefore new (at + size_of judgement) s (drop (size_of judgement) rest)
+    go (goes place l after) m i = record {
+      place = place;
+      before = m.placed.0;
+      joined = subst (λ z. s ≡ m.placed.0 ++ z) m.ends.1 m.placed.1;
+      octets = b.octets;
+      offset = sym m.ends.0 ∙ m.placed.2;
+      stands = i;
+      is_place = m.placed.3;
+    }
+    go (whole T n) m i = absurd i
+    go (refused f) m i = absurd i
+    go stuck m i = absurd i
+
+means_apdu : (body : Body) (T : Tree) → IsBody body T → MeansApdu profile_two (body_apdu body) T
+means_apdu body T h =
+    let e : body.row ≡ body.row + 1 - 1 = omega arith in
+    (omega arith, subst (λ n. Means profile_two (alternative n (content_of body.value)) IllApdu untagged T) e h)
+
+-- the message is whole
+pub is_whole : (path new : Path) (at : ℕ) (s rest : List ℕ) (judgement : CodeJudgement) (body : Body) → (b : StandsBefore path at s rest) → IsProgress (depth_of path) (length rest) judgement
+    → IsJudgement path b.place at rest judgement (judge profile_two b.place at rest) → IsStep new (Ok (Some body)) (moved (judge profile_two b.place at rest) b.place at rest)
+    → (at + size_of judgement ≤ length s) × Encodes profile_two (body_apdu body) (take (at + size_of judgement) s)
+is_whole path new at s rest judgement body b p h is = go (moved (judge profile_two b.place at rest) b.place at rest) (made path new at s rest judgement b p h) is
+  where
+    go : (st : Step) → IsMade path new at s rest judgement st → IsStep new (Ok (Some body)) st
+        → (at + size_of judgement ≤ length s) × Encodes profile_two (body_apdu body) (take (at + size_of judgement) s)
+    go (whole T n) m i =
+        let message : IsMessage profile_two s T n = record m.placed { apdu = body_apdu body; means = means_apdu body T i } in
+        subst (λ k. (k ≤ length s) × Encodes profile_two (body_apdu body) (take k s)) m.ends (message_encodes profile_two s T n message)
+    go (goes place l after) m i = absurd i
+    go (refused f) m i = absurd i
+    go stuck m i = absurd i
+
+-- a text is at fault, or memory is wanting
+pub is_refused : (path new : Path) (at : ℕ) (s rest : List ℕ) (judgement : CodeJudgement) (failure : Failure) → (b : StandsBefore path at s rest) → IsProgress (depth_of path) (length rest) judgement
+    → IsJudgement path b.place at rest judgement (judge profile_two b.place at rest) → IsStep new (Err failure) (moved (judge profile_two b.place at rest) b.place at rest)
+    → IsRefused s failure
+is_refused path new at s rest judgement failure b p h is = go failure (moved (judge profile_two b.place at rest) b.place at rest) (made path new at s rest judgement b p h) is
+  where
+    go : (failure : Failure) (st : Step) → IsMade path new at s rest judgement st → IsStep new (Err failure) st → IsRefused s failure
+    go (Failure.Refused r) (refused f) m i =
+        (refuses_alone s (fault_is r) (inl (subst (λ (g : Fault). Placed profile_two s (refused g)) i m.placed)), subst (λ (g : Fault). g.cause ≡ Cause.Truncated → ⊥) i m.ends)
+    go (Failure.Refused r) (goes place l after) m i = absurd i
+    go (Failure.Refused r) (whole T n) m i = absurd i
+    go (Failure.Refused r) stuck m i = absurd i
+    go Failure.OutOfMemory st m i = tt
