@@ -26,13 +26,13 @@ total m n = grind arith
 -- no stream of the octets is longer than one that is over
 pub no_longer : (p : Profile) (s r t : List ℕ) (xs ys : List Apdu) → IsStream p s xs r → IsOver p r → IsStream p s ys t → length ys ≤ length xs
 no_longer p s r t xs ys h over k = elim (total (length xs) (length ys)) [
-    inl le ↦
+  | inl le ↦
       let more = stream_fewer p s r t xs ys h k le in
       let none : length more.0 ≡ 0 = over_none p r t more.0 over more.2 in
       let e : length ys ≡ length (xs ++ more.0) = ap length more.1 in
       omega (arith, length-append xs more.0)
   | inr lt ↦ omega arith
-  ]
+]
 
 -- two streams of as many messages have one rest
 pub one_rest : (p : Profile) (s r t : List ℕ) (xs ys : List Apdu) → IsStream p s xs r → IsStream p s ys t → length xs ≡ length ys → r ≡ t

@@ -21,7 +21,7 @@ passes_more left left' left'' held held' held'' whole before read size p f =
     let one : IsStream profile_two f.octets (f.apdu ∷ []) [] = (f.octets, [], sym (append-nil f.octets), f.spells, refl) in
     let written : Appends held held'' (flat_map normal_form p.apdus ++ normal_form f.apdu) = Appends-trans held held' held'' _ _ p.written f.appended in
     let same : flat_map normal_form (p.apdus ++ f.apdu ∷ []) ≡ flat_map normal_form p.apdus ++ normal_form f.apdu =
-        flat_map-append normal_form p.apdus (f.apdu ∷ []) ∙ ap (λ l. flat_map normal_form p.apdus ++ l) (append-nil (normal_form f.apdu)) in
+    flat_map-append normal_form p.apdus (f.apdu ∷ []) ∙ ap (λ l. flat_map normal_form p.apdus ++ l) (append-nil (normal_form f.apdu)) in
     record {
       apdus = p.apdus ++ f.apdu ∷ [];
       octets = p.octets ++ f.octets;
@@ -29,16 +29,21 @@ passes_more left left' left'' held held' held'' whole before read size p f =
       taken = Consumes-trans left left' left'' p.octets f.octets p.taken f.taken;
       written = subst (Appends held held'') (sym same) written;
       count = omega (arith, p.count, length-append p.apdus (f.apdu ∷ []));
-      size = omega (arith, p.size, f.read_size, length-append p.octets f.octets) }
+      size = omega (arith, p.size, f.read_size, length-append p.octets f.octets);
+    }
 
 -- then nothing was taken and nothing was written
 pub passes_kept : (left left' left'' held held' held'' : Option (List ℕ)) (whole before : ℕ) → Passes left left' held held' whole before
     → Consumes left' left'' [] → Keeps held' held'' → Passes left left'' held held'' whole before
 passes_kept left left' left'' held held' held'' whole before p k j = record {
-    apdus = p.apdus; octets = p.octets; stream = p.stream;
-    taken = subst (Consumes left left'') (append-nil p.octets) (Consumes-trans left left' left'' p.octets [] p.taken k);
-    written = Appends-kept held held' held'' _ p.written j;
-    count = p.count; size = p.size }
+  apdus = p.apdus;
+  octets = p.octets;
+  stream = p.stream;
+  taken = subst (Consumes left left'') (append-nil p.octets) (Consumes-trans left left' left'' p.octets [] p.taken k);
+  written = Appends-kept held held' held'' _ p.written j;
+  count = p.count;
+  size = p.size;
+}
 
 -- a message has at most 1,048,576 octets
 pub read_bound : (left left' held held' : Option (List ℕ)) (read size : ℕ) → Forwards left left' held held' read size → read ≤ 1_048_576

@@ -128,7 +128,7 @@ stops_accepts (Some s) left' held held' x y e h = stop_accepts s h.rest left' he
 
 pub stops_refuses : (left left' held held' : Option (List ℕ)) (x y : Bool) (e : StreamFailure) → StopsAfter left left' held held' x y e
     → IfSome left (λ s. (xs : List Apdu) (r : List ℕ) (f : Fault) → IsStream profile_two s xs r → length xs < 1_000_000 → 0 < length r → OnlyRefuses profile_two r f
-        → AnswersRefusedAfter (Err e) (length xs) f)
+    → AnswersRefusedAfter (Err e) (length xs) f)
 stops_refuses None left' held held' x y e h = tt
 stops_refuses (Some s) left' held held' x y e h = stop_refuses s h.rest left' held h.grown held' x y e.whole e.before h.passes e.why h.stops
 
@@ -148,10 +148,18 @@ pub stops_here : (left rest left' held grown held' : Option (List ℕ)) (x y : B
     → whole < 1_000_000 → Fails rest left' grown held' x y e
     → StopsAfter left left' held held' x y (record { whole = whole; before = before; why = StreamCause.Normal e })
 stops_here left rest left' held grown held' x y whole before e p lt h = record {
-    rest = rest; grown = grown; passes = p; stops = stops_normal rest left' grown held' x y whole e lt h }
+  rest = rest;
+  grown = grown;
+  passes = p;
+  stops = stops_normal rest left' grown held' x y whole e lt h;
+}
 
 pub stops_full : (left rest left' held held' : Option (List ℕ)) (x y : Bool) (before : ℕ) → Passes left rest held held' 1_000_000 before
     → (octet : ℕ) × Consumes rest left' (octet ∷ [])
     → StopsAfter left left' held held' x y (record { whole = 1_000_000; before = before; why = StreamCause.TooManyMessages })
 stops_full left rest left' held held' x y before p h = record {
-    rest = rest; grown = held'; passes = p; stops = (refl, h, Keeps-refl held') }
+  rest = rest;
+  grown = held';
+  passes = p;
+  stops = (refl, h, Keeps-refl held');
+}

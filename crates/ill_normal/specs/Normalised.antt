@@ -26,7 +26,7 @@ Fails left left' held held' source_broken sink_broken NormalFailure.OutOfMemory 
 Fails left left' held held' source_broken sink_broken NormalFailure.ReadFault = IsTrue source_broken × Keeps held held'
 Fails left left' held held' source_broken sink_broken (NormalFailure.WriteFault n) =
     IsTrue sink_broken × ((a : Apdu) × (b : List ℕ) × SpellsApdu profile_two a b × Consumes left left' b
-      × Appends held held' (take n (normal_form a)) × (n < length (normal_form a)))
+    × Appends held held' (take n (normal_form a)) × (n < length (normal_form a)))
 
 -- memory, the source or the sink failed
 abbrev pub IsFault : NormalFailure → Type 0

@@ -50,9 +50,9 @@ IsRefusedAfter m failure n f = IsFault failure
 abbrev pub AnswersRefusedAfter : Result ℕ StreamFailure → ℕ → Fault → Type 0
 AnswersRefusedAfter (Ok m) n f = ⊥
 AnswersRefusedAfter (Err e) n f = elim e.why as (λ _. Type 0) [
-    StreamCause.Normal failure ↦ IsRefusedAfter e.whole failure n f
+  | StreamCause.Normal failure ↦ IsRefusedAfter e.whole failure n f
   | StreamCause.TooManyMessages ↦ ⊥
-  ]
+]
 
 -- a stream's answer is that there are too many messages, or a fault
 abbrev pub AnswersTooMany : Result ℕ StreamFailure → Type 0

@@ -30,10 +30,7 @@ pub struct Checked {
 /// # Errors
 ///
 /// The one refusal of an input that begins with no message, want of memory, or the source's fault.
-pub fn check_one<R: Source>(
-    alloc: Global,
-    source: &mut R,
-) -> Result<Option<Checked>, ReadFailure>
+pub fn check_one<R: Source>(alloc: Global, source: &mut R) -> Result<Option<Checked>, ReadFailure>
     // The octets that were taken spell an APDU, of which the answer speaks.
     ensures checked { IfOk result (λ found. IfSome found (λ x. (a : Apdu) × (b : List ℕ) × SpellsApdu profile_two a b
         × Consumes (R.left source.old) (R.left source.new) b × (x.apdu ≡ a.number) × (x.octets ≡ length b)

@@ -21,11 +21,7 @@ pub enum Side {
 /// # Errors
 ///
 /// The first side that is not exactly one message, and why; or want of memory.
-pub fn same_message(
-    alloc: Global,
-    first: &[u8],
-    second: &[u8],
-) -> Result<bool, (Side, Failure)>
+pub fn same_message(alloc: Global, first: &[u8], second: &[u8]) -> Result<bool, (Side, Failure)>
     ensures same { IfOk result (λ same. (a : Apdu) × (b : Apdu) × SpellsApdu profile_two a first.now × SpellsApdu profile_two b second.now
         × (IsTrue same ↔ (a ≡ b)) × (IsTrue same ↔ (normal_form a ≡ normal_form b))) }
     // A refusal is that of the first side that isn't one whole spelling.

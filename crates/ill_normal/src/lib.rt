@@ -26,6 +26,4 @@ pub use single::normalise;
 pub use stream::normalise_stream;
 
 #[cfg(test)]
-mod rows;
-#[cfg(test)]
 mod tests;

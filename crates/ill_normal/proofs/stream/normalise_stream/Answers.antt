@@ -30,12 +30,13 @@ loop-whole-preserved g c =
     let bound = read_bound _ _ _ _ _ _ h in
     let inv = c.loop-whole.invariant in
     let P : ℕ → Type 0 = λ n. Passes (g.R.Source.left c.args.source.now) (g.R.Source.left c.forward.new.source) (g.W.Sink.contents c.args.sink.now)
-        (g.W.Sink.contents c.forward.new.sink) (c.loop-whole.whole + 1) (c.loop-whole.before + n) in
+    (g.W.Sink.contents c.forward.new.sink) (c.loop-whole.whole + 1) (c.loop-whole.before + n) in
     record {
       passes = subst P (sym c.from-before.ensures) (passes_more _ _ _ _ _ _ _ _ _ _ inv.passes h);
       bound = let b : c.loop-whole.before ≤ c.loop-whole.whole * 1_048_576 = inv.bound in omega (arith, bound, b, c.from-before.ensures);
       source_stays = λ b. c.in-Ok-Some.ensures.source_stays (inv.source_stays b);
-      sink_stays = λ b. c.in-Ok-Some.ensures.sink_stays (inv.sink_stays b) }
+      sink_stays = λ b. c.in-Ok-Some.ensures.sink_stays (inv.sink_stays b);
+    }
 
 pub returns-in-Err-clause-accepts : goal.returns-in-Err-clause-accepts
 returns-in-Err-clause-accepts g c =
@@ -78,4 +79,3 @@ returns-in-Ok-clause-refuses g c =
     let p = passes_count _ _ _ _ c.loop-whole.whole 1_000_000 _ (omega arith) c.loop-whole.invariant.passes in
     let octet = one_octet _ _ _ _ c.in-Ok.field-0-test.1 c.in-Ok.ensures.count (omega arith) c.in-Ok.ensures.octets.0 in
     stops_refuses _ _ _ _ _ _ _ (stops_full _ _ _ _ _ (g.R.Source.is_broken c.take.new.self) (g.W.Sink.is_broken c.loop-whole.sink) _ p octet)
-
