@@ -38,5 +38,4 @@ pub mod Fed
 pub mod Judges
 pub mod Stepping
 pub mod Needing
-pub mod Needing
-pub mod Stepping
+pub mod Filled

@@ -8,7 +8,8 @@ use Rattle.ill_schema.specs.declared.refusal.Refusal.{Refusal}
 use Rattle.ill_schema.specs.Apdu.{Apdu, normal_form}
 use Rattle.ill_schema.specs.Message.{apdu_of, octets_of}
 use Rattle.ill_schema.specs.Value.{apdu_with}
-use Rattle.ill_read.specs.Fault.{Fault, fault, faulty, judge}
+use Rattle.ill_read.specs.Answers.{IsSpelled, RefusesWhole}
+use Rattle.ill_read.specs.Fault.{fault, faulty, judge}
 use Rattle.ill_read.specs.Judged.{fault_is, IsJudgement}
 use Rattle.ill_read.specs.Outcome.{OnlyAccepts, OnlyRefuses}
 use Rattle.ill_read.specs.Place.{Open, IsPlace}
@@ -109,11 +110,8 @@ FinishAnswers s (Ok None) = s ≡ []
 FinishAnswers s (Err (Failure.Refused refusal)) = OnlyRefuses profile_two s (fault_is refusal) × (0 < length s)
 FinishAnswers s (Err Failure.OutOfMemory) = Unit {0}
 
--- the one fault of octets that are to be one message
-abbrev pub RefusesWhole : List ℕ → Fault → Type 0
-RefusesWhole s f = OnlyRefuses profile_two s f ⊎ ((a : Apdu) × (n : ℕ) × OnlyAccepts profile_two s a n × (n < length s) × (f ≡ fault Cause.TrailingBytes n))
-
+-- of octets that are to be one message
 abbrev pub DecodeAnswers : List ℕ → Result Message Failure → Type 0
-DecodeAnswers s (Ok m) = IsRead s m × (octets_of m ≡ length s)
+DecodeAnswers s (Ok m) = IsSpelled m s
 DecodeAnswers s (Err (Failure.Refused refusal)) = RefusesWhole s (fault_is refusal)
 DecodeAnswers s (Err Failure.OutOfMemory) = Unit {0}

@@ -18,3 +18,5 @@ pub mod Stepping
 pub mod Feeding
 pub mod JudgeCode
 pub mod Need
+pub mod Answers
+pub mod Filling

@@ -81,6 +81,7 @@ impl Decoder {
     pub fn feed(&mut self, piece: &[u8]) -> Result<Progress, Failure>
         ensures fed { (fed : List ℕ) → IsFed self.old fed → IsFed self.new (fed ++ piece.now) }
         ensures answers { (fed : List ℕ) → IsFed self.old fed → FeedAnswers (fed ++ piece.now) result }
+        ensures octets { IsTrue (are_octets piece.now) }
     {
         self.take(piece);
         match &self.state {

@@ -1,0 +1,88 @@
+-- A decoder that is fed from a source has what the source gave up, and no octet behind a message.
+use Rattle.std.proofs.Common.{◌≡◌, ◌≢◌, ◌⊎◌, ℕ, ◌+◌, ◌<◌, ◌≤◌, List, [], ◌∷◌, ◌++◌, length, length-append, take, Option, Some, None, Ok, Err, IsTrue, refl, sym, ap, subst, ◌∙◌, inl, inr, arith, append_assoc, append-nil}
+use Rattle.std.specs.Prelude.{IfNone, IfSome}
+use Rattle.std.specs.Io.KnownBytes.{Consumes, IsAtEnd}
+use Rattle.ber_core.specs.Octets.{are_octets}
+use Rattle.ber_leaf.specs.Profile.{profile_two}
+use Rattle.ill_schema.specs.declared.message.Message.{Message}
+use Rattle.ill_schema.specs.Apdu.{Apdu, Accepts, SpellsApdu}
+use Rattle.ill_schema.specs.Message.{apdu_of, octets_of}
+use Rattle.ill_read.specs.Answers.{IsSpelled, IfReadRefused}
+use Rattle.ill_read.specs.Failures.{read_failure}
+use Rattle.ill_read.specs.Feeding.{FinishAnswers, InState, IsFed, IsRead, StandsLast}
+use Rattle.ill_read.specs.Filling.{NoneEndsWithin, HasFilled}
+use Rattle.ill_read.specs.Outcome.{OnlyRefuses}
+use Rattle.ill_read.specs.declared.decoder.Decoder.{Decoder}
+use Rattle.ill_read.specs.declared.decoder.State.{State}
+use Rattle.ill_read.specs.declared.decoder.State.TheVariants as state
+use Rattle.ill_read.specs.declared.failure.Failure.{Failure}
+use Rattle.ill_read.proofs.Fed.{ended_longer, last_size}
+use Rattle.ill_read.proofs.Readings.{octets_join}
+
+open_or_closed : (st : State) → (st ≡ state.Open) ⊎ (st ≢ state.Open)
+open_or_closed state.Open = inl refl
+open_or_closed (state.Whole m) = inr (λ e. cc)
+open_or_closed (state.Failed f) = inr (λ e. cc)
+
+stands : (d : Decoder) (s : List ℕ) → IsFed d s → d.state ≡ state.Open → StandsLast d.path d.at s d.pending.items
+stands d s h e = subst (λ st. InState st s (StandsLast d.path d.at s d.pending.items)) e h
+
+-- no message ends within octets of which none was asked for that is not needed
+pub ends_behind : (d : Decoder) (s piece : List ℕ) (need n : ℕ) (a : Apdu) (k : ℕ) → IsFed d s → IsTrue (are_octets piece) → (d.state ≢ state.Open → ⊥)
+    → (d.state ≡ state.Open → IsTrue (are_octets (s ++ piece)) → length s + need ≤ k) → n ≤ need → length piece ≡ n → length (s ++ piece) ≤ k
+ends_behind d s piece need n a k h ok closed surely le size = elim (open_or_closed d.state) [
+  | inl e ↦ let far = surely e (octets_join s piece ((stands d s h e).0.octets) ok) in omega (arith, far, length-append s piece)
+  | inr e ↦ absurd (closed e)
+]
+
+-- at the limit nothing is open
+pub full_closed : (d : Decoder) (s : List ℕ) → IsFed d s → 1_048_576 ≤ length s → d.state ≢ state.Open
+full_closed d s h le e = let small = (last_size d.path d.at s d.pending.items (stands d s h e)).1 in omega arith
+
+take-whole : (s : List ℕ) (n : ℕ) → n ≡ length s → take n s ≡ s
+take-whole s n e = ap (λ k. take k s) e ∙ go s
+  where
+    go : (s : List ℕ) → take (length s) s ≡ s
+    go [] = refl
+    go (x ∷ s) = ap (λ z. x ∷ z) (go s)
+
+-- a message that is read of octets within which none ends is spelled by all of them
+pub spelled_by : (m : Message) (b : List ℕ) → IsRead b m → NoneEndsWithin b → IsSpelled m b
+spelled_by m b h none =
+    let le = h.0.0 in let far = none (apdu_of m) (octets_of m) h.0 in
+    let e : octets_of m ≡ length b = omega arith in
+    record { spells = subst (SpellsApdu profile_two (apdu_of m)) (take-whole b (octets_of m) e) h.0.1; octets = e }
+
+-- all that was left is what the decoder answers for: nothing is open any more, or nothing is left
+fed_all : (left after : Option (List ℕ)) (d : Decoder) (s : List ℕ) → left ≡ Some s → HasFilled left after d → IsFed d s
+fed_all left after d s e h = go left after e h.taken h.ended
+  where
+    go : (left after : Option (List ℕ)) → left ≡ Some s → Consumes left after h.octets → (d.state ≢ state.Open) ⊎ IsAtEnd after → IsFed d s
+    go None after q t x = absurd cc
+    go (Some xs) None q t x = absurd t
+    go (Some xs) (Some rest) q t (inl closed) =
+        let same : xs ≡ s = cc in
+        subst (IsFed d) (sym t ∙ same) (ended_longer d.state h.octets rest _ _ closed h.fed)
+    go (Some xs) (Some rest) q t (inr none) =
+        let same : xs ≡ s = cc in
+        subst (IsFed d) (sym (t ∙ ap (λ z. h.octets ++ z) none ∙ append-nil h.octets) ∙ same) h.fed
+
+-- what is answered then
+pub answers_message : (left after : Option (List ℕ)) (d : Decoder) (found : Option Message) → HasFilled left after d → ((s : List ℕ) → IsFed d s → FinishAnswers s (Ok found))
+    → IfSome found (λ m. (b : List ℕ) × Consumes left after b × IsSpelled m b)
+answers_message left after d None h f = tt
+answers_message left after d (Some m) h f = (h.octets, h.taken, spelled_by m h.octets (f h.octets h.fed) h.exact)
+
+pub answers_none : (left after : Option (List ℕ)) (d : Decoder) (found : Option Message) → HasFilled left after d → ((s : List ℕ) → IsFed d s → FinishAnswers s (Ok found))
+    → IfNone found (Consumes left after [] × IsAtEnd after)
+answers_none left after d (Some m) h f = tt
+answers_none left after d None h f = (subst (Consumes left after) (f h.octets h.fed) h.taken, elim h.ended [
+  | inr none ↦ none
+  | inl closed ↦ absurd (let e = ap length (f (h.octets ++ 0 ∷ []) (ended_longer d.state h.octets (0 ∷ []) _ _ closed h.fed)) in omega (arith, e, length-append h.octets (0 ∷ [])))
+])
+
+pub answers_refused : (left after : Option (List ℕ)) (d : Decoder) (failure : Failure) → HasFilled left after d → ((s : List ℕ) → IsFed d s → FinishAnswers s (Err failure))
+    → IfReadRefused (read_failure failure) (λ f. IfSome left (λ s. (0 < length s) × OnlyRefuses profile_two s f))
+answers_refused left after d Failure.OutOfMemory h f = tt
+answers_refused None after d (Failure.Refused r) h f = tt
+answers_refused (Some s) after d (Failure.Refused r) h f = let x = f s (fed_all (Some s) after d s refl h) in (x.1, x.0)

@@ -1,0 +1,20 @@
+-- A decoder that was fed from a source.
+use Rattle.std.specs.Prelude.{◌≡◌, ◌≢◌, ◌⊎◌, ℕ, ◌≤◌, List, length, Option}
+use Rattle.std.specs.Io.KnownBytes.{Consumes, IsAtEnd}
+use Rattle.ber_leaf.specs.Profile.{profile_two}
+use Rattle.ill_schema.specs.Apdu.{Apdu, Accepts}
+use Rattle.ill_read.specs.Feeding.{IsFed}
+use Rattle.ill_read.specs.declared.decoder.Decoder.{Decoder}
+use Rattle.ill_read.specs.declared.decoder.State.TheVariants as state
+
+-- no message ends before the octets do
+abbrev pub NoneEndsWithin : List ℕ → Type 0
+NoneEndsWithin b = (a : Apdu) (n : ℕ) → Accepts profile_two b a n → length b ≤ n
+
+-- it was fed just these octets, which the source gave up, until nothing was open or the source was at its end
+pub record HasFilled (left after : Option (List ℕ)) (d : Decoder) : Type 0 where
+  pub octets : List ℕ
+  pub taken : Consumes left after octets
+  pub fed : IsFed d octets
+  pub exact : NoneEndsWithin octets
+  pub ended : (d.state ≢ state.Open) ⊎ IsAtEnd after
