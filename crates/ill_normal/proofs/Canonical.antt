@@ -1,5 +1,5 @@
 -- Normal forms are canonical.
-use Rattle.std.proofs.Common.{◌≡◌, ◌↔◌, ℕ, ◌<◌, ◌≤◌, ◌^◌, List, [], length, refl, sym, ap, subst, ◌∙◌, inl, inr, arith, lit<}
+use Rattle.std.proofs.Common.{◌≡◌, ◌↔◌, ℕ, ◌<◌, ◌≤◌, ◌^◌, List, [], length, Err, refl, sym, ap, subst, ◌∙◌, inl, inr, arith, lit<}
 use Rattle.std.proofs.Math.Seq.{take-length}
 use Rattle.ill_schema.specs.Apdu.{Apdu, SpellsApdu, Accepts, normal_form}
 use Rattle.ill_schema.specs.declared.refusal.Cause.{Cause}
@@ -10,6 +10,7 @@ use Rattle.ill_schema.proofs.Encodings.{normal_spells, normal_unique}
 use Rattle.ill_schema.proofs.OneMeaning.{one_message}
 use Rattle.ill_schema.proofs.Streams.{accepts_once}
 use Rattle.ill_read.specs.declared.failure.Failure.{Failure}
+use Rattle.ill_read.specs.Feeding.{DecodeAnswers}
 use Rattle.ill_read.specs.Judged.{fault_is}
 use Rattle.ill_read.specs.Answers.{IfRefused, RefusesWhole}
 
@@ -47,6 +48,11 @@ pub refuses_whole : (s : List ℕ) (f : Fault) (a : Apdu) → RefusesWhole s f �
 refuses_whole s f a (inl only) h = only.2 a (length s) (accepts_whole a s h)
 refuses_whole s f a (inr (b, n, accepts, lt, e)) h =
     let same = (accepts_once profile_two s a b (length s) n (accepts_whole a s h) accepts).1 in omega (arith, same, lt)
+
+-- what refuses a slice
+pub decode_refuses : (s : List ℕ) (e : Failure) → DecodeAnswers s (Err e) → IfRefused e (RefusesWhole s)
+decode_refuses s (Failure.Refused refusal) h = h
+decode_refuses s Failure.OutOfMemory h = tt
 
 -- a spelling is not refused, so there is no memory
 pub only_memory : (e : Failure) (s : List ℕ) (a : Apdu) → IfRefused e (RefusesWhole s) → SpellsApdu profile_two a s → e ≡ Failure.OutOfMemory
