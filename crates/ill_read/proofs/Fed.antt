@@ -86,9 +86,11 @@ after_end (state.Failed f) s A h = h
 -- the refusal of the place where a path stands
 pub stops_refused : (path : Path) (at : ℕ) (s rest : List ℕ) (r : Refusal) → (b : StandsBefore path at s rest) → judge profile_two b.place at rest ≡ faulty (fault_is r) → r.cause ≢ Cause.Truncated
     → IsRefused s (Failure.Refused r)
-stops_refused path at s rest r b e n =
-    (subst (λ z. OnlyRefuses profile_two z (fault_is r)) (sym b.joined)
-    (refused_at profile_two b.place b.before rest (fault_is r) b.is_place (subst (λ k. judge profile_two b.place k rest ≡ faulty (fault_is r)) b.offset e)), n)
+stops_refused path at s rest r b e n = (
+  subst (λ z. OnlyRefuses profile_two z (fault_is r)) (sym b.joined)
+      (refused_at profile_two b.place b.before rest (fault_is r) b.is_place (subst (λ k. judge profile_two b.place k rest ≡ faulty (fault_is r)) b.offset e)),
+  n,
+)
 
 -- or the octets end
 pub stops_open : (path : Path) (at : ℕ) (s rest : List ℕ) (r : Refusal) → (b : StandsBefore path at s rest) → judge profile_two b.place at rest ≡ faulty (fault_is r) → r.cause ≡ Cause.Truncated

@@ -2,6 +2,8 @@
 use Rattle.std.proofs.Common.{◌≡◌, ◌≢◌, ◌⊎◌, ℕ, ◌+◌, ◌<◌, ◌≤◌, List, [], ◌∷◌, ◌++◌, length, length-append, take, Option, Some, None, Ok, Err, IsTrue, refl, sym, ap, subst, ◌∙◌, inl, inr, arith, append_assoc, append-nil}
 use Rattle.std.specs.Prelude.{IfNone, IfSome}
 use Rattle.std.specs.Io.KnownBytes.{Consumes, IsAtEnd}
+use Rattle.std.proofs.lemmas.Bool.{cases_lt}
+use Rattle.std.proofs.lemmas.List.{nil_from_length}
 use Rattle.ber_core.specs.Octets.{are_octets}
 use Rattle.ber_leaf.specs.Profile.{profile_two}
 use Rattle.ill_schema.specs.declared.message.Message.{Message}
@@ -10,7 +12,7 @@ use Rattle.ill_schema.specs.Message.{apdu_of, octets_of}
 use Rattle.ill_read.specs.Answers.{IsSpelled, IfReadRefused}
 use Rattle.ill_read.specs.Failures.{read_failure}
 use Rattle.ill_read.specs.Feeding.{FinishAnswers, InState, IsFed, IsRead, StandsLast}
-use Rattle.ill_read.specs.Filling.{NoneEndsWithin, HasFilled}
+use Rattle.ill_read.specs.Filling.{NoneEndsWithin, HasFilled, HasKept}
 use Rattle.ill_read.specs.Outcome.{OnlyRefuses}
 use Rattle.ill_read.specs.declared.decoder.Decoder.{Decoder}
 use Rattle.ill_read.specs.declared.decoder.State.{State}
@@ -27,12 +29,26 @@ open_or_closed (state.Failed f) = inr (λ e. cc)
 stands : (d : Decoder) (s : List ℕ) → IsFed d s → d.state ≡ state.Open → StandsLast d.path d.at s d.pending.items
 stands d s h e = subst (λ st. InState st s (StandsLast d.path d.at s d.pending.items)) e h
 
--- no message ends within octets of which none was asked for that is not needed
-pub ends_behind : (d : Decoder) (s piece : List ℕ) (need n : ℕ) (a : Apdu) (k : ℕ) → IsFed d s → IsTrue (are_octets piece) → (d.state ≢ state.Open → ⊥)
-    → (d.state ≡ state.Open → IsTrue (are_octets (s ++ piece)) → length s + need ≤ k) → n ≤ need → length piece ≡ n → length (s ++ piece) ≤ k
-ends_behind d s piece need n a k h ok closed surely le size = elim (open_or_closed d.state) [
-  | inl e ↦ let far = surely e (octets_join s piece ((stands d s h e).0.octets) ok) in omega (arith, far, length-append s piece)
-  | inr e ↦ absurd (closed e)
+-- no message ends before a piece of octets that are all needed
+pub pulled_exact : (d : Decoder) (b piece : List ℕ) (need : ℕ) → IsFed d b → IsTrue (are_octets piece) → NoneEndsWithin b → (d.state ≢ state.Open → need ≡ 0)
+    → ((a : Apdu) (k : ℕ) → d.state ≡ state.Open → IsTrue (are_octets (b ++ piece)) → Accepts profile_two (b ++ piece) a k → length b + need ≤ k) → length piece ≤ need
+    → NoneEndsWithin (b ++ piece)
+pulled_exact d b piece need h ok exact closed surely le a k accepted = elim (open_or_closed d.state) [
+  | inl e ↦ let far = surely a k e (octets_join b piece ((stands d b h e).0.octets) ok) accepted in omega (arith, far, length-append b piece)
+  | inr e ↦
+      let none : piece ≡ [] = nil_from_length piece (let z = closed e in omega arith) in
+      let same : b ++ piece ≡ b = ap (λ z. b ++ z) none ∙ append-nil b in
+      subst (λ z. length z ≤ k) (sym same) (exact a k (subst (λ z. Accepts profile_two z a k) same accepted))
+]
+
+-- no piece comes only where nothing is open, or nothing is left
+pub pulled_ended : (d new : Decoder) (after : Option (List ℕ)) (need wanted : ℕ) → (d.state ≢ state.Open → new ≡ d) → (d.state ≡ state.Open → 0 < need) → (wanted ≡ 0 → need ≡ 0)
+    → (0 < wanted → IsAtEnd after) → (new.state ≢ state.Open) ⊎ IsAtEnd after
+pulled_ended d new after need wanted stays some none end = elim (cases_lt 0 wanted) [
+  | inl l ↦ inr (end l)
+  | inr ge ↦
+      let closed : d.state ≢ state.Open = λ e. let l = some e in let z = none (omega arith) in omega arith in
+      inl (subst (λ (x : Decoder). x.state ≢ state.Open) (sym (stays closed)) closed)
 ]
 
 -- at the limit nothing is open
@@ -76,13 +92,24 @@ answers_message left after d (Some m) h f = (h.octets, h.taken, spelled_by m h.o
 pub answers_none : (left after : Option (List ℕ)) (d : Decoder) (found : Option Message) → HasFilled left after d → ((s : List ℕ) → IsFed d s → FinishAnswers s (Ok found))
     → IfNone found (Consumes left after [] × IsAtEnd after)
 answers_none left after d (Some m) h f = tt
-answers_none left after d None h f = (subst (Consumes left after) (f h.octets h.fed) h.taken, elim h.ended [
-  | inr none ↦ none
-  | inl closed ↦ absurd (let e = ap length (f (h.octets ++ 0 ∷ []) (ended_longer d.state h.octets (0 ∷ []) _ _ closed h.fed)) in omega (arith, e, length-append h.octets (0 ∷ [])))
-])
+answers_none left after d None h f = (
+  subst (Consumes left after) (f h.octets h.fed) h.taken,
+  elim h.ended [
+    | inr none ↦ none
+    | inl closed ↦ absurd (let e = ap length (f (h.octets ++ 0 ∷ []) (ended_longer d.state h.octets (0 ∷ []) _ _ closed h.fed)) in omega (arith, e, length-append h.octets (0 ∷ [])))
+  ],
+)
 
 pub answers_refused : (left after : Option (List ℕ)) (d : Decoder) (failure : Failure) → HasFilled left after d → ((s : List ℕ) → IsFed d s → FinishAnswers s (Err failure))
     → IfReadRefused (read_failure failure) (λ f. IfSome left (λ s. (0 < length s) × OnlyRefuses profile_two s f))
 answers_refused left after d Failure.OutOfMemory h f = tt
 answers_refused None after d (Failure.Refused r) h f = tt
 answers_refused (Some s) after d (Failure.Refused r) h f = let x = f s (fed_all (Some s) after d s refl h) in (x.1, x.0)
+
+-- and of octets that were kept
+pub answers_kept : (left after : Option (List ℕ)) (d : Decoder) (found : Option Message) (old new : List ℕ) → HasKept left after d old new
+    → ((s : List ℕ) → IsFed d s → FinishAnswers s (Ok found)) → IfSome found (λ m. (b : List ℕ) × Consumes left after b × IsSpelled m b × (new ≡ old ++ b))
+answers_kept left after d None old new h f = tt
+answers_kept left after d (Some m) old new h f =
+    let b = h.filled.octets in
+    (b, h.filled.taken, spelled_by m b (f b h.filled.fed) h.filled.exact, h.kept)

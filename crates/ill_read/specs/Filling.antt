@@ -1,5 +1,5 @@
 -- A decoder that was fed from a source.
-use Rattle.std.specs.Prelude.{◌≡◌, ◌≢◌, ◌⊎◌, ℕ, ◌≤◌, List, length, Option}
+use Rattle.std.specs.Prelude.{◌≡◌, ◌≢◌, ◌⊎◌, ℕ, ◌≤◌, List, [], ◌++◌, length, Option}
 use Rattle.std.specs.Io.KnownBytes.{Consumes, IsAtEnd}
 use Rattle.ber_leaf.specs.Profile.{profile_two}
 use Rattle.ill_schema.specs.Apdu.{Apdu, Accepts}
@@ -11,6 +11,12 @@ use Rattle.ill_read.specs.declared.decoder.State.TheVariants as state
 abbrev pub NoneEndsWithin : List ℕ → Type 0
 NoneEndsWithin b = (a : Apdu) (n : ℕ) → Accepts profile_two b a n → length b ≤ n
 
+-- it was fed a piece more, which is empty only where nothing is open or nothing is left
+pub record HasPulled (after : Option (List ℕ)) (d : Decoder) (b piece : List ℕ) : Type 0 where
+  pub fed : IsFed d (b ++ piece)
+  pub exact : NoneEndsWithin (b ++ piece)
+  pub ended : piece ≡ [] → (d.state ≢ state.Open) ⊎ IsAtEnd after
+
 -- it was fed just these octets, which the source gave up, until nothing was open or the source was at its end
 pub record HasFilled (left after : Option (List ℕ)) (d : Decoder) : Type 0 where
   pub octets : List ℕ
@@ -18,3 +24,8 @@ pub record HasFilled (left after : Option (List ℕ)) (d : Decoder) : Type 0 whe
   pub fed : IsFed d octets
   pub exact : NoneEndsWithin octets
   pub ended : (d.state ≢ state.Open) ⊎ IsAtEnd after
+
+-- and these octets were kept behind those that stood there
+pub record HasKept (left after : Option (List ℕ)) (d : Decoder) (old new : List ℕ) : Type 0 where
+  pub filled : HasFilled left after d
+  pub kept : new ≡ old ++ filled.octets

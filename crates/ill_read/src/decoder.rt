@@ -82,6 +82,7 @@ impl Decoder {
         ensures fed { (fed : List ℕ) → IsFed self.old fed → IsFed self.new (fed ++ piece.now) }
         ensures answers { (fed : List ℕ) → IsFed self.old fed → FeedAnswers (fed ++ piece.now) result }
         ensures octets { IsTrue (are_octets piece.now) }
+        ensures stays { self.old.state ≢ State.Open → self.new ≡ self.old }
     {
         self.take(piece);
         match &self.state {
@@ -92,7 +93,8 @@ impl Decoder {
     }
 
     fn take(&mut self, piece: &[u8])
-        ensures { (fed : List ℕ) → IsFed self.old fed → IsFed self.new (fed ++ piece.now) }
+        ensures fed { (fed : List ℕ) → IsFed self.old fed → IsFed self.new (fed ++ piece.now) }
+        ensures stays { self.old.state ≢ State.Open → self.new ≡ self.old }
     {
         if !matches!(&self.state, State::Open) {
             return;

@@ -1,11 +1,11 @@
 //! Messages out of sources and slices.
-ghost use Rattle.std.specs.Prelude.{◌≡◌, ℕ, ◌<◌, List, [], length, IfErr, IfNone, IfOk, IfSome, IsErr, IsErrOf, IsTrue};
-ghost use Rattle.std.specs.Io.KnownBytes.{Consumes, IsAtEnd};
+ghost use Rattle.std.specs.Prelude.{◌≡◌, ℕ, ◌<◌, ◌≤◌, List, [], ◌++◌, length, take, IfErr, IfNone, IfOk, IfSome, IsErr, IsErrOf, IsTrue};
+ghost use Rattle.std.specs.Io.KnownBytes.{Consumes, IsAtEnd, Keeps};
 ghost use Rattle.ber_leaf.specs.Profile.{profile_two};
 ghost use Rattle.ill_read.specs.Answers.{IfReadRefused, IsSpelled, TakesFront};
-ghost use Rattle.ill_read.specs.Filling.{HasFilled};
+ghost use Rattle.ill_read.specs.Filling.{HasFilled, HasKept, HasPulled, NoneEndsWithin};
 ghost use Rattle.ill_read.specs.Outcome.{OnlyRefuses};
-ghost use Rattle.ill_read.specs.Feeding.{DecodeAnswers, HasOutcome, IsRead};
+ghost use Rattle.ill_read.specs.Feeding.{DecodeAnswers, HasOutcome, IsFed, IsRead};
 ghost use Rattle.ill_read.specs.declared.failure.ReadFailure.{ReadFailure};
 
 use crate::decoder::Decoder;
@@ -42,6 +42,40 @@ pub fn read_message<R: Source>(
     }
 }
 
+/// Reads a message as [`read_message`] does, and keeps its octets at the end of `kept`.
+///
+/// # Errors
+///
+/// Those of [`read_message`]; some octets may have been kept then.
+pub fn read_kept<R: Source>(
+    alloc: Global,
+    source: &mut R,
+    kept: &mut Vec<u8>,
+) -> Result<Option<Message>, ReadFailure>
+    ensures message { IfOk result (λ found. IfSome found (λ m.
+        (b : List ℕ) × Consumes (R.left source.old) (R.left source.new) b × IsSpelled m b × (kept.new.items ≡ kept.old.items ++ b))) }
+    ensures none { IfOk result (λ found. IfNone found (Consumes (R.left source.old) (R.left source.new) [] × IsAtEnd (R.left source.new))) }
+    ensures refused { IfErr result (λ e. IfReadRefused e (λ f. IfSome (R.left source.old) (λ s. (0 < length s) × OnlyRefuses profile_two s f))) }
+    ensures taken { TakesFront (R.left source.old) (R.left source.new) }
+    ensures broken { IsErrOf result ReadFailure.ReadFault → IsTrue (R.is_broken source.new) }
+    ensures stays { IsTrue (R.is_broken source.old) → IsTrue (R.is_broken source.new) }
+{
+    match fill_and_keep(alloc, source, kept) {
+        Ok(decoder) => match decoder.finish() {
+            Ok(message) => Ok(message),
+            Err(failure) => Err(ReadFailure::from(failure)),
+        },
+        Err(Unfilled::Broken) => Err(ReadFailure::ReadFault),
+        Err(Unfilled::OutOfMemory) => Err(ReadFailure::OutOfMemory),
+    }
+}
+
+/// Why a decoder isn't filled.
+enum Unfilled {
+    Broken,
+    OutOfMemory,
+}
+
 /// Feeds a decoder with what it needs, until nothing is needed any more or the source ends.
 fn fill<R: Source>(alloc: Global, source: &mut R) -> Result<Decoder, Broken>
     ensures filled { IfOk result (λ decoder. HasFilled (R.left source.old) (R.left source.new) decoder) }
@@ -53,15 +87,64 @@ fn fill<R: Source>(alloc: Global, source: &mut R) -> Result<Decoder, Broken>
     let mut buffer = [0; CHUNK];
     let mut room = LIMIT;
     while room > 0 {
-        let wanted = (decoder.need().min(room) as usize).min(CHUNK);
-        let count = source.take(&mut buffer[..wanted])?;
+        let count = pull(&mut decoder, source, &mut buffer, room)?;
         if count == 0 {
             return Ok(decoder);
         }
-        let _ = decoder.feed(&buffer[..count]);
         room -= count as u32;
     }
     Ok(decoder)
+}
+
+/// Fills a decoder as [`fill`] does, and keeps the octets that it was fed.
+fn fill_and_keep<R: Source>(
+    alloc: Global,
+    source: &mut R,
+    kept: &mut Vec<u8>,
+) -> Result<Decoder, Unfilled>
+    ensures filled { IfOk result (λ decoder. HasKept (R.left source.old) (R.left source.new) decoder kept.old.items kept.new.items) }
+    ensures taken { TakesFront (R.left source.old) (R.left source.new) }
+    ensures broken { IsErrOf result Unfilled.Broken → IsTrue (R.is_broken source.new) }
+    ensures stays { IsTrue (R.is_broken source.old) → IsTrue (R.is_broken source.new) }
+{
+    let mut decoder = Decoder::new(alloc);
+    let mut buffer = [0; CHUNK];
+    let mut room = LIMIT;
+    while room > 0 {
+        let count = match pull(&mut decoder, source, &mut buffer, room) {
+            Ok(0) => return Ok(decoder),
+            Ok(count) => count,
+            Err(Broken) => return Err(Unfilled::Broken),
+        };
+        if let Err(_) = kept.extend_from_slice(&buffer[..count]) {
+            return Err(Unfilled::OutOfMemory);
+        }
+        room -= count as u32;
+    }
+    Ok(decoder)
+}
+
+/// Feeds the decoder with some octets that it needs, at most so many, and answers how many they are at the front of the buffer; 0 where
+/// nothing is needed or the source is at its end.
+fn pull<R: Source>(
+    decoder: &mut Decoder,
+    source: &mut R,
+    buffer: &mut [u8],
+    room: u32,
+) -> Result<usize, Broken>
+    requires space { 0 < length buffer.old }
+    requires room { 0 < room }
+    ensures count { IfOk result (λ n. (n ≤ room) × (n ≤ length buffer.new)) }
+    ensures taken { IfOk result (λ n. Consumes (R.left source.old) (R.left source.new) (take n buffer.new)) }
+    ensures kept { IsErr result → Keeps (R.left source.old) (R.left source.new) }
+    ensures fed { IfOk result (λ n. (b : List ℕ) → IsFed decoder.old b → NoneEndsWithin b → HasPulled (R.left source.new) decoder.new b (take n buffer.new)) }
+    ensures broken { IsErr result → IsTrue (R.is_broken source.new) }
+    ensures stays { IsTrue (R.is_broken source.old) → IsTrue (R.is_broken source.new) }
+{
+    let wanted = (decoder.need().min(room) as usize).min(buffer.len());
+    let count = source.take(&mut buffer[..wanted])?;
+    let _ = decoder.feed(&buffer[..count]);
+    Ok(count)
 }
 
 /// Reads the message that the whole slice is.

@@ -15,7 +15,7 @@ returns-in-Some-clause-goes c s can =
     let j = judge profile_two b.place d.at rest in
     let made = c.in-Ok.ensures.exact b.place rest j b.stands can.1 (ap (λ n. take n rest) c.size-size.ensures) in
     let whole = is_whole d.path c.step.new.self d.at s rest c.args.judgement c.in-Some.body b c.requires.progress can.1
-        (subst (λ body. IsStep c.step.new.self (Ok body) (moved j b.place d.at rest)) c.in-Some.is made) in
+    (subst (λ body. IsStep c.step.new.self (Ok body) (moved j b.place d.at rest)) c.in-Some.is made) in
     let here = subst (λ n. (d.at + n ≤ length s) × Encodes profile_two (body_apdu c.in-Some.body) (take (d.at + n) s)) (sym c.size-size.ensures) whole in
     after_end c.finish_body.new.self.state s _ (c.finish_body.ensures.ended s here.0 here.1)
 
@@ -25,7 +25,7 @@ returns-in_default-clause-goes c s can =
     let j = judge profile_two b.place d.at rest in
     let made = c.in-Ok.ensures.exact b.place rest j b.stands can.1 (ap (λ n. take n rest) c.size-size.ensures) in
     let on = goes_on d.path c.step.new.self d.at s rest c.args.judgement b c.requires.progress can.1
-        (subst (λ body. IsStep c.step.new.self (Ok body) (moved j b.place d.at rest)) c.in_default.is made) in
+    (subst (λ body. IsStep c.step.new.self (Ok body) (moved j b.place d.at rest)) c.in_default.is made) in
     let here = subst (λ n. StandsBefore c.step.new.self (d.at + n) s (drop n rest)) (sym c.size-size.ensures) on in
     subst (λ st. InState st s (StandsBefore c.step.new.self (d.at + c.size-size.result) s (drop c.size-size.result rest))) (sym c.requires.open) here
 

@@ -9,8 +9,8 @@ use Rattle.ill_read.proofs.HeadersRead.{take-past}
 use Rattle.ill_read.proofs.decoder.Decoder.take.Goals as goal
 use Rattle.ill_read.proofs.decoder.Decoder.take.Goals.{in-Open, in_default}
 
-pub returns-then-not-matches : goal.returns-then-not-matches
-returns-then-not-matches c fed h =
+pub returns-then-not-matches-clause-fed : goal.returns-then-not-matches-clause-fed
+returns-then-not-matches-clause-fed c fed h =
     let d = c.args.self.now in
     let ended : d.state ≡ Open → ⊥ = elim c.match-matches.branch [
       | in-Open w ↦ absurd (let q : false ≡ true = sym c.if-not-matches.true ∙ w.matches-is in cc)
@@ -18,8 +18,8 @@ returns-then-not-matches c fed h =
     ] in
     ended_longer d.state fed c.args.piece.now _ _ ended h
 
-pub returns-then-is_empty : goal.returns-then-is_empty
-returns-then-is_empty c fed h =
+pub returns-then-is_empty-clause-fed : goal.returns-then-is_empty-clause-fed
+returns-then-is_empty-clause-fed c fed h =
     let d = c.args.self.now in
     let piece = c.args.piece.now in
     let n = c.run-count.result in
@@ -30,8 +30,8 @@ returns-then-is_empty c fed h =
     let whole : take (length piece - n) (drop n piece) ≡ drop n piece = take-past (length piece - n) (drop n piece) (omega (arith, length-drop n piece)) in
     c.keep.ensures (fed ++ piece) (subst (HasStopped c.run-count.new.self (fed ++ piece)) (sym whole) (c.run-count.ensures.stopped (fed ++ piece) from))
 
-pub returns-in-Ok : goal.returns-in-Ok
-returns-in-Ok c fed h =
+pub returns-in-Ok-clause-fed : goal.returns-in-Ok-clause-fed
+returns-in-Ok-clause-fed c fed h =
     let d = c.args.self.now in
     let piece = c.args.piece.now in
     let octets = c.deref.result.now in
@@ -40,4 +40,4 @@ returns-in-Ok c fed h =
     let all : octets ≡ d.pending.items ++ piece = c.deref.ensures.value ∙ c.in-Ok.ensures.items ∙ ap (λ (v : Vec ℕ Global). v.items ++ piece) c.replace-octets.ensures.value in
     let from = subst (λ z. InState d.state (fed ++ piece) (StandsBefore d.path d.at (fed ++ piece) z)) (sym all) running in
     c.keep_behind.ensures (fed ++ piece) (subst (λ z. HasStopped c.run-count-in-Ok.new.self (fed ++ piece) (drop c.run-count-in-Ok.result z)) c.deref.ensures.value
-        (c.run-count-in-Ok.ensures.stopped (fed ++ piece) from))
+    (c.run-count-in-Ok.ensures.stopped (fed ++ piece) from))

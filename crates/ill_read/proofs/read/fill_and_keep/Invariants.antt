@@ -1,0 +1,14 @@
+use Rattle.std.proofs.Common.{◌≡◌, ℕ, ◌+◌, ◌≤◌, List, ◌++◌, length, IsTrue}
+use Rattle.std.specs.Io.KnownBytes.{Consumes}
+use Rattle.ill_read.specs.Feeding.{IsFed}
+use Rattle.ill_read.specs.Filling.{NoneEndsWithin}
+use Rattle.ill_read.proofs.read.fill_and_keep.Given as goal
+
+-- What was taken is what the decoder was fed.
+abbrev pub invariant-loop-room : goal.invariant-loop-room
+invariant-loop-room g l =
+    ((b : List ℕ) × Consumes (g.R.Source.left l.fn.source) (g.R.Source.left l.source) b × (length b + l.room ≡ 1_048_576) × IsFed l.decoder b × NoneEndsWithin b × (l.kept.items ≡ l.fn.kept.items ++ b))
+    × (IsTrue (g.R.Source.is_broken l.fn.source) → IsTrue (g.R.Source.is_broken l.source))
+
+abbrev pub decreases-loop-room : goal.decreases-loop-room
+decreases-loop-room g l = l.room

@@ -1,0 +1,26 @@
+use Rattle.std.proofs.Common.{rules, ◌≡◌, ℕ, ◌<◌, ◌≤◌, List, [], ◌++◌, length, take, drop, IsTrue, sym, subst, ap, ◌∙◌, arith}
+use Rattle.std.proofs.lemmas.List.{length-take-le, take-append-le}
+use Rattle.ill_read.specs.Filling.{NoneEndsWithin}
+use Rattle.ill_read.proofs.Filled.{pulled_exact, pulled_ended}
+use Rattle.ill_read.proofs.read.pull.Goals as goal
+
+pub returns-clause-fed : goal.returns-clause-fed
+returns-clause-fed g c b h exact =
+    let d = c.args.decoder.now in
+    let n = c.in_ok-count.count in
+    let given = c.take.new.buffer in
+    let piece = take n (given ++ drop c.min-wanted.result c.args.buffer.now) in
+    let le = c.in_ok-count.ensures.count in
+    let len : length given ≡ c.min-wanted.result = search rules in
+    let long : length piece ≡ n = ap length (take-append-le n given (drop c.min-wanted.result c.args.buffer.now) le) ∙ length-take-le n given le in
+    let needed : length piece ≤ c.need.result = omega (arith, long, len, le, c.min-wanted.ensures, c.min.ensures) in
+    let space = c.requires.space in let room = c.requires.room in
+    let ends : NoneEndsWithin (b ++ piece) = pulled_exact d b piece c.need.result h c.feed.ensures.octets exact c.need.ensures.closed
+    (λ a k is_open ok accepted. c.need.ensures.surely b piece a k h ok is_open accepted) needed in
+    record {
+      fed = c.feed.ensures.fed b h;
+      exact = ends;
+      ended = λ e. pulled_ended d c.feed.new.self _ c.need.result c.min-wanted.result c.feed.ensures.stays (λ is_open. c.need.ensures.some b h is_open)
+          (λ z. omega (arith, z, c.min-wanted.ensures, c.min.ensures, space, room))
+          (λ l. c.in_ok-count.ensures.octets.1 (let q = ap length e in omega (arith, q, long)) (omega (arith, l, len)));
+    }
