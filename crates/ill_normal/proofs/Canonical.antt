@@ -1,14 +1,14 @@
 -- Normal forms are canonical.
 use Rattle.std.proofs.Common.{◌≡◌, ◌↔◌, ℕ, ◌<◌, ◌≤◌, ◌^◌, List, [], length, Err, refl, sym, ap, subst, ◌∙◌, inl, inr, arith, lit<}
 use Rattle.std.proofs.Math.Seq.{take-length}
+use Rattle.ber_leaf.specs.Profile.{profile_two}
 use Rattle.ill_schema.specs.Apdu.{Apdu, SpellsApdu, Accepts, normal_form}
 use Rattle.ill_schema.specs.declared.refusal.Cause.{Cause}
-use Rattle.ill_read.specs.Fault.{Fault, fault}
-use Rattle.ber_leaf.specs.Profile.{profile_two}
 use Rattle.ill_schema.proofs.MeansFits.{means_apdu_fits}
 use Rattle.ill_schema.proofs.Encodings.{normal_spells, normal_unique}
 use Rattle.ill_schema.proofs.OneMeaning.{one_message}
 use Rattle.ill_schema.proofs.Streams.{accepts_once}
+use Rattle.ill_read.specs.Fault.{Fault, fault}
 use Rattle.ill_read.specs.declared.failure.Failure.{Failure}
 use Rattle.ill_read.specs.Feeding.{DecodeAnswers}
 use Rattle.ill_read.specs.Judged.{fault_is}

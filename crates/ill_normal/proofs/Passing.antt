@@ -10,7 +10,7 @@ use Rattle.ill_schema.proofs.Streams.{stream_join}
 use Rattle.ill_normal.specs.Normalised.{Forwards}
 use Rattle.ill_normal.specs.Streamed.{Passes}
 use Rattle.ill_normal.proofs.Longest.{stream_front}
-use Rattle.ill_normal.proofs.Only.{front}
+use Rattle.ill_normal.proofs.Answering.{front}
 
 pub passes_none : (left held : Option (List ℕ)) → Passes left left held held 0 0
 passes_none left held = record { apdus = []; octets = []; stream = refl; taken = Consumes-nil left; written = Appends-nil held; count = refl; size = refl }

@@ -14,7 +14,7 @@ use Rattle.ill_normal.specs.Normalised.{Fails, IsFault}
 use Rattle.ill_normal.specs.Streamed.{Passes, Stops, StopsAfter, IsRefusedAfter, AnswersCount, AnswersRefusedAfter, AnswersTooMany}
 use Rattle.ill_normal.proofs.Longest.{nothing_over, no_longer, one_rest}
 use Rattle.ill_normal.proofs.Passing.{passes_stream}
-use Rattle.ill_normal.proofs.Only.{front}
+use Rattle.ill_normal.proofs.Answering.{front}
 
 -- nothing is left of s after these APDUs
 whole_stream : (s : List ℕ) (left' held held' : Option (List ℕ)) (whole before : ℕ) → (p : Passes (Some s) left' held held' whole before) → IsAtEnd left'
