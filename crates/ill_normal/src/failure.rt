@@ -1,3 +1,4 @@
+//! Why a message or a stream was not normalised.
 ghost use Rattle.std.specs.Prelude.{◌≡◌};
 ghost use Rattle.ill_normal.specs.Failures.{of_read, of_write};
 
@@ -39,4 +40,23 @@ impl From<WriteFailure> for NormalFailure {
             WriteFailure::WriteFault(written) => NormalFailure::WriteFault(written),
         }
     }
+}
+
+/// Why no further message of a stream was normalised.
+#[derive(Clone, Copy, Debug, PartialEq, Eq)]
+pub enum StreamCause {
+    /// The next message was not normalised; a refusal's offset counts from that message's first octet.
+    Normal(NormalFailure),
+    /// 1,000,000 messages were normalised, and the input goes on.
+    TooManyMessages,
+}
+
+/// How far a stream was normalised, and why no further.
+#[derive(Clone, Copy, Debug, PartialEq, Eq)]
+pub struct StreamFailure {
+    /// How many messages were read, and their normal forms written.
+    pub whole: u32,
+    /// How many octets those messages had in the input.
+    pub before: u64,
+    pub why: StreamCause,
 }

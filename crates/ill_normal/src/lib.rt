@@ -1,16 +1,29 @@
 //! The canonical form of ILL messages.
 #![tactic(auto)]
 
+mod check;
+mod compare;
 mod failure;
+mod laws;
 mod single;
+mod stream;
 
 pub use ber_core::{Broken, FromRead, Pieces, Room, Sink, Source, ToWrite};
-pub use failure::NormalFailure;
+pub use ber_leaf::{DateText, GeneralText, IllString, PrintableText, TimeText, VisibleText};
+pub use check::{Checked, check_one};
+pub use compare::{Side, is_normal, same_message};
+pub use failure::{NormalFailure, StreamCause, StreamFailure};
 pub use ill_read::{Failure, ReadFailure, decode, read_message};
-pub use ill_schema::{Cause, Message, NodeId, PartId, Refusal, Value, apdu_name, part_name};
+pub use ill_schema::{
+    Cause, Kind, LIMIT, LeafKind, Message, Mode, NodeId, PartId, Presence, Refusal, Row, Unfit,
+    Value, apdu_name, apdu_node, kind, part_name, row, rows,
+};
+pub use laws::{
+    normal_form_is_accepted, normal_form_is_its_own, normal_forms_are_equal_exactly_if_apdus_are,
+    one_prefix_is_accepted, one_refusal_of_a_slice,
+};
 pub use single::normalise;
+pub use stream::normalise_stream;
 
-#[cfg(test)]
-mod rows;
 #[cfg(test)]
 mod tests;

@@ -1,6 +1,12 @@
 //! One message.
-ghost use Rattle.std.specs.Prelude.{IfOk, IfErr};
-ghost use Rattle.ill_normal.specs.Normalised.{Writes, Fails};
+ghost use Rattle.std.specs.Prelude.{◌≡◌, ◌<◌, ℕ, List, [], length, IfOk, IfErr, IfSome, IfNone, IsTrue, Some, None};
+ghost use Rattle.std.specs.Io.KnownBytes.{Consumes, Appends, Keeps, IsAtEnd};
+ghost use Rattle.ber_leaf.specs.Profile.{profile_two};
+ghost use Rattle.ill_schema.specs.Apdu.{Apdu, SpellsApdu, Accepts, normal_form};
+ghost use Rattle.ill_read.specs.Answers.{TakesFront};
+ghost use Rattle.ill_read.specs.Fault.{Fault};
+ghost use Rattle.ill_read.specs.Outcome.{OnlyRefuses};
+ghost use Rattle.ill_normal.specs.Normalised.{Forwards, Fails, Answers, AnswersRefused};
 
 use crate::failure::NormalFailure;
 use ber_core::{Sink, Source};
@@ -8,22 +14,71 @@ use ill_read::read_message;
 use ill_write::write_normal;
 use std::alloc::Global;
 
-/// Writes the normal form of the message that the source begins with, and answers how many octets it has; None where the source is at
+/// How many octets a message had in the input, and how many its normal form has.
+#[derive(Clone, Copy)]
+pub(crate) struct Forwarded {
+    pub(crate) read: u32,
+    pub(crate) written: u32,
+}
+
+/// Writes the normal form of the message that the source begins with; None where the source is at
 /// its end.
+pub(crate) fn forward<R: Source, W: Sink>(
+    alloc: Global,
+    source: &mut R,
+    sink: &mut W,
+) -> Result<Option<Forwarded>, NormalFailure>
+    ensures forwarded { IfOk result (λ found. IfSome found (λ size. Forwards (R.left source.old) (R.left source.new)
+        (W.contents sink.old) (W.contents sink.new) size.read size.written)) }
+    ensures none { IfOk result (λ found. IfNone found (Consumes (R.left source.old) (R.left source.new) []
+        × IsAtEnd (R.left source.new) × Keeps (W.contents sink.old) (W.contents sink.new))) }
+    ensures fails { IfErr result (Fails (R.left source.old) (R.left source.new) (W.contents sink.old) (W.contents sink.new)
+        (R.is_broken source.new) (W.is_broken sink.new)) }
+    ensures taken { TakesFront (R.left source.old) (R.left source.new) }
+    ensures source_stays { IsTrue (R.is_broken source.old) → IsTrue (R.is_broken source.new) }
+    ensures sink_stays { IsTrue (W.is_broken sink.old) → IsTrue (W.is_broken sink.new) }
+{
+    let Some(message) = read_message(alloc, source)? else {
+        return Ok(None);
+    };
+    let written = write_normal(alloc, &message, sink)?;
+    Ok(Some(Forwarded {
+        read: message.octets(),
+        written,
+    }))
+}
+
+/// Writes the normal form of the message that the source begins with, and answers how many octets
+/// it has; None where the source is at its end. Exactly the octets of the message are taken.
+///
+/// # Errors
+///
+/// The one refusal of an input that begins with no message, want of memory, or the fault of the
+/// source or the sink. Nothing was written, unless the sink broke.
 pub fn normalise<R: Source, W: Sink>(
     alloc: Global,
     source: &mut R,
     sink: &mut W,
 ) -> Result<Option<u32>, NormalFailure>
-    ensures writes { IfOk result (λ n. Writes (W.contents sink.old) (W.contents sink.new) n) }
-    ensures fails { IfErr result (λ failure. Fails (W.contents sink.old) (W.contents sink.new) (R.is_broken source.new) (W.is_broken sink.new) failure) }
+    // The octets that were taken spell an APDU, and its normal form was written.
+    ensures normalised { IfOk result (λ found. IfSome found (λ n. (a : Apdu) × (b : List ℕ) × SpellsApdu profile_two a b
+        × Consumes (R.left source.old) (R.left source.new) b
+        × Appends (W.contents sink.old) (W.contents sink.new) (normal_form a) × (n ≡ length (normal_form a)))) }
+    // There was nothing left, and nothing was written.
+    ensures none { IfOk result (λ found. IfNone found (Consumes (R.left source.old) (R.left source.new) []
+        × IsAtEnd (R.left source.new) × Keeps (W.contents sink.old) (W.contents sink.new))) }
+    ensures fails { IfErr result (Fails (R.left source.old) (R.left source.new) (W.contents sink.old) (W.contents sink.new)
+        (R.is_broken source.new) (W.is_broken sink.new)) }
+    // What begins with a spelling is normalised, what is empty is no message, and what is refused is refused so.
+    ensures accepts { IfSome (R.left source.old) (λ s. (a : Apdu) (n : ℕ) → Accepts profile_two s a n → Answers result (Some (length (normal_form a)))) }
+    ensures empty { IfSome (R.left source.old) (λ s. s ≡ [] → Answers result None) }
+    ensures refuses { IfSome (R.left source.old) (λ s. (f : Fault) → 0 < length s → OnlyRefuses profile_two s f → AnswersRefused result f) }
+    ensures taken { TakesFront (R.left source.old) (R.left source.new) }
+    ensures source_stays { IsTrue (R.is_broken source.old) → IsTrue (R.is_broken source.new) }
+    ensures sink_stays { IsTrue (W.is_broken sink.old) → IsTrue (W.is_broken sink.new) }
 {
-    match read_message(alloc, source) {
-        Err(failure) => Err(NormalFailure::from(failure)),
-        Ok(None) => Ok(None),
-        Ok(Some(message)) => match write_normal(alloc, &message, sink) {
-            Ok(written) => Ok(Some(written)),
-            Err(failure) => Err(NormalFailure::from(failure)),
-        },
+    match forward(alloc, source, sink)? {
+        Some(size) => Ok(Some(size.written)),
+        None => Ok(None),
     }
 }

@@ -1,6 +1,15 @@
-use crate::rows::ROWS;
-use crate::{NormalFailure, Pieces, Room, Source, ToWrite, normalise};
-use ill_schema::{Cause, NodeId, PartId, Refusal};
+mod check;
+mod compare;
+mod rows;
+mod stream;
+
+use crate::{
+    Cause, NodeId, NormalFailure, PartId, Pieces, Refusal, Room, Source, ToWrite, apdu_name,
+    decode, normal_form_is_accepted, normal_form_is_its_own,
+    normal_forms_are_equal_exactly_if_apdus_are, normalise, one_prefix_is_accepted,
+    one_refusal_of_a_slice, read_message,
+};
+use rows::ROWS;
 use std::alloc::{AllocError, Global};
 use std::test::Fail;
 
@@ -9,6 +18,17 @@ const LONG_FORM: &[u8] =
 
 const EXPIRED: &[u8] =
     b"\x74\x1f\x30\x1d\x80\x01\x02\xa1\x0a\xa1\x03\x1b\x01\x47\xa2\x03\x1b\x01\x51\xa2\x0c\xa0\x0a\x80\x0820240229";
+
+/// The same in hexadecimal.
+const EXPIRED_HEX: &str = "741f301d800102a10aa1031b0147a2031b0151a20ca00a80083230323430323239";
+
+/// The same with indefinite lengths, in 47 octets.
+const INDEFINITE_HEX: &str =
+    "74803080800102a180a1801b01470000a2801b015100000000a280a080800832303234303232390000000000000000";
+
+/// An EXPIRED with a VisibleString in a GeneralString's segments.
+const TYPED_SEGMENT_HEX: &str =
+    "7421301f800102a10ca1053a031a0147a2031b0151a20ca00a80083230323430323239";
 
 fn digit(octet: u8) -> u8 {
     match octet {
@@ -183,4 +203,31 @@ fn a_broken_sink_leaves_the_first_octets(rt: HostRuntime) {
         "sink-of-seven-octets-per-call"
     );
     assert!(rt; sink.octets() == EXPIRED, "sink-of-seven-octets-per-call");
+}
+
+#[test]
+fn a_message_is_read_and_decoded(rt: HostRuntime) -> Result<(), Fail> {
+    let indefinite = octets_of(rt.alloc(), INDEFINITE_HEX)?;
+    let mut source = Pieces::new(&indefinite, 5, None);
+    match (
+        read_message(rt.alloc(), &mut source),
+        decode(rt.alloc(), EXPIRED),
+    ) {
+        (Ok(Some(read)), Ok(decoded)) => {
+            assert!(rt; read.octets() == 47 && decoded.octets() == 33);
+            assert!(rt; read.same_apdu(&decoded));
+            assert!(rt; apdu_name(read.apdu()) == Some("Expired"));
+        }
+        _ => assert!(rt; false),
+    }
+    Ok(())
+}
+
+#[test]
+fn the_laws_are_calls() {
+    normal_forms_are_equal_exactly_if_apdus_are();
+    normal_form_is_accepted();
+    normal_form_is_its_own();
+    one_prefix_is_accepted();
+    one_refusal_of_a_slice();
 }

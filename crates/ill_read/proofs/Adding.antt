@@ -1,10 +1,8 @@
 -- An element's value among those of the element round it.
-use Rattle.std.proofs.Common.{◌≡◌, ◌⊎◌, ℕ, ◌+◌, ◌≤◌, List, [], ◌∷◌, ◌++◌, length, take, drop, map, Option, Some, None, option_map, true, false, refl, sym, ap, subst, ◌∙◌, inl, inr, slice_get}
-use Rattle.ber_core.specs.Identifier.{Tag}
+use Rattle.std.proofs.Common.{◌≡◌, ℕ, ◌+◌, List, [], ◌∷◌, ◌++◌, take, drop, map, Option, Some, refl, sym, ap, subst, ◌∙◌, inl, inr}
 use Rattle.ber_core.specs.Tree.{Tree, Trees, none, more, tag_of}
 use Rattle.ber_leaf.specs.Profile.{profile_two}
 use Rattle.ill_schema.specs.declared.node.NodeId.{NodeId}
-use Rattle.ill_schema.specs.declared.part.Row.{Row}
 use Rattle.ill_schema.specs.declared.value.Value.{Value}
 use Rattle.ill_schema.specs.Content.{Content}
 use Rattle.ill_schema.specs.Meaning.{Means, Matches, MatchItems}
@@ -12,9 +10,9 @@ use Rattle.ill_schema.specs.Table.{rows_of}
 use Rattle.ill_schema.specs.Tagging.{tagging, untagged}
 use Rattle.ill_schema.specs.Value.{content_of, entries_content, items_content}
 use Rattle.ill_read.specs.Code.{component_of, component_at, element_is, found_is}
-use Rattle.ill_read.specs.DueCode.{IsDueIn, IsRowDue, IsInnerDue, IsItemDue, IsSegmentDue, behind}
+use Rattle.ill_read.specs.DueCode.{IsDueIn, IsRowDue, IsInnerDue, IsItemDue, behind}
 use Rattle.ill_read.specs.Held.{ArePassed, rows_before}
-use Rattle.ill_read.specs.Standing.{absent_content, with_alternative, IsValueOf, HoldsPart, IsHeld}
+use Rattle.ill_read.specs.Standing.{with_alternative, IsValueOf, HoldsPart, IsHeld}
 use Rattle.ill_read.specs.Step.{snoc}
 use Rattle.ill_read.specs.declared.due.Due.{Due}
 use Rattle.ill_read.specs.declared.due.Next.{Next}

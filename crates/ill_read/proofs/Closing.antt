@@ -1,8 +1,8 @@
 -- The innermost element closes.
-use Rattle.std.proofs.Common.{◌≡◌, ℕ, ◌+◌, ◌-◌, List, [], ◌∷◌, ◌++◌, length, length-append, take, drop, append-nil, Option, Some, None, Result, Ok, Err, refl, sym, ap, ap₂, subst, ◌∙◌, arith, slice_get}
+use Rattle.std.proofs.Common.{◌≡◌, ℕ, ◌+◌, ◌-◌, List, [], ◌∷◌, ◌++◌, length, length-append, take, drop, append-nil, Option, Some, None, Result, Ok, Err, sym, ap, ap₂, subst, ◌∙◌, arith, slice_get}
 use Rattle.std.proofs.lemmas.List.{take_at}
 use Rattle.std.specs.Result.{IsErrAnd}
-use Rattle.ber_core.specs.Tree.{Tree, Trees, constructed, text_all, AreSegments}
+use Rattle.ber_core.specs.Tree.{Trees, constructed, text_all, AreSegments}
 use Rattle.ber_leaf.specs.Profile.{profile_two}
 use Rattle.ber_leaf.specs.declared.fault.LeafFault.{LeafFault}
 use Rattle.ill_schema.specs.declared.value.Value.{Value}
@@ -13,7 +13,7 @@ use Rattle.ill_read.specs.DueCode.{IsDueIn}
 use Rattle.ill_read.specs.Element.{segment}
 use Rattle.ill_read.specs.Next.{missing}
 use Rattle.ill_read.specs.Fault.{Judgement, closes, fault, element_fault, or_faulty}
-use Rattle.ill_read.specs.Judged.{IsEnd, IsStep, fault_is}
+use Rattle.ill_read.specs.Judged.{IsEnd, IsStep}
 use Rattle.ill_read.specs.Place.{Open, next_in}
 use Rattle.ill_read.specs.Standing.{next_at, text_so_far, IsHeld, IsFrame, IsValueOf, AreFrames, StandsAt}
 use Rattle.ill_read.specs.Step.{moved, refused, with_tree}

@@ -1,5 +1,5 @@
 -- An element's value goes where it belongs.
-use Rattle.std.proofs.Common.{◌≡◌, ◌⊎◌, ℕ, zero, suc, ◌+◌, ◌-◌, ◌<◌, ◌≤◌, Bool, true, nat_le, List, [], ◌∷◌, ◌++◌, length, append_assoc, Option, Some, None, unwrap_or, Ok, refl, sym, ap, subst, ◌∙◌, inl, inr, arith, slice_get}
+use Rattle.std.proofs.Common.{◌≡◌, ℕ, zero, suc, ◌-◌, ◌<◌, ◌≤◌, true, nat_le, List, [], ◌∷◌, ◌++◌, length, append_assoc, Option, Some, None, unwrap_or, Ok, refl, sym, ap, subst, ◌∙◌, inl, inr, arith, slice_get}
 use Rattle.ber_core.specs.Identifier.{Tag}
 use Rattle.ber_core.specs.Tree.{Tree, Trees, tag_of}
 use Rattle.ber_leaf.specs.Profile.{profile_two}
@@ -12,9 +12,8 @@ use Rattle.ill_schema.specs.Meaning.{Means}
 use Rattle.ill_schema.specs.Table.{rows_of}
 use Rattle.ill_schema.specs.Tagging.{untagged}
 use Rattle.ill_schema.specs.Value.{content_of}
-use Rattle.ill_read.specs.Code.{component_of, element_is, element_with}
-use Rattle.ill_read.specs.DueCode.{IsDueIn, IsDueInRows, IsRowDue, IsInnerDue, behind}
-use Rattle.ill_read.specs.Element.{component_starts}
+use Rattle.ill_read.specs.Code.{component_of, element_is}
+use Rattle.ill_read.specs.DueCode.{IsDueIn, IsDueInRows, IsRowDue, behind}
 use Rattle.ill_read.specs.Held.{HasAdded, HasNext, rows_before}
 use Rattle.ill_read.specs.Judged.{IsStep}
 use Rattle.ill_read.specs.Place.{Open}

@@ -1,13 +1,10 @@
 -- The value of an element that has ended.
-use Rattle.std.proofs.Common.{◌≡◌, ℕ, List, [], ◌∷◌, ◌++◌, length, take, map, append-nil, Option, Some, None, Ok, Err, IsTrue, refl, sym, ap, subst, ◌∙◌, inl, inr}
-use Rattle.ber_core.specs.Identifier.{Tag}
-use Rattle.ber_core.specs.Octets.{are_octets}
+use Rattle.std.proofs.Common.{◌≡◌, ℕ, List, [], ◌∷◌, ◌++◌, length, take, map, append-nil, Option, Some, None, Ok, IsTrue, refl, sym, ap, subst, ◌∙◌, inl, inr}
 use Rattle.ber_core.specs.Tree.{Tree, Trees, constructed, none, more, text_all, AreSegments}
-use Rattle.ber_leaf.specs.Leaf.{is_string, content_fault}
+use Rattle.ber_leaf.specs.Leaf.{is_string}
 use Rattle.ber_leaf.specs.Profile.{profile_two}
 use Rattle.ill_schema.specs.declared.node.NodeId.{NodeId}
 use Rattle.ill_schema.specs.declared.value.Value.{Value}
-use Rattle.ill_schema.specs.Causes.{cause_of}
 use Rattle.ill_schema.specs.Content.{Content}
 use Rattle.ill_schema.specs.Meaning.{Means, Matches, MatchItems}
 use Rattle.ill_schema.specs.Table.{rows_of}
@@ -25,10 +22,8 @@ use Rattle.ill_read.specs.Standing.{text_so_far, IsValueOf, HoldsPart, IsHeld, I
 use Rattle.ill_read.specs.Stepping.{IsLeafValue, IsEnded}
 use Rattle.ill_read.specs.declared.due.Next.{Next}
 use Rattle.ill_read.specs.declared.due.Next.TheVariants.{Rows, Inner, Items, Either, Segments, Nothing}
-use Rattle.ill_read.specs.declared.element.Element.{Element as CodeElement}
-use Rattle.ill_read.specs.declared.element.Element.TheVariants.{Leaf, Sequence, List as ListOf, Wrapper, LooseWrapper, Segment}
+use Rattle.ill_read.specs.declared.element.Element.TheVariants.{Leaf, Sequence, List as ListOf, Wrapper, LooseWrapper}
 use Rattle.ill_read.specs.declared.element.Wrapped.{Wrapped}
-use Rattle.ill_read.specs.declared.failure.Failure.{Failure}
 use Rattle.ill_read.specs.declared.frame.Frame.{Frame}
 use Rattle.ill_read.specs.declared.leaf_type.LeafType.{LeafType}
 use Rattle.ill_read.specs.declared.path.Path.{Path}

@@ -1,18 +1,15 @@
 -- An open element with one more tree in it.
-use Rattle.std.proofs.Common.{◌≡◌, ◌≤◌, ◌<◌, ℕ, ◌+◌, ◌-◌, List, [], ◌∷◌, ◌++◌, length, length-append, append_assoc, Option, Some, None, refl, sym, ap, ap₂, subst, ◌∙◌, arith, get_or, set, slice_get}
+use Rattle.std.proofs.Common.{◌≡◌, ◌≤◌, ℕ, ◌+◌, ◌-◌, List, [], ◌∷◌, ◌++◌, length, length-append, Option, Some, sym, ap, subst, ◌∙◌, arith, get_or, set}
 use Rattle.std.proofs.Math.Bridge.{le_prop}
 use Rattle.std.proofs.lemmas.List.{set_at, get_or_at}
-use Rattle.ber_core.specs.Identifier.{Tag}
-use Rattle.ber_core.specs.Tree.{Tree, Trees, none, more, tag_of, text, text_all, IsString, AreSegments}
+use Rattle.ber_core.specs.Tree.{Tree, Trees, none, more, tag_of}
 use Rattle.ber_leaf.specs.Profile.{profile_two}
 use Rattle.ill_schema.specs.declared.value.Value.{Value}
-use Rattle.ill_read.specs.Element.{Element}
-use Rattle.ill_read.specs.Code.{element_is}
-use Rattle.ill_read.specs.DueCode.{IsDueIn, next_is, behind}
+use Rattle.ill_read.specs.DueCode.{IsDueIn, behind}
 use Rattle.ill_read.specs.Next.{due, next_of, next_after, opening}
 use Rattle.ill_read.specs.Next as following
-use Rattle.ill_read.specs.Place.{Open, next_in}
-use Rattle.ill_read.specs.Standing.{next_at, text_so_far, AreDue, IsHeld, IsFrame, AreFrames}
+use Rattle.ill_read.specs.Place.{Open}
+use Rattle.ill_read.specs.Standing.{AreDue, IsHeld, IsFrame}
 use Rattle.ill_read.specs.Step.{snoc}
 use Rattle.ill_read.specs.declared.due.Due.{Due}
 use Rattle.ill_read.specs.declared.due.Next.{Next}

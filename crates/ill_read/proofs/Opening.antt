@@ -1,19 +1,17 @@
 -- An element opens.
-use Rattle.std.proofs.Common.{◌≡◌, ℕ, ◌<◌, List, [], ◌∷◌, ◌++◌, length, append-nil, Option, Some, None, unwrap_or, true, refl, sym, ap, subst, ◌∙◌}
+use Rattle.std.proofs.Common.{◌≡◌, ℕ, List, [], ◌∷◌, ◌++◌, length, append-nil, Option, Some, None, unwrap_or, true, refl, sym, subst, ◌∙◌}
 use Rattle.ber_core.specs.Identifier.{Tag}
 use Rattle.ber_core.specs.Tree.{none}
 use Rattle.ber_leaf.specs.Profile.{profile_two}
-use Rattle.ill_schema.specs.declared.value.Value.{Value}
 use Rattle.ill_read.specs.Code.{element_is}
 use Rattle.ill_read.specs.DueCode.{IsDueIn, next_is}
 use Rattle.ill_read.specs.Element.{segment}
 use Rattle.ill_read.specs.Next.{opening}
 use Rattle.ill_read.specs.Place.{Open, allows, bound}
-use Rattle.ill_read.specs.Standing.{next_at, text_so_far, IsHeld, IsFrame, AreFrames, StandsAt}
+use Rattle.ill_read.specs.Standing.{next_at, text_so_far, IsHeld, IsFrame, StandsAt}
 use Rattle.ill_read.specs.Step.{opened}
 use Rattle.ill_read.specs.Stepping.{IsFirst}
 use Rattle.ill_read.specs.declared.due.Next.{Next}
-use Rattle.ill_read.specs.declared.due.Next.TheVariants.{Rows, Inner, Items, Either, Segments}
 use Rattle.ill_read.specs.declared.element.Element.{Element as CodeElement}
 use Rattle.ill_read.specs.declared.element.Element.TheVariants.{Leaf, Sequence, List as ListOf, Wrapper, LooseWrapper, Segment}
 use Rattle.ill_read.specs.declared.frame.Frame.{Frame}

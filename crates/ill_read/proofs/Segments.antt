@@ -1,7 +1,7 @@
 -- Segments stand in strings, and nothing else does.
-use Rattle.std.proofs.Common.{◌≡◌, ◌⊎◌, ℕ, List, [], ◌∷◌, ◌++◌, Option, Some, None, true, false, refl, sym, ap, subst, ◌∙◌, inl, inr}
+use Rattle.std.proofs.Common.{◌≡◌, ℕ, List, [], ◌∷◌, ◌++◌, Option, Some, None, refl, sym, ap, subst, ◌∙◌, inl, inr}
 use Rattle.ber_core.specs.Identifier.{Tag}
-use Rattle.ber_core.specs.Tree.{Tree, Trees, none, more, tag_of, IsString, text, text_all, AreSegments}
+use Rattle.ber_core.specs.Tree.{Tree, Trees, text_all}
 use Rattle.ill_schema.specs.declared.node.Kind.{Kind}
 use Rattle.ill_schema.specs.declared.node.LeafKind.{LeafKind}
 use Rattle.ill_schema.specs.declared.node.NodeId.{NodeId}
@@ -16,7 +16,6 @@ use Rattle.ill_read.specs.DueCode.{Begins, IsDueIn, IsDueInRows, IsRowDue}
 use Rattle.ill_read.specs.Element.{Component, Element, leaf, segment, Start, own_starts, retag, leave_out, tagged_starts, component_starts}
 use Rattle.ill_read.specs.Place.{Open}
 use Rattle.ill_read.specs.Standing.{next_at, text_so_far, IsValueOf, IsHeld, IsFrame, AreFrames}
-use Rattle.ill_read.specs.Step.{snoc}
 use Rattle.ill_read.specs.declared.due.Due.{Due}
 use Rattle.ill_read.specs.declared.due.Next.{Next}
 use Rattle.ill_read.specs.declared.due.Next.TheVariants.{Rows, Inner, Items, Either, Segments, Nothing}

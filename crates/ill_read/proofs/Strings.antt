@@ -1,5 +1,5 @@
 -- Strings in segments: a segment more, read or closed.
-use Rattle.std.proofs.Common.{◌≡◌, ℕ, List, [], ◌∷◌, ◌++◌, length, append_assoc, append-nil, Option, Some, None, Ok, refl, sym, ap, subst, ◌∙◌}
+use Rattle.std.proofs.Common.{◌≡◌, ℕ, List, [], ◌∷◌, ◌++◌, length, append_assoc, append-nil, Option, Some, None, Ok, sym, ap, subst, ◌∙◌}
 use Rattle.ber_core.specs.Identifier.{Tag}
 use Rattle.ber_core.specs.Tree.{Tree, Trees, none, more, tag_of, octet_string, IsString, text, text_all, AreSegments}
 use Rattle.ber_leaf.specs.Profile.{profile_two}
@@ -7,7 +7,7 @@ use Rattle.ill_schema.specs.declared.value.Value.{Value}
 use Rattle.ill_read.specs.Code.{element_is}
 use Rattle.ill_read.specs.DueCode.{IsDueIn, next_is, behind}
 use Rattle.ill_read.specs.Judged.{IsStep}
-use Rattle.ill_read.specs.Next.{due, next_of, next_after, opening}
+use Rattle.ill_read.specs.Next.{due, next_after, opening}
 use Rattle.ill_read.specs.Place.{Open}
 use Rattle.ill_read.specs.Standing.{next_at, top, text_so_far, IsHeld, IsFrame, AreFrames}
 use Rattle.ill_read.specs.Step.{snoc, with_tree}

@@ -1,17 +1,16 @@
 -- A primitive element is read.
-use Rattle.std.proofs.Common.{◌≡◌, ℕ, ◌+◌, ◌-◌, ◌≤◌, List, [], ◌∷◌, ◌++◌, length, take, drop, min, Option, Some, None, Result, Ok, Err, true, false, refl, sym, ap, subst, ◌∙◌, arith}
+use Rattle.std.proofs.Common.{◌≡◌, ℕ, ◌+◌, ◌-◌, ◌≤◌, List, ◌++◌, length, take, drop, min, Option, Some, None, Result, Ok, Err, true, false, refl, sym, ap, subst, ◌∙◌, arith}
 use Rattle.std.proofs.lemmas.List.{drop-take, take_rest}
 use Rattle.ber_core.specs.Identifier.{Tag}
-use Rattle.ber_core.specs.Tree.{Tree, primitive}
+use Rattle.ber_core.specs.Tree.{primitive}
 use Rattle.ber_leaf.specs.Profile.{profile_two}
 use Rattle.ill_schema.specs.declared.value.Value.{Value}
 use Rattle.ill_read.specs.Code.{element_is}
 use Rattle.ill_read.specs.DueCode.{IsDueIn}
 use Rattle.ill_read.specs.Fault.{Judgement, element_fault, or_faulty, reads}
 use Rattle.ill_read.specs.Judged.{IsBegin, IsJudgement, IsStep}
-use Rattle.ill_read.specs.LeafTypes.{leaf_is}
 use Rattle.ill_read.specs.Place.{Open, allows}
-use Rattle.ill_read.specs.Standing.{next_at, text_so_far, AreFrames, StandsAt}
+use Rattle.ill_read.specs.Standing.{next_at, AreFrames, StandsAt}
 use Rattle.ill_read.specs.Step.{Step, moved}
 use Rattle.ill_read.specs.Stepping.{IsLeafValue, DeliversExactly, ReadsExactly}
 use Rattle.ill_read.specs.declared.due.Next.TheVariants.{Segments}

@@ -103,9 +103,10 @@ impl Values {
         let base = base.min(self.len());
         let mut items = Vec::with_capacity(alloc, self.len() - base)?;
         for held in self.held.split_off(base)? {
-            if let Some(item) = held {
-                items.push(item)?;
-            }
+            let Some(item) = held else {
+                continue;
+            };
+            items.push(item)?;
         }
         Ok(Value::List(items))
     }

@@ -1,12 +1,25 @@
-use Rattle.std.proofs.Common.{sym, subst}
-use Rattle.ill_schema.specs.Message.{apdu_of}
-use Rattle.ill_normal.specs.declared.failure.NormalFailure.{NormalFailure}
-use Rattle.ill_normal.specs.Normalised.{Fails}
-use Rattle.ill_normal.proofs.Failing.{write_fails}
+use Rattle.std.proofs.lemmas.Result.{err_from_is_err_and}
+use Rattle.ill_normal.proofs.Answering.{fails_accepts, fails_refuses, forwarded_accepts, forwarded_empty, forwarded_refuses, none_accepts, at_end_before}
 use Rattle.ill_normal.proofs.single.normalise.Goals as goal
 
-pub returns-clause-fails : goal.returns-clause-fails
-returns-clause-fails g c =
-    let P : NormalFailure → Type 0 = λ f. Fails (g.W.Sink.contents c.args.sink.now) (g.W.Sink.contents c.write_normal.new.sink) (g.R.Source.is_broken c.read_message.new.source) (g.W.Sink.is_broken c.write_normal.new.sink) f in
-    subst P (sym c.from-in-Err-write_normal.ensures)
-    (write_fails _ _ _ _ (apdu_of c.in-Ok-Some.message) c.write_normal.result c.in-Err-write_normal.failure c.in-Ok-Some.message.fits c.in-Err-write_normal.is c.write_normal.ensures.memory c.write_normal.ensures.part)
+pub returns-in_err-size-clause-accepts : goal.returns-in_err-size-clause-accepts
+returns-in_err-size-clause-accepts g c =
+    let p = err_from_is_err_and c.from_residual.result c.from_residual.ensures.1 in
+    rw (p.1, p.2) (fails_accepts _ _ _ _ _ _ _ c.in_err-size.ensures.fails)
+
+pub returns-in_err-size-clause-refuses : goal.returns-in_err-size-clause-refuses
+returns-in_err-size-clause-refuses g c =
+    let p = err_from_is_err_and c.from_residual.result c.from_residual.ensures.1 in
+    rw (p.1, p.2) (fails_refuses _ _ _ _ _ _ _ c.in_err-size.ensures.fails)
+
+pub returns-in-Some-clause-accepts : goal.returns-in-Some-clause-accepts
+returns-in-Some-clause-accepts g c = let h = rw c.in-Some.is at c.in_ok-size.ensures.forwarded in forwarded_accepts _ _ _ _ _ _ h
+
+pub returns-in-Some-clause-empty : goal.returns-in-Some-clause-empty
+returns-in-Some-clause-empty g c = let h = rw c.in-Some.is at c.in_ok-size.ensures.forwarded in forwarded_empty _ _ _ _ _ _ h
+
+pub returns-in-Some-clause-refuses : goal.returns-in-Some-clause-refuses
+returns-in-Some-clause-refuses g c = let h = rw c.in-Some.is at c.in_ok-size.ensures.forwarded in forwarded_refuses _ _ _ _ _ _ h
+
+pub returns-in-None-clause-accepts : goal.returns-in-None-clause-accepts
+returns-in-None-clause-accepts g c = let h = rw c.in-None.is at c.in_ok-size.ensures.none in none_accepts _ (at_end_before _ _ h.0 h.1)

@@ -1,4 +1,4 @@
-use Rattle.std.proofs.Common.{◌≡◌, ◌∙◌, refl, sym, ap}
+use Rattle.std.proofs.Common.{◌∙◌, refl, ap}
 use Rattle.ber_leaf.specs.Leaf.{value}
 use Rattle.ber_leaf.proofs.Leaves.{content_holds}
 use Rattle.ill_schema.specs.Content.{simple}

@@ -1,4 +1,4 @@
-use Rattle.std.proofs.Common.{◌≡◌, ◌∙◌, sym, ap, refl, subst}
+use Rattle.std.proofs.Common.{refl, subst}
 use Rattle.ber_leaf.specs.Content.{IsContent}
 use Rattle.ber_leaf.proofs.Leaves.{content_holds}
 use Rattle.ill_read.specs.LeafTypes.{leaf_is}

@@ -1,4 +1,4 @@
-use Rattle.std.proofs.Common.{◌≡◌, ◌-◌, length, sym, ap, ◌∙◌}
+use Rattle.std.proofs.Common.{◌-◌, ap, ◌∙◌}
 use Rattle.ill_read.proofs.Growing.{advanced}
 use Rattle.ill_read.proofs.path.Path.advance.Goals as goal
 

@@ -1,12 +1,10 @@
-use Rattle.std.proofs.Common.{◌≡◌, ◌∙◌, Option, Some, None, Ok, Result, refl, sym, ap, subst}
+use Rattle.std.proofs.Common.{◌∙◌, Option, Some, None, Ok, refl, sym, subst}
 use Rattle.ill_schema.specs.declared.value.Value.{Value}
 use Rattle.ill_read.specs.Judged.{IsStep}
 use Rattle.ill_read.specs.Step.{moved}
 use Rattle.ill_read.specs.Stepping.{EndsExactly}
-use Rattle.ill_read.specs.declared.failure.Failure.{Failure}
-use Rattle.ill_read.specs.declared.frame.Frame.{Frame}
 use Rattle.ill_read.specs.declared.path.Path.{Path}
-use Rattle.ill_read.proofs.Closing.{IsShorter, segment_closed, value_closed, value_refused, handed_on}
+use Rattle.ill_read.proofs.Closing.{IsShorter, segment_closed, value_closed, value_refused, value_there, handed_on}
 use Rattle.ill_read.proofs.path.Path.close.Goals as goal
 
 pub returns-in-Segment-clause-exact : goal.returns-in-Segment-clause-exact
@@ -40,3 +38,17 @@ returns-in-Some-clause-exact c place marks at rest j stands end =
     let ends : EndsExactly shorter c.unwrap-frame.result c.end_value.new.self (Ok (Some c.in-Some.value)) =
     subst (λ (x : Option Value). EndsExactly shorter c.unwrap-frame.result c.end_value.new.self (Ok x)) c.in-Some.is c.in_ok-value.ensures.exact in
     value_closed c.args.self.now shorter c.end_value.new.self c.deliver.new.self c.unwrap-frame.result place marks at rest j c.in-Some.value c.deliver.result stands end short ends c.end_value.ensures.frames c.deliver.ensures.exact
+
+pub returns-in-None-clause-exact : goal.returns-in-None-clause-exact
+returns-in-None-clause-exact c place marks at rest j stands end =
+    let shorter : Path = record c.args.self.now { frames = c.pop.new.self } in
+    let short : IsShorter c.args.self.now shorter c.unwrap-frame.result = record {
+      frames = c.pop.ensures.rest;
+      last = sym c.pop.ensures.value ∙ c.unwrap-frame.ensures;
+      values = refl;
+      text = refl;
+      apart = c.in_default.not-Segment;
+    } in
+    let ends : EndsExactly shorter c.unwrap-frame.result c.end_value.new.self (Ok None) =
+    subst (λ (x : Option Value). EndsExactly shorter c.unwrap-frame.result c.end_value.new.self (Ok x)) c.in-None.is c.in_ok-value.ensures.exact in
+    absurd (value_there c.args.self.now shorter c.end_value.new.self c.unwrap-frame.result place marks j stands end short ends)

@@ -1,4 +1,4 @@
-use Rattle.std.proofs.Common.{◌≡◌, ◌∙◌, ℕ, Vec, Global, refl, sym, ap, subst}
+use Rattle.std.proofs.Common.{◌∙◌, ℕ, Vec, Global, refl, sym, ap, subst}
 use Rattle.ill_read.specs.Held.{HasAdded, rows_before}
 use Rattle.ill_read.specs.declared.values.Values.{Values}
 use Rattle.ill_read.proofs.Delivery.{body_delivered, value_delivered, has_next}

@@ -1,4 +1,4 @@
-use Rattle.std.proofs.Common.{◌≡◌, ◌∙◌, Vec, Global, ℕ, refl, sym, ap, subst}
+use Rattle.std.proofs.Common.{◌∙◌, Vec, Global, ℕ, refl, ap}
 use Rattle.ill_read.proofs.Ending.{sequence_ended, loose_ended, list_ended, wrapper_ended, loose_wrapper_ended, string_ended}
 use Rattle.ill_read.proofs.path.Path.end_value.Goals as goal
 

@@ -1,4 +1,4 @@
-use Rattle.std.proofs.Common.{◌≡◌, ◌∙◌, ℕ, ◌<◌, length, true, nat_eq, refl, sym, ap, arith}
+use Rattle.std.proofs.Common.{◌≡◌, ◌∙◌, ℕ, length, true, nat_eq, refl, sym, arith}
 use Rattle.ill_read.proofs.Frames.{frames_open}
 use Rattle.ill_read.proofs.Opening.{opens_at}
 use Rattle.ill_read.proofs.path.Path.open.Goals as goal

@@ -1,4 +1,4 @@
-use Rattle.std.proofs.Common.{◌≡◌, ◌≤◌, ◌∙◌, ℕ, ◌+◌, length, take, drop, min, List, refl, sym, ap, subst, arith}
+use Rattle.std.proofs.Common.{◌∙◌, length, take, ap, subst}
 use Rattle.ill_read.specs.Judged.{IsJudgement}
 use Rattle.ill_read.specs.Progress.{depth_of, size_of, IsProgress}
 use Rattle.ill_read.specs.declared.judge.Judgement.{Judgement}

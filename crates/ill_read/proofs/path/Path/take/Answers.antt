@@ -1,7 +1,5 @@
-use Rattle.std.proofs.Common.{◌≡◌, ◌∙◌, ℕ, ◌<◌, refl, sym, ap}
-use Rattle.ill_read.specs.Judged.{IsStep}
-use Rattle.ill_read.proofs.Closing.{handed_on}
-use Rattle.ill_read.proofs.Taking.{content_read, leaf_read, leaf_refused, segment_read}
+use Rattle.std.proofs.Common.{refl}
+use Rattle.ill_read.proofs.Taking.{leaf_read, segment_read}
 use Rattle.ill_read.proofs.path.Path.take.Goals as goal
 
 pub returns-in_ok-value-in-Leaf-clause-exact : goal.returns-in_ok-value-in-Leaf-clause-exact

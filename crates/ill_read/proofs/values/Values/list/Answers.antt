@@ -1,18 +1,17 @@
-use Rattle.std.proofs.Common.{◌≡◌, ◌++◌, [], ◌∷◌, Option, Some, None, length, take, drop, map, min, ℕ, ◌+◌, List, arith, sym, ap, ◌∙◌, subst}
-use Rattle.ill_schema.specs.declared.value.Value.{Value}
-use Rattle.ill_schema.specs.Value.{content_of, items_content}
+use Rattle.std.proofs.Common.{◌≡◌, ◌++◌, [], ◌∷◌, Some, take, drop, map, min, sym, ap, ◌∙◌}
+use Rattle.ill_schema.specs.Value.{items_content}
 use Rattle.ill_schema.specs.Content.{list}
 use Rattle.ill_schema.proofs.Contents.{content_of-List}
 use Rattle.ill_read.proofs.Holding.{somes, somes-some, somes-none, somes-all, taken_all, split_held}
 use Rattle.ill_read.proofs.values.Values.list.Goals as goal
 
-pub loop-held-preserved-in-Continue-branch-3 : goal.loop-held-preserved-in-Continue-branch-3
-loop-held-preserved-in-Continue-branch-3 c =
+pub loop-held-preserved : goal.loop-held-preserved
+loop-held-preserved c =
     c.in_ok-push.ensures.items ∙ ap (λ xs. xs ++ c.in-Some-held.item ∷ []) c.loop-held.invariant ∙ sym (somes-some c.loop-held.yielded c.in-Some-held.item)
     ∙ ap (λ x. somes (c.loop-held.yielded ++ x ∷ [])) (sym c.in-Some-held.is)
 
-pub loop-held-preserved : goal.loop-held-preserved
-loop-held-preserved c = c.loop-held.invariant ∙ sym (somes-none c.loop-held.yielded) ∙ ap (λ x. somes (c.loop-held.yielded ++ x ∷ [])) (sym c.in_default.is)
+pub loop-held-preserved-in_default : goal.loop-held-preserved-in_default
+loop-held-preserved-in_default c = c.loop-held.invariant ∙ sym (somes-none c.loop-held.yielded) ∙ ap (λ x. somes (c.loop-held.yielded ++ x ∷ [])) (sym c.in_default.is)
 
 pub returns : goal.returns
 returns c below items e n =

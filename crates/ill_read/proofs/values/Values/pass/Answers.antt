@@ -1,6 +1,5 @@
-use Rattle.std.proofs.Common.{◌≡◌, ◌++◌, [], ◌∷◌, Option, List, length, take, drop, ℕ, ◌+◌, ◌<◌, ◌≤◌, arith, sym, ap, ◌∙◌, subst}
+use Rattle.std.proofs.Common.{take, drop, arith, sym, ap, ◌∙◌, subst}
 use Rattle.ill_schema.specs.Table.{rows_of}
-use Rattle.ill_schema.specs.declared.value.Value.{Value}
 use Rattle.ill_read.specs.Held.{HasPassed}
 use Rattle.ill_read.specs.declared.values.Values.{Values}
 use Rattle.ill_read.proofs.Holding.{passed-more, passed-past}

@@ -1,0 +1,83 @@
+-- Which answer an input has.
+use Rattle.std.proofs.Common.{◌≡◌, ◌<◌, ℕ, Bool, List, [], ◌++◌, length, Option, Some, None, Err, IfSome, refl, ap, ◌∙◌, arith}
+use Rattle.std.specs.Io.KnownBytes.{Consumes, IsAtEnd}
+use Rattle.ill_schema.specs.Apdu.{Apdu, Accepts, normal_form}
+use Rattle.ill_read.specs.Fault.{Fault}
+use Rattle.ill_read.specs.Outcome.{OnlyRefuses}
+use Rattle.ber_leaf.specs.Profile.{profile_two}
+use Rattle.ill_schema.proofs.Streams.{parts_accept, accepts_once, accepts_some}
+use Rattle.ill_read.specs.declared.failure.ReadFailure.{ReadFailure}
+use Rattle.ill_read.specs.Judged.{fault_is}
+use Rattle.ill_read.specs.Answers.{IfReadRefused, IsReadFault}
+use Rattle.ill_normal.specs.declared.failure.NormalFailure.{NormalFailure}
+use Rattle.ill_normal.specs.Normalised.{Forwards, Fails, Answers, AnswersRefused}
+
+-- what stands in front of what is left now
+pub front : (s : List ℕ) (new : Option (List ℕ)) (b : List ℕ) → Consumes (Some s) new b → (t : List ℕ) × (s ≡ b ++ t) × (new ≡ Some t)
+front s None b h = absurd h
+front s (Some t) b h = (t, h, refl)
+
+accepted : (s : List ℕ) (new held held' : Option (List ℕ)) (r w : ℕ) → (f : Forwards (Some s) new held held' r w) → Accepts profile_two s f.apdu (length f.octets)
+accepted s new held held' r w f = let t = front s new f.octets f.taken in parts_accept profile_two s f.apdu f.octets t.0 t.1 f.spells
+
+pub forwarded_accepts : (old new held held' : Option (List ℕ)) (r w : ℕ) → Forwards old new held held' r w
+    → IfSome old (λ s. (a : Apdu) (n : ℕ) → Accepts profile_two s a n → Some w ≡ Some (length (normal_form a)))
+forwarded_accepts None new held held' r w f = tt
+forwarded_accepts (Some s) new held held' r w f = λ a n h.
+    let one = accepts_once profile_two s f.apdu a (length f.octets) n (accepted s new held held' r w f) h in
+    ap (λ (x : ℕ). Some x) (f.written_size ∙ ap (λ (x : Apdu). length (normal_form x)) one.0)
+
+pub forwarded_empty : (old new held held' : Option (List ℕ)) (r w : ℕ) → Forwards old new held held' r w → IfSome old (λ s. s ≡ [] → Some w ≡ None)
+forwarded_empty None new held held' r w f = tt
+forwarded_empty (Some s) new held held' r w f = λ e. absurd (accepts_some profile_two s f.apdu (length f.octets) e (accepted s new held held' r w f))
+
+pub forwarded_refuses : (old new held held' : Option (List ℕ)) (r w : ℕ) → Forwards old new held held' r w
+    → IfSome old (λ s. (f : Fault) → 0 < length s → OnlyRefuses profile_two s f → ⊥)
+forwarded_refuses None new held held' r w f = tt
+forwarded_refuses (Some s) new held held' r w f = λ g some only. only.2 f.apdu (length f.octets) (accepted s new held held' r w f)
+
+-- nothing was taken, and nothing is left: nothing was left
+pub at_end_before : (old new : Option (List ℕ)) → Consumes old new [] → IsAtEnd new → IsAtEnd old
+at_end_before None new h e = tt
+at_end_before (Some s) None h e = absurd h
+at_end_before (Some s) (Some t) h e = h ∙ e
+
+pub none_accepts : (old : Option (List ℕ)) → IsAtEnd old → IfSome old (λ s. (a : Apdu) (n : ℕ) → Accepts profile_two s a n → None ≡ Some (length (normal_form a)))
+none_accepts None e = tt
+none_accepts (Some s) e = λ a n h. absurd (accepts_some profile_two s a n e h)
+
+pub none_refuses : (old : Option (List ℕ)) → IsAtEnd old → IfSome old (λ s. (f : Fault) → 0 < length s → OnlyRefuses profile_two s f → ⊥)
+none_refuses None e = tt
+none_refuses (Some s) e = λ f some only. let l : length s ≡ 0 = ap length e in omega arith
+
+pub always : (old : Option (List ℕ)) (P : List ℕ → Type 0) → ((s : List ℕ) → P s) → IfSome old P
+always None P h = tt
+always (Some s) P h = h s
+
+pub both : (old : Option (List ℕ)) (P Q : List ℕ → Type 0) → ((s : List ℕ) → P s → Q s) → IfSome old P → IfSome old Q
+both None P Q h k = tt
+both (Some s) P Q h k = h s k
+
+pub fails_accepts : (left left' held held' : Option (List ℕ)) (x y : Bool) (e : NormalFailure) → Fails left left' held held' x y e
+    → IfSome left (λ s. (a : Apdu) (n : ℕ) → Accepts profile_two s a n → Answers {T = Option ℕ} (Err e) (Some (length (normal_form a))))
+fails_accepts left left' held held' x y (NormalFailure.Refused refusal) h = both left _ _ (λ s k a n accepts. k.1.2 a n accepts) h.0
+fails_accepts left left' held held' x y NormalFailure.OutOfMemory h = always left _ (λ s a n accepts. tt)
+fails_accepts left left' held held' x y NormalFailure.ReadFault h = always left _ (λ s a n accepts. tt)
+fails_accepts left left' held held' x y (NormalFailure.WriteFault w) h = always left _ (λ s a n accepts. tt)
+
+pub fails_refuses : (left left' held held' : Option (List ℕ)) (x y : Bool) (e : NormalFailure) → Fails left left' held held' x y e
+    → IfSome left (λ s. (f : Fault) → 0 < length s → OnlyRefuses profile_two s f → AnswersRefused {T = Option ℕ} (Err e) f)
+fails_refuses left left' held held' x y (NormalFailure.Refused refusal) h = both left _ _ (λ s k f some only. only.1 (fault_is refusal) k.1.0) h.0
+fails_refuses left left' held held' x y NormalFailure.OutOfMemory h = always left _ (λ s f some only. tt)
+fails_refuses left left' held held' x y NormalFailure.ReadFault h = always left _ (λ s f some only. tt)
+fails_refuses left left' held held' x y (NormalFailure.WriteFault w) h = always left _ (λ s f some only. tt)
+
+pub none_is_no_spelling : (old new : Option (List ℕ)) (Q : Type 0) → Consumes old new [] → IsAtEnd new → IfSome old (λ s. (a : Apdu) (n : ℕ) → Accepts profile_two s a n → Q)
+none_is_no_spelling None new Q h e = tt
+none_is_no_spelling (Some s) new Q h e = λ a n k. absurd (accepts_some profile_two s a n (at_end_before (Some s) new h e) k)
+
+pub read_fails_accepts : (left : Option (List ℕ)) (e : ReadFailure) → IfReadRefused e (λ f. IfSome left (λ s. (0 < length s) × OnlyRefuses profile_two s f))
+    → IfSome left (λ s. (a : Apdu) (n : ℕ) → Accepts profile_two s a n → IsReadFault e)
+read_fails_accepts left (ReadFailure.Refused refusal) h = both left _ _ (λ s k a n accepts. k.1.2 a n accepts) h
+read_fails_accepts left ReadFailure.OutOfMemory h = always left _ (λ s a n accepts. tt)
+read_fails_accepts left ReadFailure.ReadFault h = always left _ (λ s a n accepts. tt)

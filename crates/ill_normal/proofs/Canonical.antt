@@ -1,0 +1,73 @@
+-- Normal forms are canonical.
+use Rattle.std.proofs.Common.{◌≡◌, ◌↔◌, ℕ, ◌<◌, ◌≤◌, ◌^◌, List, [], length, Err, refl, sym, ap, subst, ◌∙◌, inl, inr, arith, lit<}
+use Rattle.std.proofs.Math.Seq.{take-length}
+use Rattle.ber_leaf.specs.Profile.{profile_two}
+use Rattle.ill_schema.specs.Apdu.{Apdu, SpellsApdu, Accepts, normal_form}
+use Rattle.ill_schema.specs.declared.refusal.Cause.{Cause}
+use Rattle.ill_schema.proofs.MeansFits.{means_apdu_fits}
+use Rattle.ill_schema.proofs.Encodings.{normal_spells, normal_unique}
+use Rattle.ill_schema.proofs.OneMeaning.{one_message}
+use Rattle.ill_schema.proofs.Streams.{accepts_once}
+use Rattle.ill_read.specs.Fault.{Fault, fault}
+use Rattle.ill_read.specs.declared.failure.Failure.{Failure}
+use Rattle.ill_read.specs.Feeding.{DecodeAnswers}
+use Rattle.ill_read.specs.Judged.{fault_is}
+use Rattle.ill_read.specs.Answers.{IfRefused, RefusesWhole}
+
+short : (n : ℕ) → n ≤ 1_048_576 → n < 256 ^ 126
+short n h = let k : 1_048_576 < 256 ^ 126 = lit< tt in le_lt n 1_048_576 (256 ^ 126) h k
+  where
+    le_lt : (a b c : ℕ) → a ≤ b → b < c → a < c
+    le_lt a b c h k = omega arith
+
+pub one_normal : (a b : Apdu) (x y : List ℕ) → SpellsApdu profile_two a x → SpellsApdu profile_two b y → normal_form a ≡ normal_form b → a ≡ b
+one_normal a b x y h k e = normal_unique profile_two a b (means_apdu_fits profile_two a h.encodes.tree h.encodes.means) (means_apdu_fits profile_two b k.encodes.tree k.encodes.means)
+    (short (length (normal_form a)) h.normal_short) (short (length (normal_form b)) k.normal_short) e
+
+pub exactly : (a b : Apdu) (x y : List ℕ) → SpellsApdu profile_two a x → SpellsApdu profile_two b y → (normal_form a ≡ normal_form b) ↔ (a ≡ b)
+exactly a b x y h k = (one_normal a b x y h k, ap normal_form)
+
+pub spells_normal : (a : Apdu) (x : List ℕ) → SpellsApdu profile_two a x → SpellsApdu profile_two a (normal_form a)
+spells_normal a x h = normal_spells profile_two a (means_apdu_fits profile_two a h.encodes.tree h.encodes.means) (lit< tt) h.normal_short
+
+pub accepts_whole : (a : Apdu) (s : List ℕ) → SpellsApdu profile_two a s → Accepts profile_two s a (length s)
+accepts_whole a s h = let le : length s ≤ length s = omega arith in (le, subst (SpellsApdu profile_two a) (sym (take-length s)) h)
+
+pub accepts_normal : (a : Apdu) (x : List ℕ) → SpellsApdu profile_two a x → Accepts profile_two (normal_form a) a (length (normal_form a))
+accepts_normal a x h = accepts_whole a (normal_form a) (spells_normal a x h)
+
+-- octets spell one APDU
+pub spells_once : (a b : Apdu) (s : List ℕ) → SpellsApdu profile_two a s → SpellsApdu profile_two b s → a ≡ b
+spells_once a b s h k = (one_message profile_two a b s s [] [] h.encodes k.encodes refl).0
+
+pub own_normal : (a b : Apdu) (x : List ℕ) → SpellsApdu profile_two a x → SpellsApdu profile_two b (normal_form a) → normal_form b ≡ normal_form a
+own_normal a b x h k = ap normal_form (spells_once b a (normal_form a) k (spells_normal a x h))
+
+-- what is refused whole is no spelling
+pub refuses_whole : (s : List ℕ) (f : Fault) (a : Apdu) → RefusesWhole s f → SpellsApdu profile_two a s → ⊥
+refuses_whole s f a (inl only) h = only.2 a (length s) (accepts_whole a s h)
+refuses_whole s f a (inr (b, n, accepts, lt, e)) h =
+    let same = (accepts_once profile_two s a b (length s) n (accepts_whole a s h) accepts).1 in omega (arith, same, lt)
+
+-- what refuses a slice
+pub decode_refuses : (s : List ℕ) (e : Failure) → DecodeAnswers s (Err e) → IfRefused e (RefusesWhole s)
+decode_refuses s (Failure.Refused refusal) h = h
+decode_refuses s Failure.OutOfMemory h = tt
+
+-- a spelling is not refused, so there is no memory
+pub only_memory : (e : Failure) (s : List ℕ) (a : Apdu) → IfRefused e (RefusesWhole s) → SpellsApdu profile_two a s → e ≡ Failure.OutOfMemory
+only_memory (Failure.Refused refusal) s a h k = absurd (refuses_whole s (fault_is refusal) a h k)
+only_memory Failure.OutOfMemory s a h k = refl
+
+-- what compares APDUs compares normal forms
+pub compared : (a b : Apdu) (x y : List ℕ) (P : Type 0) → SpellsApdu profile_two a x → SpellsApdu profile_two b y → P ↔ (a ≡ b) → P ↔ (normal_form a ≡ normal_form b)
+compared a b x y P h k e = (λ p. ap normal_form (e.0 p), λ n. e.1 (one_normal a b x y h k n))
+
+-- octets are refused whole in one way
+pub refuses_once : (s : List ℕ) (f g : Fault) → RefusesWhole s f → RefusesWhole s g → f ≡ g
+refuses_once s f g (inl only) (inl other) = other.1 f only.0
+refuses_once s f g (inl only) (inr (b, n, accepts, lt, e)) = absurd (only.2 b n accepts)
+refuses_once s f g (inr (a, m, accepts, lt, e)) (inl other) = absurd (other.2 a m accepts)
+refuses_once s f g (inr (a, m, h, lt, e)) (inr (b, n, k, lt', e')) =
+    let same = (accepts_once profile_two s a b m n h k).1 in
+    e ∙ ap (λ (x : ℕ). fault Cause.TrailingBytes x) same ∙ sym e'

@@ -1,0 +1,11 @@
+use Rattle.std.proofs.lemmas.Result.{err_from_is_err_and}
+use Rattle.ill_normal.proofs.Answering.{none_is_no_spelling, read_fails_accepts}
+use Rattle.ill_normal.proofs.check.check_one.Goals as goal
+
+pub returns-in_err-message-clause-accepts : goal.returns-in_err-message-clause-accepts
+returns-in_err-message-clause-accepts g c =
+    let p = err_from_is_err_and c.from_residual.result c.from_residual.ensures.1 in
+    rw (p.1, p.2) (read_fails_accepts _ _ c.in_err-message.ensures.refused)
+
+pub returns-in_default-clause-accepts : goal.returns-in_default-clause-accepts
+returns-in_default-clause-accepts g c = let h = rw c.in_default.is at c.in_ok-message.ensures.none in none_is_no_spelling _ _ _ h.0 h.1

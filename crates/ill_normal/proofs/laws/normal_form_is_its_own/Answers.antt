@@ -1,0 +1,5 @@
+use Rattle.ill_normal.proofs.Canonical.{own_normal}
+use Rattle.ill_normal.proofs.laws.normal_form_is_its_own.Goals as goal
+
+pub returns : goal.returns
+returns c = own_normal

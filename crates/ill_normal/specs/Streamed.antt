@@ -1,0 +1,60 @@
+-- What a call that normalises a stream does to its source and its sink.
+use Rattle.std.specs.Prelude.{◌≡◌, ◌<◌, ◌≤◌, ℕ, Bool, List, [], ◌∷◌, length, flat_map, Option, Result, Ok, Err}
+use Rattle.std.specs.Io.KnownBytes.{Consumes, Keeps, Appends}
+use Rattle.ill_schema.specs.Apdu.{Apdu, IsStream, normal_form}
+use Rattle.ill_read.specs.Fault.{Fault}
+use Rattle.ber_leaf.specs.Profile.{profile_two}
+use Rattle.ill_read.specs.Judged.{fault_is}
+use Rattle.ill_normal.specs.declared.failure.NormalFailure.{NormalFailure}
+use Rattle.ill_normal.specs.declared.failure.StreamCause.{StreamCause}
+use Rattle.ill_normal.specs.declared.failure.StreamFailure.{StreamFailure}
+use Rattle.ill_normal.specs.Normalised.{Fails, IsFault}
+
+-- so many messages were taken, whose octets were so many, and their normal forms were written, in order
+pub record Passes (left left' held held' : Option (List ℕ)) (whole before : ℕ) : Type 0 where
+  pub apdus : List Apdu
+  pub octets : List ℕ
+  pub stream : IsStream profile_two octets apdus []
+  pub taken : Consumes left left' octets
+  pub written : Appends held held' (flat_map normal_form apdus)
+  pub count : length apdus ≡ whole
+  pub size : length octets ≡ before
+
+-- why no further message was normalised, after so many
+abbrev pub Stops : Option (List ℕ) → Option (List ℕ) → Option (List ℕ) → Option (List ℕ) → Bool → Bool → ℕ → StreamCause → Type 0
+Stops left left' held held' source_broken sink_broken whole (StreamCause.Normal (NormalFailure.Refused refusal)) =
+    (whole < 1_000_000) × Fails left left' held held' source_broken sink_broken (NormalFailure.Refused refusal)
+Stops left left' held held' source_broken sink_broken whole (StreamCause.Normal failure) =
+    (whole ≤ 1_000_000) × Fails left left' held held' source_broken sink_broken failure
+Stops left left' held held' source_broken sink_broken whole StreamCause.TooManyMessages =
+    (whole ≡ 1_000_000) × ((octet : ℕ) × Consumes left left' (octet ∷ [])) × Keeps held held'
+
+-- the messages that were whole before the failure, and why no further one was normalised
+pub record StopsAfter (left left' held held' : Option (List ℕ)) (source_broken sink_broken : Bool) (failure : StreamFailure) : Type 0 where
+  pub rest : Option (List ℕ)
+  pub grown : Option (List ℕ)
+  pub passes : Passes left rest held grown failure.whole failure.before
+  pub stops : Stops rest left' grown held' source_broken sink_broken failure.whole failure.why
+
+-- a stream's answer is this number, or a fault
+abbrev pub AnswersCount : Result ℕ StreamFailure → ℕ → Type 0
+AnswersCount (Ok m) n = m ≡ n
+AnswersCount (Err e) n = elim e.why as (λ _. Type 0) [ StreamCause.Normal failure ↦ IsFault failure | StreamCause.TooManyMessages ↦ ⊥ ]
+
+-- after m messages this failure is the refusal f after n messages, or a fault
+abbrev pub IsRefusedAfter : ℕ → NormalFailure → ℕ → Fault → Type 0
+IsRefusedAfter m (NormalFailure.Refused refusal) n f = (m ≡ n) × (fault_is refusal ≡ f)
+IsRefusedAfter m failure n f = IsFault failure
+
+-- a stream's answer is this refusal after so many messages, or a fault
+abbrev pub AnswersRefusedAfter : Result ℕ StreamFailure → ℕ → Fault → Type 0
+AnswersRefusedAfter (Ok m) n f = ⊥
+AnswersRefusedAfter (Err e) n f = elim e.why as (λ _. Type 0) [
+  | StreamCause.Normal failure ↦ IsRefusedAfter e.whole failure n f
+  | StreamCause.TooManyMessages ↦ ⊥
+]
+
+-- a stream's answer is that there are too many messages, or a fault
+abbrev pub AnswersTooMany : Result ℕ StreamFailure → Type 0
+AnswersTooMany (Ok m) = ⊥
+AnswersTooMany (Err e) = elim e.why as (λ _. Type 0) [ StreamCause.Normal failure ↦ IsFault failure | StreamCause.TooManyMessages ↦ Unit {0} ]

@@ -1,0 +1,59 @@
+//! What there is to say of a message.
+ghost use Rattle.std.specs.Prelude.{◌≡◌, ◌↔◌, ◌<◌, ◌≤◌, ℕ, List, [], length, IfOk, IfErr, IfSome, IfNone, IsTrue, IsErrOf};
+ghost use Rattle.std.specs.Io.KnownBytes.{Consumes, IsAtEnd};
+ghost use Rattle.ber_leaf.specs.Profile.{profile_two};
+ghost use Rattle.ill_schema.specs.Apdu.{Apdu, SpellsApdu, Accepts, normal_form};
+ghost use Rattle.ill_read.specs.Answers.{TakesFront, IfReadRefused, AnswersSome};
+ghost use Rattle.ill_read.specs.Outcome.{OnlyRefuses};
+
+use ber_core::Source;
+use ill_read::{ReadFailure, read_kept};
+use ill_write::normal_bytes;
+use std::alloc::Global;
+
+/// A message, and how it was spelled.
+#[derive(Clone, Copy, Debug, PartialEq, Eq)]
+pub struct Checked {
+    /// The number of the APDU, for [`apdu_name`](crate::apdu_name).
+    pub apdu: u8,
+    /// How many octets the message had in the input.
+    pub octets: u32,
+    /// How many octets its normal form has.
+    pub normal: u32,
+    /// Whether it was its normal form, octet for octet.
+    pub is_normal: bool,
+}
+
+/// Reads the message that the source begins with, of which exactly its octets are taken, and
+/// compares it with its normal form; None where the source is at its end.
+///
+/// # Errors
+///
+/// The one refusal of an input that begins with no message, want of memory, or the source's fault.
+pub fn check_one<R: Source>(alloc: Global, source: &mut R) -> Result<Option<Checked>, ReadFailure>
+    // The octets that were taken spell an APDU, of which the answer speaks.
+    ensures checked { IfOk result (λ found. IfSome found (λ x. (a : Apdu) × (b : List ℕ) × SpellsApdu profile_two a b
+        × Consumes (R.left source.old) (R.left source.new) b × (x.apdu ≡ a.number) × (x.octets ≡ length b)
+        × (x.normal ≡ length (normal_form a)) × (IsTrue x.is_normal ↔ (b ≡ normal_form a)))) }
+    ensures none { IfOk result (λ found. IfNone found (Consumes (R.left source.old) (R.left source.new) [] × IsAtEnd (R.left source.new))) }
+    ensures refused { IfErr result (λ e. IfReadRefused e (λ f. IfSome (R.left source.old) (λ s. (0 < length s) × OnlyRefuses profile_two s f))) }
+    ensures taken { TakesFront (R.left source.old) (R.left source.new) }
+    ensures broken { IsErrOf result ReadFailure.ReadFault → IsTrue (R.is_broken source.new) }
+    ensures stays { IsTrue (R.is_broken source.old) → IsTrue (R.is_broken source.new) }
+    // A spelling at the front is checked, unless memory or the source failed.
+    ensures accepts { IfSome (R.left source.old) (λ s. (a : Apdu) (n : ℕ) → Accepts profile_two s a n → AnswersSome result) }
+{
+    let mut octets = Vec::new(alloc);
+    let Some(message) = read_kept(alloc, source, &mut octets)? else {
+        return Ok(None);
+    };
+    let Ok(normal) = normal_bytes(alloc, &message) else {
+        return Err(ReadFailure::OutOfMemory);
+    };
+    Ok(Some(Checked {
+        apdu: message.apdu(),
+        octets: message.octets(),
+        normal: normal.len() as u32,
+        is_normal: octets.as_slice() == normal.as_slice(),
+    }))
+}

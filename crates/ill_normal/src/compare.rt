@@ -1,0 +1,60 @@
+//! Messages that are compared.
+ghost use Rattle.std.specs.Prelude.{◌≡◌, ◌↔◌, ℕ, IfOk, IfErr, IsTrue};
+ghost use Rattle.ber_leaf.specs.Profile.{profile_two};
+ghost use Rattle.ill_schema.specs.Apdu.{Apdu, SpellsApdu, normal_form};
+ghost use Rattle.ill_read.specs.Answers.{IfRefused, RefusesWhole};
+ghost use Rattle.ill_normal.specs.Compared.{RefusesSide};
+
+use ill_read::{Failure, decode};
+use ill_write::normal_bytes;
+use std::alloc::Global;
+
+/// Which of two messages.
+#[derive(Clone, Copy, Debug, PartialEq, Eq)]
+pub enum Side {
+    First,
+    Second,
+}
+
+/// Whether two messages are of one APDU, which is whether they have one normal form.
+///
+/// # Errors
+///
+/// The first side that is not exactly one message, and why; or want of memory.
+pub fn same_message(alloc: Global, first: &[u8], second: &[u8]) -> Result<bool, (Side, Failure)>
+    ensures same { IfOk result (λ same. (a : Apdu) × (b : Apdu) × SpellsApdu profile_two a first.now × SpellsApdu profile_two b second.now
+        × (IsTrue same ↔ (a ≡ b)) × (IsTrue same ↔ (normal_form a ≡ normal_form b))) }
+    // A refusal is that of the first side that isn't one whole spelling.
+    ensures refused { IfErr result (λ e. IfRefused e.1 (RefusesSide first.now second.now e.0)) }
+    // Two spellings are compared, unless memory runs out.
+    ensures accepts { (a b : Apdu) → SpellsApdu profile_two a first.now → SpellsApdu profile_two b second.now
+        → IfErr result (λ e. e.1 ≡ Failure.OutOfMemory) }
+{
+    let one = match decode(alloc, first) {
+        Ok(message) => message,
+        Err(failure) => return Err((Side::First, failure)),
+    };
+    let other = match decode(alloc, second) {
+        Ok(message) => message,
+        Err(failure) => return Err((Side::Second, failure)),
+    };
+    Ok(one.same_apdu(&other))
+}
+
+/// Whether the octets are the normal form of the message that they are.
+///
+/// # Errors
+///
+/// Why they are not exactly one message; or want of memory.
+pub fn is_normal(alloc: Global, octets: &[u8]) -> Result<bool, Failure>
+    ensures normal { IfOk result (λ yes. (a : Apdu) × SpellsApdu profile_two a octets.now × (IsTrue yes ↔ (octets.now ≡ normal_form a))) }
+    ensures refused { IfErr result (λ e. IfRefused e (RefusesWhole octets.now)) }
+    // A spelling is compared, unless memory runs out.
+    ensures accepts { (a : Apdu) → SpellsApdu profile_two a octets.now → IfErr result (λ e. e ≡ Failure.OutOfMemory) }
+{
+    let message = decode(alloc, octets)?;
+    let Ok(normal) = normal_bytes(alloc, &message) else {
+        return Err(Failure::OutOfMemory);
+    };
+    Ok(normal.as_slice() == octets)
+}
