@@ -1,22 +1,18 @@
 -- What is due by the decoder's words is due by the definitions.
-use Rattle.std.proofs.Common.{◌≡◌, ℕ, ◌+◌, Bool, true, false, List, [], ◌∷◌, drop, Option, Some, None, option_map, refl, sym, ap, ◌∙◌, inl, inr, if◌then◌else◌}
+use Rattle.std.proofs.Common.{◌≡◌, ℕ, ◌+◌, Bool, true, false, [], ◌∷◌, drop, Option, Some, None, option_map, refl, sym, ap, ◌∙◌, inl, inr, if◌then◌else◌}
 use Rattle.ber_core.specs.Identifier.{Tag}
-use Rattle.ber_core.specs.Tree.{octet_string}
 use Rattle.ber_leaf.specs.Profile.{profile_two}
 use Rattle.ill_schema.specs.declared.node.NodeId.{NodeId}
-use Rattle.ill_schema.specs.declared.part.Row.{Row}
-use Rattle.ill_schema.specs.Tagging.{same_tag, sequence_tag}
-use Rattle.ill_read.specs.Element.{Component, Element, Start, segment, list, components, starts}
+use Rattle.ill_read.specs.Element.{Component, Element, Start, components, starts}
 use Rattle.ill_read.specs.Next as next
 use Rattle.ill_read.specs.Next.{part, octets, rows, items, element_of, next_of, due, due_in, opening, start_of}
 use Rattle.ill_read.specs.Code.{component_of, component_at, element_with, found_is}
-use Rattle.ill_read.specs.DueCode.{IsDueIn, IsDueInRows, IsRowDue, IsInnerDue, IsItemDue, IsSegmentDue, next_is, behind}
+use Rattle.ill_read.specs.DueCode.{IsDueIn, IsDueInRows, IsRowDue, IsInnerDue, next_is, behind}
 use Rattle.ill_read.specs.declared.due.Due.{Due}
 use Rattle.ill_read.specs.declared.due.Slot.{Slot}
 use Rattle.ill_read.specs.declared.due.Slot.TheVariants.{Row as AtRow, Item, Inner as Inside, Segment}
 use Rattle.ill_read.specs.declared.due.Next.{Next}
 use Rattle.ill_read.specs.declared.due.Next.TheVariants.{Rows, Inner, Items, Either, Segments, Nothing}
-use Rattle.ill_read.specs.declared.element.Found.{Found}
 use Rattle.ill_read.specs.declared.element.Wrapped.{Wrapped}
 use Rattle.ill_read.proofs.DueRows.{due_in-found, items-at}
 

@@ -1,12 +1,12 @@
 -- What a decoder knows at the end of a message, and of octets that follow.
-use Rattle.std.proofs.Common.{◌≡◌, ◌≢◌, ℕ, ◌+◌, ◌<◌, ◌≤◌, List, [], ◌∷◌, ◌++◌, length, length-append, take, Option, Some, None, Err, IsTrue, refl, sym, ap, subst, ◌∙◌, inl, inr, arith, append_assoc}
+use Rattle.std.proofs.Common.{◌≡◌, ◌≢◌, ℕ, ◌+◌, ◌<◌, ◌≤◌, List, [], ◌∷◌, ◌++◌, length, length-append, take, Some, None, Err, IsTrue, refl, sym, ap, subst, ◌∙◌, inl, inr, arith, append_assoc}
 use Rattle.std.proofs.lemmas.List.{take-append-le}
 use Rattle.ber_core.specs.Octets.{are_octets}
 use Rattle.ber_leaf.specs.Profile.{profile_two}
 use Rattle.ill_schema.specs.declared.message.Message.{Message}
 use Rattle.ill_schema.specs.declared.refusal.Cause.{Cause}
 use Rattle.ill_schema.specs.declared.refusal.Refusal.{Refusal}
-use Rattle.ill_schema.specs.Apdu.{Apdu, Encodes, Accepts, normal_form}
+use Rattle.ill_schema.specs.Apdu.{Apdu, Encodes, Accepts}
 use Rattle.ill_schema.specs.Message.{apdu_of, octets_of}
 use Rattle.ill_read.specs.Fault.{Fault, fault, faulty, judge, Refuses}
 use Rattle.ill_read.specs.Feeding.{IsRead, IsPart, IsRefused, IsMessageOf, FinishAnswers, DecodeAnswers, StandsBefore, StandsLast, InState}

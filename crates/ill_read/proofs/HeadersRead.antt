@@ -1,5 +1,5 @@
 -- What headers, parts of them and faults of them say of octets that begin with them.
-use Rattle.std.proofs.Common.{◌≡◌, ◌⊎◌, ◌≤◌, ℕ, zero, suc, min, Bool, true, List, [], ◌∷◌, ◌++◌, length, take, arith, IsTrue, refl, sym, ap, subst, ◌∙◌, inl, inr, append_assoc, append-nil}
+use Rattle.std.proofs.Common.{◌≡◌, ◌⊎◌, ◌≤◌, ℕ, zero, suc, Bool, true, List, [], ◌∷◌, ◌++◌, length, take, arith, IsTrue, refl, sym, ap, subst, ◌∙◌, inl, inr, append_assoc, append-nil}
 use Rattle.ber_core.specs.declared.id.Id.{Id}
 use Rattle.ber_core.specs.declared.header.Header.{Header}
 use Rattle.ber_core.specs.declared.header.HeaderFault.TheVariants.{BadTag, BadLength}
@@ -7,10 +7,9 @@ use Rattle.ber_core.specs.declared.header.Len.{Len}
 use Rattle.ber_core.specs.declared.header.Len.TheVariants.{Definite, Indefinite}
 use Rattle.ber_core.specs.Header.{IsHeader, IsPartHeader, IsFault, HasWholeId, BeginsWithId, SpellsLen}
 use Rattle.ber_core.specs.Id.{tag_of_id, form_of_id, id_octets}
-use Rattle.ber_core.specs.Identifier.{Tag, identifier, HasIdentifier}
 use Rattle.ber_core.specs.Octets.{are_octets}
 use Rattle.ill_read.specs.HeaderCode.{IsWholeLength}
-use Rattle.ill_read.specs.Reading.{LengthRead, IdentifierRead, read_identifier, read_length, identified, no_identifier, part_identifier, definite, indefinite, no_length, part_length}
+use Rattle.ill_read.specs.Reading.{LengthRead, read_identifier, read_length, identified, no_identifier, part_identifier, definite, indefinite, no_length, part_length}
 use Rattle.ill_read.proofs.Heads.{bad_tag_read, bad_length_read, part_header_read}
 use Rattle.ill_read.proofs.Readings.{identifier_read, length_read, indefinite_read, identifier_longer, no_identifier_longer, no_length_longer, read_is_identifier}
 

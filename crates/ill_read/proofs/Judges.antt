@@ -1,5 +1,5 @@
 -- What the decoder judges at a place, part by part.
-use Rattle.std.proofs.Common.{◌≡◌, ℕ, ◌+◌, ◌-◌, ◌<◌, ◌≤◌, Bool, true, false, List, [], ◌∷◌, ◌++◌, length, take, drop, min, Option, Some, None, Result, Ok, Err, IfOk, IsTrue, refl, sym, ap, ap₂, subst, ◌∙◌, arith, take-append-drop, if◌then◌else◌, length-append, length-drop}
+use Rattle.std.proofs.Common.{◌≡◌, ℕ, ◌+◌, ◌-◌, ◌<◌, ◌≤◌, Bool, true, false, List, [], ◌∷◌, ◌++◌, length, take, drop, Option, Some, None, Result, Ok, Err, IfOk, IsTrue, refl, sym, ap, ap₂, subst, ◌∙◌, arith, take-append-drop, if◌then◌else◌, length-append, length-drop}
 use Rattle.std.specs.Prelude.{nat_le}
 use Rattle.std.proofs.lemmas.List.{take-append-le, drop-append-le}
 use Rattle.ber_core.specs.Id.{tag_of_id, form_of_id}
@@ -14,9 +14,9 @@ use Rattle.ill_schema.specs.declared.refusal.Refusal.{Refusal}
 use Rattle.ill_read.specs.Code.{element_is, found_is}
 use Rattle.ill_read.specs.DueCode.{IsDueIn, next_is}
 use Rattle.ill_read.specs.Element.{Element}
-use Rattle.ill_read.specs.Fault.{Fault, fault, Judgement, faulty, closes, opens, reads, element_fault, or_faulty, ends_at, wanting, judge_end, judge_size, judge_length, judge_form, judge_tag, judge_element, judge_octets, judge}
+use Rattle.ill_read.specs.Fault.{Fault, fault, Judgement, faulty, closes, reads, element_fault, or_faulty, ends_at, wanting, judge_end, judge_size, judge_length, judge_form, judge_tag, judge_element, judge_octets, judge}
 use Rattle.ill_read.specs.JudgeCode.{IsFormed, IsIdentified, judge_identified}
-use Rattle.ill_read.specs.Judged.{IsBegin, IsEnd, IsJudged, content_in, fault_is}
+use Rattle.ill_read.specs.Judged.{IsBegin, IsEnd, IsJudged, content_in}
 use Rattle.ill_read.specs.Next.{Due, due, element_of, missing}
 use Rattle.ill_read.specs.Place.{Open, next_in, bound, allows}
 use Rattle.ill_read.specs.Progress.{IsProgress}

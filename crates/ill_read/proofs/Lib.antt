@@ -40,3 +40,4 @@ pub mod Stepping
 pub mod Needing
 pub mod Filled
 pub mod ShortHeaders
+pub mod Bounds

@@ -1,9 +1,6 @@
 -- A machine that goes from place to place.
-use Rattle.std.proofs.Common.{◌≡◌, ℕ, zero, suc, ◌+◌, ◌*◌, List, [], ◌∷◌, length, drop, Option, refl, sym, ap, ◌∙◌, arith}
-use Rattle.ber_core.specs.Identifier.{Tag}
-use Rattle.ber_core.specs.Tree.{Tree, Trees, primitive, constructed, none, more}
+use Rattle.std.proofs.Common.{◌≡◌, ℕ, zero, suc, ◌+◌, ◌*◌, List, [], length, refl, sym, ap, ◌∙◌, arith}
 use Rattle.ber_leaf.specs.Profile.{Profile}
-use Rattle.ill_read.specs.Element.{Element}
 use Rattle.ill_read.specs.Place.{Open}
 use Rattle.ill_read.specs.Fault.{judge}
 use Rattle.ill_read.specs.Step.{Step, refused, goes, whole, stuck, moved}

@@ -1,7 +1,7 @@
 -- What a whole element means where it is due.
-use Rattle.std.proofs.Common.{◌≡◌, ◌⊎◌, ℕ, List, [], ◌∷◌, Option, Some, None, option_map, IsTrue, refl, sym, ap, subst, ◌∙◌, inl, inr, slice_get}
+use Rattle.std.proofs.Common.{◌≡◌, ◌⊎◌, ℕ, List, Option, Some, None, option_map, IsTrue, refl, sym, ap, subst, ◌∙◌, inl, inr}
 use Rattle.ber_core.specs.Identifier.{Tag}
-use Rattle.ber_core.specs.Tree.{Tree, Trees, constructed, none, more, tag_of, text}
+use Rattle.ber_core.specs.Tree.{Tree, constructed, none, more, tag_of, text}
 use Rattle.ber_leaf.specs.Leaf.{value}
 use Rattle.ber_leaf.specs.Profile.{profile_two}
 use Rattle.ill_schema.specs.declared.node.Kind.{Kind}
@@ -13,12 +13,11 @@ use Rattle.ill_schema.specs.Meaning.{Means}
 use Rattle.ill_schema.specs.Presence.{IsCarried}
 use Rattle.ill_schema.specs.Table.{kind_of, rows_of}
 use Rattle.ill_schema.specs.Tagging.{Tagging, Tagged, untagged, implicit, explicit, explicit_or_bare, tagging, leaf_of}
-use Rattle.ill_schema.proofs.Tags.{is_proper, is_proper_row, Mem, at_row, tables_proper}
+use Rattle.ill_schema.proofs.Tags.{is_proper, is_proper_row, at_row, tables_proper}
 use Rattle.ill_schema.proofs.Unique.{leaf_at, no_leaf}
-use Rattle.ill_schema.specs.TableFacts.{own_tags}
 use Rattle.ill_read.specs.Code.{component_at, element_with, found_is}
-use Rattle.ill_read.specs.DueCode.{Begins, IsRowStart, IsBegun, IsRowDue}
-use Rattle.ill_read.specs.Element.{Component, Element, Start, inner, left_out, starts, tagged_starts, component_starts}
+use Rattle.ill_read.specs.DueCode.{Begins, IsBegun, IsRowDue}
+use Rattle.ill_read.specs.Element.{Component, Element, Start, tagged_starts, component_starts}
 use Rattle.ill_read.specs.Standing.{IsValueOf, with_alternative}
 use Rattle.ill_read.specs.declared.element.Found.{Found}
 use Rattle.ill_read.proofs.Elements.{element_at, own_start, implicit_start, one_start, improper_choice, own_of, own_is, leaf_value, explicit_means, bare_kind, choice_starts, carried_starts, left_found, carried_or_left, left_starts, IsProperComponent, untagged_carried}

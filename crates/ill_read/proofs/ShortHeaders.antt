@@ -1,10 +1,10 @@
 -- Headers of two octets.
-use Rattle.std.proofs.Common.{◌≡◌, ◌≢◌, ℕ, suc, ◌+◌, ◌%◌, ◌<◌, ◌≤◌, min, Bool, false, true, List, [], ◌∷◌, length, drop, slice_index_or, refl, sym, ap, ap₂, subst, ◌∙◌, arith}
+use Rattle.std.proofs.Common.{◌≡◌, ◌≢◌, ℕ, ◌%◌, ◌<◌, ◌≤◌, min, Bool, false, true, List, [], ◌∷◌, length, drop, slice_index_or, refl, sym, ap, ap₂, ◌∙◌, arith}
 use Rattle.std.specs.Prelude.{nat_eq, nat_lt, nat_le}
 use Rattle.ber_core.specs.declared.id.Id.{Id}
 use Rattle.ber_core.specs.Id.{tag_of_id, form_of_id}
 use Rattle.ber_core.specs.Identifier.{Tag}
-use Rattle.ill_read.specs.Reading.{read_identifier, read_length, identified, definite, class_of, tagged}
+use Rattle.ill_read.specs.Reading.{read_identifier, read_length, identified, definite, class_of}
 
 abbrev first_tag : ℕ → Tag
 first_tag a = record { class = class_of a; number = a % 32 }

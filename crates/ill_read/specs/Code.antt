@@ -1,6 +1,5 @@
 -- What the decoder's types stand for.
-use Rattle.std.specs.Prelude.{◌≡◌, ℕ, ◌+◌, List, [], ◌∷◌, drop, find, flat_map, Option, Some, None, option_map}
-use Rattle.ber_core.specs.declared.id.Class.{Class}
+use Rattle.std.specs.Prelude.{List, [], ◌∷◌, find, flat_map, Option, Some, None, option_map}
 use Rattle.ber_core.specs.Identifier.{Tag}
 use Rattle.ber_leaf.specs.Profile.{profile_two}
 use Rattle.ill_schema.specs.declared.node.NodeId.{NodeId}

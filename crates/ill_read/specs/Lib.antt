@@ -20,3 +20,4 @@ pub mod JudgeCode
 pub mod Need
 pub mod Answers
 pub mod Filling
+pub mod Bounds

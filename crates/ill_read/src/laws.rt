@@ -1,5 +1,6 @@
 //! What holds of each input. Each law is the contract of a function that does nothing.
 ghost use Rattle.ber_leaf.specs.Profile.{Profile};
+ghost use Rattle.ill_read.specs.Bounds.{ValuesAreSmall};
 ghost use Rattle.ill_read.specs.Outcome.{HasOneOutcome, OutcomesAreExact, RefusalsStay, PrefixesAreTruncated, PlacesAreApart, FaultsAreLast};
 
 /// Each input is accepted as one APDU of one size, or refused with one fault.
@@ -17,4 +18,9 @@ pub fn refusals_stay()
 pub fn one_place()
     ensures apart { (p : Profile) → PlacesAreApart p }
     ensures last { (p : Profile) → FaultsAreLast p }
+{}
+
+/// The texts of an APDU have at most as many octets as its encoding, and its lists at most half as many items.
+pub fn values_are_small()
+    ensures { (p : Profile) → ValuesAreSmall p }
 {}

@@ -1,4 +1,4 @@
-use Rattle.std.proofs.Common.{◌<◌, ◌++◌, [], List, get_or, IsTrue, drop, sym, subst, arith}
+use Rattle.std.proofs.Common.{◌<◌, ◌++◌, [], get_or, IsTrue, drop, subst, arith}
 use Rattle.ber_core.specs.Octets.{are_octets}
 use Rattle.ber_leaf.proofs.Leaves.{octets_fit}
 use Rattle.ill_read.specs.Feeding.{IsRunning}

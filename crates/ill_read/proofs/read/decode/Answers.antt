@@ -1,4 +1,4 @@
-use Rattle.std.proofs.Common.{◌<◌, Ok, Err, None, Some, length, refl, sym, subst, ap, ◌∙◌, arith}
+use Rattle.std.proofs.Common.{Ok, Err, refl, sym, subst, arith}
 use Rattle.ill_read.specs.Feeding.{HasOutcome, DecodeAnswers}
 use Rattle.ill_read.proofs.Fed.{decode_fails, decode_short}
 use Rattle.ill_read.proofs.read.decode.Goals as goal

@@ -1,4 +1,4 @@
-use Rattle.std.proofs.Common.{◌≡◌, ℕ, ◌≤◌, List, [], ◌++◌, length, length-append, take, refl, inl, arith}
+use Rattle.std.proofs.Common.{◌≡◌, [], ◌++◌, length, length-append, take, refl, inl, arith}
 use Rattle.std.proofs.KnownBytes.{Consumes-trans, Consumes-kept}
 use Rattle.std.proofs.lemmas.List.{length-take, length-take-le, nil_from_length}
 use Rattle.ill_read.proofs.Filled.{full_closed}

@@ -1,5 +1,5 @@
-use Rattle.std.proofs.Common.{◌≡◌, ℕ, ◌≤◌, List, [], ◌++◌, length, length-append, take, refl, sym, ap, ◌∙◌, inl, arith, append_assoc, append-nil}
-use Rattle.std.proofs.KnownBytes.{Consumes-trans, Consumes-kept}
+use Rattle.std.proofs.Common.{◌≡◌, [], ◌++◌, length, length-append, take, sym, ap, ◌∙◌, inl, arith, append_assoc, append-nil}
+use Rattle.std.proofs.KnownBytes.{Consumes-trans}
 use Rattle.std.proofs.lemmas.List.{length-take, length-take-le, nil_from_length}
 use Rattle.ill_read.proofs.Filled.{full_closed}
 use Rattle.ill_read.proofs.read.fill_and_keep.Goals as goal

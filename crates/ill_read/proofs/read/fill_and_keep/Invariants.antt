@@ -1,4 +1,4 @@
-use Rattle.std.proofs.Common.{◌≡◌, ℕ, ◌+◌, ◌≤◌, List, ◌++◌, length, IsTrue}
+use Rattle.std.proofs.Common.{◌≡◌, ℕ, ◌+◌, List, ◌++◌, length, IsTrue}
 use Rattle.std.specs.Io.KnownBytes.{Consumes}
 use Rattle.ill_read.specs.Feeding.{IsFed}
 use Rattle.ill_read.specs.Filling.{NoneEndsWithin}

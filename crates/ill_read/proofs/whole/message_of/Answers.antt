@@ -1,6 +1,6 @@
-use Rattle.std.proofs.Common.{◌≡◌, ℕ, ◌+◌, ◌<◌, List, Option, Some, None, sym, ap, subst, ◌∙◌, length, arith}
+use Rattle.std.proofs.Common.{◌≡◌, ◌+◌, ◌<◌, Some, None, sym, ap, subst, ◌∙◌, length, arith}
 use Rattle.ber_leaf.specs.Profile.{profile_two}
-use Rattle.ill_schema.specs.Apdu.{Encodes, normal_form}
+use Rattle.ill_schema.specs.Apdu.{normal_form}
 use Rattle.ill_schema.specs.Fits.{Fits}
 use Rattle.ill_schema.specs.Names.{apdu_node_of}
 use Rattle.ill_schema.specs.Value.{apdu_with, content_of}

@@ -1,6 +1,6 @@
-use Rattle.std.proofs.Common.{◌≡◌, List, length, drop, take, ◌-◌, sym, subst, ap, ◌∙◌, arith}
+use Rattle.std.proofs.Common.{◌≡◌, length, drop, take, ◌-◌, sym, subst, ap, ◌∙◌, arith}
 use Rattle.std.proofs.lemmas.List.{length-drop}
-use Rattle.ill_read.specs.Feeding.{InState, StandsLast, HasStopped}
+use Rattle.ill_read.specs.Feeding.{HasStopped}
 use Rattle.ill_read.proofs.HeadersRead.{take-past}
 use Rattle.ill_read.proofs.decoder.Decoder.keep_behind.Goals as goal
 

@@ -1,4 +1,4 @@
-use Rattle.std.proofs.Common.{◌+◌, ◌≤◌, Ok, Err, drop, take, length, sym, subst, ap, ◌∙◌}
+use Rattle.std.proofs.Common.{◌+◌, ◌≤◌, Ok, drop, take, length, sym, subst, ap}
 use Rattle.ber_leaf.specs.Profile.{profile_two}
 use Rattle.ill_schema.specs.Apdu.{Encodes}
 use Rattle.ill_read.specs.Fault.{judge}

@@ -1,0 +1,53 @@
+-- How much an APDU's value holds beside the octets that spell it.
+use Rattle.std.specs.Prelude.{ℕ, ◌+◌, ◌*◌, ◌≤◌, List, length}
+use Rattle.ber_leaf.specs.Profile.{Profile}
+use Rattle.ber_leaf.specs.Simple.{Simple, flag, whole, date, time, printable, general, visible}
+use Rattle.ill_schema.specs.Apdu.{Apdu, Encodes}
+use Rattle.ill_schema.specs.Content.{Content, simple, sequence, list, alternative, Entries, no_entries, absent, present, Items, no_items, item}
+
+abbrev pub text_size : Simple → ℕ
+text_size (flag b) = 0
+text_size (whole n) = 0
+text_size (date octets) = length octets
+text_size (time octets) = length octets
+text_size (printable octets) = length octets
+text_size (general octets) = length octets
+text_size (visible octets) = length octets
+
+abbrev mutual
+  -- the octets of all texts
+  pub text_octets : Content → ℕ
+  text_octets (simple v) = text_size v
+  text_octets (sequence es) = entries_text es
+  text_octets (list is) = items_text is
+  text_octets (alternative n c) = text_octets c
+
+  pub entries_text : Entries → ℕ
+  entries_text no_entries = 0
+  entries_text (absent es) = entries_text es
+  entries_text (present c es) = text_octets c + entries_text es
+
+  pub items_text : Items → ℕ
+  items_text no_items = 0
+  items_text (item c is) = text_octets c + items_text is
+
+abbrev mutual
+  -- the items of all lists
+  pub list_items : Content → ℕ
+  list_items (simple v) = 0
+  list_items (sequence es) = entries_items es
+  list_items (list is) = items_items is
+  list_items (alternative n c) = list_items c
+
+  pub entries_items : Entries → ℕ
+  entries_items no_entries = 0
+  entries_items (absent es) = entries_items es
+  entries_items (present c es) = list_items c + entries_items es
+
+  pub items_items : Items → ℕ
+  items_items no_items = 0
+  items_items (item c is) = list_items c + 1 + items_items is
+
+-- the texts have at most as many octets as the encoding, and the lists half as many items
+abbrev pub ValuesAreSmall : Profile → Type 0
+ValuesAreSmall p = (a : Apdu) (b : List ℕ) → Encodes p a b → (text_octets a.body ≤ length b) × (2 * list_items a.body ≤ length b)
