@@ -182,9 +182,10 @@ fn a_broken_source_leaves_nothing(rt: HostRuntime) {
 }
 
 #[test]
-fn a_broken_sink_leaves_the_first_octets(rt: HostRuntime) {
+fn a_broken_sink_leaves_the_first_octets(rt: HostRuntime) -> Result<(), Fail> {
+    let indefinite = octets_of(rt.alloc(), INDEFINITE_HEX)?;
     for n in 0..33u32 {
-        let mut source = Pieces::new(LONG_FORM, 64, None);
+        let mut source = Pieces::new(&indefinite, 64, None);
         let mut sink: Room<64> = Room::new(64, Some(n as usize));
         let answer = normalise(rt.alloc(), &mut source, &mut sink);
         assert!(rt;
@@ -197,12 +198,23 @@ fn a_broken_sink_leaves_the_first_octets(rt: HostRuntime) {
         );
     }
     let mut source = Pieces::new(LONG_FORM, 64, None);
+    let mut sink: Room<64> = Room::new(64, Some(10));
+    assert!(rt;
+        normalise(rt.alloc(), &mut source, &mut sink) == Err(NormalFailure::WriteFault(10)),
+        "long-form-sink-broken"
+    );
+    assert!(rt;
+        EXPIRED.get(..10) == Some(sink.octets()),
+        "long-form-sink-broken"
+    );
+    let mut source = Pieces::new(LONG_FORM, 64, None);
     let mut sink: Room<64> = Room::new(7, None);
     assert!(rt;
         normalise(rt.alloc(), &mut source, &mut sink) == Ok(Some(33)),
         "sink-of-seven-octets-per-call"
     );
     assert!(rt; sink.octets() == EXPIRED, "sink-of-seven-octets-per-call");
+    Ok(())
 }
 
 #[test]
