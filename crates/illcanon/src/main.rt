@@ -4,6 +4,8 @@
 mod canonicalise;
 mod command_line;
 mod fault;
+#[cfg(test)]
+mod tests;
 
 use fault::Fault;
 use std::process::ExitCode;
