@@ -1,7 +1,7 @@
 -- The entries of a sequence grow row by row, the items of a list one by one.
 use Rattle.std.proofs.Common.{◌≡◌, ℕ, zero, suc, ◌+◌, ◌<◌, ◌≤◌, List, [], ◌∷◌, ◌++◌, take, drop, map, Option, Some, None, refl, sym, ap, subst, ◌∙◌, inl, inr, arith, slice_get, append_assoc}
 use Rattle.std.specs.Prelude.{option_map}
-use Rattle.std.proofs.lemmas.List.{map-append}
+use Rattle.std.proofs.lemmas.List.{map-append, take-append-drop}
 use Rattle.ber_core.specs.Tree.{Tree, Trees, none, more}
 use Rattle.ber_leaf.specs.Profile.{profile_two}
 use Rattle.ill_schema.specs.declared.node.NodeId.{NodeId}
@@ -21,7 +21,7 @@ use Rattle.ill_read.specs.Next.{rows, missing, first_mandatory}
 use Rattle.ill_read.specs.Standing.{absent_content}
 use Rattle.ill_read.specs.Step.{snoc}
 use Rattle.ill_read.proofs.Openings.{same_simple, first_none}
-use Rattle.ill_read.proofs.Running.{joined}
+use Rattle.ill_read.proofs.Running.{joined, joined-none}
 
 -- an entry of a part of a list
 between : {X : Type 0} (xs : List X) (n r k : ℕ) (x : X) → slice_get (drop n (take r xs)) k ≡ Some x → (n + k < r) × (slice_get xs (n + k) ≡ Some x)
@@ -122,15 +122,6 @@ none_missing node k zero (r ∷ rs) h zero row e must =
 none_missing node k zero (r ∷ rs) h (suc i) row e must = none_missing node (k + 1) zero rs ((first_none (component_at (record { node = node; row = k }) r) (components_from profile_two node (k + 1) rs) h).1) i row e must
 none_missing node k (suc n) (r ∷ rs) h i row e must = none_missing node (k + 1) n rs h i row e must
 
-joined_nothing : (ts : Trees) → joined ts none ≡ ts
-joined_nothing none = refl
-joined_nothing (more U ts) = ap (more U) (joined_nothing ts)
-
-rows_split : {X : Type 0} (xs : List X) (n : ℕ) → take n xs ++ drop n xs ≡ xs
-rows_split xs zero = refl
-rows_split [] (suc n) = refl
-rows_split (x ∷ xs) (suc n) = ap (λ z. x ∷ z) (rows_split xs n)
-
 -- a sequence ends, where the rows left may be absent
 pub rows_ended : (node : NodeId) (n : ℕ) (held passed : List (Option Value)) (ts : Trees) → missing profile_two (rows (drop n (components profile_two node))) ≡ None
     → Matches profile_two (entries_content held) (take n (rows_of node)) ts → map (option_map content_of) passed ≡ map absent_content (drop n (rows_of node))
@@ -140,8 +131,8 @@ rows_ended node n held passed ts none_left h e =
     let rest = drop n (rows_of node) in
     let all = matches_joined (map f held) (map absent_content rest) (take n (rows_of node)) rest ts none h (lacking_matches rest (none_missing node 0 n (rows_of node) none_left)) in
     subst (λ es. Matches profile_two (entries_of es) (rows_of node) ts) (sym (map-append f held passed ∙ ap (λ z. map f held ++ z) e))
-    (subst (λ us. Matches profile_two (entries_of (map f held ++ map absent_content rest)) (rows_of node) us) (joined_nothing ts)
-    (subst (λ xs. Matches profile_two (entries_of (map f held ++ map absent_content rest)) xs (joined ts none)) (rows_split (rows_of node) n) all))
+    (subst (λ us. Matches profile_two (entries_of (map f held ++ map absent_content rest)) (rows_of node) us) (joined-none ts)
+    (subst (λ xs. Matches profile_two (entries_of (map f held ++ map absent_content rest)) xs (joined ts none)) (take-append-drop n (rows_of node)) all))
 
 items_joined : (cs : List Content) (c : Content) (rs : List Row) (row : Row) (ts : Trees) (T : Tree) → slice_get rs 0 ≡ Some row → Means profile_two c row.node (tagging profile_two row) T
     → MatchItems profile_two (items_of cs) rs ts → MatchItems profile_two (items_of (cs ++ c ∷ [])) rs (snoc ts T)

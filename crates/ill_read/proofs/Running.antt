@@ -23,7 +23,7 @@ joined-snoc : (ts us : Trees) (T : Tree) → joined (snoc ts T) us ≡ joined ts
 joined-snoc none us T = refl
 joined-snoc (more U ts) us T = ap (more U) (joined-snoc ts us T)
 
-joined-none : (ts : Trees) → joined ts none ≡ ts
+pub joined-none : (ts : Trees) → joined ts none ≡ ts
 joined-none none = refl
 joined-none (more U ts) = ap (more U) (joined-none ts)
 
