@@ -3,7 +3,7 @@ use Rattle.std.proofs.Common.{◌≡◌, ◌≢◌, ◌⊎◌, ℕ, ◌+◌, ◌
 use Rattle.std.specs.Prelude.{IfNone, IfSome}
 use Rattle.std.specs.Io.KnownBytes.{Consumes, IsAtEnd}
 use Rattle.std.proofs.lemmas.Bool.{cases_lt}
-use Rattle.std.proofs.lemmas.List.{nil_from_length}
+use Rattle.std.proofs.lemmas.List.{nil_from_length, take_all}
 use Rattle.ber_core.specs.Octets.{are_octets}
 use Rattle.ber_leaf.specs.Profile.{profile_two}
 use Rattle.ill_schema.specs.declared.message.Message.{Message}
@@ -55,19 +55,12 @@ pulled_ended d new after need wanted stays some none end = elim (cases_lt 0 want
 pub full_closed : (d : Decoder) (s : List ℕ) → IsFed d s → 1_048_576 ≤ length s → d.state ≢ state.Open
 full_closed d s h le e = let small = (last_size d.path d.at s d.pending.items (stands d s h e)).1 in omega arith
 
-take-whole : (s : List ℕ) (n : ℕ) → n ≡ length s → take n s ≡ s
-take-whole s n e = ap (λ k. take k s) e ∙ go s
-  where
-    go : (s : List ℕ) → take (length s) s ≡ s
-    go [] = refl
-    go (x ∷ s) = ap (λ z. x ∷ z) (go s)
-
 -- a message that is read of octets within which none ends is spelled by all of them
 pub spelled_by : (m : Message) (b : List ℕ) → IsRead b m → NoneEndsWithin b → IsSpelled m b
 spelled_by m b h none =
     let le = h.0.0 in let far = none (apdu_of m) (octets_of m) h.0 in
     let e : octets_of m ≡ length b = omega arith in
-    record { spells = subst (SpellsApdu profile_two (apdu_of m)) (take-whole b (octets_of m) e) h.0.1; octets = e }
+    record { spells = subst (SpellsApdu profile_two (apdu_of m)) (take_all (octets_of m) b (omega (arith, e))) h.0.1; octets = e }
 
 -- all that was left is what the decoder answers for: nothing is open any more, or nothing is left
 fed_all : (left after : Option (List ℕ)) (d : Decoder) (s : List ℕ) → left ≡ Some s → HasFilled left after d → IsFed d s

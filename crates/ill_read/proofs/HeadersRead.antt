@@ -110,9 +110,3 @@ part_length_read w id ok part begins =
           let rest : q.2 ≡ begins.0 = cc in
           (begins.0, is, ap (λ r. read_length (form_of_id id) r) (sym rest) ∙ ap (λ f. read_length f q.2) (sym form) ∙ q.4)
     ]
-
-pub take-past : (n : ℕ) (w : List ℕ) → length w ≤ n → take n w ≡ w
-take-past zero [] h = refl
-take-past (suc n) [] h = refl
-take-past zero (a ∷ w) h = absurd (omega arith)
-take-past (suc n) (a ∷ w) h = ap (λ z. a ∷ z) (take-past n w (omega arith))

@@ -1,6 +1,6 @@
 -- The entries that are held, as rows are passed and values come and go.
 use Rattle.std.proofs.Common.{◌≡◌, ℕ, zero, suc, ◌+◌, ◌≤◌, List, [], ◌∷◌, ◌++◌, length, take, drop, map, Option, Some, None, refl, sym, ap, ap₂, ◌∙◌, arith, slice_get, option_map, append_assoc, append-nil, length-append, min, subst, Global}
-use Rattle.std.proofs.lemmas.List.{take_at, drop_at}
+use Rattle.std.proofs.lemmas.List.{take_at, drop_at, map-append}
 use Rattle.std.specs.Iterator.{Yields}
 use Rattle.std.specs.Vec.Iter.{into_iter_items, into_iter_len, into_iter_steps}
 use Rattle.std.specs.declared.vec.IntoIter.{IntoIter}
@@ -42,10 +42,6 @@ take-past zero [] e = refl
 take-past (suc n) [] e = refl
 take-past zero (r ∷ rows) e = absurd cc
 take-past (suc n) (r ∷ rows) e = ap (λ xs. r ∷ xs) (take-past n rows e)
-
-pub map-append : (f : Option Value → Option Content) (xs ys : List (Option Value)) → map f (xs ++ ys) ≡ map f xs ++ map f ys
-map-append f [] ys = refl
-map-append f (x ∷ xs) ys = ap (λ zs. f x ∷ zs) (map-append f xs ys)
 
 rows-append : (f : Row → Option Content) (xs ys : List Row) → map f (xs ++ ys) ≡ map f xs ++ map f ys
 rows-append f [] ys = refl

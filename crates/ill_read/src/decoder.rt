@@ -38,7 +38,7 @@ enum State {
 }
 
 impl Decoder {
-    ghost use Rattle.std.specs.Prelude.{◌≡◌, ◌≢◌, ℕ, ◌+◌, ◌-◌, ◌*◌, ◌<◌, List, [], ◌++◌, length, drop, take, IfSome, OnSome, IsTrue};
+    ghost use Rattle.std.specs.Prelude.{◌≡◌, ◌≢◌, ℕ, ◌+◌, ◌-◌, ◌*◌, ◌<◌, List, [], ◌++◌, length, drop, take, IfSome, OnSome, IsTrue, Err};
     ghost use Rattle.ber_leaf.specs.Profile.{profile_two};
     ghost use Rattle.ill_schema.specs.Apdu.{Apdu, Accepts, Encodes};
     ghost use Rattle.ber_core.specs.Octets.{are_octets};
@@ -83,6 +83,7 @@ impl Decoder {
         ensures answers { (fed : List ℕ) → IsFed self.old fed → FeedAnswers (fed ++ piece.now) result }
         ensures octets { IsTrue (are_octets piece.now) }
         ensures stays { self.old.state ≢ State.Open → self.new ≡ self.old }
+        ensures again { (failure : Failure) → self.old.state ≡ State.Failed failure → result ≡ Err failure }
     {
         self.take(piece);
         match &self.state {

@@ -1,12 +1,12 @@
 use Rattle.std.proofs.Common.{◌≡◌, ◌<◌, ◌+◌, [], ◌∷◌, ◌++◌, take, drop, get_or, Option, Ok, IsTrue, IsNone, refl, sym, ap, subst, ◌∙◌, arith, take-append-drop}
-use Rattle.std.proofs.lemmas.List.{take_more}
+use Rattle.std.proofs.lemmas.List.{take_more, take_all}
 use Rattle.ber_core.specs.declared.header.Header.{Header}
 use Rattle.ber_core.specs.declared.header.HeaderFault.{HeaderFault}
 use Rattle.ber_core.specs.Header.{Judged, IsFault, IsPartHeader, HasWholeId, BeginsWithId}
 use Rattle.ber_core.specs.HeaderState.{Fed}
 use Rattle.ber_core.specs.Octets.{are_octets}
 use Rattle.ber_leaf.proofs.Leaves.{octets_fit}
-use Rattle.ill_read.proofs.HeadersRead.{whole_header_read, no_identifier_read, no_length_read, part_identifier_read, part_length_read, take-past}
+use Rattle.ill_read.proofs.HeadersRead.{whole_header_read, no_identifier_read, no_length_read, part_identifier_read, part_length_read}
 use Rattle.ill_read.proofs.Readings.{octets_left}
 use Rattle.ill_read.proofs.header.read_any.Goals as goal
 
@@ -57,14 +57,14 @@ pub returns-in-None-id : goal.returns-in-None-id
 returns-in-None-id c =
     let w = c.args.octets.now in
     let ok : IsTrue (are_octets w) = octets_fit w (λ k. let h : get_or w k 0 < 256 = omega (arith, c.type_inv.octets k) in h) in
-    let all : take c.loop-i.i w ≡ w = take-past c.loop-i.i w c.loop-i-test.false in
+    let all : take c.loop-i.i w ≡ w = take_all c.loop-i.i w c.loop-i-test.false in
     part_identifier_read w ok (subst IsPartHeader all c.loop-i.invariant.2) (subst (λ b. HasWholeId b → ⊥) all (c.in-None-id.ensures (take c.loop-i.i w) c.loop-i.invariant.1))
 
 pub returns-in-Some-id : goal.returns-in-Some-id
 returns-in-Some-id c =
     let w = c.args.octets.now in
     let ok : IsTrue (are_octets w) = octets_fit w (λ k. let h : get_or w k 0 < 256 = omega (arith, c.type_inv.octets k) in h) in
-    let all : take c.loop-i.i w ≡ w = take-past c.loop-i.i w c.loop-i-test.false in
+    let all : take c.loop-i.i w ≡ w = take_all c.loop-i.i w c.loop-i-test.false in
     let part : IsPartHeader w = subst IsPartHeader all c.loop-i.invariant.2 in
     let fed : Fed c.loop-i.state w = subst (Fed c.loop-i.state) all c.loop-i.invariant.1 in
     let begins : BeginsWithId c.in-Some-id.id w = subst (BeginsWithId c.in-Some-id.id) all (c.in-Some-id.ensures (take c.loop-i.i w) c.loop-i.invariant.1) in

@@ -1,11 +1,10 @@
 use Rattle.std.proofs.Common.{◌≡◌, ◌<◌, ◌-◌, ◌++◌, [], drop, take, length, get_or, Vec, Global, ℕ, IsTrue, true, false, sym, subst, ap, ◌∙◌, arith}
-use Rattle.std.proofs.lemmas.List.{length-drop, nil_from_length}
+use Rattle.std.proofs.lemmas.List.{length-drop, nil_from_length, take_all}
 use Rattle.ber_core.specs.Octets.{are_octets}
 use Rattle.ber_leaf.proofs.Leaves.{octets_fit}
 use Rattle.ill_read.specs.Feeding.{HasStopped, InState, IsRunning, StandsBefore}
 use Rattle.ill_read.specs.declared.decoder.State.TheVariants.{Open}
 use Rattle.ill_read.proofs.Fed.{running_longer, ended_longer}
-use Rattle.ill_read.proofs.HeadersRead.{take-past}
 use Rattle.ill_read.proofs.decoder.Decoder.take.Goals as goal
 use Rattle.ill_read.proofs.decoder.Decoder.take.Goals.{in-Open, in_default}
 
@@ -27,7 +26,7 @@ returns-then-is_empty-clause-fed c fed h =
     let running = running_longer d.state d.path d.at fed d.pending.items piece ok h in
     let none : d.pending.items ≡ [] = nil_from_length d.pending.items (grind (arith, c.is_empty.ensures, c.if-is_empty.true)) in
     let from : IsRunning d (fed ++ piece) piece = subst (λ z. IsRunning d (fed ++ piece) (z ++ piece)) none running in
-    let whole : take (length piece - n) (drop n piece) ≡ drop n piece = take-past (length piece - n) (drop n piece) (omega (arith, length-drop n piece)) in
+    let whole : take (length piece - n) (drop n piece) ≡ drop n piece = take_all (length piece - n) (drop n piece) (omega (arith, length-drop n piece)) in
     c.keep.ensures (fed ++ piece) (subst (HasStopped c.run-count.new.self (fed ++ piece)) (sym whole) (c.run-count.ensures.stopped (fed ++ piece) from))
 
 pub returns-in-Ok-clause-fed : goal.returns-in-Ok-clause-fed
