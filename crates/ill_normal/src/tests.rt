@@ -1,15 +1,17 @@
 mod check;
 mod compare;
 mod rows;
+mod sips;
 mod stream;
 
 use crate::{
-    Cause, NodeId, NormalFailure, PartId, Pieces, Refusal, Room, Source, ToWrite, apdu_name,
+    Cause, NodeId, NormalFailure, PartId, Pieces, Refusal, Room, Source, apdu_name,
     decode, normal_form_is_accepted, normal_form_is_its_own,
     normal_forms_are_equal_exactly_if_apdus_are, normalise, one_prefix_is_accepted,
     one_refusal_of_a_slice, read_message,
 };
 use rows::ROWS;
+use sips::Sips;
 use std::alloc::{AllocError, Global};
 use std::test::Fail;
 
@@ -62,13 +64,21 @@ fn octets_of(alloc: Global, pieces: &str) -> Result<Vec<u8>, AllocError> {
 }
 
 /// The normal form of the first message, with as many octets a call at most.
-fn normal_form(alloc: Global, octets: &[u8], per_call: usize) -> Result<Vec<u8>, Fail> {
-    let mut source = Pieces::new(octets, per_call.max(1), None);
-    let mut written = Vec::new(alloc);
-    let mut sink = ToWrite::new(&mut written);
+fn normal_form(
+    alloc: Global,
+    octets: &[u8],
+    read_per_call: usize,
+    written_per_call: usize,
+) -> Result<Vec<u8>, Fail> {
+    let mut source = Pieces::new(octets, read_per_call.max(1), None);
+    let mut sink = Sips {
+        octets: Vec::new(alloc),
+        per_call: written_per_call,
+        broken: false,
+    };
     match normalise(alloc, &mut source, &mut sink) {
-        Ok(_) => Ok(written),
-        Err(_) => Err(Fail::from("not normalised")),
+        Ok(Some(size)) if size as usize == sink.octets.len() => Ok(sink.octets),
+        _ => Err(Fail::from("not normalised")),
     }
 }
 
@@ -80,11 +90,8 @@ fn normalises_each_row(rt: HostRuntime) -> Result<(), Fail> {
         let (pieces, want) = row.split_once('|').ok_or("no normal form")?;
         let octets = octets_of(alloc, pieces)?;
         let want = octets_of(alloc, if want == "=" { pieces } else { want })?;
-        for per_call in [1, 4096] {
-            if octets.len() > 4096 && per_call == 1 {
-                continue;
-            }
-            let found = normal_form(alloc, &octets, per_call)?;
+        for (read, written) in [(1, 1), (7, 7), (4096, 4096)] {
+            let found = normal_form(alloc, &octets, read, written)?;
             assert!(rt; found.as_slice() == want.as_slice(), "{name}");
         }
     }
@@ -167,20 +174,22 @@ fn octets_behind_the_message_are_not_read(rt: HostRuntime) {
 }
 
 #[test]
-fn a_broken_source_leaves_nothing(rt: HostRuntime) {
-    let mut source = Pieces::new(LONG_FORM, 64, Some(5));
-    let mut sink: Room<64> = Room::new(64, None);
-    let answer = normalise(rt.alloc(), &mut source, &mut sink);
-    assert!(rt;
-        answer == Err(NormalFailure::ReadFault),
-        "long-form-source-broken"
-    );
-    assert!(rt;
-        source.broken() && sink.octets().is_empty(),
-        "long-form-source-broken"
-    );
+fn a_broken_source_leaves_nothing(rt: HostRuntime) -> Result<(), Fail> {
+    let indefinite = octets_of(rt.alloc(), INDEFINITE_HEX)?;
+    for (name, octets) in [
+        ("source-broken-after-five", indefinite.as_slice()),
+        ("long-form-source-broken", LONG_FORM),
+    ] {
+        let mut source = Pieces::new(octets, 64, Some(5));
+        let mut sink: Room<64> = Room::new(64, None);
+        let answer = normalise(rt.alloc(), &mut source, &mut sink);
+        assert!(rt; answer == Err(NormalFailure::ReadFault), "{name}");
+        assert!(rt; source.broken() && sink.octets().is_empty(), "{name}");
+    }
+    Ok(())
 }
 
+/// Among them `sink-broken-after-ten`.
 #[test]
 fn a_broken_sink_leaves_the_first_octets(rt: HostRuntime) -> Result<(), Fail> {
     let indefinite = octets_of(rt.alloc(), INDEFINITE_HEX)?;
