@@ -3,6 +3,8 @@ ghost use Rattle.std.specs.Prelude.{◌≡◌, ◌≤◌};
 
 use crate::due::{Next, Slot};
 use crate::element::Element;
+use crate::leaf_type::LeafType;
+use ill_schema::NodeId;
 
 /// An open element: a constructed one whose header has been read.
 #[derive(Clone, Copy, Debug)]
@@ -39,14 +41,14 @@ impl Frame {
     }
 }
 
-/// Fills the places where no element is open.
+/// Fills the places where no element is open. Each field is the first of its type, so that 32 frames are cleared at once.
 impl Default for Frame {
     fn default() -> Frame {
         Frame {
-            element: Element::Segment,
-            slot: Slot::Segment,
+            element: Element::Leaf(LeafType::Boolean),
+            slot: Slot::Row(0),
             alternative: None,
-            next: Next::Nothing,
+            next: Next::Rows(NodeId::Boolean, 0),
             start: 0,
             end: None,
             bound: 0,
