@@ -103,6 +103,7 @@ fn inner_start(wrapped: Wrapped, id: Id) -> Option<Begun>
 }
 
 /// What a row with a tag, or of another kind than a choice, is by the tag.
+#[inline(always)]
 fn own_start(part: PartId, row: Row, id: Id) -> Option<Begun>
     ensures { MatchOption result (element_with (tag_of_id id) (component_starts (component_at part row)) ≡ None)
         (λ begun. (begun.alternative ≡ None) × (element_with (tag_of_id id) (component_starts (component_at part row)) ≡ Some (found_is begun.found))) }
@@ -115,6 +116,7 @@ fn own_start(part: PartId, row: Row, id: Id) -> Option<Begun>
 }
 
 /// What a row is by the tag.
+#[inline(always)]
 fn row_start(part: PartId, row: Row, id: Id) -> Option<Begun>
     ensures { MatchOption result (element_with (tag_of_id id) (starts profile_two (component_at part row)) ≡ None)
         (λ begun. IsBegun (tag_of_id id) (component_at part row) begun.alternative begun.found) }
@@ -126,6 +128,7 @@ fn row_start(part: PartId, row: Row, id: Id) -> Option<Begun>
 }
 
 /// What a row without a tag is by the tag.
+#[inline(always)]
 fn untagged_start(part: PartId, row: Row, id: Id) -> Option<Begun>
     requires { tagging profile_two row ≡ untagged }
     ensures { MatchOption result (element_with (tag_of_id id) (starts profile_two (component_at part row)) ≡ None)
@@ -145,6 +148,7 @@ fn is_mandatory(row: Row) -> bool
 }
 
 /// What is due in a sequence from a row on: a row is if each row before it may be absent.
+#[inline(always)]
 fn due_row(node: NodeId, position: u8, id: Id) -> Option<Due>
     ensures { MatchOption result (due_in profile_two (tag_of_id id) (drop position (components profile_two node)) ≡ None)
         (λ due. IsDueInRows (tag_of_id id) node position due) }
@@ -185,6 +189,7 @@ fn first_mandatory(node: NodeId, position: u8) -> Option<PartId>
 }
 
 /// What is due in a wrapper without elements.
+#[inline(always)]
 fn due_inner(wrapped: Wrapped, id: Id) -> Option<Due>
     ensures { MatchOption result (due profile_two (tag_of_id id) (next_is (Next.Inner wrapped)) ≡ None) (λ due. IsInnerDue (tag_of_id id) wrapped due) }
 {

@@ -186,6 +186,7 @@ fn retagged_element(node: NodeId) -> Option<Element>
 }
 
 /// The element of a row under its tag.
+#[inline(always)]
 fn tagged_element(part: PartId, row: Row, id: Id) -> Option<Element>
     ensures { option_map element_is result ≡ element_with (tag_of_id id) (tagged_starts (tagging profile_two row) (component_at part row)) }
 {
@@ -220,6 +221,7 @@ fn tagged_element(part: PartId, row: Row, id: Id) -> Option<Element>
 }
 
 /// What a row is by the tag, a choice without a tag of its own being nothing.
+#[inline(always)]
 pub fn component_element(part: PartId, row: Row, id: Id) -> Option<Found>
     ensures { option_map found_is result ≡ element_with (tag_of_id id) (component_starts (component_at part row)) }
 {

@@ -157,6 +157,7 @@ impl Path {
     }
 
     /// The innermost element ends: is a part of it missing?
+    #[inline(always)]
     fn judge_end(&self, at: u32, marks: u32) -> Result<Judgement, Refusal>
         requires { 0 < depth_of self.now }
         ensures closes { IfOk result (λ judgement. judgement ≡ Judgement.Closes marks) }
