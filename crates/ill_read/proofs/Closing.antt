@@ -1,4 +1,5 @@
 -- The innermost element closes.
+use Rattle.std.specs.Prelude.{⊤}
 use Rattle.std.proofs.Common.{◌≡◌, ℕ, ◌+◌, ◌-◌, List, [], ◌∷◌, ◌++◌, length, length-append, take, drop, append-nil, Option, Some, None, Result, Ok, Err, sym, ap, ap₂, subst, ◌∙◌, arith, slice_get}
 use Rattle.std.proofs.lemmas.List.{take_at}
 use Rattle.std.specs.Result.{IsErrAnd}
@@ -13,7 +14,7 @@ use Rattle.ill_read.specs.DueCode.{IsDueIn}
 use Rattle.ill_read.specs.Element.{segment}
 use Rattle.ill_read.specs.Next.{missing}
 use Rattle.ill_read.specs.Fault.{Judgement, closes, fault, element_fault, or_faulty}
-use Rattle.ill_read.specs.Judged.{IsEnd, IsStep}
+use Rattle.ill_read.specs.Judged.{IsEnd, IsStep, with_body}
 use Rattle.ill_read.specs.Place.{Open, next_in}
 use Rattle.ill_read.specs.Standing.{next_at, text_so_far, IsHeld, IsFrame, IsValueOf, AreFrames, StandsAt}
 use Rattle.ill_read.specs.Step.{moved, refused, with_tree}
@@ -151,6 +152,6 @@ value_there old shorter middle f place marks j stands end short ends =
     h.ended
 
 -- a failure is handed on
-pub handed_on : (P : Result (Option Body) Failure → Type 0) (r : Result (Option Body) Failure) (failure : Failure) → IsErrAnd r (λ e. e ≡ failure) → P (Err failure) → P r
-handed_on P (Ok x) failure h p = absurd h
-handed_on P (Err e) failure h p = subst (λ x. P (Err x)) (sym h) p
+pub handed_on : (P : Result (Option Body) Failure → Type 0) (r : Result ⊤ Failure) (body : Option Body) (failure : Failure) → IsErrAnd r (λ e. e ≡ failure) → P (Err failure) → P (with_body r body)
+handed_on P (Ok x) body failure h p = absurd h
+handed_on P (Err e) body failure h p = subst (λ x. P (Err x)) (sym h) p

@@ -1,5 +1,5 @@
 -- What the decoder judges at a place, and where a step leads, in the words of the definitions.
-use Rattle.std.specs.Prelude.{◌≡◌, ℕ, ◌<◌, Bool, true, false, List, ◌∷◌, length, take, drop, Option, Some, None, Result, Ok, Err}
+use Rattle.std.specs.Prelude.{◌≡◌, ⊤, ℕ, ◌<◌, Bool, true, false, List, ◌∷◌, length, take, drop, Option, Some, None, Result, Ok, Err}
 use Rattle.ber_core.specs.Identifier.{Tag}
 use Rattle.ber_core.specs.Tree.{Tree, text_all}
 use Rattle.ber_leaf.specs.Profile.{profile_two}
@@ -69,6 +69,11 @@ IsStep path (Ok (Some body)) (whole T n) = IsBody body T
 IsStep path (Err (Failure.Refused refusal)) (refused f) = f ≡ fault_is refusal
 IsStep path (Err Failure.OutOfMemory) st = Unit {0}
 IsStep _ _ _ = ⊥
+
+-- what a step answers, with the body of a message that is whole
+abbrev pub with_body : Result ⊤ Failure → Option Body → Result (Option Body) Failure
+with_body (Ok _) body = Ok body
+with_body (Err failure) body = Err failure
 
 -- at whatever place the path stands, it judges as the definitions do
 abbrev pub JudgesExactly : Path → ℕ → List ℕ → Result CodeJudgement Refusal → Type 0

@@ -194,10 +194,14 @@ impl Decoder {
         ensures goes { (s : List ℕ) → CanStep self.old s rest.now judgement → HasAdvanced self.new s rest.now result }
     {
         let size = judgement.size() as usize;
-        match self.path.step(judgement, self.at, &rest[..size]) {
-            Ok(body) => {
+        let mut whole = None;
+        match self
+            .path
+            .step(judgement, self.at, &rest[..size], &mut whole)
+        {
+            Ok(()) => {
                 self.at += size as u32;
-                if let Some(body) = body {
+                if let Some(body) = whole {
                     self.finish_body(body);
                 }
                 Some(size)

@@ -53,7 +53,7 @@ pub struct Body {
 impl Path {
     ghost use Rattle.std.specs.Prelude.{◌+◌, ◌-◌, ◌<◌, ◌↔◌, [], IsNone, slice_get};
     ghost use Rattle.ill_read.specs.Progress.{depth_of, StepsTo, IsProgress};
-    ghost use Rattle.ill_read.specs.Judged.{StepsExactly};
+    ghost use Rattle.ill_read.specs.Judged.{StepsExactly, with_body};
     ghost use Rattle.ill_read.specs.Standing.{next_at, StandsAt};
     ghost use Rattle.ill_read.specs.Stepping.{EndsExactly, DeliversExactly, ClosesExactly, OpensExactly, ReadsExactly};
     ghost use Rattle.std.specs.Prelude.{IsTrue};
@@ -151,26 +151,28 @@ impl Path {
         }
     }
 
-    /// Does what was judged at this offset, with the octets that it takes; of a whole message, answers its body.
+    /// Does what was judged at this offset, with the octets that it takes; of a whole message, gives its body to `whole`.
     pub fn step(
         &mut self,
         judgement: Judgement,
         at: u32,
         octets: &[u8],
-    ) -> Result<Option<Body>, Failure>
-        requires { IsProgress (depth_of self.old) (length octets.now) judgement }
-        ensures exact { StepsExactly self.old judgement at octets.now self.new result }
+        whole: &mut Option<Body>,
+    ) -> Result<(), Failure>
+        requires progress { IsProgress (depth_of self.old) (length octets.now) judgement }
+        requires none { whole.old ≡ None }
+        ensures exact { StepsExactly self.old judgement at octets.now self.new (with_body result whole.new) }
         ensures depth { IfOk result (λ _. StepsTo judgement (depth_of self.old) (depth_of self.new)) }
     {
         match judgement {
-            Judgement::Closes(_) => self.close(),
+            Judgement::Closes(_) => self.close(whole),
             Judgement::Opens(opening) => {
                 self.open(opening, at);
-                Ok(None)
+                Ok(())
             }
             Judgement::Reads(reading) => {
                 let header = (reading.header as usize).min(octets.len());
-                self.take(reading, at, &octets[header..])
+                self.take(reading, at, &octets[header..], whole)
             }
         }
     }
@@ -209,35 +211,38 @@ impl Path {
         reading: Reading,
         start: u32,
         content: &[u8],
-    ) -> Result<Option<Body>, Failure>
-        ensures exact { ReadsExactly self.old reading start content.now self.new result }
+        whole: &mut Option<Body>,
+    ) -> Result<(), Failure>
+        requires { whole.old ≡ None }
+        ensures exact { ReadsExactly self.old reading start content.now self.new (with_body result whole.new) }
         ensures depth { depth_of self.new ≡ depth_of self.old }
     {
         match reading.element {
             Element::Leaf(leaf) => {
                 let value = leaf_value(self.alloc, leaf, start, content)?;
-                self.deliver(reading.slot, reading.alternative, value)
+                self.deliver(reading.slot, reading.alternative, value, whole)
             }
             _ => {
                 self.text.extend_from_slice(content)?;
-                Ok(None)
+                Ok(())
             }
         }
     }
 
     /// Closes the innermost element, in which nothing is missing.
-    fn close(&mut self) -> Result<Option<Body>, Failure>
-        requires { 0 < depth_of self.old }
-        ensures exact { ClosesExactly self.old self.new result }
+    fn close(&mut self, whole: &mut Option<Body>) -> Result<(), Failure>
+        requires open { 0 < depth_of self.old }
+        requires none { whole.old ≡ None }
+        ensures exact { ClosesExactly self.old self.new (with_body result whole.new) }
         ensures depth { depth_of self.new + 1 ≡ depth_of self.old }
     {
         let frame = self.frames.pop().unwrap();
         if let Element::Segment = frame.element {
-            return Ok(None);
+            return Ok(());
         }
         match self.end_value(frame)? {
-            Some(value) => self.deliver(frame.slot, frame.alternative, value),
-            None => Ok(None),
+            Some(value) => self.deliver(frame.slot, frame.alternative, value, whole),
+            None => Ok(()),
         }
     }
 
@@ -262,26 +267,29 @@ impl Path {
         }
     }
 
-    /// Puts a value where it belongs in the element round it; of a whole message, gives it back.
+    /// Puts a value where it belongs in the element round it; that of a whole message goes to `whole`.
     fn deliver(
         &mut self,
         slot: Slot,
         alternative: Option<u8>,
         value: Value,
-    ) -> Result<Option<Body>, Failure>
-        ensures exact { DeliversExactly self.old slot alternative value self.new result }
+        whole: &mut Option<Body>,
+    ) -> Result<(), Failure>
+        requires { whole.old ≡ None }
+        ensures exact { DeliversExactly self.old slot alternative value self.new (with_body result whole.new) }
         ensures depth { depth_of self.new ≡ depth_of self.old }
     {
         let Some(frame) = self.innermost() else {
-            return Ok(Some(Body {
+            *whole = Some(Body {
                 row: alternative.unwrap_or(0),
                 value,
-            }));
+            });
+            return Ok(());
         };
         let value = chosen(self.alloc, alternative, value)?;
         self.values.add(frame.next, slot, value)?;
         self.advance(frame.next.behind(slot));
-        Ok(None)
+        Ok(())
     }
 
     /// Sets what may come next in the innermost element.
