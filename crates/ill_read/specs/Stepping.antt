@@ -1,5 +1,6 @@
 -- What each part of a step does to the path.
-use Rattle.std.specs.Prelude.{◌≡◌, ℕ, List, [], ◌∷◌, ◌++◌, length, Option, Some, None, Result, Ok, Err, IsTrue, true, false}
+use Rattle.std.specs.Prelude.{◌≡◌, ⊤, ℕ, List, [], ◌∷◌, ◌++◌, length, Option, Some, None, Result, Ok, Err, IsTrue, true, false}
+use Rattle.std.specs.declared.alloc.AllocError.{AllocError}
 use Rattle.ber_core.specs.Identifier.{Tag}
 use Rattle.ber_core.specs.Octets.{are_octets}
 use Rattle.ber_core.specs.Tree.{Tree, constructed, tag_of, text_all}
@@ -61,6 +62,11 @@ abbrev pub EndsExactly : Path → Frame → Path → Result (Option Value) Failu
 EndsExactly old f new result = (o : Open) (path : List Open) (below entries : List (Option Value))
     → IsFrame f o path old.frames.items (length below) entries → (f.element ≡ Segment → ⊥) → missing profile_two (next_in profile_two (o ∷ path)) ≡ None
     → old.values.held.items ≡ below ++ entries → old.text.items ≡ text_so_far (o ∷ path) → IsEnded new o below result
+
+-- what the delivery of a value answers, with the body of a message that is whole
+abbrev pub delivered : Result ⊤ AllocError → Option Body → Result (Option Body) Failure
+delivered (Ok _) body = Ok body
+delivered (Err _) body = Err Failure.OutOfMemory
 
 -- from whatever place, the element's value goes where it belongs
 abbrev pub DeliversExactly : Path → Slot → Option ℕ → Value → Path → Result (Option Body) Failure → Type 0

@@ -61,6 +61,7 @@ impl Decoder {
     }
 
     /// How many octets surely still belong to the message; 0 once it is whole or a failure was answered.
+    #[inline(always)]
     pub fn need(&self) -> u32
         ensures closed { self.now.state ≢ State.Open → result ≡ 0 }
         ensures exact { (fed : List ℕ) (stands : StandsLast self.now.path self.now.at fed self.now.pending.items) → self.now.state ≡ State.Open
@@ -78,6 +79,7 @@ impl Decoder {
 
     /// Takes a piece of at most `need()` octets. With all octets that were fed so far, it answers Done where they begin with a message,
     /// More where one may still become of them, and else their fault; a failure is answered again by each further call.
+    #[inline(always)]
     pub fn feed(&mut self, piece: &[u8]) -> Result<Progress, Failure>
         ensures fed { (fed : List ℕ) → IsFed self.old fed → IsFed self.new (fed ++ piece.now) }
         ensures answers { (fed : List ℕ) → IsFed self.old fed → FeedAnswers (fed ++ piece.now) result }
@@ -93,6 +95,7 @@ impl Decoder {
         }
     }
 
+    #[inline(always)]
     fn take(&mut self, piece: &[u8])
         ensures fed { (fed : List ℕ) → IsFed self.old fed → IsFed self.new (fed ++ piece.now) }
         ensures stays { self.old.state ≢ State.Open → self.new ≡ self.old }
@@ -129,6 +132,7 @@ impl Decoder {
     }
 
     /// Keeps octets that the place needs more of.
+    #[inline(always)]
     fn keep(&mut self, octets: &[u8])
         requires { self.old.pending.items ≡ [] }
         ensures { (fed : List ℕ) → HasStopped self.old fed octets.now → IsFed self.new fed }
@@ -248,6 +252,7 @@ impl Decoder {
     /// # Errors
     ///
     /// The failure that was answered, or Truncated at the end of what was fed.
+    #[inline(always)]
     pub fn finish(self) -> Result<Option<Message>, Failure>
         ensures { (fed : List ℕ) → IsFed self fed → FinishAnswers fed result }
     {

@@ -55,7 +55,7 @@ impl Path {
     ghost use Rattle.ill_read.specs.Progress.{depth_of, StepsTo, IsProgress};
     ghost use Rattle.ill_read.specs.Judged.{StepsExactly, with_body};
     ghost use Rattle.ill_read.specs.Standing.{next_at, StandsAt};
-    ghost use Rattle.ill_read.specs.Stepping.{EndsExactly, DeliversExactly, ClosesExactly, OpensExactly, ReadsExactly};
+    ghost use Rattle.ill_read.specs.Stepping.{EndsExactly, DeliversExactly, ClosesExactly, OpensExactly, ReadsExactly, delivered};
     ghost use Rattle.std.specs.Prelude.{IsTrue};
     ghost use Rattle.ber_leaf.specs.Profile.{profile_two};
     ghost use Rattle.ill_read.specs.Fault.{ends_at, is_indefinite, past_end};
@@ -220,7 +220,8 @@ impl Path {
         match reading.element {
             Element::Leaf(leaf) => {
                 let value = leaf_value(self.alloc, leaf, start, content)?;
-                self.deliver(reading.slot, reading.alternative, value, whole)
+                self.deliver(reading.slot, reading.alternative, value, whole)?;
+                Ok(())
             }
             _ => {
                 self.text.extend_from_slice(content)?;
@@ -241,7 +242,10 @@ impl Path {
             return Ok(());
         }
         match self.end_value(frame)? {
-            Some(value) => self.deliver(frame.slot, frame.alternative, value, whole),
+            Some(value) => {
+                self.deliver(frame.slot, frame.alternative, value, whole)?;
+                Ok(())
+            }
             None => Ok(()),
         }
     }
@@ -274,9 +278,9 @@ impl Path {
         alternative: Option<u8>,
         value: Value,
         whole: &mut Option<Body>,
-    ) -> Result<(), Failure>
+    ) -> Result<(), AllocError>
         requires { whole.old ≡ None }
-        ensures exact { DeliversExactly self.old slot alternative value self.new (with_body result whole.new) }
+        ensures exact { DeliversExactly self.old slot alternative value self.new (delivered result whole.new) }
         ensures depth { depth_of self.new ≡ depth_of self.old }
     {
         let Some(frame) = self.innermost() else {

@@ -15,7 +15,7 @@ use ill_schema::{Cause, LIMIT, Message};
 use std::alloc::Global;
 
 /// How many octets are asked of a source at once.
-const CHUNK: usize = 4096;
+const CHUNK: usize = 1024;
 
 /// Reads the message at the front of what is left, and takes its octets and no more; None where the input ends before any octet.
 ///
@@ -77,6 +77,7 @@ enum Unfilled {
 }
 
 /// Feeds a decoder with what it needs, until nothing is needed any more or the source ends.
+#[inline(always)]
 fn fill<R: Source>(alloc: Global, source: &mut R) -> Result<Decoder, Broken>
     ensures filled { IfOk result (λ decoder. HasFilled (R.left source.old) (R.left source.new) decoder) }
     ensures taken { TakesFront (R.left source.old) (R.left source.new) }
@@ -126,6 +127,7 @@ fn fill_and_keep<R: Source>(
 
 /// Feeds the decoder with some octets that it needs, at most so many, and answers how many they are at the front of the buffer; 0 where
 /// nothing is needed or the source is at its end.
+#[inline(always)]
 fn pull<R: Source>(
     decoder: &mut Decoder,
     source: &mut R,

@@ -1,6 +1,6 @@
 use Rattle.std.proofs.Common.{◌∙◌, Option, Some, None, Ok, refl, sym, subst}
 use Rattle.ill_schema.specs.declared.value.Value.{Value}
-use Rattle.ill_read.specs.Judged.{IsStep, with_body}
+use Rattle.ill_read.specs.Judged.{IsStep}
 use Rattle.ill_read.specs.Step.{moved}
 use Rattle.ill_read.specs.Stepping.{EndsExactly}
 use Rattle.ill_read.specs.declared.path.Body.{Body}
@@ -28,8 +28,8 @@ returns-in_err-value-clause-exact c place marks at rest j stands end =
     handed_on (λ r. IsStep c.end_value.new.self r (moved j place at rest)) c.from_residual.result c.args.whole.now c.in_err-value.field-0.0 c.from_residual.ensures.1
     (value_refused c.args.self.now shorter c.end_value.new.self c.end_value.new.self c.unwrap-frame.result place marks at rest j c.in_err-value.field-0.0 stands end short c.in_err-value.ensures.exact)
 
-pub returns-in-Some-clause-exact : goal.returns-in-Some-clause-exact
-returns-in-Some-clause-exact c place marks at rest j stands end =
+pub returns-in_ok-deliver-in-Some-clause-exact : goal.returns-in_ok-deliver-in-Some-clause-exact
+returns-in_ok-deliver-in-Some-clause-exact c place marks at rest j stands end =
     let shorter : Path = record c.args.self.now { frames = c.pop.new.self } in
     let short : IsShorter c.args.self.now shorter c.unwrap-frame.result = record {
       frames = c.pop.ensures.rest;
@@ -40,7 +40,7 @@ returns-in-Some-clause-exact c place marks at rest j stands end =
     } in
     let ends : EndsExactly shorter c.unwrap-frame.result c.end_value.new.self (Ok (Some c.in-Some.value)) =
     subst (λ (x : Option Value). EndsExactly shorter c.unwrap-frame.result c.end_value.new.self (Ok x)) c.in-Some.is c.in_ok-value.ensures.exact in
-    value_closed c.args.self.now shorter c.end_value.new.self c.deliver.new.self c.unwrap-frame.result place marks at rest j c.in-Some.value (with_body c.deliver.result c.deliver.new.whole) stands end short ends c.end_value.ensures.frames c.deliver.ensures.exact
+    value_closed c.args.self.now shorter c.end_value.new.self c.deliver.new.self c.unwrap-frame.result place marks at rest j c.in-Some.value (Ok c.deliver.new.whole) stands end short ends c.end_value.ensures.frames c.in_ok-deliver-in-Some.ensures.exact
 
 pub returns-in-None-clause-exact : goal.returns-in-None-clause-exact
 returns-in-None-clause-exact c place marks at rest j stands end =
