@@ -1,7 +1,7 @@
 -- Which answer a stream has.
-use Rattle.std.proofs.Common.{◌≡◌, ℕ, ◌<◌, ◌≤◌, Bool, List, [], ◌∷◌, length, Option, Some, None, Err, IfSome, refl, ap, subst, arith}
-use Rattle.std.specs.Io.KnownBytes.{Consumes, IsAtEnd}
-use Rattle.std.proofs.KnownBytes.{Keeps-refl}
+use Rattle.std.proofs.Common.{◌≡◌, ℕ, ◌<◌, ◌≤◌, Bool, List, [], ◌∷◌, length, Option, Some, None, Err, IfSome, IsTrue, refl, ap, subst, arith}
+use Rattle.std.specs.Io.KnownBytes.{Consumes, IsAtEnd, Keeps}
+use Rattle.std.proofs.KnownBytes.{Consumes-kept, Consumes-nil, Keeps-refl}
 use Rattle.ill_schema.specs.Apdu.{Apdu, IsStream}
 use Rattle.ill_read.specs.Fault.{Fault}
 use Rattle.ill_read.specs.Outcome.{OnlyRefuses}
@@ -12,6 +12,7 @@ use Rattle.ill_normal.specs.declared.failure.StreamCause.{StreamCause}
 use Rattle.ill_normal.specs.declared.failure.StreamFailure.{StreamFailure}
 use Rattle.ill_normal.specs.Normalised.{Fails, IsFault}
 use Rattle.ill_normal.specs.Streamed.{Passes, Stops, StopsAfter, IsRefusedAfter, AnswersCount, AnswersRefusedAfter, AnswersTooMany}
+use Rattle.ill_schema.proofs.Streams.{accepts_some}
 use Rattle.ill_normal.proofs.Longest.{nothing_over, no_longer, one_rest}
 use Rattle.ill_normal.proofs.Passing.{passes_stream}
 use Rattle.ill_normal.proofs.Answering.{front}
@@ -162,4 +163,14 @@ stops_full left rest left' held held' x y before p h = record {
   grown = held';
   passes = p;
   stops = (refl, h, Keeps-refl held');
+}
+
+-- the source broke behind a million messages
+pub stops_broken : (left rest left' held held' : Option (List ℕ)) (x y : Bool) (before : ℕ) → Passes left rest held held' 1_000_000 before → IsTrue x → Keeps rest left'
+    → StopsAfter left left' held held' x y (record { whole = 1_000_000; before = before; why = StreamCause.Normal NormalFailure.ReadFault })
+stops_broken left rest left' held held' x y before p broken kept = record {
+  rest = rest;
+  grown = held';
+  passes = p;
+  stops = (omega arith, (broken, ([], Consumes-kept rest rest left' [] (Consumes-nil rest) kept, λ a n accepted. accepts_some profile_two [] a n refl accepted), Keeps-refl held'));
 }

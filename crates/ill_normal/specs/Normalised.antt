@@ -2,6 +2,7 @@
 use Rattle.std.specs.Prelude.{◌≡◌, ◌<◌, ℕ, Bool, List, length, take, Option, Result, Ok, Err, IfSome, IsTrue}
 use Rattle.std.specs.Io.KnownBytes.{Consumes, Keeps, Appends}
 use Rattle.ill_schema.specs.Apdu.{Apdu, SpellsApdu, normal_form}
+use Rattle.ill_read.specs.Answers.{TakesNoMessage}
 use Rattle.ill_read.specs.Fault.{Fault}
 use Rattle.ill_read.specs.Outcome.{OnlyRefuses}
 use Rattle.ber_leaf.specs.Profile.{profile_two}
@@ -23,7 +24,7 @@ abbrev pub Fails : Option (List ℕ) → Option (List ℕ) → Option (List ℕ)
 Fails left left' held held' source_broken sink_broken (NormalFailure.Refused refusal) =
     IfSome left (λ s. (0 < length s) × OnlyRefuses profile_two s (fault_is refusal)) × Keeps held held'
 Fails left left' held held' source_broken sink_broken NormalFailure.OutOfMemory = Keeps held held'
-Fails left left' held held' source_broken sink_broken NormalFailure.ReadFault = IsTrue source_broken × Keeps held held'
+Fails left left' held held' source_broken sink_broken NormalFailure.ReadFault = IsTrue source_broken × TakesNoMessage left left' × Keeps held held'
 Fails left left' held held' source_broken sink_broken (NormalFailure.WriteFault n) =
     IsTrue sink_broken × ((a : Apdu) × (b : List ℕ) × SpellsApdu profile_two a b × Consumes left left' b
     × Appends held held' (take n (normal_form a)) × (n < length (normal_form a)))

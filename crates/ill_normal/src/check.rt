@@ -3,7 +3,7 @@ ghost use Rattle.std.specs.Prelude.{◌≡◌, ◌↔◌, ◌<◌, ◌≤◌, �
 ghost use Rattle.std.specs.Io.KnownBytes.{Consumes, IsAtEnd};
 ghost use Rattle.ber_leaf.specs.Profile.{profile_two};
 ghost use Rattle.ill_schema.specs.Apdu.{Apdu, SpellsApdu, Accepts, normal_form};
-ghost use Rattle.ill_read.specs.Answers.{TakesFront, IfReadRefused, AnswersSome};
+ghost use Rattle.ill_read.specs.Answers.{TakesFront, TakesNoMessage, IfReadRefused, AnswersSome};
 ghost use Rattle.ill_read.specs.Outcome.{OnlyRefuses};
 
 use ber_core::Source;
@@ -39,6 +39,7 @@ pub fn check_one<R: Source>(alloc: Global, source: &mut R) -> Result<Option<Chec
     ensures refused { IfErr result (λ e. IfReadRefused e (λ f. IfSome (R.left source.old) (λ s. (0 < length s) × OnlyRefuses profile_two s f))) }
     ensures taken { TakesFront (R.left source.old) (R.left source.new) }
     ensures broken { IsErrOf result ReadFailure.ReadFault → IsTrue (R.is_broken source.new) }
+    ensures unfinished { IsErrOf result ReadFailure.ReadFault → TakesNoMessage (R.left source.old) (R.left source.new) }
     ensures stays { IsTrue (R.is_broken source.old) → IsTrue (R.is_broken source.new) }
     // A spelling at the front is checked, unless memory or the source failed.
     ensures accepts { IfSome (R.left source.old) (λ s. (a : Apdu) (n : ℕ) → Accepts profile_two s a n → AnswersSome result) }

@@ -1,14 +1,14 @@
 mod check;
 mod compare;
+mod hostile;
 mod rows;
 mod sips;
 mod stream;
 
 use crate::{
-    Cause, NodeId, NormalFailure, PartId, Pieces, Refusal, Room, Source, apdu_name,
-    decode, normal_form_is_accepted, normal_form_is_its_own,
-    normal_forms_are_equal_exactly_if_apdus_are, normalise, one_prefix_is_accepted,
-    one_refusal_of_a_slice, read_message,
+    Cause, NodeId, NormalFailure, PartId, Pieces, Refusal, Room, Source, apdu_name, decode,
+    normal_form_is_accepted, normal_form_is_its_own, normal_forms_are_equal_exactly_if_apdus_are,
+    normalise, one_prefix_is_accepted, one_refusal_of_a_slice, read_message,
 };
 use rows::ROWS;
 use sips::Sips;

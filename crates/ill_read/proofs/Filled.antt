@@ -9,7 +9,7 @@ use Rattle.ber_leaf.specs.Profile.{profile_two}
 use Rattle.ill_schema.specs.declared.message.Message.{Message}
 use Rattle.ill_schema.specs.Apdu.{Apdu, Accepts, SpellsApdu}
 use Rattle.ill_schema.specs.Message.{apdu_of, octets_of}
-use Rattle.ill_read.specs.Answers.{IsSpelled, IfReadRefused}
+use Rattle.ill_read.specs.Answers.{IsSpelled, IsUnfinished, IfReadRefused}
 use Rattle.ill_read.specs.Failures.{read_failure}
 use Rattle.ill_read.specs.Feeding.{FinishAnswers, InState, IsFed, IsRead, StandsLast}
 use Rattle.ill_read.specs.Filling.{NoneEndsWithin, HasFilled, HasKept}
@@ -39,6 +39,19 @@ pulled_exact d b piece need h ok exact closed surely le a k accepted = elim (ope
       let none : piece ≡ [] = nil_from_length piece (let z = closed e in omega arith) in
       let same : b ++ piece ≡ b = ap (λ z. b ++ z) none ∙ append-nil b in
       subst (λ z. length z ≤ k) (sym same) (exact a k (subst (λ z. Accepts profile_two z a k) same accepted))
+]
+
+-- a decoder that needs more was fed no message
+pub none_yet : (d : Decoder) (b : List ℕ) (need : ℕ) → IsFed d b → (d.state ≢ state.Open → need ≡ 0) → (need ≢ 0)
+    → ((a : Apdu) (k : ℕ) → d.state ≡ state.Open → IsTrue (are_octets (b ++ [])) → Accepts profile_two (b ++ []) a k → length b + need ≤ k) → IsUnfinished b
+none_yet d b need h closed some surely a n accepted = elim (open_or_closed d.state) [
+  | inl e ↦
+      let same : b ++ [] ≡ b = append-nil b in
+      let octets : IsTrue (are_octets (b ++ [])) = subst (λ z. IsTrue (are_octets z)) (sym same) ((stands d b h e).0.octets) in
+      let far = surely a n e octets (subst (λ z. Accepts profile_two z a n) (sym same) accepted) in
+      let le = accepted.0 in
+      some (omega (arith, far, le))
+  | inr e ↦ some (closed e)
 ]
 
 -- no piece comes only where nothing is open, or nothing is left

@@ -17,9 +17,17 @@ pub record IsSpelled (m : Message) (b : List ℕ) : Type 0 where
   pub spells : SpellsApdu profile_two (apdu_of m) b
   pub octets : octets_of m ≡ length b
 
+-- no message is at the front of the octets
+abbrev pub IsUnfinished : List ℕ → Type 0
+IsUnfinished b = (a : Apdu) (n : ℕ) → Accepts profile_two b a n → ⊥
+
 -- a front of what was left is gone, which is no longer than a message may be
 abbrev pub TakesFront : Option (List ℕ) → Option (List ℕ) → Type 0
 TakesFront old new = (b : List ℕ) × Consumes old new b × (length b ≤ 1_048_576)
+
+-- a front of what was left is gone, in which no message ends
+abbrev pub TakesNoMessage : Option (List ℕ) → Option (List ℕ) → Type 0
+TakesNoMessage old new = (b : List ℕ) × Consumes old new b × IsUnfinished b
 
 -- of a refusal this holds
 abbrev pub IfRefused : Failure → (Fault → Type 0) → Type 0

@@ -2,7 +2,7 @@
 ghost use Rattle.std.specs.Prelude.{◌≡◌, ℕ, ◌<◌, ◌≤◌, List, [], ◌++◌, length, take, IfErr, IfNone, IfOk, IfSome, IsErr, IsErrOf, IsTrue};
 ghost use Rattle.std.specs.Io.KnownBytes.{Consumes, IsAtEnd, Keeps};
 ghost use Rattle.ber_leaf.specs.Profile.{profile_two};
-ghost use Rattle.ill_read.specs.Answers.{IfReadRefused, IsSpelled, TakesFront};
+ghost use Rattle.ill_read.specs.Answers.{IfReadRefused, IsSpelled, IsUnfinished, TakesFront, TakesNoMessage};
 ghost use Rattle.ill_read.specs.Filling.{HasFilled, HasKept, HasPulled, NoneEndsWithin};
 ghost use Rattle.ill_read.specs.Outcome.{OnlyRefuses};
 ghost use Rattle.ill_read.specs.Feeding.{DecodeAnswers, HasOutcome, IsFed, IsRead};
@@ -31,6 +31,7 @@ pub fn read_message<R: Source>(
     ensures refused { IfErr result (λ e. IfReadRefused e (λ f. IfSome (R.left source.old) (λ s. (0 < length s) × OnlyRefuses profile_two s f))) }
     ensures taken { TakesFront (R.left source.old) (R.left source.new) }
     ensures broken { IsErrOf result ReadFailure.ReadFault → IsTrue (R.is_broken source.new) }
+    ensures unfinished { IsErrOf result ReadFailure.ReadFault → TakesNoMessage (R.left source.old) (R.left source.new) }
     ensures stays { IsTrue (R.is_broken source.old) → IsTrue (R.is_broken source.new) }
 {
     match fill(alloc, source) {
@@ -58,6 +59,7 @@ pub fn read_kept<R: Source>(
     ensures refused { IfErr result (λ e. IfReadRefused e (λ f. IfSome (R.left source.old) (λ s. (0 < length s) × OnlyRefuses profile_two s f))) }
     ensures taken { TakesFront (R.left source.old) (R.left source.new) }
     ensures broken { IsErrOf result ReadFailure.ReadFault → IsTrue (R.is_broken source.new) }
+    ensures unfinished { IsErrOf result ReadFailure.ReadFault → TakesNoMessage (R.left source.old) (R.left source.new) }
     ensures stays { IsTrue (R.is_broken source.old) → IsTrue (R.is_broken source.new) }
 {
     match fill_and_keep(alloc, source, kept) {
@@ -82,6 +84,7 @@ fn fill<R: Source>(alloc: Global, source: &mut R) -> Result<Decoder, Broken>
     ensures filled { IfOk result (λ decoder. HasFilled (R.left source.old) (R.left source.new) decoder) }
     ensures taken { TakesFront (R.left source.old) (R.left source.new) }
     ensures broken { IsErr result → IsTrue (R.is_broken source.new) }
+    ensures unfinished { IsErr result → TakesNoMessage (R.left source.old) (R.left source.new) }
     ensures stays { IsTrue (R.is_broken source.old) → IsTrue (R.is_broken source.new) }
 {
     let mut decoder = Decoder::new(alloc);
@@ -106,6 +109,7 @@ fn fill_and_keep<R: Source>(
     ensures filled { IfOk result (λ decoder. HasKept (R.left source.old) (R.left source.new) decoder kept.old.items kept.new.items) }
     ensures taken { TakesFront (R.left source.old) (R.left source.new) }
     ensures broken { IsErrOf result Unfilled.Broken → IsTrue (R.is_broken source.new) }
+    ensures unfinished { IsErrOf result Unfilled.Broken → TakesNoMessage (R.left source.old) (R.left source.new) }
     ensures stays { IsTrue (R.is_broken source.old) → IsTrue (R.is_broken source.new) }
 {
     let mut decoder = Decoder::new(alloc);
@@ -139,11 +143,15 @@ fn pull<R: Source>(
     ensures count { IfOk result (λ n. (n ≤ room) × (n ≤ length buffer.new)) }
     ensures taken { IfOk result (λ n. Consumes (R.left source.old) (R.left source.new) (take n buffer.new)) }
     ensures kept { IsErr result → Keeps (R.left source.old) (R.left source.new) }
+    ensures unfinished { IsErr result → (b : List ℕ) → IsFed decoder.old b → IsUnfinished b }
     ensures fed { IfOk result (λ n. (b : List ℕ) → IsFed decoder.old b → NoneEndsWithin b → HasPulled (R.left source.new) decoder.new b (take n buffer.new)) }
     ensures broken { IsErr result → IsTrue (R.is_broken source.new) }
     ensures stays { IsTrue (R.is_broken source.old) → IsTrue (R.is_broken source.new) }
 {
     let wanted = (decoder.need().min(room) as usize).min(buffer.len());
+    if wanted == 0 {
+        return Ok(0);
+    }
     let count = source.take(&mut buffer[..wanted])?;
     let _ = decoder.feed(&buffer[..count]);
     Ok(count)

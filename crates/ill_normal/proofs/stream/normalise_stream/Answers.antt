@@ -1,6 +1,6 @@
-use Rattle.std.proofs.Common.{◌+◌, ◌≤◌, ◌*◌, ℕ, arith, subst, sym}
+use Rattle.std.proofs.Common.{◌+◌, ◌≤◌, ◌*◌, ℕ, arith, refl, subst, sym}
 use Rattle.ill_normal.specs.Streamed.{Passes}
-use Rattle.ill_normal.proofs.Stopping.{stops_here, stops_full, ok_accepts, ok_refuses, ok_too_many, stops_accepts, stops_refuses, stops_too_many}
+use Rattle.ill_normal.proofs.Stopping.{stops_here, stops_broken, stops_full, ok_accepts, ok_refuses, ok_too_many, stops_accepts, stops_refuses, stops_too_many}
 use Rattle.ill_normal.proofs.Passing.{passes_more, passes_kept, passes_count, passes_end, one_octet, read_bound}
 use Rattle.ill_normal.proofs.stream.normalise_stream.Goals as goal
 
@@ -67,6 +67,11 @@ returns-in-Ok-eq0-clause-too_many g c =
     let p = passes_count _ _ _ _ c.loop-whole.whole 1_000_000 _ (omega arith) c.loop-whole.invariant.passes in
     let end = passes_end _ _ _ _ _ _ _ _ _ p c.in-Ok-eq0.field-0-test (omega arith) c.in-Ok-eq0.ensures.octets in
     ok_too_many _ _ _ _ _ _ end.0 end.1 (omega arith)
+
+pub returns-in-Err-take-clause-stops : goal.returns-in-Err-take-clause-stops
+returns-in-Err-take-clause-stops g c =
+    let p = passes_count _ _ _ _ c.loop-whole.whole 1_000_000 _ (omega arith) c.loop-whole.invariant.passes in
+    stops_broken _ _ _ _ _ _ _ _ p (c.in-Err-take.ensures.breaks.0 refl) c.in-Err-take.ensures.octets
 
 pub returns-in-Ok-clause-accepts : goal.returns-in-Ok-clause-accepts
 returns-in-Ok-clause-accepts g c =

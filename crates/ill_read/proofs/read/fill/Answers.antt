@@ -10,6 +10,11 @@ returns-in_err-count-clause-taken g c =
     let size = i.2 in
     (i.0, Consumes-kept _ _ _ i.0 i.1 (c.in_err-count.ensures.kept refl), omega (arith, size))
 
+pub returns-in_err-count-clause-unfinished : goal.returns-in_err-count-clause-unfinished
+returns-in_err-count-clause-unfinished g c is_err =
+    let i = c.loop-room.invariant.0 in
+    (i.0, Consumes-kept _ _ _ i.0 i.1 (c.in_err-count.ensures.kept refl), c.in_err-count.ensures.unfinished refl i.0 i.3)
+
 pub returns-then-count-eq0-clause-filled : goal.returns-then-count-eq0-clause-filled
 returns-then-count-eq0-clause-filled g c =
     let i = c.loop-room.invariant.0 in

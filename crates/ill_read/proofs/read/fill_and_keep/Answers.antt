@@ -1,5 +1,5 @@
-use Rattle.std.proofs.Common.{◌≡◌, [], ◌++◌, length, length-append, take, sym, ap, ◌∙◌, inl, arith, append_assoc, append-nil}
-use Rattle.std.proofs.KnownBytes.{Consumes-trans}
+use Rattle.std.proofs.Common.{◌≡◌, [], ◌++◌, length, length-append, take, refl, sym, ap, ◌∙◌, inl, arith, append_assoc, append-nil}
+use Rattle.std.proofs.KnownBytes.{Consumes-trans, Consumes-kept}
 use Rattle.std.proofs.lemmas.List.{length-take, length-take-le, nil_from_length}
 use Rattle.ill_read.proofs.Filled.{full_closed}
 use Rattle.ill_read.proofs.read.fill_and_keep.Goals as goal
@@ -32,6 +32,11 @@ returns-in-Err-extend_from_slice-clause-taken g c =
     let size = i.2 in let fits = c.in-Ok.ensures.count.0 in
     let long : length piece ≡ n = length-take-le n c.pull.new.buffer c.in-Ok.ensures.count.1 in
     (i.0 ++ piece, Consumes-trans _ _ _ i.0 piece i.1 c.in-Ok.ensures.taken, omega (arith, size, fits, long, length-append i.0 piece))
+
+pub returns-in-Err-clause-unfinished : goal.returns-in-Err-clause-unfinished
+returns-in-Err-clause-unfinished g c is_err =
+    let i = c.loop-room.invariant.0 in
+    (i.0, Consumes-kept _ _ _ i.0 i.1 (c.in-Err.ensures.kept refl), c.in-Err.ensures.unfinished refl i.0 i.3)
 
 pub loop-room-preserved : goal.loop-room-preserved
 loop-room-preserved g c =

@@ -1,8 +1,29 @@
-use Rattle.std.proofs.Common.{rules, ◌≡◌, ◌≤◌, ◌++◌, length, take, drop, ap, ◌∙◌, arith}
+use Rattle.std.proofs.Common.{rules, ◌≡◌, ◌≤◌, [], ◌++◌, length, append-nil, take, drop, refl, sym, subst, ap, ◌∙◌, arith}
 use Rattle.std.proofs.lemmas.List.{length-take-le, take-append-le}
+use Rattle.ill_read.specs.Feeding.{IsFed}
 use Rattle.ill_read.specs.Filling.{NoneEndsWithin}
-use Rattle.ill_read.proofs.Filled.{pulled_exact, pulled_ended}
+use Rattle.ill_read.proofs.Filled.{none_yet, pulled_exact, pulled_ended}
 use Rattle.ill_read.proofs.read.pull.Goals as goal
+
+pub returns-then-wanted-eq0-clause-fed : goal.returns-then-wanted-eq0-clause-fed
+returns-then-wanted-eq0-clause-fed g c b h exact =
+    let d = c.args.decoder.now in
+    let none : b ++ [] ≡ b = append-nil b in
+    let zero = c.if-wanted-eq0.true in
+    let space = c.requires.space in let room = c.requires.room in
+    record {
+      fed = subst (IsFed d) (sym none) h;
+      exact = subst NoneEndsWithin (sym none) exact;
+      ended = λ e. pulled_ended d d _ c.need.result c.min-wanted.result (λ closed. refl) (λ is_open. c.need.ensures.some b h is_open)
+          (λ z. omega (arith, z, c.min-wanted.ensures, c.min.ensures, space, room))
+          (λ l. absurd (omega (arith, l, zero)));
+    }
+
+pub returns-in_err-count-clause-unfinished : goal.returns-in_err-count-clause-unfinished
+returns-in_err-count-clause-unfinished g c is_err b h a n accepted =
+    let wanted = c.if-wanted-eq0.false in
+    none_yet c.args.decoder.now b c.need.result h c.need.ensures.closed (λ zero. wanted (omega (arith, zero, c.min-wanted.ensures, c.min.ensures)))
+    (λ x k is_open octets spelled. c.need.ensures.surely b [] x k h octets is_open spelled) a n accepted
 
 pub returns-clause-fed : goal.returns-clause-fed
 returns-clause-fed g c b h exact =
