@@ -32,6 +32,7 @@ pub mod Taking
 pub mod DueElements
 pub mod Entries
 pub mod Meanings
+pub mod Moving
 pub mod Wanting
 pub mod Bodies
 pub mod Fed

@@ -118,17 +118,15 @@ impl Decoder {
         }
     }
 
-    /// Keeps the octets behind those that were passed.
-    fn keep_behind(&mut self, octets: Vec<u8>, count: usize)
+    /// Keeps the octets behind those that were passed, in the memory that they have.
+    fn keep_behind(&mut self, mut octets: Vec<u8>, count: usize)
         requires within { count ≤ length octets.items }
-        requires empty { self.old.pending.items ≡ [] }
         ensures { (fed : List ℕ) → HasStopped self.old fed (drop count octets.items) → IsFed self.new fed }
     {
-        if count == 0 {
-            self.pending = octets;
-        } else {
-            self.keep(&octets[count..]);
-        }
+        let left = octets.len() - count;
+        octets.copy_within(count.., 0);
+        octets.truncate(left);
+        self.pending = octets;
     }
 
     /// Keeps octets that the place needs more of.

@@ -2,7 +2,6 @@
 ghost use Rattle.std.specs.Prelude.{None, false};
 
 mod build;
-mod growths;
 
 use crate::{Sizes, WriteFailure, normal_bytes, normal_size_counts_normal_forms, write_normal};
 use ber_core::{Broken, Room, Sink};

@@ -1,15 +1,13 @@
-use Rattle.std.proofs.Common.{◌≡◌, length, drop, take, ◌-◌, sym, subst, ap, ◌∙◌, arith}
-use Rattle.std.proofs.lemmas.List.{length-drop, take_all}
+use Rattle.std.proofs.Common.{◌≡◌, ◌-◌, drop, take, sym, subst, ap, ◌∙◌, arith}
 use Rattle.ill_read.specs.Feeding.{HasStopped}
+use Rattle.ill_read.proofs.Moving.{moved_front}
 use Rattle.ill_read.proofs.decoder.Decoder.keep_behind.Goals as goal
 
-pub returns-then-count-eq0 : goal.returns-then-count-eq0
-returns-then-count-eq0 c fed h = subst (λ n. HasStopped c.args.self.now fed (drop n c.args.octets.items)) c.if-count-eq0.true h
-
-pub returns-else-count-eq0 : goal.returns-else-count-eq0
-returns-else-count-eq0 c fed h =
+pub returns : goal.returns
+returns c fed h =
+    let all = c.args.octets.items in
     let n = c.args.count in
-    let all = c.deref.result.now in
-    let whole : take (length all - n) (drop n all) ≡ drop n c.args.octets.items =
-    take_all (length all - n) (drop n all) (omega (arith, length-drop n all)) ∙ ap (drop n) c.deref.ensures.value in
-    c.keep.ensures fed (subst (HasStopped c.args.self.now fed) (sym whole) h)
+    let within = c.requires in
+    let moved : c.truncate.new.self.items ≡ drop n all =
+    c.truncate.ensures.items ∙ ap (take (c.len.result - n)) c.copy_within.ensures.items ∙ moved_front all n c.args.octets.len (c.len.result - n) within.within (omega (arith, c.args.octets.ok.0)) (omega (arith, c.len.ensures, c.args.octets.ok.0)) in
+    subst (HasStopped c.args.self.now fed) (sym moved) h
