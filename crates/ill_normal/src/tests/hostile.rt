@@ -107,3 +107,33 @@ fn a_sink_that_breaks_has_the_first_octets(rt: HostRuntime) -> Result<(), Fail> 
     }
     Ok(())
 }
+
+/// A message of the greatest size, whose note is in segments of one octet, nested to depth 32.
+fn nested_segments(alloc: Global) -> Result<Vec<u8>, Fail> {
+    let mut octets = octets_of(
+        alloc,
+        "71803080800102a10aa1031b0147a2031b0151a20ca00a80083230323430323239bf2e803b80 2480*27",
+    )?;
+    for _ in 0..349_474 {
+        octets.extend_from_slice(b"\x04\x01A")?;
+    }
+    for _ in 0..62 {
+        octets.push(0)?;
+    }
+    Ok(octets)
+}
+
+#[test]
+fn a_note_of_nested_segments_is_joined(rt: HostRuntime) -> Result<(), Fail> {
+    let alloc = rt.alloc();
+    let octets = nested_segments(alloc)?;
+    assert!(rt; octets.len() == 1_048_576);
+    for per_call in [1, 4096] {
+        let mut source = Pieces::new(&octets, per_call, None);
+        let mut sink: Room<350_000> = Room::new(4096, None);
+        let answer = normalise(alloc, &mut source, &mut sink);
+        assert!(rt; answer == Ok(Some(349_524)));
+        assert!(rt; sink.octets().ends_with(b"AAAA"));
+    }
+    Ok(())
+}
