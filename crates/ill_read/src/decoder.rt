@@ -123,6 +123,11 @@ impl Decoder {
         requires within { count ≤ length octets.items }
         ensures { (fed : List ℕ) → HasStopped self.old fed (drop count octets.items) → IsFed self.new fed }
     {
+        // A large content that comes octet by octet stays where it is.
+        if count == 0 {
+            self.pending = octets;
+            return;
+        }
         let left = octets.len() - count;
         octets.copy_within(count.., 0);
         octets.truncate(left);

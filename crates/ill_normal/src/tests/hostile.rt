@@ -8,6 +8,10 @@ use crate::{
 use std::alloc::Global;
 use std::test::Fail;
 
+fn number(octets: usize) -> u32 {
+    u32::try_from(octets).unwrap_or(u32::MAX)
+}
+
 /// The name, the message and its normal form, if that is a row of a message of up to 200 octets.
 fn short_row(
     alloc: Global,
@@ -32,7 +36,7 @@ fn what_ends_early_is_truncated_there(rt: HostRuntime) -> Result<(), Fail> {
         };
         for n in 0..octets.len() {
             let refusal = Refusal {
-                at: n as u32,
+                at: number(n),
                 cause: Cause::Truncated,
             };
             let front = &octets[..n];
@@ -81,7 +85,7 @@ fn a_source_that_breaks_behind_a_message_is_not_noticed(rt: HostRuntime) -> Resu
         let mut source = Pieces::new(&octets, 64, Some(octets.len()));
         let mut sink: Room<256> = Room::new(64, None);
         let answer = normalise(alloc, &mut source, &mut sink);
-        assert!(rt; answer == Ok(Some(normal.len() as u32)), "{name}");
+        assert!(rt; answer == Ok(Some(number(normal.len()))), "{name}");
         assert!(rt; sink.octets() == normal.as_slice(), "{name}");
     }
     Ok(())
@@ -99,7 +103,7 @@ fn a_sink_that_breaks_has_the_first_octets(rt: HostRuntime) -> Result<(), Fail> 
             let mut sink: Room<256> = Room::new(64, Some(n));
             let answer = normalise(alloc, &mut source, &mut sink);
             assert!(rt;
-                answer == Err(NormalFailure::WriteFault(n as u32)),
+                answer == Err(NormalFailure::WriteFault(number(n))),
                 "{name}: {n}"
             );
             assert!(rt; sink.octets() == &normal[..n], "{name}: {n}");

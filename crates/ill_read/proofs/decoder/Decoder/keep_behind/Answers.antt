@@ -3,6 +3,9 @@ use Rattle.ill_read.specs.Feeding.{HasStopped}
 use Rattle.ill_read.proofs.Moving.{moved_front}
 use Rattle.ill_read.proofs.decoder.Decoder.keep_behind.Goals as goal
 
+pub returns-then-count-eq0 : goal.returns-then-count-eq0
+returns-then-count-eq0 c fed h = subst (λ n. HasStopped c.args.self.now fed (drop n c.args.octets.items)) c.if-count-eq0.true h
+
 pub returns : goal.returns
 returns c fed h =
     let all = c.args.octets.items in
