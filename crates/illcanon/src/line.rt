@@ -1,0 +1,169 @@
+//! The command line.
+use crate::fault::LineFault;
+use clap::{Arg, ArgAction, Command, Error};
+use std::alloc::{AllocError, Global};
+
+/// A command of the program.
+#[derive(Clone, Copy, Debug, PartialEq, Eq)]
+pub enum Verb {
+    Show,
+    Check,
+    Same,
+    Canonicalise,
+}
+
+/// What a command line tells the program to do. The word `-` is standard input, or standard output
+/// for the second file of `canonicalise`.
+#[derive(Clone, Copy, Debug, PartialEq, Eq)]
+pub struct Order<'a> {
+    pub command: Verb,
+    /// Whether inputs are hexadecimal text.
+    pub hex: bool,
+    pub first: &'a str,
+    /// The second file of `same` and `canonicalise`.
+    pub second: Option<&'a str>,
+}
+
+const STATUS: &str = "Status: 0 done; 1 a message is refused, or the hexadecimal text is none; 2 usage; 3 memory, files or pipes.";
+
+const SHOW: &str = "Each message is a line `message 1 Expired` and then a line for each leaf, as\n`service-date-time.date-time-of-this-service.date = 20240229`.\n\nExample: illcanon show messages.ber\n\nStatus: 0 done; 1 a message is refused, or the hexadecimal text is none; 2 usage;\n3 memory, files or pipes.";
+
+const CHECK: &str = "Each message has a line, as `message 1: Expired, 33 octets, normal` or\n`message 2: Expired, 47 octets, not normal, normal form 33 octets`.\n\nExample: illcanon check messages.ber | grep 'not normal'\n\nStatus: 0 all are normal; 1 one is not normal or is refused, or the hexadecimal text\nis none; 2 usage; 3 memory, files or pipes.";
+
+const SAME: &str = "Writes `same` or `different`. Each file holds one message; at most one file is `-`.\n\nExample: illcanon same sent.ber received.ber\n\nStatus: 0 same; 1 different, or a file is not one message; 2 usage; 3 memory, files\nor pipes.";
+
+const CANONICALISE: &str = "With --hex the output has a line of hexadecimal digits for each message, and otherwise\nthe octets. The messages before one that is refused are written.\n\nExample: illcanon canonicalise messages.ber messages.der\n\nStatus: 0 done; 1 a message is refused, or the hexadecimal text is none; 2 usage;\n3 memory, files or pipes.";
+
+const PROGRAM: &str = "Example: illcanon check messages.ber\n`-` in place of a file is standard input, or standard output for OUT.\n\nStatus: 0 done, and all is well; 1 a message is refused or not normal, messages are\ndifferent, or the hexadecimal text is none; 2 usage; 3 memory, files or pipes.";
+
+fn hex_flag<'a>(alloc: Global) -> Arg<'a> {
+    Arg::new(alloc, "hex")
+        .long("hex")
+        .action(ArgAction::SetTrue)
+        .help("The input is hexadecimal text, in either case, with or without blanks")
+}
+
+fn file<'a>(alloc: Global, id: &'a str, name: &'a str, help: &'a str) -> Arg<'a> {
+    Arg::new(alloc, id)
+        .value_name(name)
+        .required(true)
+        .help(help)
+}
+
+fn on_one<'a>(
+    alloc: Global,
+    name: &'a str,
+    about: &'a str,
+    after: &'a str,
+) -> Result<Command<'a>, AllocError> {
+    let input = file(alloc, "first", "FILE", "The messages; `-` is standard input");
+    Command::new(alloc, name)
+        .about(about)
+        .after_help(after)
+        .arg(hex_flag(alloc))?
+        .arg(input)
+}
+
+fn same<'a>(alloc: Global) -> Result<Command<'a>, AllocError> {
+    let first = file(alloc, "first", "FILE", "A message; `-` is standard input");
+    let second = file(alloc, "second", "OTHER", "Another; `-` is standard input");
+    Command::new(alloc, "same")
+        .about("Says whether two files hold the same message, however it is spelled")
+        .after_help(SAME)
+        .arg(hex_flag(alloc))?
+        .arg(first)?
+        .arg(second)
+}
+
+fn canonicalise<'a>(alloc: Global) -> Result<Command<'a>, AllocError> {
+    let input = file(alloc, "first", "IN", "The messages; `-` is standard input");
+    let output = file(
+        alloc,
+        "second",
+        "OUT",
+        "Where the normal forms go; `-` is standard output",
+    );
+    Command::new(alloc, "canonicalise")
+        .about("Writes the normal form (DER) of each message in IN to OUT")
+        .after_help(CANONICALISE)
+        .arg(hex_flag(alloc))?
+        .arg(input)?
+        .arg(output)
+}
+
+fn program<'a>(alloc: Global) -> Result<Command<'a>, AllocError> {
+    let show = on_one(alloc, "show", "Writes the messages as text", SHOW)?;
+    let check = on_one(
+        alloc,
+        "check",
+        "Says of each message whether it is its normal form",
+        CHECK,
+    )?;
+    Command::new(alloc, "illcanon")
+        .bin_name("illcanon")?
+        .version("0.1.0")
+        .about(
+            "The canonical form of ISO interlibrary loan messages (ILL APDUs of ISO 10161-1 in BER)",
+        )
+        .after_help(PROGRAM)
+        .subcommand_required(true)
+        .arg_required_else_help(true)
+        .subcommand(show)?
+        .subcommand(check)?
+        .subcommand(same(alloc)?)?
+        .subcommand(canonicalise(alloc)?)
+}
+
+/// Reads the words of a command line, the program's own name first.
+///
+/// # Errors
+///
+/// What `clap` says of words that are no command line, or that ask for help; and that the same word
+/// stands twice, where two files are wanted: `-` and `-` for `same`, any but `-` for
+/// `canonicalise`.
+pub fn order<'a>(alloc: Global, words: &'a [String]) -> Result<Order<'a>, LineFault> {
+    let order = match read(alloc, words) {
+        Ok(order) => order,
+        Err(error) => return Err(LineFault::Line(error)),
+    };
+    let Some(second) = order.second else {
+        return Ok(order);
+    };
+    let twice = match order.command {
+        Verb::Same => order.first == "-" && second == "-",
+        Verb::Canonicalise => order.first != "-" && order.first == second,
+        Verb::Show | Verb::Check => false,
+    };
+    if twice {
+        return Err(LineFault::SameWord);
+    }
+    Ok(order)
+}
+
+fn read<'a>(alloc: Global, words: &'a [String]) -> Result<Order<'a>, Error> {
+    let matches = program(alloc)?.try_get_matches_from(words)?;
+    let order = match matches.subcommand() {
+        Some((name, files)) => Order {
+            command: verb(name),
+            hex: files.get_flag("hex"),
+            first: files.get_str("first").unwrap_or("-"),
+            second: files.get_str("second"),
+        },
+        None => Order {
+            command: Verb::Check,
+            hex: false,
+            first: "-",
+            second: None,
+        },
+    };
+    Ok(order)
+}
+
+fn verb(name: &str) -> Verb {
+    match name {
+        "show" => Verb::Show,
+        "same" => Verb::Same,
+        "canonicalise" => Verb::Canonicalise,
+        _ => Verb::Check,
+    }
+}
