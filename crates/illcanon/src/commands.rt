@@ -1,7 +1,8 @@
 //! The commands: what is opened, and which job is done with it.
 use crate::fault::Fault;
-use crate::line::{Order, Verb, order};
+use crate::line::order;
 use crate::opened::{cannot_open, open, out_of_memory};
+use crate::order::{Order, Verb};
 use ber_core::{Source, ToWrite};
 use ill_jobs::{Job, RunFault, Verdict, run, run_same};
 use std::alloc::Global;

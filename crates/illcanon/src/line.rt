@@ -1,30 +1,8 @@
 //! The command line.
 use crate::fault::LineFault;
+use crate::order::{Order, Verb};
 use clap::{Arg, ArgAction, Command, Error};
 use std::alloc::{AllocError, Global};
-
-/// A command of the program.
-#[derive(Clone, Copy, Debug, PartialEq, Eq)]
-pub enum Verb {
-    Show,
-    Check,
-    Same,
-    Canonicalise,
-}
-
-/// What a command line tells the program to do. The word `-` is standard input, or standard output
-/// for the second file of `canonicalise`.
-#[derive(Clone, Copy, Debug, PartialEq, Eq)]
-pub struct Order<'a> {
-    pub command: Verb,
-    /// Whether inputs are hexadecimal text.
-    pub hex: bool,
-    pub first: &'a str,
-    /// The second file of `same` and `canonicalise`.
-    pub second: Option<&'a str>,
-}
-
-const STATUS: &str = "Status: 0 done; 1 a message is refused, or the hexadecimal text is none; 2 usage; 3 memory, files or pipes.";
 
 const SHOW: &str = "Each message is a line `message 1 Expired` and then a line for each leaf, as\n`service-date-time.date-time-of-this-service.date = 20240229`.\n\nExample: illcanon show messages.ber\n\nStatus: 0 done; 1 a message is refused, or the hexadecimal text is none; 2 usage;\n3 memory, files or pipes.";
 
@@ -144,7 +122,7 @@ fn read<'a>(alloc: Global, words: &'a [String]) -> Result<Order<'a>, Error> {
     let matches = program(alloc)?.try_get_matches_from(words)?;
     let order = match matches.subcommand() {
         Some((name, files)) => Order {
-            command: verb(name),
+            command: verb_of(name),
             hex: files.get_flag("hex"),
             first: files.get_str("first").unwrap_or("-"),
             second: files.get_str("second"),
@@ -159,7 +137,7 @@ fn read<'a>(alloc: Global, words: &'a [String]) -> Result<Order<'a>, Error> {
     Ok(order)
 }
 
-fn verb(name: &str) -> Verb {
+fn verb_of(name: &str) -> Verb {
     match name {
         "show" => Verb::Show,
         "same" => Verb::Same,

@@ -5,6 +5,7 @@ mod commands;
 mod fault;
 mod line;
 mod opened;
+mod order;
 #[cfg(test)]
 mod tests;
 
