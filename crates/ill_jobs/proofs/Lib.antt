@@ -1,0 +1,3 @@
+pub mod Checking
+pub mod Making
+pub mod Writing

@@ -1,5 +1,7 @@
 //! Hexadecimal text as an input.
-ghost use Rattle.std.specs.Prelude.{◌≡◌, not, filter, IfOk, IfErr};
+ghost use Rattle.std.specs.Prelude.{◌≡◌, IfOk, IfErr, IsTrue};
+ghost use Rattle.ill_jobs.specs.Hexadecimal.{is_blank, without_blanks};
+ghost use Rattle.ill_jobs.specs.Ran.{TextOf, FailsText};
 
 use crate::fault::RunFault;
 use crate::text::read_most;
@@ -11,6 +13,11 @@ use std::alloc::{AllocError, Global};
 const MOST: usize = 4_194_304;
 
 impl From<FromHexError> for RunFault {
+    ghost use Rattle.std.specs.Prelude.{◌≡◌};
+    ghost use Rattle.ill_jobs.specs.Hexadecimal.{hex_fault};
+
+    ghost from_gives = { λ error fault. fault ≡ hex_fault error };
+
     fn from(error: FromHexError) -> RunFault {
         match error {
             FromHexError::OddLength => RunFault::OddHex,
@@ -21,7 +28,11 @@ impl From<FromHexError> for RunFault {
 }
 
 /// Reads a text to its end, and answers the octets that it stands for.
-pub fn read_hex<R: Source>(alloc: Global, source: &mut R) -> Result<Vec<u8>, RunFault> {
+pub fn read_hex<R: Source>(alloc: Global, source: &mut R) -> Result<Vec<u8>, RunFault>
+    ensures octets { IfOk result (λ octets. TextOf (R.left source.old) (R.left source.new) octets.items) }
+    ensures fails { IfErr result (FailsText (R.left source.old) (R.left source.new) (R.is_broken source.new)) }
+    ensures stays { IsTrue (R.is_broken source.old) → IsTrue (R.is_broken source.new) }
+{
     let text = read_most(alloc, source, MOST + 1)?;
     if text.len() > MOST {
         return Err(RunFault::HexTooLong);
@@ -32,11 +43,15 @@ pub fn read_hex<R: Source>(alloc: Global, source: &mut R) -> Result<Vec<u8>, Run
     Ok(hex::decode(alloc, digits.as_slice())?)
 }
 
-fn is_blank(octet: u8) -> bool {
+fn is_blank(octet: u8) -> bool
+    ensures { result ≡ is_blank octet }
+{
     matches!(octet, b' ' | b'\t' | b'\r' | b'\n')
 }
 
-fn without_blanks(alloc: Global, text: &[u8]) -> Result<Vec<u8>, AllocError> {
+fn without_blanks(alloc: Global, text: &[u8]) -> Result<Vec<u8>, AllocError>
+    ensures { IfOk result (λ digits. digits.items ≡ without_blanks text.now) }
+{
     let mut digits = Vec::new(alloc);
     for octet in text {
         if !is_blank(*octet) {

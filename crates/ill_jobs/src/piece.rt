@@ -1,4 +1,15 @@
 //! The whole output of one message.
+ghost use Rattle.std.specs.Prelude.{◌≡◌, ℕ, Bool, ◌++◌, ◌<◌, [], length, codes, IfOk, IfErr, IfSome, IfNone, IsErrOf, IsTrue};
+ghost use Rattle.std.specs.Io.KnownBytes.{Consumes, IsAtEnd};
+ghost use Rattle.ber_leaf.specs.Profile.{profile_two};
+ghost use Rattle.hex.specs.Hex.{encode_lower};
+ghost use Rattle.ill_read.specs.Answers.{IfReadRefused};
+ghost use Rattle.ill_read.specs.Outcome.{OnlyRefuses};
+ghost use Rattle.ill_read.specs.declared.failure.ReadFailure.{ReadFailure};
+ghost use Rattle.ill_jobs.specs.declared.job.Job.{Job};
+ghost use Rattle.ill_jobs.specs.Output.{line_of_check};
+ghost use Rattle.ill_jobs.specs.Pieces.{Makes};
+
 use crate::job::Job;
 use ber_core::Source;
 use ill_normal::{Checked, ReadFailure, apdu_name, check_one, read_message};
@@ -21,7 +32,13 @@ pub fn next_piece<R: Source>(
     hex: bool,
     number: u32,
     source: &mut R,
-) -> Result<Option<Piece>, ReadFailure> {
+) -> Result<Option<Piece>, ReadFailure>
+    ensures piece { IfOk result (λ found. IfSome found (Makes job hex number (R.left source.old) (R.left source.new))) }
+    ensures none { IfOk result (λ found. IfNone found (Consumes (R.left source.old) (R.left source.new) [] × IsAtEnd (R.left source.new))) }
+    ensures refused { IfErr result (λ e. IfReadRefused e (λ f. IfSome (R.left source.old) (λ s. (0 < length s) × OnlyRefuses profile_two s f))) }
+    ensures broken { IsErrOf result ReadFailure.ReadFault → IsTrue (R.is_broken source.new) }
+    ensures stays { IsTrue (R.is_broken source.old) → IsTrue (R.is_broken source.new) }
+{
     match job {
         Job::Show => shown(alloc, number, source),
         Job::Check => checked(alloc, number, source),
@@ -33,7 +50,13 @@ fn shown<R: Source>(
     alloc: Global,
     number: u32,
     source: &mut R,
-) -> Result<Option<Piece>, ReadFailure> {
+) -> Result<Option<Piece>, ReadFailure>
+    ensures piece { IfOk result (λ found. IfSome found (λ p. (hex : Bool) → Makes Job.Show hex number (R.left source.old) (R.left source.new) p)) }
+    ensures none { IfOk result (λ found. IfNone found (Consumes (R.left source.old) (R.left source.new) [] × IsAtEnd (R.left source.new))) }
+    ensures refused { IfErr result (λ e. IfReadRefused e (λ f. IfSome (R.left source.old) (λ s. (0 < length s) × OnlyRefuses profile_two s f))) }
+    ensures broken { IsErrOf result ReadFailure.ReadFault → IsTrue (R.is_broken source.new) }
+    ensures stays { IsTrue (R.is_broken source.old) → IsTrue (R.is_broken source.new) }
+{
     let Some(message) = read_message(alloc, source)? else {
         return Ok(None);
     };
@@ -50,7 +73,13 @@ fn checked<R: Source>(
     alloc: Global,
     number: u32,
     source: &mut R,
-) -> Result<Option<Piece>, ReadFailure> {
+) -> Result<Option<Piece>, ReadFailure>
+    ensures piece { IfOk result (λ found. IfSome found (λ p. (hex : Bool) → Makes Job.Check hex number (R.left source.old) (R.left source.new) p)) }
+    ensures none { IfOk result (λ found. IfNone found (Consumes (R.left source.old) (R.left source.new) [] × IsAtEnd (R.left source.new))) }
+    ensures refused { IfErr result (λ e. IfReadRefused e (λ f. IfSome (R.left source.old) (λ s. (0 < length s) × OnlyRefuses profile_two s f))) }
+    ensures broken { IsErrOf result ReadFailure.ReadFault → IsTrue (R.is_broken source.new) }
+    ensures stays { IsTrue (R.is_broken source.old) → IsTrue (R.is_broken source.new) }
+{
     let Some(found) = check_one(alloc, source)? else {
         return Ok(None);
     };
@@ -63,7 +92,9 @@ fn checked<R: Source>(
     }
 }
 
-fn check_line(alloc: Global, number: u32, found: Checked) -> Result<Vec<u8>, AllocError> {
+fn check_line(alloc: Global, number: u32, found: Checked) -> Result<Vec<u8>, AllocError>
+    ensures { IfOk result (λ line. line.items ≡ line_of_check number found.apdu found.octets found.is_normal found.normal) }
+{
     let name = match apdu_name(found.apdu) {
         Some(name) => name,
         None => "",
@@ -90,7 +121,13 @@ fn canonical<R: Source>(
     alloc: Global,
     hex: bool,
     source: &mut R,
-) -> Result<Option<Piece>, ReadFailure> {
+) -> Result<Option<Piece>, ReadFailure>
+    ensures piece { IfOk result (λ found. IfSome found (λ p. (number : ℕ) → Makes Job.Canonicalise hex number (R.left source.old) (R.left source.new) p)) }
+    ensures none { IfOk result (λ found. IfNone found (Consumes (R.left source.old) (R.left source.new) [] × IsAtEnd (R.left source.new))) }
+    ensures refused { IfErr result (λ e. IfReadRefused e (λ f. IfSome (R.left source.old) (λ s. (0 < length s) × OnlyRefuses profile_two s f))) }
+    ensures broken { IsErrOf result ReadFailure.ReadFault → IsTrue (R.is_broken source.new) }
+    ensures stays { IsTrue (R.is_broken source.old) → IsTrue (R.is_broken source.new) }
+{
     let Some(message) = read_message(alloc, source)? else {
         return Ok(None);
     };
@@ -112,7 +149,9 @@ fn canonical<R: Source>(
     }
 }
 
-fn hex_line(alloc: Global, octets: &[u8]) -> Result<Vec<u8>, AllocError> {
+fn hex_line(alloc: Global, octets: &[u8]) -> Result<Vec<u8>, AllocError>
+    ensures { IfOk result (λ line. line.items ≡ encode_lower octets.now ++ codes "\n") }
+{
     let digits = hex::encode(alloc, octets)?;
     let mut line = digits.into_bytes();
     line.extend_from_slice(b"\n")?;

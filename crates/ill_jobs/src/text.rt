@@ -18,6 +18,11 @@ pub enum Unread {
 }
 
 impl From<Unread> for RunFault {
+    ghost use Rattle.std.specs.Prelude.{◌≡◌};
+    ghost use Rattle.ill_jobs.specs.Unread.{unread_fault};
+
+    ghost from_gives = { λ why fault. fault ≡ unread_fault why };
+
     fn from(why: Unread) -> RunFault {
         match why {
             Unread::OutOfMemory => RunFault::OutOfMemory,
