@@ -1,3 +1,5 @@
 pub mod Checking
 pub mod Making
 pub mod Writing
+pub mod Deciding
+pub mod Texts
