@@ -3,3 +3,4 @@ pub mod Making
 pub mod Writing
 pub mod Deciding
 pub mod Texts
+pub mod Comparing

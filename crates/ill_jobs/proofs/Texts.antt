@@ -30,7 +30,7 @@ same_octets s left' text h = elim (cases_lt 4_194_304 (length text)) [
       ap hex_octets (t.1 ∙ ap (λ l. text ++ l) none ∙ append-nil text)
 ]
 
-same_ok : (r : Result (List ℕ) RunFault) (a b : List ℕ) → r ≡ Ok a → r ≡ Ok b → a ≡ b
+pub same_ok : (r : Result (List ℕ) RunFault) (a b : List ℕ) → r ≡ Ok a → r ≡ Ok b → a ≡ b
 same_ok r a b e f = cc
 
 same_err : (r : Result (List ℕ) RunFault) (e f : RunFault) → r ≡ Err e → r ≡ Err f → e ≡ f
