@@ -37,6 +37,6 @@ module _ (left left' : Option (List ℕ)) (i : ℕ) (text : Vec ℕ Global) wher
         spells = h.2;
         taken = h.3;
         text = e ∙ ap (λ n. line_of_check i n octets normal size) h.4 ∙ ap (λ n. line_of_check i h.0.number n normal size) h.5
-        ∙ ap (λ (t : Bool). line_of_check i h.0.number (length h.1) t size) same ∙ ap (λ n. line_of_check i h.0.number (length h.1) (bytes_eq h.1 (normal_form h.0)) n) h.6;
+            ∙ ap (λ (t : Bool). line_of_check i h.0.number (length h.1) t size) same ∙ ap (λ n. line_of_check i h.0.number (length h.1) (bytes_eq h.1 (normal_form h.0)) n) h.6;
         good = same;
       }

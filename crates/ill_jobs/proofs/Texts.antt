@@ -65,7 +65,7 @@ module _ (job : Job) (held held' : Option (List ℕ)) (x y : Bool) (answer : Res
 
   -- the octets of a text
   module _ (octets : List ℕ) (rest : Option (List ℕ)) (d : IfOk answer (Done job true (Some octets) rest held held'))
-    (n : IfErr answer (StopsAfter job true (Some octets) rest held held' x y)) where
+      (n : IfErr answer (StopsAfter job true (Some octets) rest held held' x y)) where
     stands : (s : List ℕ) (left' : Option (List ℕ)) → TextOf (Some s) left' octets → hex_octets s ≡ Ok octets
     stands s left' t = same_octets s left' t.text t.taken ∙ t.stands
 

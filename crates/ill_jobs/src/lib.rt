@@ -8,7 +8,6 @@ mod job;
 mod messages;
 mod piece;
 mod put;
-
 mod same;
 mod text;
 

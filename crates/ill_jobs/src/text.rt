@@ -32,11 +32,7 @@ impl From<Unread> for RunFault {
 }
 
 /// Reads to the end of the input, but at most so many octets.
-pub fn read_most<R: Source>(
-    alloc: Global,
-    source: &mut R,
-    most: usize,
-) -> Result<Vec<u8>, Unread>
+pub fn read_most<R: Source>(alloc: Global, source: &mut R, most: usize) -> Result<Vec<u8>, Unread>
     ensures taken { IfOk result (λ text. Consumes (R.left source.old) (R.left source.new) text.items) }
     ensures most { IfOk result (λ text. length text.items ≤ most) }
     ensures end { IfOk result (λ text. length text.items < most → IsAtEnd (R.left source.new)) }

@@ -30,12 +30,12 @@ returns-in_err-verdict-clause-fails g c =
     let p = err_from_is_err_and c.from_residual-in_err-verdict.result c.from_residual-in_err-verdict.ensures.1 in
     let refuses = rw (c.deref.ensures.value, c.deref-2.ensures.value) at c.in_err-verdict.ensures.refuses in
     rw (p.1, p.2) (inr (inr (record {
-        first = c.in_ok-one.one.items;
-        second = c.in_ok-other.other.items;
-        reads_first = c.in_ok-one.ensures.read;
-        reads_second = c.in_ok-other.ensures.read;
-        stops = inl (refuses, Keeps-refl (g.W.Sink.contents c.args.sink.now));
-      })))
+      first = c.in_ok-one.one.items;
+      second = c.in_ok-other.other.items;
+      reads_first = c.in_ok-one.ensures.read;
+      reads_second = c.in_ok-other.ensures.read;
+      stops = inl (refuses, Keeps-refl (g.W.Sink.contents c.args.sink.now));
+    })))
 
 pub returns-in_err-verdict-clause-compares : goal.returns-in_err-verdict-clause-compares
 returns-in_err-verdict-clause-compares g c =
