@@ -1,27 +1,46 @@
 //! The command line.
+ghost use Rattle.std.specs.Prelude.{◌≡◌, ℕ, List, map, codes, false, Some, IfOk, IfErr, IfSome, IsTrue, ◌↔◌};
+ghost use Rattle.std.specs.String.{string_bytes};
+ghost use Rattle.clap.specs.Words.{app_of, rule_of, subcommand_of, subcommand_rows_of};
+ghost use Rattle.clap.specs.declared.builder.command.Command.TheViews.{out-Command as fields_of};
+ghost use Rattle.illcanon.specs.CommandLine.{hex_rule, file_rule, one_file, two_files, program};
+ghost use Rattle.illcanon.specs.Orders.{verb_name, IsOrderOf, IsTwice};
+ghost use Rattle.illcanon.specs.SameWords.{IsSameWordOnly};
+
 use crate::fault::LineFault;
 use crate::order::{Order, Verb};
-use clap::{Arg, ArgAction, Command, Error};
+use clap::{Arg, ArgAction, ArgMatches, Command, Error};
 use std::alloc::{AllocError, Global};
 
-const SHOW: &str = "Each message is a line `message 1 Expired` and then a line for each leaf, as\n`service-date-time.date-time-of-this-service.date = 20240229`.\n\nExample: illcanon show messages.ber\n\nStatus: 0 done; 1 a message is refused, or the hexadecimal text is none; 2 usage;\n3 memory, files or pipes.";
+const SHOW: &str =
+    "Each message is a line `message 1 Expired` and then a line for each leaf, as\n`service-date-time.date-time-of-this-service.date = 20240229`.\n\nExample: illcanon show messages.ber\n\nStatus: 0 done; 1 a message is refused, or the hexadecimal text is none; 2 usage;\n3 memory, files or pipes.";
 
-const CHECK: &str = "Each message has a line, as `message 1: Expired, 33 octets, normal` or\n`message 2: Expired, 47 octets, not normal, normal form 33 octets`.\n\nExample: illcanon check messages.ber | grep 'not normal'\n\nStatus: 0 all are normal; 1 one is not normal or is refused, or the hexadecimal text\nis none; 2 usage; 3 memory, files or pipes.";
+const CHECK: &str =
+    "Each message has a line, as `message 1: Expired, 33 octets, normal` or\n`message 2: Expired, 47 octets, not normal, normal form 33 octets`.\n\nExample: illcanon check messages.ber | grep 'not normal'\n\nStatus: 0 all are normal; 1 one is not normal or is refused, or the hexadecimal text\nis none; 2 usage; 3 memory, files or pipes.";
 
-const SAME: &str = "Writes `same` or `different`. Each file holds one message; at most one file is `-`.\n\nExample: illcanon same sent.ber received.ber\n\nStatus: 0 same; 1 different, or a file is not one message; 2 usage; 3 memory, files\nor pipes.";
+const SAME: &str =
+    "Writes `same` or `different`. Each file holds one message; at most one file is `-`.\n\nExample: illcanon same sent.ber received.ber\n\nStatus: 0 same; 1 different, or a file is not one message; 2 usage; 3 memory, files\nor pipes.";
 
-const CANONICALISE: &str = "With --hex the output has a line of hexadecimal digits for each message, and otherwise\nthe octets. The messages before one that is refused are written.\n\nExample: illcanon canonicalise messages.ber messages.der\n\nStatus: 0 done; 1 a message is refused, or the hexadecimal text is none; 2 usage;\n3 memory, files or pipes.";
+const CANONICALISE: &str =
+    "With --hex the output has a line of hexadecimal digits for each message, and otherwise\nthe octets. The messages before one that is refused are written.\n\nExample: illcanon canonicalise messages.ber messages.der\n\nStatus: 0 done; 1 a message is refused, or the hexadecimal text is none; 2 usage;\n3 memory, files or pipes.";
 
-const PROGRAM: &str = "Example: illcanon check messages.ber\n`-` in place of a file is standard input, or standard output for OUT.\n\nStatus: 0 done, and all is well; 1 a message is refused or not normal, messages are\ndifferent, or the hexadecimal text is none; 2 usage; 3 memory, files or pipes.";
+const PROGRAM: &str =
+    "Example: illcanon check messages.ber\n`-` in place of a file is standard input, or standard output for OUT.\n\nStatus: 0 done, and all is well; 1 a message is refused or not normal, messages are\ndifferent, or the hexadecimal text is none; 2 usage; 3 memory, files or pipes.";
 
-fn hex_flag<'a>(alloc: Global) -> Arg<'a> {
+fn hex_flag<'a>(alloc: Global) -> Arg<'a>
+    ensures rule { rule_of result ≡ hex_rule }
+    ensures local { result.global ≡ false }
+{
     Arg::new(alloc, "hex")
         .long("hex")
         .action(ArgAction::SetTrue)
         .help("The input is hexadecimal text, in either case, with or without blanks")
 }
 
-fn file<'a>(alloc: Global, id: &'a str, name: &'a str, help: &'a str) -> Arg<'a> {
+fn file<'a>(alloc: Global, id: &'a str, name: &'a str, help: &'a str) -> Arg<'a>
+    ensures rule { rule_of result ≡ file_rule id.entry.now }
+    ensures local { result.global ≡ false }
+{
     Arg::new(alloc, id)
         .value_name(name)
         .required(true)
@@ -33,8 +52,15 @@ fn on_one<'a>(
     name: &'a str,
     about: &'a str,
     after: &'a str,
-) -> Result<Command<'a>, AllocError> {
-    let input = file(alloc, "first", "FILE", "The messages; `-` is standard input");
+) -> Result<Command<'a>, AllocError>
+    ensures { IfOk result (λ c. (app_of c ≡ one_file name.entry.now) × ((fields_of c).has_globals ≡ false)) }
+{
+    let input = file(
+        alloc,
+        "first",
+        "FILE",
+        "The messages; `-` is standard input",
+    );
     Command::new(alloc, name)
         .about(about)
         .after_help(after)
@@ -42,7 +68,9 @@ fn on_one<'a>(
         .arg(input)
 }
 
-fn same<'a>(alloc: Global) -> Result<Command<'a>, AllocError> {
+fn same<'a>(alloc: Global) -> Result<Command<'a>, AllocError>
+    ensures { IfOk result (λ c. (app_of c ≡ two_files (codes "same")) × ((fields_of c).has_globals ≡ false)) }
+{
     let first = file(alloc, "first", "FILE", "A message; `-` is standard input");
     let second = file(alloc, "second", "OTHER", "Another; `-` is standard input");
     Command::new(alloc, "same")
@@ -53,7 +81,9 @@ fn same<'a>(alloc: Global) -> Result<Command<'a>, AllocError> {
         .arg(second)
 }
 
-fn canonicalise<'a>(alloc: Global) -> Result<Command<'a>, AllocError> {
+fn canonicalise<'a>(alloc: Global) -> Result<Command<'a>, AllocError>
+    ensures { IfOk result (λ c. (app_of c ≡ two_files (codes "canonicalise")) × ((fields_of c).has_globals ≡ false)) }
+{
     let input = file(alloc, "first", "IN", "The messages; `-` is standard input");
     let output = file(
         alloc,
@@ -69,7 +99,9 @@ fn canonicalise<'a>(alloc: Global) -> Result<Command<'a>, AllocError> {
         .arg(output)
 }
 
-fn program<'a>(alloc: Global) -> Result<Command<'a>, AllocError> {
+fn program<'a>(alloc: Global) -> Result<Command<'a>, AllocError>
+    ensures { IfOk result (λ c. app_of c ≡ program) }
+{
     let show = on_one(alloc, "show", "Writes the messages as text", SHOW)?;
     let check = on_one(
         alloc,
@@ -99,49 +131,67 @@ fn program<'a>(alloc: Global) -> Result<Command<'a>, AllocError> {
 /// What `clap` says of words that are no command line, or that ask for help; and that the same word
 /// stands twice, where two files are wanted: `-` and `-` for `same`, any but `-` for
 /// `canonicalise`.
-pub fn order<'a>(alloc: Global, words: &'a [String]) -> Result<Order<'a>, LineFault> {
+pub fn order<'a>(alloc: Global, words: &'a [String]) -> Result<Order<'a>, LineFault>
+    // The words have the order's command, flag and files, which are not the same word twice.
+    ensures order { IfOk result (IsOrderOf (subcommand_of program (map string_bytes words.entry.now))) }
+    ensures not_twice { IfOk result (λ order. IsTwice order → ⊥) }
+    ensures twice { IfErr result (IsSameWordOnly (subcommand_of program (map string_bytes words.entry.now))) }
+{
     let order = match read(alloc, words) {
         Ok(order) => order,
         Err(error) => return Err(LineFault::Line(error)),
     };
-    let Some(second) = order.second else {
-        return Ok(order);
-    };
-    let twice = match order.command {
-        Verb::Same => order.first == "-" && second == "-",
-        Verb::Canonicalise => order.first != "-" && order.first == second,
-        Verb::Show | Verb::Check => false,
-    };
-    if twice {
+    if is_twice(&order) {
         return Err(LineFault::SameWord);
     }
     Ok(order)
 }
 
-fn read<'a>(alloc: Global, words: &'a [String]) -> Result<Order<'a>, Error> {
-    let matches = program(alloc)?.try_get_matches_from(words)?;
-    let order = match matches.subcommand() {
-        Some((name, files)) => Order {
-            command: verb_of(name),
-            hex: files.get_flag("hex"),
-            first: files.get_str("first").unwrap_or("-"),
-            second: files.get_str("second"),
-        },
-        None => Order {
-            command: Verb::Check,
-            hex: false,
-            first: "-",
-            second: None,
-        },
+/// Whether the same word stands twice where two files are wanted.
+fn is_twice(order: &Order<'_>) -> bool
+    ensures { IsTrue result ↔ IsTwice order.now }
+{
+    let Some(second) = order.second else {
+        return false;
     };
-    Ok(order)
+    match order.command {
+        Verb::Same => order.first == "-" && second == "-",
+        Verb::Canonicalise => order.first != "-" && order.first == second,
+        Verb::Show | Verb::Check => false,
+    }
 }
 
-fn verb_of(name: &str) -> Verb {
+fn read<'a>(alloc: Global, words: &'a [String]) -> Result<Order<'a>, Error>
+    ensures { IfOk result (IsOrderOf (subcommand_of program (map string_bytes words.entry.now))) }
+{
+    let matches = program(alloc)?.try_get_matches_from(words)?;
+    match order_of(&matches) {
+        Some(order) => Ok(order),
+        // clap has matched a command and its files, or has answered with an error.
+        None => Err(Error::from(AllocError)),
+    }
+}
+
+fn order_of<'a>(matches: &ArgMatches<'a>) -> Option<Order<'a>>
+    ensures { IfSome result (IsOrderOf (subcommand_rows_of matches.now)) }
+{
+    let (name, files) = matches.subcommand()?;
+    Some(Order {
+        command: verb_of(name)?,
+        hex: files.get_flag("hex"),
+        first: files.get_str("first")?,
+        second: files.get_str("second"),
+    })
+}
+
+fn verb_of(name: &str) -> Option<Verb>
+    ensures { IfSome result (λ verb. name.now ≡ verb_name verb) }
+{
     match name {
-        "show" => Verb::Show,
-        "same" => Verb::Same,
-        "canonicalise" => Verb::Canonicalise,
-        _ => Verb::Check,
+        "show" => Some(Verb::Show),
+        "check" => Some(Verb::Check),
+        "same" => Some(Verb::Same),
+        "canonicalise" => Some(Verb::Canonicalise),
+        _ => None,
     }
 }
