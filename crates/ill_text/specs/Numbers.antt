@@ -7,12 +7,12 @@ abbrev pub number_names : List ℕ → List (List ℕ)
 number_names row =
     if bytes_eq row (codes "transaction-type") then codes "simple" ∷ codes "chained" ∷ codes "partitioned" ∷ []
     else if bytes_eq row (codes "ill-service-type") then
-        codes "loan" ∷ codes "copy-non-returnable" ∷ codes "locations" ∷ codes "estimate" ∷ codes "responder-specific" ∷ []
+    codes "loan" ∷ codes "copy-non-returnable" ∷ codes "locations" ∷ codes "estimate" ∷ codes "responder-specific" ∷ []
     else if bytes_eq row (codes "place-on-hold") then codes "yes" ∷ codes "no" ∷ codes "according-to-responder-policy" ∷ []
     else if bytes_eq row (codes "item-type") then codes "monograph" ∷ codes "serial" ∷ codes "other" ∷ []
     else if bytes_eq row (codes "transaction-results") then
-        codes "conditional" ∷ codes "retry" ∷ codes "unfilled" ∷ codes "locations-provided" ∷ codes "will-supply"
-        ∷ codes "hold-placed" ∷ codes "estimate" ∷ []
+    codes "conditional" ∷ codes "retry" ∷ codes "unfilled" ∷ codes "locations-provided" ∷ codes "will-supply"
+    ∷ codes "hold-placed" ∷ codes "estimate" ∷ []
     else []
 
 abbrev pub number_name : List ℕ → ℤ → Option (List ℕ)

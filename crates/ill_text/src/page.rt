@@ -49,8 +49,7 @@ impl Page {
     {
         let mut buffer = Buffer::new();
         self.path.extend_from_slice(b"[")?;
-        self.path
-            .extend_from_slice(buffer.format(i).as_bytes())?;
+        self.path.extend_from_slice(buffer.format(i).as_bytes())?;
         self.path.extend_from_slice(b"]")
     }
 

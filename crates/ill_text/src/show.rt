@@ -43,12 +43,7 @@ pub fn show_text(alloc: Global, number: u32, message: &Message) -> Result<Vec<u8
 
 /// Adds the lines of a value of this node in a row of this name.
 #[cycle(show)]
-fn show_value(
-    value: &Value,
-    name: &str,
-    node: NodeId,
-    page: &mut Page,
-) -> Result<(), AllocError>
+fn show_value(value: &Value, name: &str, node: NodeId, page: &mut Page) -> Result<(), AllocError>
     ensures { Adds result page.old page.new (lines_of (place_at page.old name.now node) (content_of value.now)) }
 {
     match value {

@@ -8,24 +8,10 @@ ghost use Rattle.illcanon.specs.Orders.{verb_name, IsOrderOf, IsTwice};
 ghost use Rattle.illcanon.specs.SameWords.{IsSameWordOnly};
 
 use crate::fault::LineFault;
+use crate::help;
 use crate::order::{Order, Verb};
 use clap::{Arg, ArgAction, ArgMatches, Command, Error};
 use std::alloc::{AllocError, Global};
-
-const SHOW: &str =
-    "Each message is a line `message 1 Expired` and then a line for each leaf, as\n`service-date-time.date-time-of-this-service.date = 20240229`.\n\nExample: illcanon show messages.ber\n\nStatus: 0 done; 1 a message is refused, or the hexadecimal text is none; 2 usage;\n3 memory, files or pipes.";
-
-const CHECK: &str =
-    "Each message has a line, as `message 1: Expired, 33 octets, normal` or\n`message 2: Expired, 47 octets, not normal, normal form 33 octets`.\n\nExample: illcanon check messages.ber | grep 'not normal'\n\nStatus: 0 all are normal; 1 one is not normal or is refused, or the hexadecimal text\nis none; 2 usage; 3 memory, files or pipes.";
-
-const SAME: &str =
-    "Writes `same` or `different`. Each file holds one message; at most one file is `-`.\n\nExample: illcanon same sent.ber received.ber\n\nStatus: 0 same; 1 different, or a file is not one message; 2 usage; 3 memory, files\nor pipes.";
-
-const CANONICALISE: &str =
-    "With --hex the output has a line of hexadecimal digits for each message, and otherwise\nthe octets. The messages before one that is refused are written.\n\nExample: illcanon canonicalise messages.ber messages.der\n\nStatus: 0 done; 1 a message is refused, or the hexadecimal text is none; 2 usage;\n3 memory, files or pipes.";
-
-const PROGRAM: &str =
-    "Example: illcanon check messages.ber\n`-` in place of a file is standard input, or standard output for OUT.\n\nStatus: 0 done, and all is well; 1 a message is refused or not normal, messages are\ndifferent, or the hexadecimal text is none; 2 usage; 3 memory, files or pipes.";
 
 fn hex_flag<'a>(alloc: Global) -> Arg<'a>
     ensures rule { rule_of result ≡ hex_rule }
@@ -75,7 +61,7 @@ fn same<'a>(alloc: Global) -> Result<Command<'a>, AllocError>
     let second = file(alloc, "second", "OTHER", "Another; `-` is standard input");
     Command::new(alloc, "same")
         .about("Says whether two files hold the same message, however it is spelled")
-        .after_help(SAME)
+        .after_help(help::SAME)
         .arg(hex_flag(alloc))?
         .arg(first)?
         .arg(second)
@@ -93,7 +79,7 @@ fn canonicalise<'a>(alloc: Global) -> Result<Command<'a>, AllocError>
     );
     Command::new(alloc, "canonicalise")
         .about("Writes the normal form (DER) of each message in IN to OUT")
-        .after_help(CANONICALISE)
+        .after_help(help::CANONICALISE)
         .arg(hex_flag(alloc))?
         .arg(input)?
         .arg(output)
@@ -102,12 +88,12 @@ fn canonicalise<'a>(alloc: Global) -> Result<Command<'a>, AllocError>
 fn program<'a>(alloc: Global) -> Result<Command<'a>, AllocError>
     ensures { IfOk result (λ c. app_of c ≡ program) }
 {
-    let show = on_one(alloc, "show", "Writes the messages as text", SHOW)?;
+    let show = on_one(alloc, "show", "Writes the messages as text", help::SHOW)?;
     let check = on_one(
         alloc,
         "check",
         "Says of each message whether it is its normal form",
-        CHECK,
+        help::CHECK,
     )?;
     Command::new(alloc, "illcanon")
         .bin_name("illcanon")?
@@ -115,7 +101,7 @@ fn program<'a>(alloc: Global) -> Result<Command<'a>, AllocError>
         .about(
             "The canonical form of ISO interlibrary loan messages (ILL APDUs of ISO 10161-1 in BER)",
         )
-        .after_help(PROGRAM)
+        .after_help(help::PROGRAM)
         .subcommand_required(true)
         .arg_required_else_help(true)
         .subcommand(show)?

@@ -3,6 +3,7 @@
 
 mod commands;
 mod fault;
+mod help;
 mod line;
 mod opened;
 mod order;

@@ -13,8 +13,7 @@ show_part-returns t c =
     let outer : c.len-outer.result ≡ length c.args.page.now.path.items = search rules in
     let path = c.truncate.ensures.items in
     let shown = c.in_ok-show_value.ensures in
-    let entered = c.in_ok-enter_row.ensures.path in
-    (
+    let entered = c.in_ok-enter_row.ensures.path in (
       rw (entered, c.row_name-name.ensures, c.row_node.ensures, c.enter_row.ensures.text) at shown.0,
       path ∙ rw (outer, shown.1, entered) cut,
     )
