@@ -1,5 +1,5 @@
 -- The names that are shown beside numbers (ISO 10161-1).
-use Rattle.std.specs.Prelude.{ℕ, suc, ℤ, pos, List, [], ◌∷◌, codes, Option, Some, None, slice_get, if◌then◌else◌}
+use Rattle.std.specs.Prelude.{ℕ, suc, ℤ, pos, List, [], ◌∷◌, codes, Option, None, slice_get, if◌then◌else◌}
 use Rattle.std.specs.Str.{bytes_eq}
 
 -- the names of 1, 2 and so on in a row of this name
