@@ -1,22 +1,20 @@
 -- Which answer two inputs have.
-use Rattle.std.proofs.Common.{◌≡◌, ◌⊎◌, ◌↔◌, ℕ, ◌+◌, ◌<◌, ◌≤◌, Bool, true, false, List, [], ◌++◌, length, take, Option, Some, None, Result, Ok, Err, IfSome, IsTrue, refl, sym, ap, subst, ◌∙◌, inl, inr, arith, append-nil, length-append}
-use Rattle.std.specs.Io.KnownBytes.{Consumes, IsAtEnd, Keeps, Appends}
+use Rattle.std.proofs.Common.{◌≡◌, ◌↔◌, ℕ, Bool, true, false, List, [], ◌++◌, length, take, Option, Some, None, Result, Ok, Err, IfSome, refl, sym, ap, subst, ◌∙◌, inl, inr, arith, append-nil}
+use Rattle.std.specs.Io.KnownBytes.{IsAtEnd}
 use Rattle.std.proofs.lemmas.Bool.{cases_lt}
 use Rattle.std.proofs.lemmas.List.{take_all, take_at}
 use Rattle.ber_leaf.specs.Profile.{profile_two}
 use Rattle.ill_schema.specs.Apdu.{Apdu, SpellsApdu}
 use Rattle.ill_read.specs.Fault.{Fault}
 use Rattle.ill_read.specs.Judged.{fault_is}
-use Rattle.ill_read.specs.Answers.{RefusesWhole}
 use Rattle.ill_normal.specs.Compared.{RefusesSide}
 use Rattle.ill_normal.specs.declared.compare.Side.{Side}
 use Rattle.ill_normal.proofs.Answering.{front}
 use Rattle.ill_normal.proofs.Canonical.{spells_once, refuses_whole, refuses_once}
 use Rattle.ill_jobs.specs.declared.job.Verdict.{Verdict}
 use Rattle.ill_jobs.specs.declared.fault.RunFault.{RunFault}
-use Rattle.ill_jobs.specs.Hexadecimal.{hex_octets}
-use Rattle.ill_jobs.specs.Ran.{TextOf, IsFault}
-use Rattle.ill_jobs.specs.Compared.{ReadsSide, Compares, NotCompared, BreaksLine, side_octets, SaysSame, ComparesBoth, RefusesOne, IsRefusedSide, AnswersSide}
+use Rattle.ill_jobs.specs.Ran.{IsFault}
+use Rattle.ill_jobs.specs.Compared.{ReadsSide, Compares, NotCompared, side_octets, SaysSame, ComparesBoth, RefusesOne, IsRefusedSide, AnswersSide}
 use Rattle.ill_jobs.proofs.Texts.{same_octets, same_ok}
 
 -- what was read of a side is what is compared of it

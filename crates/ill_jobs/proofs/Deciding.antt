@@ -1,5 +1,5 @@
 -- Which answer an input has.
-use Rattle.std.proofs.Common.{◌≡◌, ◌⊎◌, ℕ, ◌+◌, ◌<◌, ◌≤◌, Bool, true, false, List, [], ◌∷◌, ◌++◌, map, length, take, Option, Some, None, Result, Ok, Err, IfSome, IsTrue, refl, sym, ap, subst, ◌∙◌, inl, inr, arith}
+use Rattle.std.proofs.Common.{◌≡◌, ◌⊎◌, ℕ, ◌+◌, ◌<◌, ◌≤◌, Bool, List, [], ◌∷◌, map, length, take, Option, Some, None, Result, Ok, Err, IfSome, refl, sym, ap, subst, ◌∙◌, inl, inr, arith}
 use Rattle.std.specs.Prelude.{IfOk, IfErr}
 use Rattle.std.proofs.lemmas.List.{length-map}
 use Rattle.std.specs.Io.KnownBytes.{Consumes, IsAtEnd}
@@ -15,7 +15,7 @@ use Rattle.ill_jobs.specs.declared.job.Job.{Job}
 use Rattle.ill_jobs.specs.declared.job.Verdict.{Verdict}
 use Rattle.ill_jobs.specs.declared.fault.RunFault.{RunFault}
 use Rattle.ill_jobs.specs.Output.{Spelling, AreSpelled, verdict_of}
-use Rattle.ill_jobs.specs.Ran.{Writes, BrokeAt, Stops, StopsAfter, Done, IsFault, AnswersVerdict, IsRefused, AnswersRefused, AnswersFault}
+use Rattle.ill_jobs.specs.Ran.{Writes, Stops, StopsAfter, Done, IsFault, AnswersVerdict, IsRefused, AnswersRefused, AnswersFault}
 use Rattle.ill_jobs.proofs.Writing.{spelled_front}
 
 apdus_of : List Spelling → List Apdu

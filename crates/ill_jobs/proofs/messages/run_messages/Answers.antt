@@ -1,5 +1,5 @@
-use Rattle.std.proofs.Common.{◌≡◌, ◌+◌, Bool, ℕ, true, false, length, refl, sym, subst, ◌∙◌, arith, rules}
-use Rattle.ill_jobs.proofs.Writing.{Reached, reached_more, stops_reading, stops_writing, next_good}
+use Rattle.std.proofs.Common.{◌≡◌, length, refl, ◌∙◌, arith, rules}
+use Rattle.ill_jobs.proofs.Writing.{reached_more, stops_reading, stops_writing, next_good}
 use Rattle.ill_jobs.proofs.messages.run_messages.Goals as goal
 use Rattle.ill_jobs.proofs.messages.run_messages.Goals.{then-not-piece, else-not-piece}
 
