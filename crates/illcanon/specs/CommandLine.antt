@@ -1,5 +1,5 @@
 -- The command line that the program has, as clap's contracts see it.
-use Rattle.std.specs.Prelude.{ℕ, true, false, List, codes, Some}
+use Rattle.std.specs.Prelude.{true, codes, Some}
 use Rattle.clap.specs.Walk.{Rule, Text}
 use Rattle.clap.specs.Simple.{App, new_app, new_rule, with_rule, with_subcommand}
 use Rattle.clap.specs.declared.builder.action.ArgAction.TheVariants.{SetTrue}

@@ -1,5 +1,5 @@
 -- Which words give an order.
-use Rattle.std.specs.Prelude.{◌≡◌, ◌≢◌, ℕ, true, false, List, codes, Option, Some, None, option_map}
+use Rattle.std.specs.Prelude.{◌≡◌, ◌≢◌, true, false, List, codes, Option, Some, option_map}
 use Rattle.clap.specs.Walk.{Row, Text, first_of, one_of}
 use Rattle.illcanon.specs.declared.order.Order.{Order}
 use Rattle.illcanon.specs.declared.order.Verb.{Verb}

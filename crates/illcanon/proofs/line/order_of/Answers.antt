@@ -1,4 +1,4 @@
-use Rattle.std.proofs.Common.{◌≡◌, ◌∙◌, Some, option_map, sym, ap, codes, List, ℕ}
+use Rattle.std.proofs.Common.{◌∙◌, option_map, sym, ap, codes}
 use Rattle.clap.specs.Words.{found_of, rows_of}
 use Rattle.clap.proofs.WalkLemmas.{first_value-rows, one_text-rows}
 use Rattle.illcanon.proofs.Found.{both_parts}

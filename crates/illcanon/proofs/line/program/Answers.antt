@@ -1,7 +1,7 @@
-use Rattle.std.proofs.Common.{◌≡◌, ◌∙◌, ap, ap₂, true, codes, rules}
+use Rattle.std.proofs.Common.{◌≡◌, ◌∙◌, ap, ap₂, true, codes}
 use Rattle.std.proofs.lemmas.Result.{IfOk-weaker}
 use Rattle.clap.specs.Simple.{App, app_of, app_of_fields, new_app, with_subcommand}
-use Rattle.illcanon.specs.CommandLine.{one_file, two_files, top}
+use Rattle.illcanon.specs.CommandLine.{top}
 use Rattle.illcanon.proofs.line.program.Goals as goal
 
 abbrev with_version : App → App
