@@ -10,7 +10,7 @@ enum Wanted {
     Line(&'static str),
 }
 
-const ROWS: [(&str, &str, Wanted); 6] = [
+const ROWS: [(&str, &str, Wanted); 7] = [
     (
         "expired-shown-value",
         "741f301d800102a10aa1031b0147a2031b0151a20ca00a80083230323430323239",
@@ -47,6 +47,13 @@ const ROWS: [(&str, &str, Wanted); 6] = [
         "64333031800102a10aa1031b0147a2031b0151a20ca00a800832303234303232399f1f0107bf200da70b3009a0071b0531322e3530",
         Wanted::Text(
             "message 1 ILL-Answer\nprotocol-version-num = 2\ntransaction-id.transaction-group-qualifier = general \"G\"\ntransaction-id.transaction-qualifier = general \"Q\"\nservice-date-time.date-time-of-this-service.date = 20240229\ntransaction-results = 7 (estimate)\nresults-explanation.estimate-results.cost-estimate = general \"12.50\"\n",
+        ),
+    ),
+    (
+        "answer-unfilled-with-location",
+        "643a3038800102a10aa1031b0147a2031b0151a20ca00a800832303234303232399f1f0103bf2014a3123010800101a10b3009a007a005a1031b014c",
+        Wanted::Text(
+            "message 1 ILL-Answer\nprotocol-version-num = 2\ntransaction-id.transaction-group-qualifier = general \"G\"\ntransaction-id.transaction-qualifier = general \"Q\"\nservice-date-time.date-time-of-this-service.date = 20240229\ntransaction-results = 3 (unfilled)\nresults-explanation.unfilled-results.reason-unfilled = 1\nresults-explanation.unfilled-results.location-list[0].location-id.person-or-institution-symbol.institution-symbol = general \"L\"\n",
         ),
     ),
 ];
