@@ -1,34 +1,78 @@
 //! What the program says where it fails, and with which status it ends.
 use clap::Error as LineError;
-use ill_normal::{Cause, NormalFailure, PartId, Refusal, StreamCause, StreamFailure, part_name};
+use ill_jobs::{RunFault, Verdict};
+use ill_normal::{Cause, PartId, Refusal, Side, part_name};
 use std::{fmt, io};
 use thiserror::Error;
+
+/// Why a command line is no order.
+#[derive(Debug, Drop, Error)]
+pub enum LineFault {
+    /// What `clap` says of it: a mistake, or help that was asked for; or that memory was wanting.
+    #[error("{0}")]
+    Line(LineError),
+    /// The same word stands twice where two files are wanted.
+    #[error("the same word twice")]
+    SameWord,
+}
 
 /// Why the program has not done what it was told.
 #[derive(Debug, Drop, Error)]
 pub enum Fault {
     #[error("{0}")]
-    Line(LineError),
-    #[error("the same word twice")]
-    SameWord,
+    Line(LineFault),
+    #[error("{0}")]
+    Run(RunLine),
     #[error("cannot open {0}")]
     CannotOpen(String),
-    #[error("refused at {at} in message {message}: {cause}")]
-    Refused {
-        at: u32,
-        message: u32,
-        cause: CauseName,
-    },
-    #[error("more than 1000000 messages")]
-    TooManyMessages,
-    #[error("out of memory")]
-    OutOfMemory,
-    #[error("read fault")]
-    ReadFault,
-    #[error("write fault after {0} octets")]
-    WriteFault(u32),
     #[error("flush fault")]
-    FlushFault,
+    Flush,
+}
+
+impl From<LineFault> for Fault {
+    fn from(fault: LineFault) -> Fault {
+        Fault::Line(fault)
+    }
+}
+
+impl From<RunFault> for Fault {
+    fn from(fault: RunFault) -> Fault {
+        Fault::Run(RunLine(fault))
+    }
+}
+
+/// A fault of a job as one line.
+#[derive(Clone, Copy, Debug, PartialEq, Eq)]
+pub struct RunLine(pub RunFault);
+
+impl fmt::Display for RunLine {
+    fn fmt<W: fmt::Write>(&self, f: &mut fmt::Formatter<W>) -> fmt::Result {
+        let RunLine(fault) = *self;
+        match fault {
+            RunFault::Refused {
+                message,
+                refusal: Refusal { at, cause },
+            } => {
+                let cause = CauseName(cause);
+                write!(f, "refused at {at} in message {message}: {cause}")
+            }
+            RunFault::RefusedSide(side, Refusal { at, cause }) => {
+                let file = match side {
+                    Side::First => "first",
+                    Side::Second => "second",
+                };
+                let cause = CauseName(cause);
+                write!(f, "refused at {at} in the {file} file: {cause}")
+            }
+            RunFault::OddHex => f.write_str("hex: odd number of digits"),
+            RunFault::BadHex(place) => write!(f, "hex: bad digit at {place}"),
+            RunFault::HexTooLong => f.write_str("hex: too long"),
+            RunFault::TooManyMessages => f.write_str("more than 1000000 messages"),
+            RunFault::OutOfMemory => f.write_str("out of memory"),
+            RunFault::ReadFault => f.write_str("read fault"),
+            RunFault::WriteFault(written) => write!(f, "write fault after {written} octets"),
+        }
+    }
 }
 
 /// A cause by its name, with the part that it is about.
@@ -53,41 +97,24 @@ fn write_part<W: fmt::Write>(f: &mut fmt::Formatter<W>, cause: &str, part: PartI
     }
 }
 
-/// Messages are numbered from 1, and offsets are within a message.
-impl From<StreamFailure> for Fault {
-    fn from(failure: StreamFailure) -> Fault {
-        match failure.why {
-            StreamCause::TooManyMessages => Fault::TooManyMessages,
-            StreamCause::Normal(NormalFailure::Refused(Refusal { at, cause })) => Fault::Refused {
-                at,
-                message: failure.whole.saturating_add(1),
-                cause: CauseName(cause),
-            },
-            StreamCause::Normal(NormalFailure::OutOfMemory) => Fault::OutOfMemory,
-            StreamCause::Normal(NormalFailure::ReadFault) => Fault::ReadFault,
-            StreamCause::Normal(NormalFailure::WriteFault(written)) => Fault::WriteFault(written),
-        }
+/// 0 where all is well, or help was asked for; 1 for what is wrong with the messages; 2 for the
+/// command line; 3 for memory, files and pipes.
+pub fn status_of(done: &Result<Verdict, Fault>) -> u8 {
+    match done {
+        Ok(Verdict::Good) => 0,
+        Ok(Verdict::NotGood) => 1,
+        Err(Fault::Line(LineFault::Line(error))) => line_status(error),
+        Err(Fault::Line(LineFault::SameWord)) => 2,
+        Err(Fault::Run(RunLine(fault))) => run_status(fault),
+        Err(Fault::CannotOpen(_) | Fault::Flush) => 3,
     }
 }
 
-impl Fault {
-    /// 1 for what is wrong with the input, 2 for the command line, 3 for memory, files and pipes; 0 for help that was asked for.
-    pub fn status(&self) -> u8 {
-        match self {
-            Fault::Line(error) => line_status(error),
-            Fault::SameWord => 2,
-            Fault::Refused { .. } | Fault::TooManyMessages => 1,
-            Fault::OutOfMemory | Fault::ReadFault | Fault::WriteFault(_) => 3,
-            Fault::FlushFault | Fault::CannotOpen(_) => 3,
-        }
-    }
-
-    /// Prints clap's text as it is, and any other fault as one line on standard error.
-    pub fn print<R: Print + Eprint>(&self, rt: &R) -> io::Result<()> {
-        match self {
-            Fault::Line(error) => error.print(rt),
-            _ => eprintln!(rt; "illcanon: {self}"),
-        }
+fn run_status(fault: &RunFault) -> u8 {
+    match fault {
+        RunFault::Refused { .. } | RunFault::RefusedSide(..) | RunFault::TooManyMessages => 1,
+        RunFault::OddHex | RunFault::BadHex(_) | RunFault::HexTooLong => 1,
+        RunFault::OutOfMemory | RunFault::ReadFault | RunFault::WriteFault(_) => 3,
     }
 }
 
@@ -99,5 +126,13 @@ fn line_status(error: &LineError) -> u8 {
         2
     } else {
         0
+    }
+}
+
+/// Prints clap's text as it is, and any other fault as one line on standard error.
+pub fn print<R: Print + Eprint>(rt: &R, fault: &Fault) -> io::Result<()> {
+    match fault {
+        Fault::Line(LineFault::Line(error)) => error.print(rt),
+        _ => eprintln!(rt; "illcanon: {fault}"),
     }
 }

@@ -1,22 +1,109 @@
-//! The lines that the program prints where it fails, and its statuses.
-use crate::fault::{CauseName, Fault};
-use ill_normal::{Cause, NodeId, NormalFailure, PartId, Refusal, StreamCause, StreamFailure};
-use std::alloc::AllocError;
+//! Command lines, the lines that the program prints where it fails, and its statuses.
+use crate::fault::{Fault, LineFault, status_of};
+use crate::line::order;
+use crate::order::{Order, Verb};
+use clap::error::ErrorKind;
+use ill_jobs::{RunFault, Verdict};
+use ill_normal::{Cause, NodeId, PartId, Refusal, Side};
+use std::alloc::{AllocError, Global};
 
-fn refused(at: u32, cause: Cause) -> Fault {
-    Fault::from(StreamFailure {
-        whole: 0,
-        before: 0,
-        why: StreamCause::Normal(NormalFailure::Refused(Refusal { at, cause })),
+/// The words as the system gives them, the program's name first.
+fn words_of(alloc: Global, line: &str) -> Result<Vec<String>, AllocError> {
+    let mut words = Vec::new(alloc);
+    for word in line.split(' ') {
+        words.push(String::from_str(alloc, word)?)?;
+    }
+    Ok(words)
+}
+
+#[test]
+fn command_lines_are_orders(rt: HostRuntime) -> Result<(), AllocError> {
+    let alloc = rt.alloc();
+    let rows = [
+        (
+            "illcanon canonicalise --hex - -",
+            Verb::Canonicalise,
+            true,
+            "-",
+            Some("-"),
+        ),
+        (
+            "illcanon canonicalise - out",
+            Verb::Canonicalise,
+            false,
+            "-",
+            Some("out"),
+        ),
+        ("illcanon same a a", Verb::Same, false, "a", Some("a")),
+        ("illcanon same --hex a -", Verb::Same, true, "a", Some("-")),
+        ("illcanon show a", Verb::Show, false, "a", None),
+        ("illcanon check - --hex", Verb::Check, true, "-", None),
+    ];
+    for (line, command, hex, first, second) in rows {
+        let words = words_of(alloc, line)?;
+        let wanted = Order {
+            command,
+            hex,
+            first,
+            second,
+        };
+        let found = order(alloc, &words);
+        assert!(rt; matches!(&found, Ok(order) if *order == wanted), "{line}");
+    }
+    Ok(())
+}
+
+#[test]
+fn the_same_word_twice_is_no_order(rt: HostRuntime) -> Result<(), AllocError> {
+    let alloc = rt.alloc();
+    for line in ["illcanon same - -", "illcanon canonicalise a a"] {
+        let words = words_of(alloc, line)?;
+        let found = order(alloc, &words);
+        assert!(rt; matches!(&found, Err(LineFault::SameWord)), "{line}");
+    }
+    Ok(())
+}
+
+#[test]
+fn other_words_are_refused(rt: HostRuntime) -> Result<(), AllocError> {
+    let alloc = rt.alloc();
+    let rows = [
+        (
+            "illcanon",
+            ErrorKind::DisplayHelpOnMissingArgumentOrSubcommand,
+            2,
+        ),
+        ("illcanon shwo a", ErrorKind::InvalidSubcommand, 2),
+        ("illcanon show", ErrorKind::MissingRequiredArgument, 2),
+        ("illcanon same a", ErrorKind::MissingRequiredArgument, 2),
+        ("illcanon check a b", ErrorKind::UnknownArgument, 2),
+        ("illcanon check --hexx a", ErrorKind::UnknownArgument, 2),
+        ("illcanon check --help", ErrorKind::DisplayHelp, 0),
+        ("illcanon --version", ErrorKind::DisplayVersion, 0),
+    ];
+    for (line, kind, status) in rows {
+        let words = words_of(alloc, line)?;
+        match order(alloc, &words) {
+            Err(LineFault::Line(error)) => {
+                assert!(rt; error.kind() == kind, "{line}");
+                let done = Err(Fault::from(LineFault::Line(error)));
+                assert!(rt; status_of(&done) == status, "{line}");
+            }
+            _ => assert!(rt; false, "{line}"),
+        }
+    }
+    Ok(())
+}
+
+fn refused(message: u32, at: u32, cause: Cause) -> Fault {
+    Fault::from(RunFault::Refused {
+        message,
+        refusal: Refusal { at, cause },
     })
 }
 
-fn after(whole: u32, why: StreamCause) -> Fault {
-    Fault::from(StreamFailure {
-        whole,
-        before: 0,
-        why,
-    })
+fn refused_side(side: Side, at: u32, cause: Cause) -> Fault {
+    Fault::from(RunFault::RefusedSide(side, Refusal { at, cause }))
 }
 
 #[test]
@@ -24,50 +111,66 @@ fn faults_are_told_in_one_line(rt: HostRuntime) -> Result<(), AllocError> {
     let alloc = rt.alloc();
     let missing = Cause::Missing(PartId {
         node: NodeId::EXPIRED,
-        row: 0,
+        row: 1,
     });
-    let lines = [
+    let rows = [
         (
-            refused(7, Cause::UnexpectedTag),
+            refused(1, 7, Cause::UnexpectedTag),
             "refused at 7 in message 1: UnexpectedTag",
+            1,
         ),
         (
-            refused(4, missing),
-            "refused at 4 in message 1: Missing Expired.protocol-version-num",
+            refused(1, 7, missing),
+            "refused at 7 in message 1: Missing Expired.transaction-id",
+            1,
         ),
         (
-            after(2, StreamCause::TooManyMessages),
+            refused_side(Side::First, 7, Cause::UnexpectedTag),
+            "refused at 7 in the first file: UnexpectedTag",
+            1,
+        ),
+        (
+            refused_side(Side::Second, 33, Cause::TrailingBytes),
+            "refused at 33 in the second file: TrailingBytes",
+            1,
+        ),
+        (
+            Fault::from(RunFault::OddHex),
+            "hex: odd number of digits",
+            1,
+        ),
+        (Fault::from(RunFault::BadHex(3)), "hex: bad digit at 3", 1),
+        (Fault::from(RunFault::HexTooLong), "hex: too long", 1),
+        (
+            Fault::from(RunFault::TooManyMessages),
             "more than 1000000 messages",
+            1,
         ),
+        (Fault::from(LineFault::SameWord), "the same word twice", 2),
+        (Fault::from(RunFault::OutOfMemory), "out of memory", 3),
+        (Fault::from(RunFault::ReadFault), "read fault", 3),
         (
-            after(2, StreamCause::Normal(NormalFailure::OutOfMemory)),
-            "out of memory",
-        ),
-        (
-            after(2, StreamCause::Normal(NormalFailure::ReadFault)),
-            "read fault",
-        ),
-        (
-            after(2, StreamCause::Normal(NormalFailure::WriteFault(10))),
+            Fault::from(RunFault::WriteFault(10)),
             "write fault after 10 octets",
+            3,
         ),
-        (Fault::FlushFault, "flush fault"),
-        (Fault::SameWord, "the same word twice"),
+        (Fault::Flush, "flush fault", 3),
+        (
+            Fault::CannotOpen(String::from_str(alloc, "NAME")?),
+            "cannot open NAME",
+            3,
+        ),
     ];
-    for (fault, line) in &lines {
+    for (fault, line, status) in rows {
         let told = format!(in alloc; "{fault}")?;
-        assert!(rt; told.as_str() == *line, "{line}");
+        assert!(rt; told.as_str() == line, "{line}");
+        assert!(rt; status_of(&Err(fault)) == status, "{line}");
     }
     Ok(())
 }
 
 #[test]
-fn statuses_tell_faults_apart(rt: HostRuntime) {
-    assert!(rt; refused(7, Cause::UnexpectedTag).status() == 1);
-    assert!(rt; after(2, StreamCause::TooManyMessages).status() == 1);
-    assert!(rt; Fault::SameWord.status() == 2);
-    assert!(rt; after(2, StreamCause::Normal(NormalFailure::OutOfMemory)).status() == 3);
-    assert!(rt; after(2, StreamCause::Normal(NormalFailure::ReadFault)).status() == 3);
-    assert!(rt; after(2, StreamCause::Normal(NormalFailure::WriteFault(10))).status() == 3);
-    assert!(rt; Fault::FlushFault.status() == 3);
+fn verdicts_are_statuses(rt: HostRuntime) {
+    assert!(rt; status_of(&Ok(Verdict::Good)) == 0);
+    assert!(rt; status_of(&Ok(Verdict::NotGood)) == 1);
 }

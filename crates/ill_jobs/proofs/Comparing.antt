@@ -1,0 +1,105 @@
+-- Which answer two inputs have.
+use Rattle.std.proofs.Common.{◌≡◌, ◌↔◌, ℕ, Bool, true, false, List, [], ◌++◌, length, take, Option, Some, None, Result, Ok, Err, IfSome, refl, sym, ap, subst, ◌∙◌, inl, inr, arith, append-nil}
+use Rattle.std.specs.Io.KnownBytes.{IsAtEnd}
+use Rattle.std.proofs.lemmas.Bool.{cases_lt}
+use Rattle.std.proofs.lemmas.List.{take_all, take_at}
+use Rattle.ber_leaf.specs.Profile.{profile_two}
+use Rattle.ill_schema.specs.Apdu.{Apdu, SpellsApdu}
+use Rattle.ill_read.specs.Fault.{Fault}
+use Rattle.ill_read.specs.Judged.{fault_is}
+use Rattle.ill_normal.specs.Compared.{RefusesSide}
+use Rattle.ill_normal.specs.declared.compare.Side.{Side}
+use Rattle.ill_normal.proofs.Answering.{front}
+use Rattle.ill_normal.proofs.Canonical.{spells_once, refuses_whole, refuses_once}
+use Rattle.ill_jobs.specs.declared.job.Verdict.{Verdict}
+use Rattle.ill_jobs.specs.declared.fault.RunFault.{RunFault}
+use Rattle.ill_jobs.specs.Ran.{IsFault}
+use Rattle.ill_jobs.specs.Compared.{ReadsSide, Compares, NotCompared, side_octets, SaysSame, ComparesBoth, RefusesOne, IsRefusedSide, AnswersSide}
+use Rattle.ill_jobs.proofs.Texts.{same_octets, same_ok}
+
+-- what was read of a side is what is compared of it
+side_is : (hex : Bool) (s : List ℕ) (left' : Option (List ℕ)) (o : List ℕ) → ReadsSide hex (Some s) left' o → side_octets hex s ≡ Ok o
+side_is true s left' o h = same_octets s left' h.text h.taken ∙ h.stands
+side_is false s left' o h =
+    let t = front s left' o h.0 in
+    elim (cases_lt (length o) 1_048_577) [
+      | inl lt ↦
+          let none : t.0 ≡ [] = subst IsAtEnd t.2 (h.2 lt) in
+          let same : s ≡ o = t.1 ∙ ap (λ l. o ++ l) none ∙ append-nil o in
+          ap (λ l. Ok (take 1_048_577 l)) same ∙ ap (λ l. Ok l) (take_all 1_048_577 o (omega (arith, lt)))
+      | inr ge ↦
+          ap (λ l. Ok (take 1_048_577 l)) t.1 ∙ ap (λ l. Ok l) (take_at o t.0 1_048_577 (omega (arith, ge, h.1)))
+    ]
+
+module _ (x y : List ℕ) where
+  refused_apart : (side : Side) (f : Fault) (a b : Apdu) → SpellsApdu profile_two a x → SpellsApdu profile_two b y → RefusesSide x y side f → ⊥
+  refused_apart Side.First f a b h k r = refuses_whole x f a r h
+  refused_apart Side.Second f a b h k r = refuses_whole y f b r.1 k
+
+  refused_once : (side other : Side) (f g : Fault) → RefusesSide x y side f → RefusesSide x y other g → (side ≡ other) × (f ≡ g)
+  refused_once Side.First Side.First f g r q = (refl, refuses_once x f g r q)
+  refused_once Side.First Side.Second f g r q = absurd (refuses_whole x f q.0.0 r q.0.1)
+  refused_once Side.Second Side.First f g r q = absurd (refuses_whole x g r.0.0 q r.0.1)
+  refused_once Side.Second Side.Second f g r q = (refl, refuses_once y f g r.1 q.1)
+
+  says_same : (v : Verdict) → Compares x y v → (a b : Apdu) → SpellsApdu profile_two a x → SpellsApdu profile_two b y → (v ≡ Verdict.Good) ↔ (a ≡ b)
+  says_same v c a b h k =
+      let e = spells_once a c.0 x h c.2 in
+      let f = spells_once b c.1 y k c.3 in
+      (λ g. e ∙ c.4.0 g ∙ sym f, λ same. c.4.1 (sym e ∙ same ∙ f))
+
+  not_compared : (e : RunFault) → NotCompared x y e → (a b : Apdu) → SpellsApdu profile_two a x → SpellsApdu profile_two b y → IsFault e
+  not_compared (RunFault.RefusedSide side refusal) n a b h k = absurd (refused_apart side (fault_is refusal) a b h k n)
+  not_compared RunFault.OutOfMemory n a b h k = tt
+  not_compared RunFault.ReadFault n a b h k = tt
+  not_compared (RunFault.Refused message refusal) n a b h k = absurd n
+  not_compared RunFault.OddHex n a b h k = absurd n
+  not_compared (RunFault.BadHex i) n a b h k = absurd n
+  not_compared RunFault.HexTooLong n a b h k = absurd n
+  not_compared RunFault.TooManyMessages n a b h k = absurd n
+  not_compared (RunFault.WriteFault i) n a b h k = absurd n
+
+  not_refused : (e : RunFault) → NotCompared x y e → (side : Side) (f : Fault) → RefusesSide x y side f → IsRefusedSide e side f
+  not_refused (RunFault.RefusedSide which refusal) n side f r = refused_once which side (fault_is refusal) f n r
+  not_refused RunFault.OutOfMemory n side f r = tt
+  not_refused RunFault.ReadFault n side f r = tt
+  not_refused (RunFault.Refused message refusal) n side f r = absurd n
+  not_refused RunFault.OddHex n side f r = absurd n
+  not_refused (RunFault.BadHex i) n side f r = absurd n
+  not_refused RunFault.HexTooLong n side f r = absurd n
+  not_refused RunFault.TooManyMessages n side f r = absurd n
+  not_refused (RunFault.WriteFault i) n side f r = absurd n
+
+-- what is said of the octets that were read is said of the inputs
+pub both_same : (hex : Bool) (left left' other other' : Option (List ℕ)) (x y : List ℕ) → ReadsSide hex left left' x → ReadsSide hex other other' y → (answer : Result Verdict RunFault)
+    → ((a b : Apdu) → SpellsApdu profile_two a x → SpellsApdu profile_two b y → SaysSame answer (a ≡ b))
+    → IfSome left (λ s. IfSome other (λ t. ComparesBoth hex s t answer))
+both_same hex None left' other other' x y rx ry answer h = tt
+both_same hex (Some s) left' None other' x y rx ry answer h = tt
+both_same hex (Some s) left' (Some t) other' x y rx ry answer h = λ x' y' a b ex ey ha hb.
+    let e = same_ok (side_octets hex s) x' x ex (side_is hex s left' x rx) in
+    let f = same_ok (side_octets hex t) y' y ey (side_is hex t other' y ry) in
+    h a b (subst (SpellsApdu profile_two a) e ha) (subst (SpellsApdu profile_two b) f hb)
+
+pub one_refused : (hex : Bool) (left left' other other' : Option (List ℕ)) (x y : List ℕ) → ReadsSide hex left left' x → ReadsSide hex other other' y → (answer : Result Verdict RunFault)
+    → ((side : Side) (f : Fault) → RefusesSide x y side f → AnswersSide answer side f)
+    → IfSome left (λ s. IfSome other (λ t. RefusesOne hex s t answer))
+one_refused hex None left' other other' x y rx ry answer h = tt
+one_refused hex (Some s) left' None other' x y rx ry answer h = tt
+one_refused hex (Some s) left' (Some t) other' x y rx ry answer h = λ x' y' side f ex ey r.
+    let e = same_ok (side_octets hex s) x' x ex (side_is hex s left' x rx) in
+    let g = same_ok (side_octets hex t) y' y ey (side_is hex t other' y ry) in
+    h side f (subst (λ z. RefusesSide x z side f) g (subst (λ z. RefusesSide z y' side f) e r))
+
+module _ (hex : Bool) (left left' other other' : Option (List ℕ)) (x y : List ℕ) (rx : ReadsSide hex left left' x) (ry : ReadsSide hex other other' y) where
+  pub ok_compares : (v : Verdict) → Compares x y v → IfSome left (λ s. IfSome other (λ t. ComparesBoth hex s t (Ok v)))
+  ok_compares v c = both_same hex left left' other other' x y rx ry (Ok v) (λ a b h k. says_same x y v c a b h k)
+
+  pub ok_refuses : (v : Verdict) → Compares x y v → IfSome left (λ s. IfSome other (λ t. RefusesOne hex s t (Ok v)))
+  ok_refuses v c = one_refused hex left left' other other' x y rx ry (Ok v) (λ side f r. refused_apart x y side f c.0 c.1 c.2 c.3 r)
+
+  pub err_compares : (e : RunFault) → NotCompared x y e → IfSome left (λ s. IfSome other (λ t. ComparesBoth hex s t (Err e)))
+  err_compares e n = both_same hex left left' other other' x y rx ry (Err e) (λ a b h k. not_compared x y e n a b h k)
+
+  pub err_refuses : (e : RunFault) → NotCompared x y e → IfSome left (λ s. IfSome other (λ t. RefusesOne hex s t (Err e)))
+  err_refuses e n = one_refused hex left left' other other' x y rx ry (Err e) (λ side f r. not_refused x y e n side f r)

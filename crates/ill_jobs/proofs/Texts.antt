@@ -1,0 +1,136 @@
+-- Which answer a text or plain octets have.
+use Rattle.std.proofs.Common.{◌≡◌, ℕ, ◌+◌, ◌<◌, Bool, true, false, List, [], ◌++◌, length, Option, Some, None, Result, Ok, Err, IfSome, refl, sym, ap, subst, ◌∙◌, inl, inr, arith, append-nil, length-append}
+use Rattle.std.specs.Prelude.{IfOk, IfErr, if◌then◌else◌}
+use Rattle.std.specs.Io.KnownBytes.{IsAtEnd}
+use Rattle.std.proofs.lemmas.Bool.{cases_lt, lt-ltb}
+use Rattle.hex.specs.Hex.{decode_of}
+use Rattle.ill_read.specs.Fault.{Fault}
+use Rattle.ill_normal.proofs.Answering.{front}
+use Rattle.ill_jobs.specs.declared.job.Job.{Job}
+use Rattle.ill_jobs.specs.declared.job.Verdict.{Verdict}
+use Rattle.ill_jobs.specs.declared.fault.RunFault.{RunFault}
+use Rattle.ill_jobs.specs.Hexadecimal.{hex_octets, with_fault, without_blanks, TakesText}
+use Rattle.ill_jobs.specs.Output.{AreSpelled}
+use Rattle.ill_jobs.specs.Ran.{Done, StopsAfter, TextOf, NoHex, FailsText, IsUnread, IsFault, IsRefused, DoesMessages, RefusesFirst, RefusesMore, RefusesText}
+use Rattle.ill_jobs.proofs.Deciding.{does, refuses, refuses_more}
+
+too_long : (text : List ℕ) → 4_194_304 < length text → hex_octets text ≡ Err RunFault.HexTooLong
+too_long text h = ap (λ (b : Bool). if b then Err RunFault.HexTooLong else with_fault (decode_of (without_blanks text))) (lt-ltb 4_194_304 (length text) h)
+
+-- the text that was taken stands for what the whole does
+pub same_octets : (s : List ℕ) (left' : Option (List ℕ)) (text : List ℕ) → TakesText (Some s) left' text → hex_octets s ≡ hex_octets text
+same_octets s left' text h = elim (cases_lt 4_194_304 (length text)) [
+  | inl lt ↦
+      let t = front s left' text h.0 in
+      let more : 4_194_304 < length s = omega (arith, lt, ap length t.1, length-append text t.0) in
+      too_long s more ∙ sym (too_long text lt)
+  | inr le ↦
+      let t = front s left' text h.0 in
+      let none : t.0 ≡ [] = subst IsAtEnd t.2 (h.1 le) in
+      ap hex_octets (t.1 ∙ ap (λ l. text ++ l) none ∙ append-nil text)
+]
+
+pub same_ok : (r : Result (List ℕ) RunFault) (a b : List ℕ) → r ≡ Ok a → r ≡ Ok b → a ≡ b
+same_ok r a b e f = cc
+
+same_err : (r : Result (List ℕ) RunFault) (e f : RunFault) → r ≡ Err e → r ≡ Err f → e ≡ f
+same_err r e f h k = cc
+
+not_both : (r : Result (List ℕ) RunFault) (a : List ℕ) (e : RunFault) → r ≡ Ok a → r ≡ Err e → ⊥
+not_both r a e h k = cc
+
+module _ (job : Job) (held held' : Option (List ℕ)) (x y : Bool) (answer : Result Verdict RunFault) where
+  -- octets as they are
+  pub plain_does : (left left' : Option (List ℕ)) → IfOk answer (Done job false left left' held held') → IfErr answer (StopsAfter job false left left' held held' x y)
+      → IfSome left (λ s. DoesMessages job false s answer)
+  plain_does None left' d n = tt
+  plain_does (Some s) left' d n = λ octets ms e h le.
+      does job false s left' held held' x y answer d n ms (subst (λ z. AreSpelled z ms []) (sym (same_ok (Ok s) s octets refl e)) h) le
+
+  pub plain_refuses : (left left' : Option (List ℕ)) → IfOk answer (Done job false left left' held held') → IfErr answer (StopsAfter job false left left' held held' x y)
+      → IfSome left (λ s. RefusesFirst false s answer)
+  plain_refuses None left' d n = tt
+  plain_refuses (Some s) left' d n = λ octets rest ms f e h lt some only.
+      refuses job false s left' held held' x y answer d n rest ms f (subst (λ z. AreSpelled z ms rest) (sym (same_ok (Ok s) s octets refl e)) h) lt some only
+
+  pub plain_more : (left left' : Option (List ℕ)) → IfOk answer (Done job false left left' held held') → IfErr answer (StopsAfter job false left left' held held' x y)
+      → IfSome left (λ s. RefusesMore false s answer)
+  plain_more None left' d n = tt
+  plain_more (Some s) left' d n = λ octets rest ms e h many some.
+      refuses_more job false s left' held held' x y answer d n rest ms (subst (λ z. AreSpelled z ms rest) (sym (same_ok (Ok s) s octets refl e)) h) many some
+
+  pub plain_text : (left : Option (List ℕ)) → IfSome left (λ s. RefusesText false s answer)
+  plain_text None = tt
+  plain_text (Some s) = λ fault e. absurd (not_both (Ok s) s fault refl e)
+
+  -- the octets of a text
+  module _ (octets : List ℕ) (rest : Option (List ℕ)) (d : IfOk answer (Done job true (Some octets) rest held held'))
+      (n : IfErr answer (StopsAfter job true (Some octets) rest held held' x y)) where
+    stands : (s : List ℕ) (left' : Option (List ℕ)) → TextOf (Some s) left' octets → hex_octets s ≡ Ok octets
+    stands s left' t = same_octets s left' t.text t.taken ∙ t.stands
+
+    pub text_does : (left left' : Option (List ℕ)) → TextOf left left' octets → IfSome left (λ s. DoesMessages job true s answer)
+    text_does None left' t = tt
+    text_does (Some s) left' t = λ o ms e h le.
+        does job true octets rest held held' x y answer d n ms (subst (λ z. AreSpelled z ms []) (same_ok (hex_octets s) o octets e (stands s left' t)) h) le
+
+    pub text_refuses : (left left' : Option (List ℕ)) → TextOf left left' octets → IfSome left (λ s. RefusesFirst true s answer)
+    text_refuses None left' t = tt
+    text_refuses (Some s) left' t = λ o r ms f e h lt some only.
+        refuses job true octets rest held held' x y answer d n r ms f (subst (λ z. AreSpelled z ms r) (same_ok (hex_octets s) o octets e (stands s left' t)) h) lt some only
+
+    pub text_more : (left left' : Option (List ℕ)) → TextOf left left' octets → IfSome left (λ s. RefusesMore true s answer)
+    text_more None left' t = tt
+    text_more (Some s) left' t = λ o r ms e h many some.
+        refuses_more job true octets rest held held' x y answer d n r ms (subst (λ z. AreSpelled z ms r) (same_ok (hex_octets s) o octets e (stands s left' t)) h) many some
+
+    pub text_stands : (left left' : Option (List ℕ)) → TextOf left left' octets → IfSome left (λ s. RefusesText true s answer)
+    text_stands None left' t = tt
+    text_stands (Some s) left' t = λ fault e. absurd (not_both (hex_octets s) octets fault (stands s left' t) e)
+
+is_fault : (x : Bool) (e : RunFault) → IsUnread x e → IsFault e
+is_fault x RunFault.OutOfMemory h = tt
+is_fault x RunFault.ReadFault h = tt
+is_fault x (RunFault.Refused message refusal) h = absurd h
+is_fault x (RunFault.RefusedSide side refusal) h = absurd h
+is_fault x RunFault.OddHex h = absurd h
+is_fault x (RunFault.BadHex n) h = absurd h
+is_fault x RunFault.HexTooLong h = absurd h
+is_fault x RunFault.TooManyMessages h = absurd h
+is_fault x (RunFault.WriteFault n) h = absurd h
+
+refused_or : (x : Bool) (e : RunFault) (i : ℕ) (f : Fault) → IsUnread x e → IsRefused e i f
+refused_or x RunFault.OutOfMemory i f h = tt
+refused_or x RunFault.ReadFault i f h = tt
+refused_or x (RunFault.Refused message refusal) i f h = absurd h
+refused_or x (RunFault.RefusedSide side refusal) i f h = absurd h
+refused_or x RunFault.OddHex i f h = absurd h
+refused_or x (RunFault.BadHex n) i f h = absurd h
+refused_or x RunFault.HexTooLong i f h = absurd h
+refused_or x RunFault.TooManyMessages i f h = absurd h
+refused_or x (RunFault.WriteFault n) i f h = absurd h
+
+-- a text that was not read, or stands for nothing
+module _ (job : Job) (x : Bool) (e : RunFault) where
+  stands_not : (s : List ℕ) (left' : Option (List ℕ)) → NoHex (Some s) left' e → hex_octets s ≡ Err e
+  stands_not s left' t = same_octets s left' t.text t.taken ∙ t.stands
+
+  pub unread_does : (left left' : Option (List ℕ)) → FailsText left left' x e → IfSome left (λ s. DoesMessages job true s (Err e))
+  unread_does None left' h = tt
+  unread_does (Some s) left' (inl t) = λ o ms k h le. absurd (not_both (hex_octets s) o e k (stands_not s left' t))
+  unread_does (Some s) left' (inr u) = λ o ms k h le. is_fault x e u
+
+  pub unread_refuses : (left left' : Option (List ℕ)) → FailsText left left' x e → IfSome left (λ s. RefusesFirst true s (Err e))
+  unread_refuses None left' h = tt
+  unread_refuses (Some s) left' (inl t) = λ o r ms f k h lt some only. absurd (not_both (hex_octets s) o e k (stands_not s left' t))
+  unread_refuses (Some s) left' (inr u) = λ o r ms f k h lt some only. refused_or x e (length ms + 1) f u
+
+  pub unread_more : (left left' : Option (List ℕ)) → FailsText left left' x e → IfSome left (λ s. RefusesMore true s (Err e))
+  unread_more None left' h = tt
+  unread_more (Some s) left' (inl t) = λ o r ms k h many some. absurd (not_both (hex_octets s) o e k (stands_not s left' t))
+  unread_more (Some s) left' (inr u) = λ o r ms k h many some. inr (is_fault x e u)
+
+  pub unread_text : (left left' : Option (List ℕ)) → FailsText left left' x e → IfSome left (λ s. RefusesText true s (Err e))
+  unread_text None left' h = tt
+  unread_text (Some s) left' (inl t) = λ fault k. inl (same_err (hex_octets s) e fault (stands_not s left' t) k)
+  unread_text (Some s) left' (inr u) = λ fault k. inr (is_fault x e u)

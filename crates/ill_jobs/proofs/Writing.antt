@@ -1,0 +1,138 @@
+-- Messages that are read and written, one after another.
+use Rattle.std.proofs.Common.{◌≡◌, ℕ, suc, ◌+◌, ◌<◌, ◌≤◌, Bool, true, false, ◌&&◌, List, [], ◌∷◌, ◌++◌, length, take, Option, Err, IfSome, IsTrue, refl, sym, ap, subst, ◌∙◌, arith, append_assoc, append-nil, length-append}
+use Rattle.std.specs.List.{list_all}
+use Rattle.std.specs.Io.KnownBytes.{Consumes, Appends}
+use Rattle.std.proofs.KnownBytes.{Consumes-nil, Consumes-trans, Keeps-refl, Appends-nil, Appends-trans}
+use Rattle.std.proofs.Math.Seq.{take-append-add}
+use Rattle.ber_leaf.specs.Profile.{profile_two}
+use Rattle.ill_schema.specs.Apdu.{SpellsApdu}
+use Rattle.ill_jobs.specs.declared.job.Job.{Job}
+use Rattle.ill_jobs.specs.declared.piece.Piece.{Piece}
+use Rattle.ill_jobs.specs.Output.{Spelling, AreSpelled, message_output, output_from, output, is_good}
+use Rattle.ill_jobs.specs.Pieces.{Makes}
+use Rattle.ill_jobs.specs.Ran.{Writes, BrokeAt, StopsAfter, fault_at}
+use Rattle.ill_jobs.specs.declared.fault.RunFault.{RunFault}
+use Rattle.ill_read.specs.declared.failure.ReadFailure.{ReadFailure}
+use Rattle.ill_read.specs.Answers.{IfReadRefused}
+use Rattle.ill_read.specs.Outcome.{OnlyRefuses}
+use Rattle.std.specs.Prelude.{IsErrOf}
+
+pub spelled_front : (b t : List ℕ) (ms : List Spelling) → AreSpelled b ms [] → AreSpelled (b ++ t) ms t
+spelled_front b t [] h = ap (λ l. l ++ t) h
+spelled_front b t (m ∷ ms) h = (h.0 ++ t, ap (λ l. l ++ t) h.1 ∙ append_assoc m.octets h.0 t, h.2, spelled_front h.0 t ms h.3)
+
+spelled_more : (b : List ℕ) (ms : List Spelling) (m : Spelling) → AreSpelled b ms [] → SpellsApdu profile_two m.apdu m.octets → AreSpelled (b ++ m.octets) (ms ++ m ∷ []) []
+spelled_more b [] m h k = ([], ap (λ l. l ++ m.octets) h ∙ sym (append-nil m.octets), k, refl)
+spelled_more b (x ∷ ms) m h k = (h.0 ++ m.octets, ap (λ l. l ++ m.octets) h.1 ∙ append_assoc x.octets h.0 m.octets, h.2, spelled_more h.0 ms m h.3 k)
+
+output_push : (job : Job) (hex : Bool) (i : ℕ) (ms : List Spelling) (m : Spelling)
+    → output_from job hex i (ms ++ m ∷ []) ≡ output_from job hex i ms ++ message_output job hex (i + length ms) m
+output_push job hex i [] m = let e : i ≡ i + 0 = omega arith in append-nil (message_output job hex i m) ∙ ap (λ (n : ℕ). message_output job hex n m) e
+output_push job hex i (x ∷ ms) m =
+    let e : suc i + length ms ≡ i + suc (length ms) = omega arith in
+    ap (λ l. message_output job hex i x ++ l) (output_push job hex (suc i) ms m ∙ ap (λ (n : ℕ). output_from job hex (suc i) ms ++ message_output job hex n m) e)
+    ∙ sym (append_assoc (message_output job hex i x) (output_from job hex (suc i) ms) (message_output job hex (i + suc (length ms)) m))
+
+-- all are good so far, and one more is or isn't
+abbrev pub next_good : Bool → Bool → Bool
+next_good good true = good
+next_good good false = false
+
+alone : (b : Bool) → (b && true) ≡ next_good true b
+alone true = refl
+alone false = refl
+
+later : (a b c : Bool) → (a && next_good b c) ≡ next_good (a && b) c
+later true b c = refl
+later false b true = refl
+later false b false = refl
+
+good_push : (p : Spelling → Bool) (ms : List Spelling) (m : Spelling) → list_all p (ms ++ m ∷ []) ≡ next_good (list_all p ms) (p m)
+good_push p [] m = alone (p m)
+good_push p (x ∷ ms) m = ap (λ b. p x && b) (good_push p ms m) ∙ later (p x) (list_all p ms) (p m)
+
+-- so many messages were read and written, whose output has this size, and whether all were good
+pub record Reached (job : Job) (hex : Bool) (left left' held held' : Option (List ℕ)) (whole written : ℕ) (good : Bool) : Type 0 where
+  pub messages : List Spelling
+  pub writes : Writes job hex left left' held held' messages
+  pub count : length messages ≡ whole
+  pub size : written ≡ length (output job hex messages)
+  pub all : good ≡ list_all (is_good job) messages
+
+pub reached_none : (job : Job) (hex : Bool) (left held : Option (List ℕ)) → Reached job hex left left held held 0 0 true
+reached_none job hex left held = record {
+  messages = [];
+  writes = record { octets = []; spelled = refl; taken = Consumes-nil left; written = Appends-nil held };
+  count = refl;
+  size = refl;
+  all = refl;
+}
+
+module _ (job : Job) (hex : Bool) (left left' left'' held held' held'' : Option (List ℕ)) (whole written : ℕ) (good : Bool) (r : Reached job hex left left' held held' whole written good) where
+  pushed : (m : Spelling) → output job hex (r.messages ++ m ∷ []) ≡ output job hex r.messages ++ message_output job hex (whole + 1) m
+  pushed m = let e : 1 + length r.messages ≡ whole + 1 = omega (arith, r.count) in
+      output_push job hex 1 r.messages m ∙ ap (λ (n : ℕ). output job hex r.messages ++ message_output job hex n m) e
+
+  pub reached_more : (piece : Piece) → Makes job hex (whole + 1) left' left'' piece → Appends held' held'' piece.text.items
+      → Reached job hex left left'' held held'' (whole + 1) (written + length piece.text.items) (next_good good piece.is_good)
+  reached_more piece p w =
+      let m = p.message in
+      let all : output job hex r.messages ++ piece.text.items ≡ output job hex (r.messages ++ m ∷ []) = ap (λ l. output job hex r.messages ++ l) p.text ∙ sym (pushed m) in
+      record {
+        messages = r.messages ++ m ∷ [];
+        writes = record {
+          octets = r.writes.octets ++ m.octets;
+          spelled = spelled_more r.writes.octets r.messages m r.writes.spelled p.spells;
+          taken = Consumes-trans left left' left'' r.writes.octets m.octets r.writes.taken p.taken;
+          written = subst (Appends held held'') all (Appends-trans held held' held'' _ _ r.writes.written w);
+        };
+        count = omega (arith, r.count, length-append r.messages (m ∷ []));
+        size = omega (arith, r.size, ap length all, length-append (output job hex r.messages) piece.text.items);
+        all = ap (λ (b : Bool). next_good b piece.is_good) r.all ∙ ap (λ (b : Bool). next_good (list_all (is_good job) r.messages) b) p.good ∙ sym (good_push (is_good job) r.messages m);
+      }
+
+  pub reached_end : Consumes left' left'' [] → Writes job hex left left'' held held' r.messages
+  reached_end h = record {
+    octets = r.writes.octets;
+    spelled = r.writes.spelled;
+    taken = subst (Consumes left left'') (append-nil r.writes.octets) (Consumes-trans left left' left'' r.writes.octets [] r.writes.taken h);
+    written = r.writes.written;
+  }
+
+  -- the sink broke within a piece
+  pub broke_within : (piece : Piece) (k : ℕ) → Makes job hex (whole + 1) left' left'' piece → Appends held' held'' (take k piece.text.items) → k < length piece.text.items
+      → BrokeAt job hex left' left'' held held'' r.messages (written + k)
+  broke_within piece k p w lt =
+      let m = p.message in
+      let so_far = output job hex r.messages in
+      let all : so_far ++ piece.text.items ≡ output job hex (r.messages ++ m ∷ []) = ap (λ l. so_far ++ l) p.text ∙ sym (pushed m) in
+      let le : length so_far ≤ written + k = omega (arith, r.size) in
+      let k' : written + k ≡ length so_far + k = omega (arith, r.size) in
+      let part : so_far ++ take k piece.text.items ≡ take (written + k) (output job hex (r.messages ++ m ∷ [])) =
+      sym (ap (λ (n : ℕ). take n (output job hex (r.messages ++ m ∷ []))) k' ∙ ap (λ l. take (length so_far + k) l) (sym all) ∙ take-append-add so_far piece.text.items k) in
+      record {
+        message = m;
+        spells = p.spells;
+        taken = p.taken;
+        written = subst (Appends held held'') part (Appends-trans held held' held'' _ _ r.writes.written w);
+        some = le;
+        not_all = omega (arith, r.size, lt, ap length all, length-append so_far piece.text.items);
+      }
+
+  -- the next message was not read
+  pub stops_reading : (x y : Bool) (e : ReadFailure) → whole < 1_000_000 → IfReadRefused e (λ f. IfSome left' (λ s. (0 < length s) × OnlyRefuses profile_two s f))
+      → (IsErrOf {T = Option Piece} (Err e) ReadFailure.ReadFault → IsTrue x) → StopsAfter job hex left left'' held held' x y (fault_at (whole + 1) e)
+  stops_reading x y (ReadFailure.Refused refusal) lt h broken = record {
+    messages = r.messages;
+    rest = left';
+    grown = held';
+    writes = r.writes;
+    stops = (ap (λ (n : ℕ). n + 1) (sym r.count), omega (arith, r.count), h, Keeps-refl held');
+  }
+  stops_reading x y ReadFailure.OutOfMemory lt h broken = record { messages = r.messages; rest = left'; grown = held'; writes = r.writes; stops = Keeps-refl held' }
+  stops_reading x y ReadFailure.ReadFault lt h broken = record { messages = r.messages; rest = left'; grown = held'; writes = r.writes; stops = (broken refl, Keeps-refl held') }
+
+  -- the sink broke
+  pub stops_writing : (x y : Bool) (piece : Piece) (k : ℕ) → Makes job hex (whole + 1) left' left'' piece → Appends held' held'' (take k piece.text.items) → k < length piece.text.items
+      → IsTrue y → StopsAfter job hex left left'' held held'' x y (RunFault.WriteFault (written + k))
+  stops_writing x y piece k p w lt broken = record { messages = r.messages; rest = left'; grown = held'; writes = r.writes; stops = (broken, broke_within piece k p w lt) }

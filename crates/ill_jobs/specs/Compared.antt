@@ -1,0 +1,89 @@
+-- What a comparison of two inputs does.
+use Rattle.std.specs.Prelude.{◌≡◌, ◌⊎◌, ◌↔◌, ℕ, ◌<◌, ◌≤◌, Bool, true, false, List, length, take, codes, Option, Result, Ok, Err, IsTrue}
+use Rattle.std.specs.Io.KnownBytes.{Consumes, Keeps, Appends, IsAtEnd}
+use Rattle.ber_leaf.specs.Profile.{profile_two}
+use Rattle.ill_schema.specs.Apdu.{Apdu, SpellsApdu}
+use Rattle.ill_read.specs.Fault.{Fault}
+use Rattle.ill_read.specs.Judged.{fault_is}
+use Rattle.ill_normal.specs.Compared.{RefusesSide}
+use Rattle.ill_normal.specs.declared.compare.Side.{Side}
+use Rattle.ill_jobs.specs.declared.job.Verdict.{Verdict}
+use Rattle.ill_jobs.specs.declared.fault.RunFault.{RunFault}
+use Rattle.ill_jobs.specs.Hexadecimal.{hex_octets}
+use Rattle.ill_jobs.specs.Ran.{TextOf, FailsText, IsUnread, IsFault}
+
+abbrev pub verdict_line : Verdict → List ℕ
+verdict_line Verdict.Good = codes "same\n"
+verdict_line Verdict.NotGood = codes "different\n"
+
+-- what is read of an input: of octets, at most one more than a message may have
+abbrev pub ReadsSide : Bool → Option (List ℕ) → Option (List ℕ) → List ℕ → Type 0
+ReadsSide true left left' octets = TextOf left left' octets
+ReadsSide false left left' octets = Consumes left left' octets × (length octets ≤ 1_048_577) × (length octets < 1_048_577 → IsAtEnd left')
+
+abbrev pub SideFails : Bool → Option (List ℕ) → Option (List ℕ) → Bool → RunFault → Type 0
+SideFails true left left' source_broken fault = FailsText left left' source_broken fault
+SideFails false left left' source_broken fault = IsUnread source_broken fault
+
+-- each is one message, and they are good exactly if they are of one APDU
+abbrev pub Compares : List ℕ → List ℕ → Verdict → Type 0
+Compares s t verdict = (a : Apdu) × (b : Apdu) × SpellsApdu profile_two a s × SpellsApdu profile_two b t × ((verdict ≡ Verdict.Good) ↔ (a ≡ b))
+
+-- the first side that isn't one message, or want of memory
+abbrev pub NotCompared : List ℕ → List ℕ → RunFault → Type 0
+NotCompared s t (RunFault.RefusedSide side refusal) = RefusesSide s t side (fault_is refusal)
+NotCompared s t RunFault.OutOfMemory = Unit {0}
+NotCompared s t _ = ⊥
+
+-- of the line, only a first part was written
+abbrev pub BreaksLine : Verdict → Option (List ℕ) → Option (List ℕ) → Bool → RunFault → Type 0
+BreaksLine verdict held held' sink_broken (RunFault.WriteFault n) =
+    IsTrue sink_broken × Appends held held' (take n (verdict_line verdict)) × (n < length (verdict_line verdict))
+BreaksLine verdict held held' sink_broken _ = ⊥
+
+pub record SameDone (hex : Bool) (left left' other other' held held' : Option (List ℕ)) (verdict : Verdict) : Type 0 where
+  pub first : List ℕ
+  pub second : List ℕ
+  pub reads_first : ReadsSide hex left left' first
+  pub reads_second : ReadsSide hex other other' second
+  pub compares : Compares first second verdict
+  pub written : Appends held held' (verdict_line verdict)
+
+-- both inputs were read, and they were not compared, or the line was not written
+pub record SameStops (hex : Bool) (left left' other other' held held' : Option (List ℕ)) (sink_broken : Bool) (fault : RunFault) : Type 0 where
+  pub first : List ℕ
+  pub second : List ℕ
+  pub reads_first : ReadsSide hex left left' first
+  pub reads_second : ReadsSide hex other other' second
+  pub stops : (NotCompared first second fault × Keeps held held') ⊎ ((verdict : Verdict) × Compares first second verdict × BreaksLine verdict held held' sink_broken fault)
+
+abbrev pub SameFails : Bool → Option (List ℕ) → Option (List ℕ) → Option (List ℕ) → Option (List ℕ) → Option (List ℕ) → Option (List ℕ) → Bool → Bool → Bool → RunFault → Type 0
+SameFails hex left left' other other' held held' first_broken second_broken sink_broken fault =
+    (SideFails hex left left' first_broken fault × Keeps held held')
+    ⊎ ((SideFails hex other other' second_broken fault × Keeps held held') ⊎ SameStops hex left left' other other' held held' sink_broken fault)
+
+-- the octets of an input that are compared
+abbrev pub side_octets : Bool → List ℕ → Result (List ℕ) RunFault
+side_octets true s = hex_octets s
+side_octets false s = Ok (take 1_048_577 s)
+
+abbrev pub SaysSame : Result Verdict RunFault → Type 0 → Type 0
+SaysSame (Ok verdict) same = (verdict ≡ Verdict.Good) ↔ same
+SaysSame (Err fault) same = IsFault fault
+
+-- two spellings are compared
+abbrev pub ComparesBoth : Bool → List ℕ → List ℕ → Result Verdict RunFault → Type 0
+ComparesBoth hex s t result = (x y : List ℕ) (a b : Apdu) → side_octets hex s ≡ Ok x → side_octets hex t ≡ Ok y → SpellsApdu profile_two a x → SpellsApdu profile_two b y
+    → SaysSame result (a ≡ b)
+
+abbrev pub IsRefusedSide : RunFault → Side → Fault → Type 0
+IsRefusedSide (RunFault.RefusedSide which refusal) side f = (which ≡ side) × (fault_is refusal ≡ f)
+IsRefusedSide fault side f = IsFault fault
+
+abbrev pub AnswersSide : Result Verdict RunFault → Side → Fault → Type 0
+AnswersSide (Ok verdict) side f = ⊥
+AnswersSide (Err fault) side f = IsRefusedSide fault side f
+
+-- the first side that is refused is named
+abbrev pub RefusesOne : Bool → List ℕ → List ℕ → Result Verdict RunFault → Type 0
+RefusesOne hex s t result = (x y : List ℕ) (side : Side) (f : Fault) → side_octets hex s ≡ Ok x → side_octets hex t ≡ Ok y → RefusesSide x y side f → AnswersSide result side f

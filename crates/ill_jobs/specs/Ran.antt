@@ -1,0 +1,155 @@
+-- What a job does to its source and its sink.
+use Rattle.std.specs.Prelude.{◌≡◌, ◌⊎◌, ℕ, ◌+◌, ◌<◌, ◌≤◌, Bool, true, false, List, [], ◌∷◌, ◌++◌, length, take, Option, Some, Result, Ok, Err, IfSome, IsTrue}
+use Rattle.std.specs.Io.KnownBytes.{Consumes, Keeps, Appends, IsAtEnd}
+use Rattle.ber_leaf.specs.Profile.{profile_two}
+use Rattle.ill_schema.specs.Apdu.{SpellsApdu}
+use Rattle.ill_read.specs.Fault.{Fault}
+use Rattle.ill_read.specs.declared.failure.ReadFailure.{ReadFailure}
+use Rattle.ill_read.specs.Judged.{fault_is}
+use Rattle.ill_read.specs.Outcome.{OnlyRefuses}
+use Rattle.ill_jobs.specs.declared.job.Job.{Job}
+use Rattle.ill_jobs.specs.declared.job.Verdict.{Verdict}
+use Rattle.ill_jobs.specs.declared.fault.RunFault.{RunFault}
+use Rattle.ill_jobs.specs.Output.{Spelling, AreSpelled, output, verdict_of}
+use Rattle.ill_jobs.specs.Hexadecimal.{hex_octets, TakesText}
+
+-- the octets that were taken are these messages, and their output was written
+pub record Writes (job : Job) (hex : Bool) (left left' held held' : Option (List ℕ)) (messages : List Spelling) : Type 0 where
+  pub octets : List ℕ
+  pub spelled : AreSpelled octets messages []
+  pub taken : Consumes left left' octets
+  pub written : Appends held held' (output job hex messages)
+
+-- where a sink broke: of the output, with that of one message more, the first n octets were written
+pub record BrokeAt (job : Job) (hex : Bool) (left left' held held' : Option (List ℕ)) (messages : List Spelling) (n : ℕ) : Type 0 where
+  pub message : Spelling
+  pub spells : SpellsApdu profile_two message.apdu message.octets
+  pub taken : Consumes left left' message.octets
+  pub written : Appends held held' (take n (output job hex (messages ++ message ∷ [])))
+  pub some : length (output job hex messages) ≤ n
+  pub not_all : n < length (output job hex (messages ++ message ∷ []))
+
+-- why a job stopped after these messages: what was left in the source then and now; what the sink held first, then and now
+abbrev pub Stops : Job → Bool → Option (List ℕ) → Option (List ℕ) → Option (List ℕ) → Option (List ℕ) → Option (List ℕ) → Bool → Bool
+    → List Spelling → RunFault → Type 0
+Stops job hex left left' first held held' source_broken sink_broken ms (RunFault.Refused message refusal) =
+    (message ≡ length ms + 1) × (length ms < 1_000_000)
+    × IfSome left (λ s. (0 < length s) × OnlyRefuses profile_two s (fault_is refusal)) × Keeps held held'
+Stops job hex left left' first held held' source_broken sink_broken ms RunFault.TooManyMessages =
+    (length ms ≡ 1_000_000) × ((octet : ℕ) × Consumes left left' (octet ∷ [])) × Keeps held held'
+Stops job hex left left' first held held' source_broken sink_broken ms RunFault.OutOfMemory = Keeps held held'
+Stops job hex left left' first held held' source_broken sink_broken ms RunFault.ReadFault = IsTrue source_broken × Keeps held held'
+Stops job hex left left' first held held' source_broken sink_broken ms (RunFault.WriteFault n) =
+    IsTrue sink_broken × BrokeAt job hex left left' first held' ms n
+Stops job hex left left' first held held' source_broken sink_broken ms _ = ⊥
+
+-- the failure to read message i
+abbrev pub fault_at : ℕ → ReadFailure → RunFault
+fault_at i (ReadFailure.Refused refusal) = RunFault.Refused i refusal
+fault_at i ReadFailure.OutOfMemory = RunFault.OutOfMemory
+fault_at i ReadFailure.ReadFault = RunFault.ReadFault
+
+-- an octet more was taken, or the source broke
+abbrev pub GoesOn : Option (List ℕ) → Option (List ℕ) → Bool → RunFault → Type 0
+GoesOn left left' broken RunFault.TooManyMessages = (octet : ℕ) × Consumes left left' (octet ∷ [])
+GoesOn left left' broken RunFault.ReadFault = IsTrue broken
+GoesOn left left' broken _ = ⊥
+
+-- the messages before the fault, and why the job went no further
+pub record StopsAfter (job : Job) (hex : Bool) (left left' held held' : Option (List ℕ)) (source_broken sink_broken : Bool) (fault : RunFault) : Type 0 where
+  pub messages : List Spelling
+  pub rest : Option (List ℕ)
+  pub grown : Option (List ℕ)
+  pub writes : Writes job hex left rest held grown messages
+  pub stops : Stops job hex rest left' held grown held' source_broken sink_broken messages fault
+
+-- the job was done: the octets are messages to their end, at most 1,000,000
+pub record Done (job : Job) (hex : Bool) (left left' held held' : Option (List ℕ)) (verdict : Verdict) : Type 0 where
+  pub messages : List Spelling
+  pub writes : Writes job hex left left' held held' messages
+  pub end : IsAtEnd left'
+  pub few : length messages ≤ 1_000_000
+  pub is_verdict : verdict ≡ verdict_of job messages
+
+-- a text was taken that stands for these octets
+pub record TextOf (left left' : Option (List ℕ)) (octets : List ℕ) : Type 0 where
+  pub text : List ℕ
+  pub taken : TakesText left left' text
+  pub stands : hex_octets text ≡ Ok octets
+
+-- a text was taken that stands for no octets, for this reason
+pub record NoHex (left left' : Option (List ℕ)) (fault : RunFault) : Type 0 where
+  pub text : List ℕ
+  pub taken : TakesText left left' text
+  pub stands : hex_octets text ≡ Err fault
+
+-- memory or the source failed before any message was read
+abbrev pub IsUnread : Bool → RunFault → Type 0
+IsUnread source_broken RunFault.OutOfMemory = Unit {0}
+IsUnread source_broken RunFault.ReadFault = IsTrue source_broken
+IsUnread source_broken _ = ⊥
+
+-- the octets of an input were not read
+abbrev pub FailsText : Option (List ℕ) → Option (List ℕ) → Bool → RunFault → Type 0
+FailsText left left' source_broken fault = NoHex left left' fault ⊎ IsUnread source_broken fault
+
+-- the same of an input that is read as octets, or as hexadecimal text
+abbrev pub RunDone : Bool → Job → Option (List ℕ) → Option (List ℕ) → Option (List ℕ) → Option (List ℕ) → Verdict → Type 0
+RunDone false job left left' held held' verdict = Done job false left left' held held' verdict
+RunDone true job left left' held held' verdict =
+    (octets : List ℕ) × TextOf left left' octets × ((rest : List ℕ) × Done job true (Some octets) (Some rest) held held' verdict)
+
+abbrev pub RunFails : Bool → Job → Option (List ℕ) → Option (List ℕ) → Option (List ℕ) → Option (List ℕ) → Bool → Bool → RunFault → Type 0
+RunFails false job left left' held held' source_broken sink_broken fault = StopsAfter job false left left' held held' source_broken sink_broken fault
+RunFails true job left left' held held' source_broken sink_broken fault =
+    (FailsText left left' source_broken fault × Keeps held held')
+    ⊎ ((octets : List ℕ) × TextOf left left' octets × ((rest : List ℕ) × StopsAfter job true (Some octets) (Some rest) held held' false sink_broken fault))
+
+-- ---- which answer an input has
+
+-- memory, the source or the sink failed
+abbrev pub IsFault : RunFault → Type 0
+IsFault RunFault.OutOfMemory = Unit {0}
+IsFault RunFault.ReadFault = Unit {0}
+IsFault (RunFault.WriteFault n) = Unit {0}
+IsFault _ = ⊥
+
+abbrev pub AnswersVerdict : Result Verdict RunFault → Verdict → Type 0
+AnswersVerdict (Ok v) w = v ≡ w
+AnswersVerdict (Err fault) w = IsFault fault
+
+abbrev pub IsRefused : RunFault → ℕ → Fault → Type 0
+IsRefused (RunFault.Refused message refusal) i f = (message ≡ i) × (fault_is refusal ≡ f)
+IsRefused fault i f = IsFault fault
+
+abbrev pub AnswersRefused : Result Verdict RunFault → ℕ → Fault → Type 0
+AnswersRefused (Ok v) i f = ⊥
+AnswersRefused (Err fault) i f = IsRefused fault i f
+
+abbrev pub AnswersFault : Result Verdict RunFault → RunFault → Type 0
+AnswersFault (Ok v) fault = ⊥
+AnswersFault (Err why) fault = (why ≡ fault) ⊎ IsFault why
+
+-- the octets of an input
+abbrev pub octets_of_input : Bool → List ℕ → Result (List ℕ) RunFault
+octets_of_input false s = Ok s
+octets_of_input true s = hex_octets s
+
+-- at most 1,000,000 messages to the end are done
+abbrev pub DoesMessages : Job → Bool → List ℕ → Result Verdict RunFault → Type 0
+DoesMessages job hex s result = (octets : List ℕ) (ms : List Spelling) → octets_of_input hex s ≡ Ok octets → AreSpelled octets ms [] → length ms ≤ 1_000_000
+    → AnswersVerdict result (verdict_of job ms)
+
+-- the first message that is refused is named
+abbrev pub RefusesFirst : Bool → List ℕ → Result Verdict RunFault → Type 0
+RefusesFirst hex s result = (octets rest : List ℕ) (ms : List Spelling) (f : Fault) → octets_of_input hex s ≡ Ok octets → AreSpelled octets ms rest
+    → length ms < 1_000_000 → 0 < length rest → OnlyRefuses profile_two rest f → AnswersRefused result (length ms + 1) f
+
+-- more messages are too many
+abbrev pub RefusesMore : Bool → List ℕ → Result Verdict RunFault → Type 0
+RefusesMore hex s result = (octets rest : List ℕ) (ms : List Spelling) → octets_of_input hex s ≡ Ok octets → AreSpelled octets ms rest
+    → length ms ≡ 1_000_000 → 0 < length rest → AnswersFault result RunFault.TooManyMessages
+
+-- a text that stands for no octets is refused
+abbrev pub RefusesText : Bool → List ℕ → Result Verdict RunFault → Type 0
+RefusesText hex s result = (fault : RunFault) → octets_of_input hex s ≡ Err fault → AnswersFault result fault

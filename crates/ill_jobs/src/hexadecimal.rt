@@ -1,0 +1,62 @@
+//! Hexadecimal text as an input.
+ghost use Rattle.std.specs.Prelude.{◌≡◌, IfOk, IfErr, IsTrue};
+ghost use Rattle.ill_jobs.specs.Hexadecimal.{is_blank, without_blanks};
+ghost use Rattle.ill_jobs.specs.Ran.{TextOf, FailsText};
+
+use crate::fault::RunFault;
+use crate::text::read_most;
+use ber_core::Source;
+use hex::FromHexError;
+use std::alloc::{AllocError, Global};
+
+/// How many octets a hexadecimal text may have.
+const MOST: usize = 4_194_304;
+
+impl From<FromHexError> for RunFault {
+    ghost use Rattle.std.specs.Prelude.{◌≡◌};
+    ghost use Rattle.ill_jobs.specs.Hexadecimal.{hex_fault};
+
+    ghost from_gives = { λ error fault. fault ≡ hex_fault error };
+
+    fn from(error: FromHexError) -> RunFault {
+        match error {
+            FromHexError::OddLength => RunFault::OddHex,
+            FromHexError::InvalidHexCharacter { index, .. } => RunFault::BadHex(index as u64),
+            FromHexError::InvalidStringLength | FromHexError::OutOfMemory => RunFault::OutOfMemory,
+        }
+    }
+}
+
+/// Reads a text to its end, and answers the octets that it stands for.
+pub fn read_hex<R: Source>(alloc: Global, source: &mut R) -> Result<Vec<u8>, RunFault>
+    ensures octets { IfOk result (λ octets. TextOf (R.left source.old) (R.left source.new) octets.items) }
+    ensures fails { IfErr result (FailsText (R.left source.old) (R.left source.new) (R.is_broken source.new)) }
+    ensures stays { IsTrue (R.is_broken source.old) → IsTrue (R.is_broken source.new) }
+{
+    let text = read_most(alloc, source, MOST + 1)?;
+    if text.len() > MOST {
+        return Err(RunFault::HexTooLong);
+    }
+    let Ok(digits) = without_blanks(alloc, &text) else {
+        return Err(RunFault::OutOfMemory);
+    };
+    Ok(hex::decode(alloc, digits.as_slice())?)
+}
+
+fn is_blank(octet: u8) -> bool
+    ensures { result ≡ is_blank octet }
+{
+    matches!(octet, b' ' | b'\t' | b'\r' | b'\n')
+}
+
+fn without_blanks(alloc: Global, text: &[u8]) -> Result<Vec<u8>, AllocError>
+    ensures { IfOk result (λ digits. digits.items ≡ without_blanks text.now) }
+{
+    let mut digits = Vec::new(alloc);
+    for octet in text {
+        if !is_blank(*octet) {
+            digits.push(*octet)?;
+        }
+    }
+    Ok(digits)
+}

@@ -1,0 +1,20 @@
+//! The jobs of the program, over sources and sinks: to show, check, canonicalise and compare.
+#![tactic(auto)]
+
+mod bytes;
+mod fault;
+mod hexadecimal;
+mod job;
+mod messages;
+mod piece;
+mod put;
+mod same;
+mod text;
+
+pub use fault::RunFault;
+pub use job::{Job, Verdict};
+pub use messages::run;
+pub use same::run_same;
+
+#[cfg(test)]
+mod tests;

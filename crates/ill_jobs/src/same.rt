@@ -1,0 +1,80 @@
+//! Two inputs, compared.
+ghost use Rattle.std.specs.Prelude.{◌≡◌, IfOk, IfErr, IfSome, IsTrue};
+ghost use Rattle.ill_jobs.specs.Compared.{verdict_line, ReadsSide, SideFails, Compares, NotCompared, SameDone, SameFails, ComparesBoth, RefusesOne};
+
+use crate::fault::RunFault;
+use crate::hexadecimal::read_hex;
+use crate::job::Verdict;
+use crate::put::put_all;
+use crate::text::read_most;
+use ber_core::{Sink, Source};
+use ill_normal::{Failure, LIMIT, same_message};
+use std::alloc::Global;
+
+/// Writes `same` or `different`, and a line end, for two inputs of one message each. The first
+/// input is read, then the second, and then they are compared.
+///
+/// # Errors
+///
+/// Why the inputs were not compared, see [`RunFault`]. Nothing was written then, unless the sink
+/// broke.
+pub fn run_same<R1: Source, R2: Source, W: Sink>(
+    alloc: Global,
+    hex: bool,
+    first: &mut R1,
+    second: &mut R2,
+    sink: &mut W,
+) -> Result<Verdict, RunFault>
+    // Both inputs were one message, and the line was written.
+    ensures done { IfOk result (SameDone hex (R1.left first.old) (R1.left first.new) (R2.left second.old) (R2.left second.new)
+        (W.contents sink.old) (W.contents sink.new)) }
+    ensures fails { IfErr result (SameFails hex (R1.left first.old) (R1.left first.new) (R2.left second.old) (R2.left second.new)
+        (W.contents sink.old) (W.contents sink.new) (R1.is_broken first.new) (R2.is_broken second.new) (W.is_broken sink.new)) }
+    // Two inputs have one answer, unless memory, a source or the sink fails.
+    ensures compares { IfSome (R1.left first.old) (λ s. IfSome (R2.left second.old) (λ t. ComparesBoth hex s t result)) }
+    ensures refuses { IfSome (R1.left first.old) (λ s. IfSome (R2.left second.old) (λ t. RefusesOne hex s t result)) }
+    ensures first_stays { IsTrue (R1.is_broken first.old) → IsTrue (R1.is_broken first.new) }
+    ensures second_stays { IsTrue (R2.is_broken second.old) → IsTrue (R2.is_broken second.new) }
+    ensures sink_stays { IsTrue (W.is_broken sink.old) → IsTrue (W.is_broken sink.new) }
+{
+    let one = read_side(alloc, hex, first)?;
+    let other = read_side(alloc, hex, second)?;
+    let verdict = compare(alloc, &one, &other)?;
+    match put_all(sink, line_of(verdict)) {
+        Ok(()) => Ok(verdict),
+        Err(count) => Err(RunFault::WriteFault(count as u128)),
+    }
+}
+
+fn line_of(verdict: Verdict) -> &'static [u8]
+    ensures { result.now ≡ verdict_line verdict }
+{
+    match verdict {
+        Verdict::Good => b"same\n",
+        Verdict::NotGood => b"different\n",
+    }
+}
+
+fn compare(alloc: Global, one: &[u8], other: &[u8]) -> Result<Verdict, RunFault>
+    ensures compares { IfOk result (Compares one.now other.now) }
+    ensures refuses { IfErr result (NotCompared one.now other.now) }
+{
+    match same_message(alloc, one, other) {
+        Ok(true) => Ok(Verdict::Good),
+        Ok(false) => Ok(Verdict::NotGood),
+        Err((side, Failure::Refused(refusal))) => Err(RunFault::RefusedSide(side, refusal)),
+        Err((_, Failure::OutOfMemory)) => Err(RunFault::OutOfMemory),
+    }
+}
+
+/// The octets of an input. One octet more than a message may have tells that it is too long.
+fn read_side<R: Source>(alloc: Global, hex: bool, source: &mut R) -> Result<Vec<u8>, RunFault>
+    ensures read { IfOk result (λ octets. ReadsSide hex (R.left source.old) (R.left source.new) octets.items) }
+    ensures fails { IfErr result (SideFails hex (R.left source.old) (R.left source.new) (R.is_broken source.new)) }
+    ensures stays { IsTrue (R.is_broken source.old) → IsTrue (R.is_broken source.new) }
+{
+    if hex {
+        return read_hex(alloc, source);
+    }
+    Ok(read_most(alloc, source, LIMIT as usize + 1)?)
+}

@@ -1,0 +1,56 @@
+//! Whole inputs in memory.
+ghost use Rattle.std.specs.Prelude.{◌<◌, ◌≤◌, length, IfOk, IsErrOf, IsTrue};
+ghost use Rattle.std.specs.Io.KnownBytes.{Consumes, IsAtEnd};
+ghost use Rattle.ill_jobs.specs.declared.text.Unread.{Unread};
+
+use crate::fault::RunFault;
+use ber_core::{Broken, Source};
+use std::alloc::Global;
+
+/// How many octets are asked of a source at once.
+const CHUNK: usize = 4096;
+
+/// Why an input wasn't read.
+#[derive(Clone, Copy, Debug, PartialEq, Eq)]
+pub enum Unread {
+    OutOfMemory,
+    Broken,
+}
+
+impl From<Unread> for RunFault {
+    ghost use Rattle.std.specs.Prelude.{◌≡◌};
+    ghost use Rattle.ill_jobs.specs.Unread.{unread_fault};
+
+    ghost from_gives = { λ why fault. fault ≡ unread_fault why };
+
+    fn from(why: Unread) -> RunFault {
+        match why {
+            Unread::OutOfMemory => RunFault::OutOfMemory,
+            Unread::Broken => RunFault::ReadFault,
+        }
+    }
+}
+
+/// Reads to the end of the input, but at most so many octets.
+pub fn read_most<R: Source>(alloc: Global, source: &mut R, most: usize) -> Result<Vec<u8>, Unread>
+    ensures taken { IfOk result (λ text. Consumes (R.left source.old) (R.left source.new) text.items) }
+    ensures most { IfOk result (λ text. length text.items ≤ most) }
+    ensures end { IfOk result (λ text. length text.items < most → IsAtEnd (R.left source.new)) }
+    ensures broken { IsErrOf result Unread.Broken → IsTrue (R.is_broken source.new) }
+    ensures stays { IsTrue (R.is_broken source.old) → IsTrue (R.is_broken source.new) }
+{
+    let mut text = Vec::new(alloc);
+    let mut buffer = [0; CHUNK];
+    while text.len() < most {
+        let room = CHUNK.min(most - text.len());
+        let count = match source.take(&mut buffer[..room]) {
+            Ok(0) => return Ok(text),
+            Ok(count) => count,
+            Err(Broken) => return Err(Unread::Broken),
+        };
+        if text.extend_from_slice(&buffer[..count]).is_err() {
+            return Err(Unread::OutOfMemory);
+        }
+    }
+    Ok(text)
+}

@@ -1,0 +1,108 @@
+-- The text that is shown of a message: a head line, and a line for each leaf.
+use Rattle.std.specs.Prelude.{ℕ, suc, ◌-◌, ◌/◌, ◌%◌, Bool, true, false, ◌&&◌, ◌||◌, nat_le, nat_eq, List, [], ◌∷◌, ◌++◌, codes, decimal, Option, Some, None, slice_get, slice_index, flat_map, if◌then◌else◌}
+use Rattle.std.specs.Fmt.{signed_decimal}
+use Rattle.ber_leaf.specs.Simple.{Simple, flag, whole, date, time, printable, general, visible}
+use Rattle.ill_schema.specs.declared.node.NodeId.{NodeId}
+use Rattle.ill_schema.specs.declared.node.NodeId.TheVariants.{LeftOut, IllApdu}
+use Rattle.ill_schema.specs.declared.part.Row.{Row}
+use Rattle.ill_schema.specs.Apdu.{Apdu}
+use Rattle.ill_schema.specs.Content.{Content, simple, sequence, list, alternative, Entries, no_entries, absent, present, Items, no_items, item}
+use Rattle.ill_schema.specs.Names.{names_of}
+use Rattle.ill_schema.specs.Table.{rows_of}
+use Rattle.ill_text.specs.Numbers.{number_name}
+
+-- `"` and `\` behind `\`, and what is no printable ASCII as `\x` and two digits
+abbrev pub escaped : ℕ → List ℕ
+escaped octet =
+    if nat_eq octet 0x22 || nat_eq octet 0x5C then 0x5C ∷ octet ∷ []
+    else if nat_le 0x20 octet && nat_le octet 0x7E then octet ∷ []
+    else 0x5C ∷ 0x78 ∷ slice_index (codes "0123456789abcdef") (octet / 16) ∷ slice_index (codes "0123456789abcdef") (octet % 16) ∷ []
+
+abbrev pub quoted : List ℕ → List ℕ
+quoted text = codes "\"" ++ flat_map escaped text ++ codes "\""
+
+abbrev pub in_brackets : Option (List ℕ) → List ℕ
+in_brackets None = []
+in_brackets (Some name) = codes " (" ++ name ++ codes ")"
+
+-- a leaf in a row of this name
+abbrev pub leaf_text : List ℕ → Simple → List ℕ
+leaf_text row (flag true) = codes "TRUE"
+leaf_text row (flag false) = codes "FALSE"
+leaf_text row (whole number) = signed_decimal number ++ in_brackets (number_name row number)
+leaf_text row (date text) = text
+leaf_text row (time text) = text
+leaf_text row (printable text) = quoted text
+leaf_text row (general text) = codes "general " ++ quoted text
+leaf_text row (visible text) = codes "visible " ++ quoted text
+
+-- where a value stands: its path, the name of its row and its type
+pub record Place : Type 0 where
+  pub path : List ℕ
+  pub name : List ℕ
+  pub node : NodeId
+
+abbrev pub name_or_none : Option (List ℕ) → List ℕ
+name_or_none None = []
+name_or_none (Some name) = name
+
+abbrev pub node_or_left_out : Option Row → NodeId
+node_or_left_out None = LeftOut
+node_or_left_out (Some row) = row.node
+
+-- the name and the type of a node's row
+abbrev pub row_name : NodeId → ℕ → List ℕ
+row_name node i = name_or_none (slice_get (names_of node).1 i)
+
+abbrev pub row_node : NodeId → ℕ → NodeId
+row_node node i = node_or_left_out (slice_get (rows_of node) i)
+
+-- names are joined by dots
+abbrev pub within : List ℕ → List ℕ → List ℕ
+within [] name = name
+within (letter ∷ path) name = (letter ∷ path) ++ (codes "." ++ name)
+
+-- the place of a row of a sequence or choice
+abbrev pub part : Place → ℕ → Place
+part p i = record { path = within p.path (row_name p.node i); name = row_name p.node i; node = row_node p.node i }
+
+-- the place of an item of a list, which has its list's name
+abbrev pub item_of : Place → ℕ → Place
+item_of p i = record { path = p.path ++ codes "[" ++ decimal i ++ codes "]"; name = p.name; node = row_node p.node 0 }
+
+abbrev pub line : List ℕ → List ℕ → List ℕ
+line path text = path ++ codes " = " ++ text ++ codes "\n"
+
+-- no entry is there
+abbrev pub is_empty : Entries → Bool
+is_empty no_entries = true
+is_empty (absent es) = is_empty es
+is_empty (present c es) = false
+
+abbrev mutual
+  -- the lines of a value
+  pub lines_of : Place → Content → List ℕ
+  lines_of p (simple v) = line p.path (leaf_text p.name v)
+  lines_of p (sequence es) = if is_empty es then line p.path (codes "{}") else entry_lines p 0 es
+  lines_of p (list no_items) = line p.path (codes "[]")
+  lines_of p (list (item c is)) = lines_of (item_of p 0) c ++ item_lines p 1 is
+  lines_of p (alternative n c) = lines_of (part p n) c
+
+  -- the lines of the entries from row i on; an absent one has none
+  pub entry_lines : Place → ℕ → Entries → List ℕ
+  entry_lines p i no_entries = []
+  entry_lines p i (absent es) = entry_lines p (suc i) es
+  entry_lines p i (present c es) = lines_of (part p i) c ++ entry_lines p (suc i) es
+
+  -- the lines of the items from item i on
+  pub item_lines : Place → ℕ → Items → List ℕ
+  item_lines p i no_items = []
+  item_lines p i (item c is) = lines_of (item_of p i) c ++ item_lines p (suc i) is
+
+-- the body stands in the row of ILL-APDU that the APDU's number, from 1, says
+abbrev pub body_place : Apdu → Place
+body_place a = record { path = []; name = []; node = row_node IllApdu (a.number - 1) }
+
+-- the text of an APDU that is message i
+abbrev pub shown_text : ℕ → Apdu → List ℕ
+shown_text i a = codes "message " ++ decimal i ++ codes " " ++ row_name IllApdu (a.number - 1) ++ codes "\n" ++ lines_of (body_place a) a.body

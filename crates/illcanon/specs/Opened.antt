@@ -1,0 +1,12 @@
+-- What is left in an input, whichever it is.
+use Rattle.std.specs.Prelude.{ℕ, Bool, List, Option}
+use Rattle.illcanon.specs.declared.opened.Opened.{Opened}
+use Rattle.illcanon.specs.declared.opened.Opened.TheVariants.{Standard, File}
+
+abbrev pub left_of : {S F : Type 0} → (S → Option (List ℕ)) → (F → Option (List ℕ)) → Opened S F → Option (List ℕ)
+left_of standard file (Standard source) = standard source
+left_of standard file (File source) = file source
+
+abbrev pub is_broken_of : {S F : Type 0} → (S → Bool) → (F → Bool) → Opened S F → Bool
+is_broken_of standard file (Standard source) = standard source
+is_broken_of standard file (File source) = file source

@@ -1,0 +1,44 @@
+//! What stands at the end of each help text: what is written, an example, and the statuses.
+
+pub const PROGRAM: &str = "\
+`-` in place of a file is standard input, or standard output for OUT.
+
+Example: illcanon check messages.ber
+
+Status: 0 done, and all is well; 1 a message is refused or not normal, messages are
+different, or the hexadecimal text is none; 2 usage; 3 memory, files or pipes.";
+
+pub const SHOW: &str = "\
+Each message is a line `message 1 Expired` and then a line for each leaf, as
+`service-date-time.date-time-of-this-service.date = 20240229`.
+
+Example: illcanon show messages.ber
+
+Status: 0 done; 1 a message is refused, or the hexadecimal text is none; 2 usage;
+3 memory, files or pipes.";
+
+pub const CHECK: &str = "\
+Each message has a line, as `message 1: Expired, 33 octets, normal` or
+`message 2: Expired, 47 octets, not normal, normal form 33 octets`.
+
+Example: illcanon check messages.ber | grep 'not normal'
+
+Status: 0 all are normal; 1 one is not normal or is refused, or the hexadecimal text
+is none; 2 usage; 3 memory, files or pipes.";
+
+pub const SAME: &str = "\
+Writes `same` or `different`. Each file holds one message; at most one file is `-`.
+
+Example: illcanon same sent.ber received.ber
+
+Status: 0 same; 1 different, or a file is not one message; 2 usage; 3 memory, files
+or pipes.";
+
+pub const CANONICALISE: &str = "\
+With --hex the output has a line of hexadecimal digits for each message, and otherwise
+the octets. The messages before one that is refused are written.
+
+Example: illcanon canonicalise messages.ber messages.der
+
+Status: 0 done; 1 a message is refused, or the hexadecimal text is none; 2 usage;
+3 memory, files or pipes.";

@@ -1,0 +1,183 @@
+//! The command line.
+ghost use Rattle.std.specs.Prelude.{◌≡◌, ℕ, List, map, codes, false, Some, IfOk, IfErr, IfSome, IsTrue, ◌↔◌};
+ghost use Rattle.std.specs.String.{string_bytes};
+ghost use Rattle.clap.specs.Words.{app_of, rule_of, subcommand_of, subcommand_rows_of};
+ghost use Rattle.clap.specs.declared.builder.command.Command.TheViews.{out-Command as fields_of};
+ghost use Rattle.illcanon.specs.CommandLine.{hex_rule, file_rule, one_file, two_files, program};
+ghost use Rattle.illcanon.specs.Orders.{verb_name, IsOrderOf, IsTwice};
+ghost use Rattle.illcanon.specs.SameWords.{IsSameWordOnly};
+
+use crate::fault::LineFault;
+use crate::help;
+use crate::order::{Order, Verb};
+use clap::{Arg, ArgAction, ArgMatches, Command, Error};
+use std::alloc::{AllocError, Global};
+
+fn hex_flag<'a>(alloc: Global) -> Arg<'a>
+    ensures rule { rule_of result ≡ hex_rule }
+    ensures local { result.global ≡ false }
+{
+    Arg::new(alloc, "hex")
+        .long("hex")
+        .action(ArgAction::SetTrue)
+        .help("The input is hexadecimal text, in either case, with or without blanks")
+}
+
+fn file<'a>(alloc: Global, id: &'a str, name: &'a str, help: &'a str) -> Arg<'a>
+    ensures rule { rule_of result ≡ file_rule id.entry.now }
+    ensures local { result.global ≡ false }
+{
+    Arg::new(alloc, id)
+        .value_name(name)
+        .required(true)
+        .help(help)
+}
+
+fn on_one<'a>(
+    alloc: Global,
+    name: &'a str,
+    about: &'a str,
+    after: &'a str,
+) -> Result<Command<'a>, AllocError>
+    ensures { IfOk result (λ c. (app_of c ≡ one_file name.entry.now) × ((fields_of c).has_globals ≡ false)) }
+{
+    let input = file(
+        alloc,
+        "first",
+        "FILE",
+        "The messages; `-` is standard input",
+    );
+    Command::new(alloc, name)
+        .about(about)
+        .after_help(after)
+        .arg(hex_flag(alloc))?
+        .arg(input)
+}
+
+fn same<'a>(alloc: Global) -> Result<Command<'a>, AllocError>
+    ensures { IfOk result (λ c. (app_of c ≡ two_files (codes "same")) × ((fields_of c).has_globals ≡ false)) }
+{
+    let first = file(alloc, "first", "FILE", "A message; `-` is standard input");
+    let second = file(alloc, "second", "OTHER", "Another; `-` is standard input");
+    Command::new(alloc, "same")
+        .about("Says whether two files hold the same message, however it is spelled")
+        .after_help(help::SAME)
+        .arg(hex_flag(alloc))?
+        .arg(first)?
+        .arg(second)
+}
+
+fn canonicalise<'a>(alloc: Global) -> Result<Command<'a>, AllocError>
+    ensures { IfOk result (λ c. (app_of c ≡ two_files (codes "canonicalise")) × ((fields_of c).has_globals ≡ false)) }
+{
+    let input = file(alloc, "first", "IN", "The messages; `-` is standard input");
+    let output = file(
+        alloc,
+        "second",
+        "OUT",
+        "Where the normal forms go; `-` is standard output",
+    );
+    Command::new(alloc, "canonicalise")
+        .about("Writes the normal form (DER) of each message in IN to OUT")
+        .after_help(help::CANONICALISE)
+        .arg(hex_flag(alloc))?
+        .arg(input)?
+        .arg(output)
+}
+
+fn program<'a>(alloc: Global) -> Result<Command<'a>, AllocError>
+    ensures { IfOk result (λ c. app_of c ≡ program) }
+{
+    let show = on_one(alloc, "show", "Writes the messages as text", help::SHOW)?;
+    let check = on_one(
+        alloc,
+        "check",
+        "Says of each message whether it is its normal form",
+        help::CHECK,
+    )?;
+    Command::new(alloc, "illcanon")
+        .bin_name("illcanon")?
+        .version("0.1.0")
+        .about(
+            "The canonical form of ISO interlibrary loan messages (ILL APDUs of ISO 10161-1 in BER)",
+        )
+        .after_help(help::PROGRAM)
+        .subcommand_required(true)
+        .arg_required_else_help(true)
+        .subcommand(show)?
+        .subcommand(check)?
+        .subcommand(same(alloc)?)?
+        .subcommand(canonicalise(alloc)?)
+}
+
+/// Reads the words of a command line, the program's own name first.
+///
+/// # Errors
+///
+/// What `clap` says of words that are no command line, or that ask for help; and that the same word
+/// stands twice, where two files are wanted: `-` and `-` for `same`, any but `-` for
+/// `canonicalise`.
+pub fn order<'a>(alloc: Global, words: &'a [String]) -> Result<Order<'a>, LineFault>
+    // The words have the order's command, flag and files, which are not the same word twice.
+    ensures order { IfOk result (IsOrderOf (subcommand_of program (map string_bytes words.entry.now))) }
+    ensures not_twice { IfOk result (λ order. IsTwice order → ⊥) }
+    ensures twice { IfErr result (IsSameWordOnly (subcommand_of program (map string_bytes words.entry.now))) }
+{
+    let order = match read(alloc, words) {
+        Ok(order) => order,
+        Err(error) => return Err(LineFault::Line(error)),
+    };
+    if is_twice(&order) {
+        return Err(LineFault::SameWord);
+    }
+    Ok(order)
+}
+
+/// Whether the same word stands twice where two files are wanted.
+fn is_twice(order: &Order<'_>) -> bool
+    ensures { IsTrue result ↔ IsTwice order.now }
+{
+    let Some(second) = order.second else {
+        return false;
+    };
+    match order.command {
+        Verb::Same => order.first == "-" && second == "-",
+        Verb::Canonicalise => order.first != "-" && order.first == second,
+        Verb::Show | Verb::Check => false,
+    }
+}
+
+fn read<'a>(alloc: Global, words: &'a [String]) -> Result<Order<'a>, Error>
+    ensures { IfOk result (IsOrderOf (subcommand_of program (map string_bytes words.entry.now))) }
+{
+    let matches = program(alloc)?.try_get_matches_from(words)?;
+    match order_of(&matches) {
+        Some(order) => Ok(order),
+        // clap has matched a command and its files, or has answered with an error.
+        None => Err(Error::from(AllocError)),
+    }
+}
+
+fn order_of<'a>(matches: &ArgMatches<'a>) -> Option<Order<'a>>
+    ensures { IfSome result (IsOrderOf (subcommand_rows_of matches.now)) }
+{
+    let (name, files) = matches.subcommand()?;
+    Some(Order {
+        command: verb_of(name)?,
+        hex: files.get_flag("hex"),
+        first: files.get_str("first")?,
+        second: files.get_str("second"),
+    })
+}
+
+fn verb_of(name: &str) -> Option<Verb>
+    ensures { IfSome result (λ verb. name.now ≡ verb_name verb) }
+{
+    match name {
+        "show" => Some(Verb::Show),
+        "check" => Some(Verb::Check),
+        "same" => Some(Verb::Same),
+        "canonicalise" => Some(Verb::Canonicalise),
+        _ => None,
+    }
+}

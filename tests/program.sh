@@ -1,0 +1,142 @@
+#!/bin/bash
+# Starts the built program on files, pipes and what can't be opened, read or written, and compares
+# status, standard output and standard error. Run by hand, from anywhere, with the program built:
+# (cd crates/illcanon && rt run -- --version). The last line is 'N passed, M failed'.
+program=$(cd "$(dirname "$0")/.." && pwd)/crates/illcanon/out/illcanon
+folder=$(mktemp -d) && cd "$folder" || exit 1
+passed=0 failed=0
+
+# octets FILE HEX: the octets that the digits stand for
+octets() {
+    printf "$(printf %s "$2" | sed 's/../\\x&/g')" >"$1"
+}
+
+# compare NAME STATUS: of the last run, whose output is in out and err, wanted in want-out and want-err
+compare() {
+    if [ "$status" = "$2" ] && cmp -s out want-out && { [ "$3" = any ] || cmp -s err want-err; }; then
+        passed=$((passed + 1))
+    else
+        failed=$((failed + 1))
+        echo "failed: $1: status $status, wanted $2"
+        head -3 out err
+    fi
+}
+
+# row NAME STATUS STDOUT STDERR WORD..: STDERR is any where clap's text stands there
+row() {
+    name=$1 wanted=$2 lines=$3
+    printf "$lines" >want-out
+    printf "$4" >want-err
+    any=no
+    [ "$4" = any ] && any=any
+    shift 4
+    "$program" "$@" <in >out 2>err
+    status=$?
+    compare "$name" "$wanted" "$any"
+}
+
+EXPIRED=741f301d800102a10aa1031b0147a2031b0151a20ca00a80083230323430323239
+INDEFINITE=74803080800102a180a1801b01470000a2801b015100000000a280a080800832303234303232390000000000000000
+REQUEST=61343032800102a10aa1031b0147a2031b0151a20ca00a80083230323430323239a9030a0101ab0c800100810100820101830101b000
+CUT=741f301d800102a2
+INCOMPLETE=748030808001020000
+: >in
+
+octets F $CUT
+row fault-line-refused 1 '' 'illcanon: refused at 7 in message 1: UnexpectedTag\n' show F
+octets G $EXPIRED
+row fault-line-first-file 1 '' 'illcanon: refused at 7 in the first file: UnexpectedTag\n' same F G
+row fault-line-second-file 1 '' 'illcanon: refused at 7 in the second file: UnexpectedTag\n' same G F
+octets F $INCOMPLETE
+row fault-line-with-part 1 '' 'illcanon: refused at 7 in message 1: Missing Expired.transaction-id\n' check F
+row fault-line-cannot-open 3 '' 'illcanon: cannot open NAME\n' check NAME
+row fault-line-same-word 2 '' 'illcanon: the same word twice\n' same - -
+octets F $EXPIRED
+row fault-line-same-word-canonicalise 2 '' 'illcanon: the same word twice\n' canonicalise F F
+row same-of-one-file 0 'same\n' '' same F F
+octets G $REQUEST
+row different-of-two-files 1 'different\n' '' same F G
+row check-of-no-message 0 '' '' check -
+octets F $INDEFINITE
+row check-of-indefinite 1 'message 1: Expired, 47 octets, not normal, normal form 33 octets\n' '' check F
+row no-command 2 '' any
+printf %s $INDEFINITE | tr a-f A-F >in
+row stored-run 0 "$EXPIRED\n" '' canonicalise --hex - -
+printf '7G' >in
+row hex-bad-digit 1 '' 'illcanon: hex: bad digit at 1\n' check --hex -
+printf '74 1' >in
+row hex-odd-number-of-digits 1 '' 'illcanon: hex: odd number of digits\n' canonicalise --hex - -
+head -c 4194305 /dev/zero | tr '\0' ' ' >in
+row hex-text-too-long 1 '' 'illcanon: hex: too long\n' show --hex -
+: >in
+
+# Words that are no command line, help and version.
+row no-such-command 2 '' any shwo F
+row file-left-out 2 '' any same F
+row word-too-many 2 '' any check F G
+row no-such-flag 2 '' any check --hexx F
+row version 0 'illcanon 0.1.0\n' '' --version
+for words in --help 'show --help' 'check --help' 'same --help' 'canonicalise --help' 'help same'; do
+    "$program" $words >out 2>err
+    status=$?
+    grep -q '^Example: ' out && grep -q '^Status: ' out && cp out want-out || echo no example or status >want-out
+    : >want-err
+    compare "help: $words" 0
+done
+
+# What can't be opened, read or written.
+mkdir D
+octets F $EXPIRED
+row directory-as-input 3 '' 'illcanon: read fault\n' check D
+row directory-as-output 3 '' 'illcanon: cannot open D\n' canonicalise F D
+row no-such-folder 3 '' 'illcanon: cannot open no/such\n' canonicalise F no/such
+row first-file-opened-first 3 '' 'illcanon: cannot open NAME\n' same NAME OTHER
+row second-file-opened-before-reading 3 '' 'illcanon: cannot open OTHER\n' same D OTHER
+rm -f OUT
+row input-opened-before-output 3 '' 'illcanon: cannot open NAME\n' canonicalise NAME OUT
+[ -e OUT ] && failed=$((failed + 1)) && echo 'failed: OUT was made though IN was not opened'
+printf 'illcanon: flush fault\n' >want-err
+: >want-out
+"$program" check F >/dev/full 2>err
+status=$?
+: >out
+compare full-device 3
+"$program" canonicalise F - >&- 2>err
+status=$?
+compare closed-standard-output 3
+i=0
+while [ $i -lt 400 ]; do cat F; i=$((i + 1)); done >MANY
+"$program" canonicalise MANY /dev/full >out 2>err
+status=$?
+printf 'illcanon: write fault after ' >want-err
+head -c 28 err >front && mv front err
+compare full-device-in-the-middle 3
+
+# Pipes and files give the same.
+"$program" show MANY >want-out 2>want-err
+cat MANY | "$program" show - >out 2>err
+status=$?
+compare pipe-as-file 0
+cat MANY | "$program" canonicalise - - | cmp -s - MANY
+status=$?
+: >out && : >err && : >want-out && : >want-err
+compare pipe-to-pipe 0
+# A message is refused behind others, which are written.
+{ cat F; printf u; } >TWO
+row refused-behind-a-message 1 'message 1: Expired, 33 octets, normal\n' 'illcanon: refused at 0 in message 2: UnexpectedTag\n' check TWO
+"$program" check MANY | grep -c 'normal' >out
+status=$?
+echo 400 >want-out
+compare check-into-grep 0
+# An empty OUT is left where hexadecimal text is none.
+printf 7 >in
+"$program" canonicalise --hex - OUT <in >out 2>err
+status=$?
+: >want-out
+printf 'illcanon: hex: odd number of digits\n' >want-err
+compare out-is-made-before-the-text-is-read 1
+if [ ! -e OUT ] || [ -s OUT ]; then failed=$((failed + 1)) && echo 'failed: OUT is no empty file'; fi
+
+cd / && rm -rf "$folder"
+echo "$passed passed, $failed failed"
+[ $failed = 0 ]
