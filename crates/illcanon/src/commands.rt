@@ -59,7 +59,7 @@ fn to_writer<S: Source, W: Write + Drop>(
     job: Job,
     hex: bool,
     source: &mut S,
-    mut writer: W,
+    mut writer: BufWriter<W>,
 ) -> Result<Verdict, Fault> {
     let mut sink = ToWrite::new(&mut writer);
     let done = run(alloc, job, hex, source, &mut sink);
@@ -79,15 +79,22 @@ fn same<R: Print + Input + Files + AllocGlobal>(
     flushed(done, writer)
 }
 
-/// What was written before a fault isn't lost.
+/// What was written before a fault isn't lost. The octets that a write fault counts are those that
+/// have left the buffer.
 fn flushed<W: Write + Drop>(
     done: Result<Verdict, RunFault>,
-    mut writer: W,
+    mut writer: BufWriter<W>,
 ) -> Result<Verdict, Fault> {
     let flushed = writer.flush();
-    let verdict = done?;
-    match flushed {
-        Ok(()) => Ok(verdict),
-        Err(_) => Err(Fault::Flush),
+    let kept = writer.buffer().len() as u128;
+    match done {
+        Ok(verdict) => match flushed {
+            Ok(()) => Ok(verdict),
+            Err(_) => Err(Fault::Flush),
+        },
+        Err(RunFault::WriteFault(count)) => {
+            Err(Fault::from(RunFault::WriteFault(count.saturating_sub(kept))))
+        }
+        Err(fault) => Err(Fault::from(fault)),
     }
 }
