@@ -1,10 +1,12 @@
-//! Typed ILL APDUs: a struct for each carried APDU.
+//! Typed ILL APDUs: a struct for each carried APDU, and [`Apdu`], the choice of them.
 #![tactic(auto)]
 
 mod answer;
+mod apdu;
 mod cancel;
 mod conditional_reply;
 mod expired;
+mod fault;
 mod head;
 mod location;
 mod lost;
@@ -20,9 +22,11 @@ mod status_query;
 mod text;
 
 pub use answer::IllAnswer;
+pub use apdu::Apdu;
 pub use cancel::{Cancel, CancelReply};
 pub use conditional_reply::ConditionalReply;
 pub use expired::Expired;
+pub use fault::MessageFault;
 pub use head::Head;
 pub use location::{LocationInfo, Locations};
 pub use lost::{Damaged, Lost};
