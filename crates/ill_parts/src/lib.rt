@@ -36,3 +36,6 @@ pub use search::SearchType;
 pub use supply::{DateDue, SupplyDetails};
 pub use third_party::{SendTo, ThirdPartyInfo};
 pub use transaction::{DateTime, ServiceDateTime, TransactionId};
+
+#[cfg(test)]
+mod tests;
