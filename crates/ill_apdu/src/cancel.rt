@@ -67,7 +67,7 @@ impl Typed for Cancel {
         let _ = other;
     }
 
-    ghost is_node = { λ _ fits. fits };
+    ghost is_node = { λ _. (λ fits. fits, λ fits. fits) };
 }
 
 /// CANCEL-REPLY: the responder agrees to the cancellation or declines it (APDU 7).
@@ -134,5 +134,5 @@ impl Typed for CancelReply {
         let _ = other;
     }
 
-    ghost is_node = { λ _ fits. fits };
+    ghost is_node = { λ _. (λ fits. fits, λ fits. fits) };
 }

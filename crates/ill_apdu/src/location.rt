@@ -64,7 +64,7 @@ impl Typed for LocationInfo {
         let _ = other;
     }
 
-    ghost is_node = { λ _ fits. fits };
+    ghost is_node = { λ _. (λ fits. fits, λ fits. fits) };
 }
 
 /// The responder names places where the item may be had (Locations).
@@ -120,5 +120,5 @@ impl Typed for Locations {
         let _ = other;
     }
 
-    ghost is_node = { λ _ fits. fits };
+    ghost is_node = { λ _. (λ fits. fits, λ fits. fits) };
 }

@@ -65,7 +65,7 @@ impl Typed for Lost {
         let _ = other;
     }
 
-    ghost is_node = { λ _ fits. fits };
+    ghost is_node = { λ _. (λ fits. fits, λ fits. fits) };
 }
 
 /// DAMAGED: the item is damaged (APDU 16).
@@ -129,5 +129,5 @@ impl Typed for Damaged {
         let _ = other;
     }
 
-    ghost is_node = { λ _ fits. fits };
+    ghost is_node = { λ _. (λ fits. fits, λ fits. fits) };
 }

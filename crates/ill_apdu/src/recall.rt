@@ -65,5 +65,5 @@ impl Typed for Recall {
         let _ = other;
     }
 
-    ghost is_node = { λ _ fits. fits };
+    ghost is_node = { λ _. (λ fits. fits, λ fits. fits) };
 }

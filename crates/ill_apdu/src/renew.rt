@@ -72,7 +72,7 @@ impl Typed for Renew {
         let _ = other;
     }
 
-    ghost is_node = { λ _ fits. fits };
+    ghost is_node = { λ _. (λ fits. fits, λ fits. fits) };
 }
 
 /// RENEW-ANSWER: the responder agrees to the renewal or declines it (APDU 14).
@@ -143,5 +143,5 @@ impl Typed for RenewAnswer {
         let _ = other;
     }
 
-    ghost is_node = { λ _ fits. fits };
+    ghost is_node = { λ _. (λ fits. fits, λ fits. fits) };
 }

@@ -151,7 +151,7 @@ impl Typed for IllRequest {
         let _ = other;
     }
 
-    ghost is_node = { λ _ fits. fits };
+    ghost is_node = { λ _. (λ fits. fits, λ fits. fits) };
 }
 
 /// What is ordered, and where it goes: rows 5 to 9 of an ILL-Request.

@@ -65,7 +65,7 @@ impl Typed for Conditional {
         let _ = other;
     }
 
-    ghost is_node = { λ _ fits. fits };
+    ghost is_node = { λ _. (λ fits. fits, λ fits. fits) };
 }
 
 /// The responder may supply the item later (Retry).
@@ -125,7 +125,7 @@ impl Typed for Retry {
         let _ = other;
     }
 
-    ghost is_node = { λ _ fits. fits };
+    ghost is_node = { λ _. (λ fits. fits, λ fits. fits) };
 }
 
 /// The responder can't supply the item (Unfilled).
@@ -181,7 +181,7 @@ impl Typed for Unfilled {
         let _ = other;
     }
 
-    ghost is_node = { λ _ fits. fits };
+    ghost is_node = { λ _. (λ fits. fits, λ fits. fits) };
 }
 
 /// The responder will supply the item later (Will-Supply).
@@ -248,7 +248,7 @@ impl Typed for WillSupply {
         let _ = other;
     }
 
-    ghost is_node = { λ _ fits. fits };
+    ghost is_node = { λ _. (λ fits. fits, λ fits. fits) };
 }
 
 /// The responder has placed a hold on the item (Hold-Placed).
@@ -309,7 +309,7 @@ impl Typed for HoldPlaced {
         let _ = other;
     }
 
-    ghost is_node = { λ _ fits. fits };
+    ghost is_node = { λ _. (λ fits. fits, λ fits. fits) };
 }
 
 /// What it would cost to supply the item (Estimate).
@@ -365,7 +365,7 @@ impl Typed for Estimate {
         let _ = other;
     }
 
-    ghost is_node = { λ _ fits. fits };
+    ghost is_node = { λ _. (λ fits. fits, λ fits. fits) };
 }
 
 /// What the responder says of a request, by the result of its answer (Results).
@@ -438,5 +438,5 @@ impl Typed for Results {
         let _ = other;
     }
 
-    ghost is_node = { λ _ fits. fits };
+    ghost is_node = { λ _. (λ fits. fits, λ fits. fits) };
 }

@@ -81,7 +81,7 @@ impl Typed for Returned {
         let _ = other;
     }
 
-    ghost is_node = { λ _ fits. fits };
+    ghost is_node = { λ _. (λ fits. fits, λ fits. fits) };
 }
 
 /// CHECKED-IN: the responder has the item again (APDU 11).
@@ -148,5 +148,5 @@ impl Typed for CheckedIn {
         let _ = other;
     }
 
-    ghost is_node = { λ _ fits. fits };
+    ghost is_node = { λ _. (λ fits. fits, λ fits. fits) };
 }

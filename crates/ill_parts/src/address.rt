@@ -82,7 +82,7 @@ impl Typed for PostalAddress {
         let _ = other;
     }
 
-    ghost is_node = { λ _ fits. fits };
+    ghost is_node = { λ _. (λ fits. fits, λ fits. fits) };
 }
 
 /// An address in a telecommunication service (System-Address).
@@ -138,7 +138,7 @@ impl Typed for SystemAddress {
         let _ = other;
     }
 
-    ghost is_node = { λ _ fits. fits };
+    ghost is_node = { λ _. (λ fits. fits, λ fits. fits) };
 }
 
 /// Where something is delivered: an address for mail, an electronic one or both
@@ -195,5 +195,5 @@ impl Typed for DeliveryAddress {
         let _ = other;
     }
 
-    ghost is_node = { λ _ fits. fits };
+    ghost is_node = { λ _. (λ fits. fits, λ fits. fits) };
 }

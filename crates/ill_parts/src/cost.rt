@@ -59,7 +59,7 @@ impl Typed for Amount {
         let _ = other;
     }
 
-    ghost is_node = { λ _ fits. fits };
+    ghost is_node = { λ _. (λ fits. fits, λ fits. fits) };
 }
 
 /// What the requester will pay, and how (Cost-Info).
@@ -127,5 +127,5 @@ impl Typed for CostInfo {
         let _ = other;
     }
 
-    ghost is_node = { λ _ fits. fits };
+    ghost is_node = { λ _. (λ fits. fits, λ fits. fits) };
 }

@@ -52,7 +52,7 @@ impl Typed for DeliveryService {
         let _ = other;
     }
 
-    ghost is_node = { λ _ fits. fits };
+    ghost is_node = { λ _. (λ fits. fits, λ fits. fits) };
 }
 
 /// How the item was sent (Shipped-Via).
@@ -103,5 +103,5 @@ impl Typed for ShippedVia {
         let _ = other;
     }
 
-    ghost is_node = { λ _ fits. fits };
+    ghost is_node = { λ _. (λ fits. fits, λ fits. fits) };
 }

@@ -60,7 +60,7 @@ impl Typed for SupplyMediumInfo {
         let _ = other;
     }
 
-    ghost is_node = { λ _ fits. fits };
+    ghost is_node = { λ _. (λ fits. fits, λ fits. fits) };
 }
 
 /// How many units were supplied in a medium (Units-Per-Medium).
@@ -117,5 +117,5 @@ impl Typed for UnitsPerMedium {
         let _ = other;
     }
 
-    ghost is_node = { λ _ fits. fits };
+    ghost is_node = { λ _. (λ fits. fits, λ fits. fits) };
 }

@@ -65,7 +65,7 @@ impl Typed for RequesterOptionalMessages {
         let _ = other;
     }
 
-    ghost is_node = { λ _ fits. fits };
+    ghost is_node = { λ _. (λ fits. fits, λ fits. fits) };
 }
 
 /// Which optional messages the responder can send, and which it wants
@@ -130,5 +130,5 @@ impl Typed for ResponderOptionalMessages {
         let _ = other;
     }
 
-    ghost is_node = { λ _ fits. fits };
+    ghost is_node = { λ _. (λ fits. fits, λ fits. fits) };
 }

@@ -54,8 +54,8 @@ pub trait Typed: Part + Node + PartialEq {
     fn one_view(&self, other: &Self)
         ensures { IsTrue (Self.eq self.now other.now) ↔ (Self.content self.now ≡ Self.content other.now) };
 
-    // what fits the node is a part of this type
-    ghost is_node: { (c : Content) → Is Self.Node.NODE c → Self.Part.accepts c };
+    // a content is a part of this type exactly if it fits the node
+    ghost is_node: { (c : Content) → Is Self.Node.NODE c ↔ Self.Part.accepts c };
 
     /// The part that stands for the value, or `None` where the value doesn't fit the node.
     ///

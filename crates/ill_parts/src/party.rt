@@ -56,7 +56,7 @@ impl Typed for Symbol {
         let _ = other;
     }
 
-    ghost is_node = { λ _ fits. fits };
+    ghost is_node = { λ _. (λ fits. fits, λ fits. fits) };
 }
 
 /// The name of a party (Name).
@@ -109,7 +109,7 @@ impl Typed for Name {
         let _ = other;
     }
 
-    ghost is_node = { λ _ fits. fits };
+    ghost is_node = { λ _. (λ fits. fits, λ fits. fits) };
 }
 
 /// A party to a transaction: a person or an institution, by symbol, by name or by both
@@ -166,5 +166,5 @@ impl Typed for SystemId {
         let _ = other;
     }
 
-    ghost is_node = { λ _ fits. fits };
+    ghost is_node = { λ _. (λ fits. fits, λ fits. fits) };
 }

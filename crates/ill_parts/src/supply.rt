@@ -62,7 +62,7 @@ impl Typed for DateDue {
         let _ = other;
     }
 
-    ghost is_node = { λ _ fits. fits };
+    ghost is_node = { λ _. (λ fits. fits, λ fits. fits) };
 }
 
 /// What was supplied, how, at what cost and until when (Supply-Details).
@@ -146,5 +146,5 @@ impl Typed for SupplyDetails {
         let _ = other;
     }
 
-    ghost is_node = { λ _ fits. fits };
+    ghost is_node = { λ _. (λ fits. fits, λ fits. fits) };
 }

@@ -65,7 +65,7 @@ impl Typed for SendTo {
         let _ = other;
     }
 
-    ghost is_node = { λ _ fits. fits };
+    ghost is_node = { λ _. (λ fits. fits, λ fits. fits) };
 }
 
 /// What an intermediary may do with the request, and whom it may ask (Third-Party-Info).
@@ -145,5 +145,5 @@ impl Typed for ThirdPartyInfo {
         let _ = other;
     }
 
-    ghost is_node = { λ _ fits. fits };
+    ghost is_node = { λ _. (λ fits. fits, λ fits. fits) };
 }

@@ -68,7 +68,7 @@ impl Typed for TransactionId {
         let _ = other;
     }
 
-    ghost is_node = { λ _ fits. fits };
+    ghost is_node = { λ _. (λ fits. fits, λ fits. fits) };
 }
 
 /// A day, and perhaps a time of that day (Date-Time).
@@ -124,7 +124,7 @@ impl Typed for DateTime {
         let _ = other;
     }
 
-    ghost is_node = { λ _ fits. fits };
+    ghost is_node = { λ _. (λ fits. fits, λ fits. fits) };
 }
 
 /// When a service was invoked, and when first, where it is repeated (Service-Date-Time).
@@ -180,5 +180,5 @@ impl Typed for ServiceDateTime {
         let _ = other;
     }
 
-    ghost is_node = { λ _ fits. fits };
+    ghost is_node = { λ _. (λ fits. fits, λ fits. fits) };
 }
