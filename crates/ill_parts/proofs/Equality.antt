@@ -19,7 +19,7 @@ use Rattle.ill_parts.specs.contracts.client.ClientIdPartialEq.TheImpl.{eq-value 
 use Rattle.ill_parts.specs.contracts.delivery.DeliveryServicePartialEq.TheImpl.{eq-value as delivery_service_eq}
 use Rattle.ill_parts.specs.contracts.optional_messages.RequesterOptionalMessagesPartialEq.TheImpl.{eq-value as requester_optional_messages_eq}
 use Rattle.ill_parts.specs.contracts.optional_messages.ResponderOptionalMessagesPartialEq.TheImpl.{eq-value as responder_optional_messages_eq}
-use Rattle.ill_parts.specs.contracts.search.SearchTypePartialEq.TheImpl.{eq-value as search_type_eq}
+use Rattle.ill_parts.specs.contracts.search_type.SearchTypePartialEq.TheImpl.{eq-value as search_type_eq}
 use Rattle.ill_parts.specs.contracts.medium.SupplyMediumInfoPartialEq.TheImpl.{eq-value as supply_medium_info_eq}
 use Rattle.ill_parts.specs.contracts.item.ItemIdPartialEq.TheImpl.{eq-value as item_id_eq}
 use Rattle.ill_parts.specs.contracts.cost.AmountPartialEq.TheImpl.{eq-value as amount_eq}

@@ -15,7 +15,7 @@ use Rattle.ill_parts.specs.declared.client.ClientId.{ClientId}
 use Rattle.ill_parts.specs.declared.delivery.DeliveryService.{DeliveryService}
 use Rattle.ill_parts.specs.declared.optional_messages.RequesterOptionalMessages.{RequesterOptionalMessages}
 use Rattle.ill_parts.specs.declared.optional_messages.ResponderOptionalMessages.{ResponderOptionalMessages}
-use Rattle.ill_parts.specs.declared.search.SearchType.{SearchType}
+use Rattle.ill_parts.specs.declared.search_type.SearchType.{SearchType}
 use Rattle.ill_parts.specs.declared.medium.SupplyMediumInfo.{SupplyMediumInfo}
 use Rattle.ill_parts.specs.declared.item.ItemId.{ItemId}
 use Rattle.ill_parts.specs.declared.cost.Amount.{Amount}

@@ -15,7 +15,7 @@ mod medium;
 mod optional_messages;
 mod part;
 mod party;
-mod search;
+mod search_type;
 mod supply;
 mod third_party;
 mod transaction;
@@ -32,7 +32,7 @@ pub use part::{
     required_value, sequence,
 };
 pub use party::{Name, Symbol, SystemId};
-pub use search::SearchType;
+pub use search_type::SearchType;
 pub use supply::{DateDue, SupplyDetails};
 pub use third_party::{SendTo, ThirdPartyInfo};
 pub use transaction::{DateTime, ServiceDateTime, TransactionId};
