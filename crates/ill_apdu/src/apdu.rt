@@ -29,41 +29,41 @@ use std::alloc::{AllocError, Global};
 /// A carried APDU. FORWARD-NOTIFICATION (APDU 2) and STATUS-OR-ERROR-REPORT (APDU 19) are left out.
 #[derive(Debug, Drop, PartialEq, Eq)]
 pub enum Apdu {
-    /// APDU 1.
+    /// ILL-REQUEST (APDU 1).
     IllRequest(IllRequest),
-    /// APDU 3.
+    /// SHIPPED (APDU 3).
     Shipped(Shipped),
-    /// APDU 4.
+    /// ILL-ANSWER (APDU 4).
     IllAnswer(IllAnswer),
-    /// APDU 5.
+    /// CONDITIONAL-REPLY (APDU 5).
     ConditionalReply(ConditionalReply),
-    /// APDU 6.
+    /// CANCEL (APDU 6).
     Cancel(Cancel),
-    /// APDU 7.
+    /// CANCEL-REPLY (APDU 7).
     CancelReply(CancelReply),
-    /// APDU 8.
+    /// RECEIVED (APDU 8).
     Received(Received),
-    /// APDU 9.
+    /// RECALL (APDU 9).
     Recall(Recall),
-    /// APDU 10.
+    /// RETURNED (APDU 10).
     Returned(Returned),
-    /// APDU 11.
+    /// CHECKED-IN (APDU 11).
     CheckedIn(CheckedIn),
-    /// APDU 12.
+    /// OVERDUE (APDU 12).
     Overdue(Overdue),
-    /// APDU 13.
+    /// RENEW (APDU 13).
     Renew(Renew),
-    /// APDU 14.
+    /// RENEW-ANSWER (APDU 14).
     RenewAnswer(RenewAnswer),
-    /// APDU 15.
+    /// LOST (APDU 15).
     Lost(Lost),
-    /// APDU 16.
+    /// DAMAGED (APDU 16).
     Damaged(Damaged),
-    /// APDU 17.
+    /// MESSAGE (APDU 17).
     MessageApdu(MessageApdu),
-    /// APDU 18.
+    /// STATUS-QUERY (APDU 18).
     StatusQuery(StatusQuery),
-    /// APDU 20.
+    /// EXPIRED (APDU 20).
     Expired(Expired),
 }
 
