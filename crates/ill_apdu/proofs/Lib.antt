@@ -1,0 +1,4 @@
+pub mod Equality
+pub mod Requests
+pub mod Apdus
+pub mod SameApdu

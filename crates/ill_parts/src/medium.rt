@@ -1,0 +1,121 @@
+//! Media.
+use crate::part::{
+    Node, Part, Typed, entries, optional, optional_value, required, required_value, sequence,
+};
+use ber_leaf::IllString;
+use ill_schema::{NodeId, Value};
+use std::alloc::{AllocError, Global};
+
+/// A medium in which the requester accepts the item (Supply-Medium-Info).
+#[derive(Debug, Drop, PartialEq, Eq)]
+pub struct SupplyMediumInfo {
+    /// The medium: 1 printed, 2 photocopy, 3 microform, 4 film or video, 5 audio, 6
+    /// machine-readable, 7 other (row 0).
+    pub supply_medium_type: i64,
+    /// What the medium has to be like (row 1).
+    pub medium_characteristics: Option<IllString>,
+}
+
+impl Node for SupplyMediumInfo {
+    ghost use Rattle.ill_schema.specs.declared.node.NodeId.TheVariants.{SupplyMediumInfo as TheNode};
+    ghost use Rattle.ill_parts.specs.Views.{supply_medium_info_rows};
+
+    ghost NODE = { TheNode };
+
+    ghost entries = { supply_medium_info_rows };
+
+    const NODE: NodeId = NodeId::SUPPLY_MEDIUM_INFO;
+}
+
+#[tactic(auto, unfolding(crate::specs::Views::supply_medium_info))]
+impl Part for SupplyMediumInfo {
+    ghost use Rattle.ill_schema.specs.declared.node.NodeId.TheVariants.{SupplyMediumInfo as TheNode};
+    ghost use Rattle.ill_parts.specs.Shape.{Is};
+    ghost use Rattle.ill_parts.specs.Views.{supply_medium_info};
+
+    ghost content = { supply_medium_info };
+
+    ghost accepts = { Is TheNode };
+
+    fn to_value(&self, alloc: Global) -> Result<Value, AllocError> {
+        let entries = [
+            required_value(alloc, &self.supply_medium_type),
+            optional_value(alloc, &self.medium_characteristics),
+        ];
+        sequence(alloc, self, entries)
+    }
+
+    fn read(alloc: Global, value: &Value) -> Result<Self, AllocError> {
+        let entries = entries::<Self>(value);
+        Ok(SupplyMediumInfo {
+            supply_medium_type: required(alloc, entries, 0)?,
+            medium_characteristics: optional(alloc, entries, 1)?,
+        })
+    }
+}
+
+impl Typed for SupplyMediumInfo {
+    #[tactic(auto, using(crate::proofs::Equality::supply_medium_info_exact))]
+    fn one_view(&self, other: &Self) {
+        let _ = other;
+    }
+
+    ghost is_node = { λ _. (λ fits. fits, λ fits. fits) };
+}
+
+/// How many units were supplied in a medium (Units-Per-Medium).
+#[derive(Debug, Drop, PartialEq, Eq)]
+pub struct UnitsPerMedium {
+    /// The medium: 1 printed, 2 photocopy, 3 microform, 4 film or video, 5 audio, 6
+    /// machine-readable, 7 other (row 0).
+    pub medium: i64,
+    /// The number of units (row 1).
+    pub no_of_units: i64,
+}
+
+impl Node for UnitsPerMedium {
+    ghost use Rattle.ill_schema.specs.declared.node.NodeId.TheVariants.{UnitsPerMedium as TheNode};
+    ghost use Rattle.ill_parts.specs.Views.{units_per_medium_rows};
+
+    ghost NODE = { TheNode };
+
+    ghost entries = { units_per_medium_rows };
+
+    const NODE: NodeId = NodeId::UNITS_PER_MEDIUM;
+}
+
+#[tactic(auto, unfolding(crate::specs::Views::units_per_medium))]
+impl Part for UnitsPerMedium {
+    ghost use Rattle.ill_schema.specs.declared.node.NodeId.TheVariants.{UnitsPerMedium as TheNode};
+    ghost use Rattle.ill_parts.specs.Shape.{Is};
+    ghost use Rattle.ill_parts.specs.Views.{units_per_medium};
+
+    ghost content = { units_per_medium };
+
+    ghost accepts = { Is TheNode };
+
+    fn to_value(&self, alloc: Global) -> Result<Value, AllocError> {
+        let entries = [
+            required_value(alloc, &self.medium),
+            required_value(alloc, &self.no_of_units),
+        ];
+        sequence(alloc, self, entries)
+    }
+
+    fn read(alloc: Global, value: &Value) -> Result<Self, AllocError> {
+        let entries = entries::<Self>(value);
+        Ok(UnitsPerMedium {
+            medium: required(alloc, entries, 0)?,
+            no_of_units: required(alloc, entries, 1)?,
+        })
+    }
+}
+
+impl Typed for UnitsPerMedium {
+    #[tactic(auto, using(crate::proofs::Equality::units_per_medium_exact))]
+    fn one_view(&self, other: &Self) {
+        let _ = other;
+    }
+
+    ghost is_node = { λ _. (λ fits. fits, λ fits. fits) };
+}

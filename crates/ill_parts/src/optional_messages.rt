@@ -1,0 +1,134 @@
+//! Which optional messages the parties can send and want.
+use crate::part::{Node, Part, Typed, entries, required, required_value, sequence};
+use ill_schema::{NodeId, Value};
+use std::alloc::{AllocError, Global};
+
+/// Which optional messages the requester can send, and which it wants
+/// (Requester-Optional-Messages).
+#[derive(Debug, Drop, PartialEq, Eq)]
+pub struct RequesterOptionalMessages {
+    /// Whether it can send RECEIVED (row 0).
+    pub can_send_received: bool,
+    /// Whether it can send RETURNED (row 1).
+    pub can_send_returned: bool,
+    /// Whether it wants SHIPPED: 1 requires, 2 desires, 3 neither (row 2).
+    pub requester_shipped: i64,
+    /// Whether it wants CHECKED-IN: 1 requires, 2 desires, 3 neither (row 3).
+    pub requester_checked_in: i64,
+}
+
+impl Node for RequesterOptionalMessages {
+    ghost use Rattle.ill_schema.specs.declared.node.NodeId.TheVariants.{RequesterOptionalMessages as TheNode};
+    ghost use Rattle.ill_parts.specs.Views.{requester_optional_messages_rows};
+
+    ghost NODE = { TheNode };
+
+    ghost entries = { requester_optional_messages_rows };
+
+    const NODE: NodeId = NodeId::REQUESTER_OPTIONAL_MESSAGES;
+}
+
+#[tactic(auto, unfolding(crate::specs::Views::requester_optional_messages))]
+impl Part for RequesterOptionalMessages {
+    ghost use Rattle.ill_schema.specs.declared.node.NodeId.TheVariants.{RequesterOptionalMessages as TheNode};
+    ghost use Rattle.ill_parts.specs.Shape.{Is};
+    ghost use Rattle.ill_parts.specs.Views.{requester_optional_messages};
+
+    ghost content = { requester_optional_messages };
+
+    ghost accepts = { Is TheNode };
+
+    fn to_value(&self, alloc: Global) -> Result<Value, AllocError> {
+        let entries = [
+            required_value(alloc, &self.can_send_received),
+            required_value(alloc, &self.can_send_returned),
+            required_value(alloc, &self.requester_shipped),
+            required_value(alloc, &self.requester_checked_in),
+        ];
+        sequence(alloc, self, entries)
+    }
+
+    fn read(alloc: Global, value: &Value) -> Result<Self, AllocError> {
+        let entries = entries::<Self>(value);
+        Ok(RequesterOptionalMessages {
+            can_send_received: required(alloc, entries, 0)?,
+            can_send_returned: required(alloc, entries, 1)?,
+            requester_shipped: required(alloc, entries, 2)?,
+            requester_checked_in: required(alloc, entries, 3)?,
+        })
+    }
+}
+
+impl Typed for RequesterOptionalMessages {
+    #[tactic(auto, using(crate::proofs::Equality::requester_optional_messages_exact))]
+    fn one_view(&self, other: &Self) {
+        let _ = other;
+    }
+
+    ghost is_node = { λ _. (λ fits. fits, λ fits. fits) };
+}
+
+/// Which optional messages the responder can send, and which it wants
+/// (Responder-Optional-Messages).
+#[derive(Debug, Drop, PartialEq, Eq)]
+pub struct ResponderOptionalMessages {
+    /// Whether it can send SHIPPED (row 0).
+    pub can_send_shipped: bool,
+    /// Whether it can send CHECKED-IN (row 1).
+    pub can_send_checked_in: bool,
+    /// Whether it wants RECEIVED: 1 requires, 2 desires, 3 neither (row 2).
+    pub responder_received: i64,
+    /// Whether it wants RETURNED: 1 requires, 2 desires, 3 neither (row 3).
+    pub responder_returned: i64,
+}
+
+impl Node for ResponderOptionalMessages {
+    ghost use Rattle.ill_schema.specs.declared.node.NodeId.TheVariants.{ResponderOptionalMessages as TheNode};
+    ghost use Rattle.ill_parts.specs.Views.{responder_optional_messages_rows};
+
+    ghost NODE = { TheNode };
+
+    ghost entries = { responder_optional_messages_rows };
+
+    const NODE: NodeId = NodeId::RESPONDER_OPTIONAL_MESSAGES;
+}
+
+#[tactic(auto, unfolding(crate::specs::Views::responder_optional_messages))]
+impl Part for ResponderOptionalMessages {
+    ghost use Rattle.ill_schema.specs.declared.node.NodeId.TheVariants.{ResponderOptionalMessages as TheNode};
+    ghost use Rattle.ill_parts.specs.Shape.{Is};
+    ghost use Rattle.ill_parts.specs.Views.{responder_optional_messages};
+
+    ghost content = { responder_optional_messages };
+
+    ghost accepts = { Is TheNode };
+
+    fn to_value(&self, alloc: Global) -> Result<Value, AllocError> {
+        let entries = [
+            required_value(alloc, &self.can_send_shipped),
+            required_value(alloc, &self.can_send_checked_in),
+            required_value(alloc, &self.responder_received),
+            required_value(alloc, &self.responder_returned),
+        ];
+        sequence(alloc, self, entries)
+    }
+
+    fn read(alloc: Global, value: &Value) -> Result<Self, AllocError> {
+        let entries = entries::<Self>(value);
+        Ok(ResponderOptionalMessages {
+            can_send_shipped: required(alloc, entries, 0)?,
+            can_send_checked_in: required(alloc, entries, 1)?,
+            responder_received: required(alloc, entries, 2)?,
+            responder_returned: required(alloc, entries, 3)?,
+        })
+    }
+}
+
+impl Typed for ResponderOptionalMessages {
+    #[tactic(auto, using(crate::proofs::Equality::responder_optional_messages_exact))]
+    fn one_view(&self, other: &Self) {
+        let _ = other;
+    }
+
+    ghost is_node = { λ _. (λ fits. fits, λ fits. fits) };
+}

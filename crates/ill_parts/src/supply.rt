@@ -1,0 +1,150 @@
+//! What was supplied.
+use crate::cost::Amount;
+use crate::delivery::ShippedVia;
+use crate::medium::UnitsPerMedium;
+use crate::part::{
+    Node, Part, Typed, entries, optional, optional_value, required, required_value, sequence,
+};
+use ber_leaf::DateText;
+use ill_schema::{NodeId, Value};
+use std::alloc::{AllocError, Global};
+
+/// When an item is due back (Date-Due).
+#[derive(Debug, Drop, PartialEq, Eq)]
+pub struct DateDue {
+    /// The day (row 0).
+    pub date_due_field: DateText,
+    /// Whether the loan can be renewed (row 1, by default true).
+    pub renewable: bool,
+}
+
+impl Node for DateDue {
+    ghost use Rattle.ill_schema.specs.declared.node.NodeId.TheVariants.{DateDue as TheNode};
+    ghost use Rattle.ill_parts.specs.Views.{date_due_rows};
+
+    ghost NODE = { TheNode };
+
+    ghost entries = { date_due_rows };
+
+    const NODE: NodeId = NodeId::DATE_DUE;
+}
+
+#[tactic(auto, unfolding(crate::specs::Views::date_due))]
+impl Part for DateDue {
+    ghost use Rattle.ill_schema.specs.declared.node.NodeId.TheVariants.{DateDue as TheNode};
+    ghost use Rattle.ill_parts.specs.Shape.{Is};
+    ghost use Rattle.ill_parts.specs.Views.{date_due};
+
+    ghost content = { date_due };
+
+    ghost accepts = { Is TheNode };
+
+    fn to_value(&self, alloc: Global) -> Result<Value, AllocError> {
+        let entries = [
+            required_value(alloc, &self.date_due_field),
+            required_value(alloc, &self.renewable),
+        ];
+        sequence(alloc, self, entries)
+    }
+
+    fn read(alloc: Global, value: &Value) -> Result<Self, AllocError> {
+        let entries = entries::<Self>(value);
+        Ok(DateDue {
+            date_due_field: required(alloc, entries, 0)?,
+            renewable: required(alloc, entries, 1)?,
+        })
+    }
+}
+
+impl Typed for DateDue {
+    #[tactic(auto, using(crate::proofs::Equality::date_due_exact))]
+    fn one_view(&self, other: &Self) {
+        let _ = other;
+    }
+
+    ghost is_node = { λ _. (λ fits. fits, λ fits. fits) };
+}
+
+/// What was supplied, how, at what cost and until when (Supply-Details).
+#[derive(Debug, Drop, PartialEq, Eq)]
+pub struct SupplyDetails {
+    /// The day on which it was sent (row 0).
+    pub date_shipped: Option<DateText>,
+    /// When it is due back (row 1).
+    pub date_due: Option<DateDue>,
+    /// How many units are charged (row 2).
+    pub chargeable_units: Option<i64>,
+    /// What it costs (row 3).
+    pub cost: Option<Amount>,
+    /// The condition of use, by its number (row 4).
+    pub shipped_conditions: Option<i64>,
+    /// How it was sent (row 5).
+    pub shipped_via: Option<ShippedVia>,
+    /// For how much it is insured (row 6).
+    pub insured_for: Option<Amount>,
+    /// For how much it has to be insured on its way back (row 7).
+    pub return_insurance_require: Option<Amount>,
+    /// How many units of each medium were sent (row 8).
+    pub no_of_units_per_medium: Option<Vec<UnitsPerMedium>>,
+}
+
+impl Node for SupplyDetails {
+    ghost use Rattle.ill_schema.specs.declared.node.NodeId.TheVariants.{SupplyDetails as TheNode};
+    ghost use Rattle.ill_parts.specs.Views.{supply_details_rows};
+
+    ghost NODE = { TheNode };
+
+    ghost entries = { supply_details_rows };
+
+    const NODE: NodeId = NodeId::SUPPLY_DETAILS;
+}
+
+#[tactic(auto, unfolding(crate::specs::Views::supply_details))]
+impl Part for SupplyDetails {
+    ghost use Rattle.ill_schema.specs.declared.node.NodeId.TheVariants.{SupplyDetails as TheNode};
+    ghost use Rattle.ill_parts.specs.Shape.{Is};
+    ghost use Rattle.ill_parts.specs.Views.{supply_details};
+
+    ghost content = { supply_details };
+
+    ghost accepts = { Is TheNode };
+
+    fn to_value(&self, alloc: Global) -> Result<Value, AllocError> {
+        let entries = [
+            optional_value(alloc, &self.date_shipped),
+            optional_value(alloc, &self.date_due),
+            optional_value(alloc, &self.chargeable_units),
+            optional_value(alloc, &self.cost),
+            optional_value(alloc, &self.shipped_conditions),
+            optional_value(alloc, &self.shipped_via),
+            optional_value(alloc, &self.insured_for),
+            optional_value(alloc, &self.return_insurance_require),
+            optional_value(alloc, &self.no_of_units_per_medium),
+        ];
+        sequence(alloc, self, entries)
+    }
+
+    fn read(alloc: Global, value: &Value) -> Result<Self, AllocError> {
+        let entries = entries::<Self>(value);
+        Ok(SupplyDetails {
+            date_shipped: optional(alloc, entries, 0)?,
+            date_due: optional(alloc, entries, 1)?,
+            chargeable_units: optional(alloc, entries, 2)?,
+            cost: optional(alloc, entries, 3)?,
+            shipped_conditions: optional(alloc, entries, 4)?,
+            shipped_via: optional(alloc, entries, 5)?,
+            insured_for: optional(alloc, entries, 6)?,
+            return_insurance_require: optional(alloc, entries, 7)?,
+            no_of_units_per_medium: optional(alloc, entries, 8)?,
+        })
+    }
+}
+
+impl Typed for SupplyDetails {
+    #[tactic(auto, using(crate::proofs::Equality::supply_details_exact))]
+    fn one_view(&self, other: &Self) {
+        let _ = other;
+    }
+
+    ghost is_node = { λ _. (λ fits. fits, λ fits. fits) };
+}
