@@ -3,10 +3,12 @@
 #![tactic(auto)]
 
 mod calls;
+mod jobs;
 mod outcome;
 mod reading;
 mod rows;
 mod streams;
+mod typed;
 mod writing;
 
 use std::env;
