@@ -1,9 +1,10 @@
 #!/bin/sh
 # Refuses growth number 1, 2, .. of memory in each call that takes any, until a run meets no refusal. Each answer before that must be want
 # of memory, in the call's own words and with the state that is promised then, or the refusal of a row that is refused: the program of
-# crates/growths makes the call and looks. Takes seconds. Wants `cc`, since the refusals are made by a wrapper round malloc and realloc.
+# crates/growths makes the call and looks. Takes seconds once the programs are built. Wants `cc`, since the refusals are made by a wrapper round malloc and realloc.
 cd "$(dirname "$0")/../crates/growths" || exit 2
 rt run >/dev/null 2>&1 || exit 2
+(cd ../illcanon && rt run -- --version >/dev/null 2>&1) || exit 2
 folder=$(mktemp -d) || exit 2
 trap 'rm -rf "$folder"' EXIT
 cc -shared -fPIC -O1 -o "$folder/refuse.so" -x c - -ldl <<'C' || exit 2
@@ -59,12 +60,38 @@ growths_of() {
     echo "$1: $met growths"
 }
 
-status=0
+# The whole program, and with it `order`: status 3 and nothing written, or what is written without a refusal.
+program_growths() {
+    text=741f301d800102a10aa1031b0147a2031b0151a20ca00a80083230323430323239
+    number=1
+    while :; do
+        answer=$(printf $text | REFUSE=$number LD_PRELOAD="$folder/refuse.so" ../illcanon/out/illcanon canonicalise --hex - - 2>"$folder/refusals")
+        status=$?
+        if ! grep -qx refused "$folder/refusals"; then
+            [ "$status $answer" = "0 $text" ] && break
+            echo "program: status $status, with no growth refused"
+            return 1
+        fi
+        case "$status $answer" in
+            "3 ") grep -q ': out of memory$' "$folder/refusals" || return 1 ;;
+            "0 $text") ;;
+            *)
+                echo "program: status $status, with growth $number refused"
+                return 1
+                ;;
+        esac
+        number=$((number + 1))
+    done
+    echo "program: $((number - 1)) growths"
+}
+
+failed=0
 for call in $(out/growths); do
-    growths_of "$call" || status=1
+    growths_of "$call" || failed=1
 done
 # The writer takes no memory but that for the sizes.
 measured=$(growths_of sizes-measure-largest)
 written=$(growths_of write-normal-largest)
-[ "${measured#*: }" = "${written#*: }" ] || status=1
-exit $status
+[ "${measured#*: }" = "${written#*: }" ] || failed=1
+program_growths || failed=1
+exit $failed
