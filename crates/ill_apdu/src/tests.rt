@@ -5,7 +5,9 @@ use crate::{Apdu, Expired, Head, MessageApdu, MessageFault};
 use ber_leaf::IllString;
 use build::{date_text, general_text, message, value};
 use ill_parts::{DateTime, ItemId, Part, ServiceDateTime, TransactionId, Typed};
+use ill_read::decode;
 use ill_schema::{Message, Value, equal};
+use ill_write::normal_bytes;
 use std::alloc::Global;
 use std::test::Fail;
 
@@ -154,7 +156,11 @@ fn whole_messages(rt: HostRuntime) -> Result<(), Fail> {
         let made = sent(rt.alloc(), &apdu)?;
         assert!(rt; made.same_apdu(&given), "{number}");
         assert_eq!(rt; made.octets(), given.octets(), "{number}");
-        let again = Apdu::from_message(rt.alloc(), &made)?;
+        let octets = normal_bytes(rt.alloc(), &made)?;
+        let Ok(read) = decode(rt.alloc(), &octets) else {
+            return Err(Fail::from("not read"));
+        };
+        let again = Apdu::from_message(rt.alloc(), &read)?;
         assert!(rt; again == apdu, "{number}");
         assert!(rt; last != apdu, "{number}");
         last = again;
