@@ -18,23 +18,23 @@ use std::alloc::Global;
 ///
 /// Why the inputs were not compared, see [`RunFault`]. Nothing was written then, unless the sink
 /// broke.
-pub fn run_same<R1: Source, R2: Source, W: Sink>(
+pub fn run_same<R: Source, S: Source, W: Sink>(
     alloc: Global,
     hex: bool,
-    first: &mut R1,
-    second: &mut R2,
+    first: &mut R,
+    second: &mut S,
     sink: &mut W,
 ) -> Result<Verdict, RunFault>
     // Both inputs were one message, and the line was written.
-    ensures done { IfOk result (SameDone hex (R1.left first.old) (R1.left first.new) (R2.left second.old) (R2.left second.new)
+    ensures done { IfOk result (SameDone hex (R.left first.old) (R.left first.new) (S.left second.old) (S.left second.new)
         (W.contents sink.old) (W.contents sink.new)) }
-    ensures fails { IfErr result (SameFails hex (R1.left first.old) (R1.left first.new) (R2.left second.old) (R2.left second.new)
-        (W.contents sink.old) (W.contents sink.new) (R1.is_broken first.new) (R2.is_broken second.new) (W.is_broken sink.new)) }
+    ensures fails { IfErr result (SameFails hex (R.left first.old) (R.left first.new) (S.left second.old) (S.left second.new)
+        (W.contents sink.old) (W.contents sink.new) (R.is_broken first.new) (S.is_broken second.new) (W.is_broken sink.new)) }
     // Two inputs have one answer, unless memory, a source or the sink fails.
-    ensures compares { IfSome (R1.left first.old) (λ s. IfSome (R2.left second.old) (λ t. ComparesBoth hex s t result)) }
-    ensures refuses { IfSome (R1.left first.old) (λ s. IfSome (R2.left second.old) (λ t. RefusesOne hex s t result)) }
-    ensures first_stays { IsTrue (R1.is_broken first.old) → IsTrue (R1.is_broken first.new) }
-    ensures second_stays { IsTrue (R2.is_broken second.old) → IsTrue (R2.is_broken second.new) }
+    ensures compares { IfSome (R.left first.old) (λ s. IfSome (S.left second.old) (λ t. ComparesBoth hex s t result)) }
+    ensures refuses { IfSome (R.left first.old) (λ s. IfSome (S.left second.old) (λ t. RefusesOne hex s t result)) }
+    ensures first_stays { IsTrue (R.is_broken first.old) → IsTrue (R.is_broken first.new) }
+    ensures second_stays { IsTrue (S.is_broken second.old) → IsTrue (S.is_broken second.new) }
     ensures sink_stays { IsTrue (W.is_broken sink.old) → IsTrue (W.is_broken sink.new) }
 {
     let one = read_side(alloc, hex, first)?;
