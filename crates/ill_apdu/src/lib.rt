@@ -40,6 +40,3 @@ pub use returned::{CheckedIn, Returned};
 pub use shipped::Shipped;
 pub use status_query::StatusQuery;
 pub use text::MessageApdu;
-
-#[cfg(test)]
-mod tests;

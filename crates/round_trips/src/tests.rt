@@ -1,9 +1,9 @@
 //! Worked messages through the typed APDUs and back.
 mod build;
 
-use crate::{Apdu, Expired, Head, MessageApdu, MessageFault};
 use ber_leaf::IllString;
 use build::{date_text, general_text, message, value};
+use ill_apdu::{Apdu, Expired, Head, MessageApdu, MessageFault};
 use ill_parts::{DateTime, ItemId, Part, ServiceDateTime, TransactionId, Typed};
 use ill_read::decode;
 use ill_schema::{Message, Value, equal};
