@@ -1,10 +1,10 @@
 //! The calls, by name.
 use crate::outcome::Outcome;
-use crate::{jobs, reading, streams, typed, writing};
+use crate::{jobs, reading, streams, writing};
 use std::alloc::Global;
 
 pub const NAMES: &str =
-    "segments-push read-message decode decode-empty decode-trailing decoder-feed sizes-measure sizes-measure-largest normal-bytes write-normal write-normal-largest normalise normalise-stream normalise-stream-refused same-message is-normal is-normal-refused check-one to-value from-flag from-value from-message to-message show-text run-show run-check run-canonicalise run-same";
+    "segments-push read-message decode decode-empty decode-trailing decoder-feed sizes-measure sizes-measure-largest normal-bytes write-normal write-normal-largest normalise normalise-stream normalise-stream-refused same-message is-normal is-normal-refused check-one show-text run-show run-check run-canonicalise run-same";
 
 /// Makes the call of this name, None where there is none.
 pub fn call(alloc: Global, name: &str) -> Option<Outcome> {
@@ -27,11 +27,6 @@ pub fn call(alloc: Global, name: &str) -> Option<Outcome> {
         "is-normal" => Some(streams::is_normal_row(alloc)),
         "is-normal-refused" => Some(streams::is_normal_refused(alloc)),
         "check-one" => Some(streams::check_one_row(alloc)),
-        "to-value" => Some(typed::to_value(alloc)),
-        "from-flag" => Some(typed::from_flag(alloc)),
-        "from-value" => Some(typed::from_value(alloc)),
-        "from-message" => Some(typed::from_message(alloc)),
-        "to-message" => Some(typed::to_message(alloc)),
         "show-text" => Some(jobs::show_text_row(alloc)),
         "run-show" => Some(jobs::run_show(alloc)),
         "run-check" => Some(jobs::run_check(alloc)),

@@ -8,7 +8,6 @@ mod outcome;
 mod reading;
 mod rows;
 mod streams;
-mod typed;
 mod writing;
 
 use std::env;
