@@ -2,8 +2,8 @@
 use Rattle.std.proofs.Common.{◌≡◌, ℕ, zero, suc, ◌+◌, ◌≤◌, List, [], ◌∷◌, ◌++◌, length, take, drop, map, Option, Some, None, refl, sym, ap, ap₂, ◌∙◌, arith, slice_get, option_map, append_assoc, append-nil, length-append, min, subst, Global}
 use Rattle.std.proofs.lemmas.List.{take_at, drop_at, map-append}
 use Rattle.std.specs.Iterator.{Yields}
-use Rattle.std.specs.Vec.Iter.{into_iter_items, into_iter_len, into_iter_steps}
-use Rattle.std.specs.declared.vec.IntoIter.{IntoIter}
+use Rattle.std.specs.Vec.Iter.{drain_items, drain_steps}
+use Rattle.std.specs.declared.vec.Drain.{Drain}
 use Rattle.ill_schema.specs.Content.{Content}
 use Rattle.ill_schema.specs.Value.{content_of}
 use Rattle.ill_schema.specs.declared.part.Row.{Row}
@@ -66,17 +66,13 @@ passed-past rows from n old new is p =
     let s : suc n ≡ n + 1 = omega arith in
     subst (λ (rs : List Row). HasPassed (drop from rs) old new) (sym (take-past n rows is) ∙ ap (λ i. take i rows) s) p
 
--- what the iterator of a vector has given is a front of its items
-taken_front : (s : IntoIter (Option Value) Global) (es : List (Option Value)) (t : IntoIter (Option Value) Global) → Yields into_iter_steps s es t → into_iter_items s ≡ es ++ into_iter_items t
-taken_front s [] t y = ap into_iter_items y
-taken_front s (e ∷ es) t y = y.1.0 ∙ ap (λ xs. e ∷ xs) (taken_front y.0 es t y.2)
+-- what was drained is a front of what there was to drain
+pub drained_front : (s : Drain (Option Value) Global) (es : List (Option Value)) (t : Drain (Option Value) Global) → Yields drain_steps s es t → drain_items s ≡ es ++ drain_items t
+drained_front s [] t y = ap drain_items y
+drained_front s (e ∷ es) t y = y.1.0 ∙ ap (λ xs. e ∷ xs) (drained_front y.0 es t y.2)
 
-pub taken_all : (s : IntoIter (Option Value) Global) (es : List (Option Value)) (t : IntoIter (Option Value) Global) → Yields into_iter_steps s es t → into_iter_len t ≡ 0 → es ≡ into_iter_items s
-taken_all s es t y n = sym (append-nil es) ∙ ap (λ xs. es ++ xs) (sym (none-left (into_iter_items t) (sym t.rest.ok.0 ∙ n))) ∙ sym (taken_front s es t y)
-  where
-    none-left : (xs : List (Option Value)) → length xs ≡ 0 → xs ≡ []
-    none-left [] h = refl
-    none-left (x ∷ xs) h = absurd (omega (arith, h))
+pub drained_all : (s : Drain (Option Value) Global) (es : List (Option Value)) (t : Drain (Option Value) Global) → Yields drain_steps s es t → drain_items t ≡ [] → es ≡ drain_items s
+drained_all s es t y n = sym (append-nil es) ∙ ap (λ xs. es ++ xs) (sym n) ∙ sym (drained_front s es t y)
 
 -- what is split off behind so many entries
 pub split_held : (below held : List (Option Value)) (old : List (Option Value)) (base m : ℕ) → old ≡ below ++ held → length below ≡ base → m ≡ min base (length old) → (take m old ≡ below) × (drop m old ≡ held)

@@ -102,7 +102,7 @@ impl Values {
     {
         let base = base.min(self.len());
         let mut items = Vec::with_capacity(alloc, self.len() - base)?;
-        for held in self.held.split_off(base)? {
+        for held in self.held.drain(base..) {
             let Some(item) = held else {
                 continue;
             };
