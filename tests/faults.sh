@@ -73,6 +73,41 @@ wait $!
 status=$?
 expect stopped 0 ''
 
+# A read that a signal interrupts, the first or a later one: a wrapper round read answers so, and tells how many octets were given before.
+# What is written is exactly the messages that are whole in these.
+if command -v cc >/dev/null; then
+    cc -shared -fPIC -O1 -o interrupt.so -x c - -ldl <<'C' || exit 1
+#define _GNU_SOURCE
+#include <dlfcn.h>
+#include <errno.h>
+#include <stdio.h>
+#include <stdlib.h>
+#include <unistd.h>
+ssize_t read(int file, void *octets, size_t size) {
+    static ssize_t (*inner)(int, void *, size_t);
+    static long calls, given;
+    if (!inner)
+        inner = dlsym(RTLD_NEXT, "read");
+    if (++calls == atol(getenv("INTERRUPT"))) {
+        FILE *told = fopen("GIVEN", "w");
+        fprintf(told, "%ld\n", given);
+        fclose(told);
+        errno = EINTR;
+        return -1;
+    }
+    ssize_t count = inner(file, octets, size);
+    given += count > 0 ? count : 0;
+    return count;
+}
+C
+    for call in 1 2 3 50; do
+        INTERRUPT=$call LD_PRELOAD=$folder/interrupt.so "$program" canonicalise - OUT <MANY 2>err
+        status=$?
+        expect "interrupted-$call" 3 'illcanon: read fault'
+        head -c $(($(cat GIVEN) / 33 * 33)) MANY | cmp -s - OUT || { failed=$((failed + 1)) && echo "failed: interrupted-$call: not the messages before"; }
+    done
+fi
+
 # A file that shrinks, and one that grows, while it is read: what was read is refused or done, and what is written is a first part.
 cp MANY SHRINKS
 "$program" canonicalise SHRINKS OUT 2>err &
