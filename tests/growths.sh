@@ -1,10 +1,12 @@
 #!/bin/sh
 # Refuses growth number 1, 2, .. of memory in each call that takes any, until a run meets no refusal. Each answer before that must be want
-# of memory, in the call's own words and with the state that is promised then, or the refusal of a row that is refused: the program of
-# crates/growths makes the call and looks. Takes seconds once the programs are built. Wants `cc`, since the refusals are made by a wrapper round malloc and realloc.
-cd "$(dirname "$0")/../crates/growths" || exit 2
-rt run >/dev/null 2>&1 || exit 2
-(cd ../illcanon && rt run -- --version >/dev/null 2>&1) || exit 2
+# of memory, in the call's own words and with the state that is promised then, or the refusal of a row that is refused: the programs of
+# crates/growths and crates/growths_typed make the call and look. Takes seconds once the programs are built. Wants `cc`, since the refusals are made by a wrapper round malloc and realloc.
+cd "$(dirname "$0")/../crates" || exit 2
+for program in growths growths_typed; do
+    (cd $program && rt run >/dev/null 2>&1) || exit 2
+done
+(cd illcanon && rt run -- --version >/dev/null 2>&1) || exit 2
 folder=$(mktemp -d) || exit 2
 trap 'rm -rf "$folder"' EXIT
 cc -shared -fPIC -O1 -o "$folder/refuse.so" -x c - -ldl <<'C' || exit 2
@@ -36,28 +38,28 @@ void *realloc(void *old, size_t size) {
 }
 C
 
-# Prints how many growths a call met; fails where an answer is wrong.
+# Prints how many growths a program's call met; fails where an answer is wrong.
 growths_of() {
     number=1
     met=0
     while :; do
-        answer=$(REFUSE=$number LD_PRELOAD="$folder/refuse.so" out/growths "$1" 2>"$folder/refusals")
+        answer=$(REFUSE=$number LD_PRELOAD="$folder/refuse.so" "$1/out/$1" "$2" 2>"$folder/refusals")
         if ! [ -s "$folder/refusals" ]; then
             [ "$answer" = right ] && break
-            echo "$1: $answer, with no growth refused"
+            echo "$2: $answer, with no growth refused"
             return 1
         fi
         case $answer in
             "want of memory") met=$((met + 1)) ;;
             "not begun") ;;
             *)
-                echo "$1: ${answer:-no answer}, with growth $number refused"
+                echo "$2: ${answer:-no answer}, with growth $number refused"
                 return 1
                 ;;
         esac
         number=$((number + 1))
     done
-    echo "$1: $met growths"
+    echo "$2: $met growths"
 }
 
 # The whole program, and with it `order`: status 3 and nothing written, or what is written without a refusal.
@@ -65,7 +67,7 @@ program_growths() {
     text=741f301d800102a10aa1031b0147a2031b0151a20ca00a80083230323430323239
     number=1
     while :; do
-        answer=$(printf $text | REFUSE=$number LD_PRELOAD="$folder/refuse.so" ../illcanon/out/illcanon canonicalise --hex - - 2>"$folder/refusals")
+        answer=$(printf $text | REFUSE=$number LD_PRELOAD="$folder/refuse.so" illcanon/out/illcanon canonicalise --hex - - 2>"$folder/refusals")
         status=$?
         if ! grep -qx refused "$folder/refusals"; then
             [ "$status $answer" = "0 $text" ] && break
@@ -86,12 +88,14 @@ program_growths() {
 }
 
 failed=0
-for call in $(out/growths); do
-    growths_of "$call" || failed=1
+for program in growths growths_typed; do
+    for call in $("$program/out/$program"); do
+        growths_of $program "$call" || failed=1
+    done
 done
 # The writer takes no memory but that for the sizes.
-measured=$(growths_of sizes-measure-largest)
-written=$(growths_of write-normal-largest)
+measured=$(growths_of growths sizes-measure-largest)
+written=$(growths_of growths write-normal-largest)
 [ "${measured#*: }" = "${written#*: }" ] || failed=1
 program_growths || failed=1
 exit $failed

@@ -1,6 +1,6 @@
 //! The calls, by name.
-use crate::outcome::Outcome;
 use crate::{jobs, reading, streams, writing};
+use outcomes::Outcome;
 use std::alloc::Global;
 
 pub const NAMES: &str =

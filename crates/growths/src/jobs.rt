@@ -1,10 +1,10 @@
 //! Calls that the program makes.
-use crate::outcome::Outcome;
 use crate::rows::{EXPIRED, EXPIRED_TEXT, INDEFINITE, TWICE};
 use ber_core::{Pieces, Room};
 use ill_jobs::{Job, RunFault, Verdict, run, run_same};
 use ill_read::decode;
 use ill_text::show_text;
+use outcomes::Outcome;
 use std::alloc::Global;
 
 /// What `check` says of both messages of `stream-of-two`.

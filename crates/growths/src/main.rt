@@ -4,7 +4,6 @@
 
 mod calls;
 mod jobs;
-mod outcome;
 mod reading;
 mod rows;
 mod streams;

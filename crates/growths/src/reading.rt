@@ -1,10 +1,10 @@
 //! Calls that read.
-use crate::outcome::Outcome;
 use crate::rows::{EXPIRED, TWICE};
 use ber_core::{Pieces, Source};
 use ber_leaf::Segments;
 use ill_read::{Decoder, Failure, Progress, ReadFailure, decode, read_message};
 use ill_schema::{Cause, Refusal};
+use outcomes::Outcome;
 use std::alloc::Global;
 
 /// `segments-joined`: two pieces, of which those stay that were pushed before a refusal.

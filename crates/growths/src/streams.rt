@@ -1,11 +1,11 @@
 //! Calls that normalise and compare.
-use crate::outcome::Outcome;
 use crate::rows::{BAD_SECOND, EXPIRED, INDEFINITE, TWICE, TYPED_SEGMENT};
 use ber_core::{Pieces, Room};
 use ill_normal::{
     Cause, Failure, NormalFailure, ReadFailure, Refusal, Side, StreamCause, StreamFailure,
     check_one, is_normal, normalise, normalise_stream, same_message,
 };
+use outcomes::Outcome;
 use std::alloc::Global;
 
 /// `sink-of-seven-octets-per-call`: nothing is written where memory was wanting.

@@ -1,10 +1,10 @@
 //! Calls that write.
-use crate::outcome::Outcome;
 use crate::rows::{EXPIRED, INDEFINITE, LARGEST_HEAD};
 use ber_core::Room;
 use ill_read::decode;
 use ill_schema::Message;
 use ill_write::{Sizes, WriteFailure, normal_bytes, write_normal};
+use outcomes::Outcome;
 use std::alloc::Global;
 
 /// The message that is written.

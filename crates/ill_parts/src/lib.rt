@@ -36,6 +36,3 @@ pub use search_type::SearchType;
 pub use supply::{DateDue, SupplyDetails};
 pub use third_party::{SendTo, ThirdPartyInfo};
 pub use transaction::{DateTime, ServiceDateTime, TransactionId};
-
-#[cfg(test)]
-mod tests;

@@ -17,6 +17,3 @@ pub use failure::WriteFailure;
 pub use laws::normal_size_counts_normal_forms;
 pub use normal::{normal_bytes, write_normal};
 pub use sizes::Sizes;
-
-#[cfg(test)]
-mod tests;

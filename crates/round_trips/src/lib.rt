@@ -1,4 +1,5 @@
-//! Typed APDUs as messages, as octets and back: tests alone, in a crate of their own, so that the typed crate is proved once and not once more with its tests.
+//! Tests alone, of the typed parts and APDUs, and of the writer: a crate of their own, so that those crates are proved once and not once more
+//! with their tests.
 #![tactic(auto)]
 
 #[cfg(test)]

@@ -1,5 +1,7 @@
 //! Worked messages through the typed APDUs and back.
 mod build;
+mod normal_forms;
+mod parts;
 
 use ber_leaf::IllString;
 use build::{date_text, general_text, message, value};

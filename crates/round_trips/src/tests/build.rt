@@ -1,4 +1,6 @@
 //! Messages from words.
+ghost use Rattle.std.specs.Prelude.{◌≤◌};
+
 use ber_leaf::{DateText, GeneralText, IllString, Leaf, PrintableText, TimeText, VisibleText};
 use ill_schema::{Message, Value};
 use std::alloc::{AllocError, Global};
@@ -16,11 +18,31 @@ const WHOLE: &str =
 ///
 /// A value is written part by part, and then what it is: `seq:n` of the last n parts, `list:n`, or
 /// `alt:n`, the alternative of row n. `-` is an absent part, `none:n` is n of them, and `head` and
-/// `whole` are what each APDU begins with.
+/// `whole` are what each APDU begins with. `hex:` and `letters:n` are GeneralStrings, of these octets
+/// and of n letters; `empties:n` is a list of n system ids with nothing in them.
 pub fn message(alloc: Global, apdu: &str, parts: &str) -> Result<Message, Fail> {
     match Message::new(apdu.parse::<u8>()?, value(alloc, parts)?) {
         Ok(message) => Ok(message),
         Err((_body, _unfit)) => Err("no message")?,
+    }
+}
+
+/// The octets that hexadecimal digits write.
+pub fn octets_of_hex(alloc: Global, hex: &str) -> Result<Vec<u8>, Fail> {
+    let mut octets = Vec::new(alloc);
+    for pair in hex.as_bytes().chunks_exact(2) {
+        octets.push(16 * digit(pair[0]) + digit(pair[1]))?;
+    }
+    Ok(octets)
+}
+
+fn digit(octet: u8) -> u8
+    ensures { result ≤ 15 }
+{
+    match octet {
+        b'0'..=b'9' => octet - b'0',
+        b'a'..=b'f' => octet - b'a' + 10,
+        _ => 0,
     }
 }
 
@@ -75,11 +97,13 @@ fn leaf(alloc: Global, word: &str) -> Result<Value, Fail> {
         "false" => Ok(Value::Flag(false)),
         "true" => Ok(Value::Flag(true)),
         "general" => general(Vec::from_slice(alloc, text.as_bytes())?),
+        "hex" => general(octets_of_hex(alloc, text)?),
         "letters" => general(vec![in alloc; b'A'; text.parse::<usize>()?]?),
         "visible" => visible(Vec::from_slice(alloc, text.as_bytes())?),
         "print" => printable(Vec::from_slice(alloc, text.as_bytes())?),
         "date" => date(Vec::from_slice(alloc, text.as_bytes())?),
         "time" => time(Vec::from_slice(alloc, text.as_bytes())?),
+        "empties" => empties(alloc, text.parse::<u32>()?),
         _ => Ok(Value::Whole(word.parse::<i64>()?)),
     }
 }
@@ -127,6 +151,17 @@ fn time(octets: Vec<u8>) -> Result<Value, Fail> {
         Ok(text) => Ok(Value::Time(text)),
         Err(_) => Err("no ISO-Time")?,
     }
+}
+
+/// A list of so many system ids with nothing in them.
+fn empties(alloc: Global, count: u32) -> Result<Value, Fail> {
+    let mut items = Vec::new(alloc);
+    for _ in 0..count {
+        let mut entries = Vec::new(alloc);
+        skip(&mut entries, 2)?;
+        items.push(Value::Seq(entries))?;
+    }
+    Ok(Value::List(items))
 }
 
 /// Takes off the last parts.

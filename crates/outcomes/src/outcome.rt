@@ -1,4 +1,5 @@
 //! What came of a call.
+ghost use Rattle.std.specs.Prelude.{◌≡◌, if◌then◌else◌};
 
 /// Whether a call answered as its row wants, or for want of memory with the state that is promised then.
 #[derive(Clone, Copy)]
@@ -11,6 +12,7 @@ pub enum Outcome {
 }
 
 impl Outcome {
+    /// What the script reads.
     pub fn words(self) -> &'static str {
         match self {
             Outcome::Right => "right",
@@ -21,7 +23,9 @@ impl Outcome {
     }
 
     /// Right, if that holds.
-    pub fn right(holds: bool) -> Outcome {
+    pub fn right(holds: bool) -> Outcome
+        ensures { result ≡ (if holds then Outcome.Right else Outcome.Wrong) }
+    {
         if holds {
             Outcome::Right
         } else {
@@ -30,7 +34,9 @@ impl Outcome {
     }
 
     /// Want of memory with the state that is promised then, if that holds.
-    pub fn wanting(holds: bool) -> Outcome {
+    pub fn wanting(holds: bool) -> Outcome
+        ensures { result ≡ (if holds then Outcome.WantOfMemory else Outcome.Wrong) }
+    {
         if holds {
             Outcome::WantOfMemory
         } else {

@@ -1,17 +1,15 @@
 //! Worked messages, built by hand, with their normal forms from outside.
 ghost use Rattle.std.specs.Prelude.{None, false};
 
-mod build;
-
-use crate::{Sizes, WriteFailure, normal_bytes, normal_size_counts_normal_forms, write_normal};
+use super::build::{message, octets_of_hex};
 use ber_core::{Broken, Room, Sink};
-use build::{message, octets_of_hex};
 use ill_schema::Message;
+use ill_write::{Sizes, WriteFailure, normal_bytes, normal_size_counts_normal_forms, write_normal};
 use std::alloc::Global;
 use std::test::Fail;
 
 /// A row a line: its name, the APDU's number, the normal form in hexadecimal, and the parts of the
-/// body, as [`build::message`] reads them. `..*n` in place of octets is `41`, n times.
+/// body, as [`message`] reads them. `..*n` in place of octets is `41`, n times.
 const ROWS: &str = "\
 expired-normal-form 20 741f301d800102a10aa1031b0147a2031b0151a20ca00a80083230323430323239 head - seq:6
 group-qualifier-visible 20 741f301d800102a10aa1031a0147a2031b0151a20ca00a80083230323430323239 2 - visible:G general:Q - seq:4 date:20240229 - seq:2 - seq:2 - - - seq:6
@@ -124,7 +122,8 @@ fn totals(rt: HostRuntime) -> Result<(), Fail> {
 fn sizes_in_header_order(rt: HostRuntime) -> Result<(), Fail> {
     let message = message(rt.alloc(), "20", EXPIRED)?;
     let sizes = Sizes::measure(rt.alloc(), &message)?;
-    assert!(rt; sizes.contents.as_slice() == [31, 29, 10, 3, 3, 12, 10].as_slice());
+    let text = format!(in rt.alloc(); "{sizes:?}")?;
+    assert!(rt; text.as_str() == "Sizes { contents: [31, 29, 10, 3, 3, 12, 10], total: 33 }");
     Ok(())
 }
 

@@ -1,25 +1,16 @@
 //! Values that are parts, and values that are none.
-
-use crate::{
+use super::build::date_text;
+use super::general;
+use ber_leaf::{DateText, IllString, VisibleText};
+use ill_parts::{
     CostInfo, DateDue, Node, Part, SearchType, SendTo, Symbol, SystemId, Typed, UnitsPerMedium,
 };
-use ber_leaf::{DateText, GeneralText, IllString, VisibleText};
 use ill_schema::{NodeId, Value, equal};
 use std::alloc::{AllocError, Global};
 use std::test::Fail;
 
 fn day(alloc: Global, digits: &str) -> Result<DateText, Fail> {
-    match DateText::new(Vec::from_slice(alloc, digits.as_bytes())?) {
-        Ok(text) => Ok(text),
-        Err(_) => Err("no ISO-Date")?,
-    }
-}
-
-fn general(alloc: Global, letters: &str) -> Result<IllString, Fail> {
-    match GeneralText::new(Vec::from_slice(alloc, letters.as_bytes())?) {
-        Ok(text) => Ok(IllString::General(text)),
-        Err(_) => Err("no GeneralString")?,
-    }
+    date_text(Vec::from_slice(alloc, digits.as_bytes())?)
 }
 
 fn visible(alloc: Global, letters: &str) -> Result<IllString, Fail> {
