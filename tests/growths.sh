@@ -89,7 +89,7 @@ program_growths() {
 
 failed=0
 for program in growths growths_typed; do
-    for call in $("$program/out/$program"); do
+    for call in $("$program/out/$program" | cut -d : -f 1); do
         growths_of $program "$call" || failed=1
     done
 done
