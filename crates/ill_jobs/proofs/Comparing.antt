@@ -1,5 +1,5 @@
 -- Which answer two inputs have.
-use Rattle.std.proofs.Common.{◌≡◌, ◌↔◌, ℕ, Bool, true, false, List, [], ◌++◌, length, take, Option, Some, None, Result, Ok, Err, IfSome, refl, sym, ap, subst, ◌∙◌, inl, inr, arith, append-nil}
+use Rattle.std.proofs.Common.{◌≡◌, ◌⊎◌, ◌↔◌, ℕ, Bool, true, false, List, [], ◌++◌, length, take, Option, Some, None, Result, Ok, Err, IfSome, refl, sym, ap, subst, ◌∙◌, inl, inr, arith, append-nil}
 use Rattle.std.specs.Io.KnownBytes.{IsAtEnd}
 use Rattle.std.proofs.lemmas.Bool.{cases_lt}
 use Rattle.std.proofs.lemmas.List.{take_all, take_at}
@@ -13,9 +13,10 @@ use Rattle.ill_normal.proofs.Answering.{front}
 use Rattle.ill_normal.proofs.Canonical.{spells_once, refuses_whole, refuses_once}
 use Rattle.ill_jobs.specs.declared.job.Verdict.{Verdict}
 use Rattle.ill_jobs.specs.declared.fault.RunFault.{RunFault}
-use Rattle.ill_jobs.specs.Ran.{IsFault}
-use Rattle.ill_jobs.specs.Compared.{ReadsSide, Compares, NotCompared, side_octets, SaysSame, ComparesBoth, RefusesOne, IsRefusedSide, AnswersSide}
-use Rattle.ill_jobs.proofs.Texts.{same_octets, same_ok}
+use Rattle.ill_jobs.specs.Ran.{NoHex, IsFault}
+use Rattle.ill_jobs.specs.Hexadecimal.{hex_octets}
+use Rattle.ill_jobs.specs.Compared.{ReadsSide, SideFails, Compares, NotCompared, side_octets, SaysSame, ComparesBoth, RefusesOne, RefusesTexts, IsRefusedSide, AnswersSide}
+use Rattle.ill_jobs.proofs.Texts.{same_octets, same_ok, same_err, not_both, is_fault}
 
 -- what was read of a side is what is compared of it
 side_is : (hex : Bool) (s : List ℕ) (left' : Option (List ℕ)) (o : List ℕ) → ReadsSide hex (Some s) left' o → side_octets hex s ≡ Ok o
@@ -30,6 +31,34 @@ side_is false s left' o h =
       | inr ge ↦
           ap (λ l. Ok (take 1_048_577 l)) t.1 ∙ ap (λ l. Ok l) (take_at o t.0 1_048_577 (omega (arith, ge, h.1)))
     ]
+
+-- what was no text is none
+no_text : (s : List ℕ) (left' : Option (List ℕ)) (e : RunFault) → NoHex (Some s) left' e → hex_octets s ≡ Err e
+no_text s left' e h = same_octets s left' h.text h.taken ∙ h.stands
+
+-- the answer where a side was not read
+unread_fault : (hex x : Bool) (s : List ℕ) (left' : Option (List ℕ)) (e fault : RunFault) → SideFails hex (Some s) left' x e → side_octets hex s ≡ Err fault → (e ≡ fault) ⊎ IsFault e
+unread_fault true x s left' e fault (inl h) k = inl (same_err (hex_octets s) e fault (no_text s left' e h) k)
+unread_fault true x s left' e fault (inr u) k = inr (is_fault x e u)
+unread_fault false x s left' e fault u k = inr (is_fault x e u)
+
+unread_octets : (hex x : Bool) (s : List ℕ) (left' : Option (List ℕ)) (e : RunFault) (o : List ℕ) → SideFails hex (Some s) left' x e → side_octets hex s ≡ Ok o → IsFault e
+unread_octets true x s left' e o (inl h) k = absurd (not_both (hex_octets s) o e k (no_text s left' e h))
+unread_octets true x s left' e o (inr u) k = is_fault x e u
+unread_octets false x s left' e o u k = is_fault x e u
+
+pub first_unread : (hex x : Bool) (left left' other : Option (List ℕ)) (e : RunFault) → SideFails hex left left' x e
+    → IfSome left (λ s. IfSome other (λ t. RefusesTexts hex s t (Err e)))
+first_unread hex x None left' other e h = tt
+first_unread hex x (Some s) left' None e h = tt
+first_unread hex x (Some s) left' (Some t) e h = (λ fault k. unread_fault hex x s left' e fault h k, λ o fault k l. inr (unread_octets hex x s left' e o h k))
+
+pub second_unread : (hex x : Bool) (left left' other other' : Option (List ℕ)) (o : List ℕ) (e : RunFault) → ReadsSide hex left left' o → SideFails hex other other' x e
+    → IfSome left (λ s. IfSome other (λ t. RefusesTexts hex s t (Err e)))
+second_unread hex x None left' other other' o e r h = tt
+second_unread hex x (Some s) left' None other' o e r h = tt
+second_unread hex x (Some s) left' (Some t) other' o e r h =
+    (λ fault k. absurd (not_both (side_octets hex s) o fault (side_is hex s left' o r) k), λ o' fault k l. unread_fault hex x t other' e fault h l)
 
 module _ (x y : List ℕ) where
   refused_apart : (side : Side) (f : Fault) (a b : Apdu) → SpellsApdu profile_two a x → SpellsApdu profile_two b y → RefusesSide x y side f → ⊥
@@ -91,6 +120,16 @@ one_refused hex (Some s) left' (Some t) other' x y rx ry answer h = λ x' y' sid
     let g = same_ok (side_octets hex t) y' y ey (side_is hex t other' y ry) in
     h side f (subst (λ z. RefusesSide x z side f) g (subst (λ z. RefusesSide z y' side f) e r))
 
+-- sides that were read are no texts that stand for nothing
+both_read : (hex : Bool) (left left' other other' : Option (List ℕ)) (x y : List ℕ) → ReadsSide hex left left' x → ReadsSide hex other other' y → (answer : Result Verdict RunFault)
+    → IfSome left (λ s. IfSome other (λ t. RefusesTexts hex s t answer))
+both_read hex None left' other other' x y rx ry answer = tt
+both_read hex (Some s) left' None other' x y rx ry answer = tt
+both_read hex (Some s) left' (Some t) other' x y rx ry answer = (
+  λ fault k. absurd (not_both (side_octets hex s) x fault (side_is hex s left' x rx) k),
+  λ o fault k l. absurd (not_both (side_octets hex t) y fault (side_is hex t other' y ry) l),
+)
+
 module _ (hex : Bool) (left left' other other' : Option (List ℕ)) (x y : List ℕ) (rx : ReadsSide hex left left' x) (ry : ReadsSide hex other other' y) where
   pub ok_compares : (v : Verdict) → Compares x y v → IfSome left (λ s. IfSome other (λ t. ComparesBoth hex s t (Ok v)))
   ok_compares v c = both_same hex left left' other other' x y rx ry (Ok v) (λ a b h k. says_same x y v c a b h k)
@@ -103,3 +142,6 @@ module _ (hex : Bool) (left left' other other' : Option (List ℕ)) (x y : List 
 
   pub err_refuses : (e : RunFault) → NotCompared x y e → IfSome left (λ s. IfSome other (λ t. RefusesOne hex s t (Err e)))
   err_refuses e n = one_refused hex left left' other other' x y rx ry (Err e) (λ side f r. not_refused x y e n side f r)
+
+  pub texts_read : (answer : Result Verdict RunFault) → IfSome left (λ s. IfSome other (λ t. RefusesTexts hex s t answer))
+  texts_read answer = both_read hex left left' other other' x y rx ry answer

@@ -26,17 +26,17 @@ same_octets s left' text h = elim (cases_lt 4_194_304 (length text)) [
       too_long s more ∙ sym (too_long text lt)
   | inr le ↦
       let t = front s left' text h.0 in
-      let none : t.0 ≡ [] = subst IsAtEnd t.2 (h.1 le) in
+      let none : t.0 ≡ [] = subst IsAtEnd t.2 (h.2 le) in
       ap hex_octets (t.1 ∙ ap (λ l. text ++ l) none ∙ append-nil text)
 ]
 
 pub same_ok : (r : Result (List ℕ) RunFault) (a b : List ℕ) → r ≡ Ok a → r ≡ Ok b → a ≡ b
 same_ok r a b e f = cc
 
-same_err : (r : Result (List ℕ) RunFault) (e f : RunFault) → r ≡ Err e → r ≡ Err f → e ≡ f
+pub same_err : (r : Result (List ℕ) RunFault) (e f : RunFault) → r ≡ Err e → r ≡ Err f → e ≡ f
 same_err r e f h k = cc
 
-not_both : (r : Result (List ℕ) RunFault) (a : List ℕ) (e : RunFault) → r ≡ Ok a → r ≡ Err e → ⊥
+pub not_both : (r : Result (List ℕ) RunFault) (a : List ℕ) (e : RunFault) → r ≡ Ok a → r ≡ Err e → ⊥
 not_both r a e h k = cc
 
 module _ (job : Job) (held held' : Option (List ℕ)) (x y : Bool) (answer : Result Verdict RunFault) where
@@ -88,7 +88,7 @@ module _ (job : Job) (held held' : Option (List ℕ)) (x y : Bool) (answer : Res
     text_stands None left' t = tt
     text_stands (Some s) left' t = λ fault e. absurd (not_both (hex_octets s) octets fault (stands s left' t) e)
 
-is_fault : (x : Bool) (e : RunFault) → IsUnread x e → IsFault e
+pub is_fault : (x : Bool) (e : RunFault) → IsUnread x e → IsFault e
 is_fault x RunFault.OutOfMemory h = tt
 is_fault x RunFault.ReadFault h = tt
 is_fault x (RunFault.Refused message refusal) h = absurd h

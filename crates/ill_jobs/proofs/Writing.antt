@@ -2,18 +2,19 @@
 use Rattle.std.proofs.Common.{◌≡◌, ℕ, suc, ◌+◌, ◌<◌, ◌≤◌, Bool, true, false, ◌&&◌, List, [], ◌∷◌, ◌++◌, length, take, Option, Err, IfSome, IsTrue, refl, sym, ap, subst, ◌∙◌, arith, append_assoc, append-nil, length-append}
 use Rattle.std.specs.List.{list_all}
 use Rattle.std.specs.Io.KnownBytes.{Consumes, Appends}
-use Rattle.std.proofs.KnownBytes.{Consumes-nil, Consumes-trans, Keeps-refl, Appends-nil, Appends-trans}
+use Rattle.std.proofs.KnownBytes.{Consumes-nil, Consumes-trans, Consumes-kept, Keeps-refl, Appends-nil, Appends-trans}
 use Rattle.std.proofs.Math.Seq.{take-append-add}
 use Rattle.ber_leaf.specs.Profile.{profile_two}
 use Rattle.ill_schema.specs.Apdu.{SpellsApdu}
+use Rattle.ill_schema.proofs.Streams.{accepts_some}
 use Rattle.ill_jobs.specs.declared.job.Job.{Job}
 use Rattle.ill_jobs.specs.declared.piece.Piece.{Piece}
 use Rattle.ill_jobs.specs.Output.{Spelling, AreSpelled, message_output, output_from, output, is_good}
 use Rattle.ill_jobs.specs.Pieces.{Makes}
-use Rattle.ill_jobs.specs.Ran.{Writes, BrokeAt, StopsAfter, fault_at}
+use Rattle.ill_jobs.specs.Ran.{Writes, BrokeAt, StopsAfter, GoesOn, fault_at}
 use Rattle.ill_jobs.specs.declared.fault.RunFault.{RunFault}
 use Rattle.ill_read.specs.declared.failure.ReadFailure.{ReadFailure}
-use Rattle.ill_read.specs.Answers.{IfReadRefused}
+use Rattle.ill_read.specs.Answers.{IfReadRefused, TakesFront, TakesNoMessage}
 use Rattle.ill_read.specs.Outcome.{OnlyRefuses}
 use Rattle.std.specs.Prelude.{IsErrOf}
 
@@ -119,20 +120,72 @@ module _ (job : Job) (hex : Bool) (left left' left'' held held' held'' : Option 
         not_all = omega (arith, r.size, lt, ap length all, length-append so_far piece.text.items);
       }
 
-  -- the next message was not read
-  pub stops_reading : (x y : Bool) (e : ReadFailure) → whole < 1_000_000 → IfReadRefused e (λ f. IfSome left' (λ s. (0 < length s) × OnlyRefuses profile_two s f))
-      → (IsErrOf {T = Option Piece} (Err e) ReadFailure.ReadFault → IsTrue x) → StopsAfter job hex left left'' held held' x y (fault_at (whole + 1) e)
-  stops_reading x y (ReadFailure.Refused refusal) lt h broken = record {
-    messages = r.messages;
-    rest = left';
-    grown = held';
-    writes = r.writes;
-    stops = (ap (λ (n : ℕ). n + 1) (sym r.count), omega (arith, r.count), h, Keeps-refl held');
-  }
-  stops_reading x y ReadFailure.OutOfMemory lt h broken = record { messages = r.messages; rest = left'; grown = held'; writes = r.writes; stops = Keeps-refl held' }
-  stops_reading x y ReadFailure.ReadFault lt h broken = record { messages = r.messages; rest = left'; grown = held'; writes = r.writes; stops = (broken refl, Keeps-refl held') }
+  module _ (x y : Bool) where
+    -- the next message was not read
+    pub stops_reading : (e : ReadFailure) → whole < 1_000_000 → TakesFront left' left'' → IfReadRefused e (λ f. IfSome left' (λ s. (0 < length s) × OnlyRefuses profile_two s f))
+        → (IsErrOf {T = Option Piece} (Err e) ReadFailure.ReadFault → IsTrue x) → (IsErrOf {T = Option Piece} (Err e) ReadFailure.ReadFault → TakesNoMessage left' left'')
+        → StopsAfter job hex left left'' held held' x y (fault_at (whole + 1) e)
+    stops_reading (ReadFailure.Refused refusal) lt t h broken unfinished = record {
+      messages = r.messages;
+      rest = left';
+      grown = held';
+      writes = r.writes;
+      taken = t;
+      stops = (ap (λ (n : ℕ). n + 1) (sym r.count), omega (arith, r.count), h, Keeps-refl held');
+    }
+    stops_reading ReadFailure.OutOfMemory lt t h broken unfinished = record {
+      messages = r.messages;
+      rest = left';
+      grown = held';
+      writes = r.writes;
+      taken = t;
+      stops = (omega (arith, r.count), Keeps-refl held');
+    }
+    stops_reading ReadFailure.ReadFault lt t h broken unfinished = record {
+      messages = r.messages;
+      rest = left';
+      grown = held';
+      writes = r.writes;
+      taken = t;
+      stops = (omega (arith, r.count), broken refl, unfinished refl, Keeps-refl held');
+    }
 
-  -- the sink broke
-  pub stops_writing : (x y : Bool) (piece : Piece) (k : ℕ) → Makes job hex (whole + 1) left' left'' piece → Appends held' held'' (take k piece.text.items) → k < length piece.text.items
-      → IsTrue y → StopsAfter job hex left left'' held held'' x y (RunFault.WriteFault (written + k))
-  stops_writing x y piece k p w lt broken = record { messages = r.messages; rest = left'; grown = held'; writes = r.writes; stops = (broken, broke_within piece k p w lt) }
+    -- the sink broke
+    pub stops_writing : (piece : Piece) (k : ℕ) → whole < 1_000_000 → TakesFront left' left'' → Makes job hex (whole + 1) left' left'' piece → Appends held' held'' (take k piece.text.items)
+        → k < length piece.text.items → IsTrue y → StopsAfter job hex left left'' held held'' x y (RunFault.WriteFault (written + k))
+    stops_writing piece k lt t p w fewer broken = record {
+      messages = r.messages;
+      rest = left';
+      grown = held';
+      writes = r.writes;
+      taken = t;
+      stops = (omega (arith, r.count), broken, broke_within piece k p w fewer);
+    }
+
+    -- behind the last message that an input may have an octet was taken, or the source broke
+    pub stops_behind : (e : RunFault) → whole ≡ 1_000_000 → GoesOn left' left'' x e → StopsAfter job hex left left'' held held' x y e
+    stops_behind RunFault.TooManyMessages last h = record {
+      messages = r.messages;
+      rest = left';
+      grown = held';
+      writes = r.writes;
+      taken = (h.0 ∷ [], h.1, omega arith);
+      stops = (omega (arith, r.count), h, Keeps-refl held');
+    }
+    stops_behind RunFault.ReadFault last h =
+        let none = Consumes-kept left' left' left'' [] (Consumes-nil left') h.1 in
+        record {
+          messages = r.messages;
+          rest = left';
+          grown = held';
+          writes = r.writes;
+          taken = ([], none, omega arith);
+          stops = (omega (arith, r.count), h.0, ([], none, λ a n accepted. accepts_some profile_two [] a n refl accepted), Keeps-refl held');
+        }
+    stops_behind (RunFault.Refused message refusal) last h = absurd h
+    stops_behind (RunFault.RefusedSide side refusal) last h = absurd h
+    stops_behind RunFault.OddHex last h = absurd h
+    stops_behind (RunFault.BadHex n) last h = absurd h
+    stops_behind RunFault.HexTooLong last h = absurd h
+    stops_behind RunFault.OutOfMemory last h = absurd h
+    stops_behind (RunFault.WriteFault n) last h = absurd h

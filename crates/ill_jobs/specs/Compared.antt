@@ -10,7 +10,7 @@ use Rattle.ill_normal.specs.declared.compare.Side.{Side}
 use Rattle.ill_jobs.specs.declared.job.Verdict.{Verdict}
 use Rattle.ill_jobs.specs.declared.fault.RunFault.{RunFault}
 use Rattle.ill_jobs.specs.Hexadecimal.{hex_octets}
-use Rattle.ill_jobs.specs.Ran.{TextOf, FailsText, IsUnread, IsFault}
+use Rattle.ill_jobs.specs.Ran.{TextOf, FailsText, IsUnread, IsFault, AnswersFault}
 
 abbrev pub verdict_line : Verdict → List ℕ
 verdict_line Verdict.Good = codes "same\n"
@@ -57,10 +57,12 @@ pub record SameStops (hex : Bool) (left left' other other' held held' : Option (
   pub reads_second : ReadsSide hex other other' second
   pub stops : (NotCompared first second fault × Keeps held held') ⊎ ((verdict : Verdict) × Compares first second verdict × BreaksLine verdict held held' sink_broken fault)
 
+-- the first input was not read, and nothing was asked of the second; or the second was not read; or both were
 abbrev pub SameFails : Bool → Option (List ℕ) → Option (List ℕ) → Option (List ℕ) → Option (List ℕ) → Option (List ℕ) → Option (List ℕ) → Bool → Bool → Bool → RunFault → Type 0
 SameFails hex left left' other other' held held' first_broken second_broken sink_broken fault =
-    (SideFails hex left left' first_broken fault × Keeps held held')
-    ⊎ ((SideFails hex other other' second_broken fault × Keeps held held') ⊎ SameStops hex left left' other other' held held' sink_broken fault)
+    (SideFails hex left left' first_broken fault × Keeps other other' × Keeps held held')
+    ⊎ (((first : List ℕ) × ReadsSide hex left left' first × SideFails hex other other' second_broken fault × Keeps held held')
+    ⊎ SameStops hex left left' other other' held held' sink_broken fault)
 
 -- the octets of an input that are compared
 abbrev pub side_octets : Bool → List ℕ → Result (List ℕ) RunFault
@@ -87,3 +89,8 @@ AnswersSide (Err fault) side f = IsRefusedSide fault side f
 -- the first side that is refused is named
 abbrev pub RefusesOne : Bool → List ℕ → List ℕ → Result Verdict RunFault → Type 0
 RefusesOne hex s t result = (x y : List ℕ) (side : Side) (f : Fault) → side_octets hex s ≡ Ok x → side_octets hex t ≡ Ok y → RefusesSide x y side f → AnswersSide result side f
+
+-- the first text that stands for no octets is refused, before either is compared
+abbrev pub RefusesTexts : Bool → List ℕ → List ℕ → Result Verdict RunFault → Type 0
+RefusesTexts hex s t result = ((fault : RunFault) → side_octets hex s ≡ Err fault → AnswersFault result fault)
+    × ((x : List ℕ) (fault : RunFault) → side_octets hex s ≡ Ok x → side_octets hex t ≡ Err fault → AnswersFault result fault)

@@ -27,6 +27,6 @@ with_fault (Err error) = Err (hex_fault error)
 abbrev pub hex_octets : List ℕ → Result (List ℕ) RunFault
 hex_octets text = if nat_lt 4_194_304 (length text) then Err RunFault.HexTooLong else with_fault (decode_of (without_blanks text))
 
--- the text was taken, up to its end unless it is too long
+-- the text was taken up to its end, or up to the first octet that makes it too long
 abbrev pub TakesText : Option (List ℕ) → Option (List ℕ) → List ℕ → Type 0
-TakesText left left' text = Consumes left left' text × (length text ≤ 4_194_304 → IsAtEnd left')
+TakesText left left' text = Consumes left left' text × (length text ≤ 4_194_305) × (length text ≤ 4_194_304 → IsAtEnd left')

@@ -6,6 +6,7 @@ use Rattle.ill_schema.specs.Apdu.{SpellsApdu}
 use Rattle.ill_read.specs.Fault.{Fault}
 use Rattle.ill_read.specs.declared.failure.ReadFailure.{ReadFailure}
 use Rattle.ill_read.specs.Judged.{fault_is}
+use Rattle.ill_read.specs.Answers.{TakesFront, TakesNoMessage}
 use Rattle.ill_read.specs.Outcome.{OnlyRefuses}
 use Rattle.ill_jobs.specs.declared.job.Job.{Job}
 use Rattle.ill_jobs.specs.declared.job.Verdict.{Verdict}
@@ -37,10 +38,11 @@ Stops job hex left left' first held held' source_broken sink_broken ms (RunFault
     × IfSome left (λ s. (0 < length s) × OnlyRefuses profile_two s (fault_is refusal)) × Keeps held held'
 Stops job hex left left' first held held' source_broken sink_broken ms RunFault.TooManyMessages =
     (length ms ≡ 1_000_000) × ((octet : ℕ) × Consumes left left' (octet ∷ [])) × Keeps held held'
-Stops job hex left left' first held held' source_broken sink_broken ms RunFault.OutOfMemory = Keeps held held'
-Stops job hex left left' first held held' source_broken sink_broken ms RunFault.ReadFault = IsTrue source_broken × Keeps held held'
+Stops job hex left left' first held held' source_broken sink_broken ms RunFault.OutOfMemory = (length ms < 1_000_000) × Keeps held held'
+Stops job hex left left' first held held' source_broken sink_broken ms RunFault.ReadFault =
+    (length ms ≤ 1_000_000) × IsTrue source_broken × TakesNoMessage left left' × Keeps held held'
 Stops job hex left left' first held held' source_broken sink_broken ms (RunFault.WriteFault n) =
-    IsTrue sink_broken × BrokeAt job hex left left' first held' ms n
+    (length ms < 1_000_000) × IsTrue sink_broken × BrokeAt job hex left left' first held' ms n
 Stops job hex left left' first held held' source_broken sink_broken ms _ = ⊥
 
 -- the failure to read message i
@@ -49,18 +51,19 @@ fault_at i (ReadFailure.Refused refusal) = RunFault.Refused i refusal
 fault_at i ReadFailure.OutOfMemory = RunFault.OutOfMemory
 fault_at i ReadFailure.ReadFault = RunFault.ReadFault
 
--- an octet more was taken, or the source broke
+-- an octet more was taken, or the source broke and none was
 abbrev pub GoesOn : Option (List ℕ) → Option (List ℕ) → Bool → RunFault → Type 0
 GoesOn left left' broken RunFault.TooManyMessages = (octet : ℕ) × Consumes left left' (octet ∷ [])
-GoesOn left left' broken RunFault.ReadFault = IsTrue broken
+GoesOn left left' broken RunFault.ReadFault = IsTrue broken × Keeps left left'
 GoesOn left left' broken _ = ⊥
 
--- the messages before the fault, and why the job went no further
+-- the messages before the fault, and why the job went no further; of what follows them no more was taken than a message may have
 pub record StopsAfter (job : Job) (hex : Bool) (left left' held held' : Option (List ℕ)) (source_broken sink_broken : Bool) (fault : RunFault) : Type 0 where
   pub messages : List Spelling
   pub rest : Option (List ℕ)
   pub grown : Option (List ℕ)
   pub writes : Writes job hex left rest held grown messages
+  pub taken : TakesFront rest left'
   pub stops : Stops job hex rest left' held grown held' source_broken sink_broken messages fault
 
 -- the job was done: the octets are messages to their end, at most 1,000,000

@@ -3,7 +3,7 @@ ghost use Rattle.std.specs.Prelude.{◌≡◌, ℕ, Bool, ◌++◌, ◌<◌, [],
 ghost use Rattle.std.specs.Io.KnownBytes.{Consumes, IsAtEnd};
 ghost use Rattle.ber_leaf.specs.Profile.{profile_two};
 ghost use Rattle.hex.specs.Hex.{encode_lower};
-ghost use Rattle.ill_read.specs.Answers.{IfReadRefused};
+ghost use Rattle.ill_read.specs.Answers.{IfReadRefused, TakesFront, TakesNoMessage};
 ghost use Rattle.ill_read.specs.Outcome.{OnlyRefuses};
 ghost use Rattle.ill_read.specs.declared.failure.ReadFailure.{ReadFailure};
 ghost use Rattle.ill_jobs.specs.declared.job.Job.{Job};
@@ -36,7 +36,9 @@ pub fn next_piece<R: Source>(
     ensures piece { IfOk result (λ found. IfSome found (Makes job hex number (R.left source.old) (R.left source.new))) }
     ensures none { IfOk result (λ found. IfNone found (Consumes (R.left source.old) (R.left source.new) [] × IsAtEnd (R.left source.new))) }
     ensures refused { IfErr result (λ e. IfReadRefused e (λ f. IfSome (R.left source.old) (λ s. (0 < length s) × OnlyRefuses profile_two s f))) }
+    ensures taken { TakesFront (R.left source.old) (R.left source.new) }
     ensures broken { IsErrOf result ReadFailure.ReadFault → IsTrue (R.is_broken source.new) }
+    ensures unfinished { IsErrOf result ReadFailure.ReadFault → TakesNoMessage (R.left source.old) (R.left source.new) }
     ensures stays { IsTrue (R.is_broken source.old) → IsTrue (R.is_broken source.new) }
 {
     match job {
@@ -54,7 +56,9 @@ fn shown<R: Source>(
     ensures piece { IfOk result (λ found. IfSome found (λ p. (hex : Bool) → Makes Job.Show hex number (R.left source.old) (R.left source.new) p)) }
     ensures none { IfOk result (λ found. IfNone found (Consumes (R.left source.old) (R.left source.new) [] × IsAtEnd (R.left source.new))) }
     ensures refused { IfErr result (λ e. IfReadRefused e (λ f. IfSome (R.left source.old) (λ s. (0 < length s) × OnlyRefuses profile_two s f))) }
+    ensures taken { TakesFront (R.left source.old) (R.left source.new) }
     ensures broken { IsErrOf result ReadFailure.ReadFault → IsTrue (R.is_broken source.new) }
+    ensures unfinished { IsErrOf result ReadFailure.ReadFault → TakesNoMessage (R.left source.old) (R.left source.new) }
     ensures stays { IsTrue (R.is_broken source.old) → IsTrue (R.is_broken source.new) }
 {
     let Some(message) = read_message(alloc, source)? else {
@@ -77,7 +81,9 @@ fn checked<R: Source>(
     ensures piece { IfOk result (λ found. IfSome found (λ p. (hex : Bool) → Makes Job.Check hex number (R.left source.old) (R.left source.new) p)) }
     ensures none { IfOk result (λ found. IfNone found (Consumes (R.left source.old) (R.left source.new) [] × IsAtEnd (R.left source.new))) }
     ensures refused { IfErr result (λ e. IfReadRefused e (λ f. IfSome (R.left source.old) (λ s. (0 < length s) × OnlyRefuses profile_two s f))) }
+    ensures taken { TakesFront (R.left source.old) (R.left source.new) }
     ensures broken { IsErrOf result ReadFailure.ReadFault → IsTrue (R.is_broken source.new) }
+    ensures unfinished { IsErrOf result ReadFailure.ReadFault → TakesNoMessage (R.left source.old) (R.left source.new) }
     ensures stays { IsTrue (R.is_broken source.old) → IsTrue (R.is_broken source.new) }
 {
     let Some(found) = check_one(alloc, source)? else {
@@ -125,7 +131,9 @@ fn canonical<R: Source>(
     ensures piece { IfOk result (λ found. IfSome found (λ p. (number : ℕ) → Makes Job.Canonicalise hex number (R.left source.old) (R.left source.new) p)) }
     ensures none { IfOk result (λ found. IfNone found (Consumes (R.left source.old) (R.left source.new) [] × IsAtEnd (R.left source.new))) }
     ensures refused { IfErr result (λ e. IfReadRefused e (λ f. IfSome (R.left source.old) (λ s. (0 < length s) × OnlyRefuses profile_two s f))) }
+    ensures taken { TakesFront (R.left source.old) (R.left source.new) }
     ensures broken { IsErrOf result ReadFailure.ReadFault → IsTrue (R.is_broken source.new) }
+    ensures unfinished { IsErrOf result ReadFailure.ReadFault → TakesNoMessage (R.left source.old) (R.left source.new) }
     ensures stays { IsTrue (R.is_broken source.old) → IsTrue (R.is_broken source.new) }
 {
     let Some(message) = read_message(alloc, source)? else {

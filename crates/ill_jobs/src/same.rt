@@ -1,6 +1,6 @@
 //! Two inputs, compared.
 ghost use Rattle.std.specs.Prelude.{◌≡◌, IfOk, IfErr, IfSome, IsTrue};
-ghost use Rattle.ill_jobs.specs.Compared.{verdict_line, ReadsSide, SideFails, Compares, NotCompared, SameDone, SameFails, ComparesBoth, RefusesOne};
+ghost use Rattle.ill_jobs.specs.Compared.{verdict_line, ReadsSide, SideFails, Compares, NotCompared, SameDone, SameFails, ComparesBoth, RefusesOne, RefusesTexts};
 
 use crate::fault::RunFault;
 use crate::hexadecimal::read_hex;
@@ -33,6 +33,7 @@ pub fn run_same<R: Source, S: Source, W: Sink>(
     // Two inputs have one answer, unless memory, a source or the sink fails.
     ensures compares { IfSome (R.left first.old) (λ s. IfSome (S.left second.old) (λ t. ComparesBoth hex s t result)) }
     ensures refuses { IfSome (R.left first.old) (λ s. IfSome (S.left second.old) (λ t. RefusesOne hex s t result)) }
+    ensures no_hex { IfSome (R.left first.old) (λ s. IfSome (S.left second.old) (λ t. RefusesTexts hex s t result)) }
     ensures first_stays { IsTrue (R.is_broken first.old) → IsTrue (R.is_broken first.new) }
     ensures second_stays { IsTrue (S.is_broken second.old) → IsTrue (S.is_broken second.new) }
     ensures sink_stays { IsTrue (W.is_broken sink.old) → IsTrue (W.is_broken sink.new) }

@@ -1,4 +1,4 @@
 pub mod Opened
 pub mod CommandLine
 pub mod Orders
-pub mod SameWords
+pub mod Refused

@@ -1,11 +1,11 @@
 //! The command line.
 ghost use Rattle.std.specs.Prelude.{◌≡◌, ℕ, List, map, codes, false, Some, IfOk, IfErr, IfSome, IsTrue, ◌↔◌};
 ghost use Rattle.std.specs.String.{string_bytes};
-ghost use Rattle.clap.specs.Words.{app_of, rule_of, subcommand_of, subcommand_rows_of};
+ghost use Rattle.clap.specs.Words.{FailsBy, app_of, fault_of, rule_of, subcommand_of, subcommand_rows_of};
 ghost use Rattle.clap.specs.declared.builder.command.Command.TheViews.{out-Command as fields_of};
 ghost use Rattle.illcanon.specs.CommandLine.{hex_rule, file_rule, one_file, two_files, program};
 ghost use Rattle.illcanon.specs.Orders.{verb_name, IsOrderOf, IsTwice};
-ghost use Rattle.illcanon.specs.SameWords.{IsSameWordOnly};
+ghost use Rattle.illcanon.specs.Refused.{IsSameWordOnly, IsRefusedBy};
 
 use crate::fault::LineFault;
 use crate::help;
@@ -122,6 +122,8 @@ pub fn order<'a>(alloc: Global, words: &'a [String]) -> Result<Order<'a>, LineFa
     ensures order { IfOk result (IsOrderOf (subcommand_of program (map string_bytes words.entry.now))) }
     ensures not_twice { IfOk result (λ order. IsTwice order → ⊥) }
     ensures twice { IfErr result (IsSameWordOnly (subcommand_of program (map string_bytes words.entry.now))) }
+    // What clap finds wrong is refused, and nothing else, unless memory is wanting.
+    ensures faults { IsRefusedBy (fault_of program (map string_bytes words.entry.now)) result }
 {
     let order = match read(alloc, words) {
         Ok(order) => order,
@@ -148,7 +150,8 @@ fn is_twice(order: &Order<'_>) -> bool
 }
 
 fn read<'a>(alloc: Global, words: &'a [String]) -> Result<Order<'a>, Error>
-    ensures { IfOk result (IsOrderOf (subcommand_of program (map string_bytes words.entry.now))) }
+    ensures order { IfOk result (IsOrderOf (subcommand_of program (map string_bytes words.entry.now))) }
+    ensures faults { FailsBy (fault_of program (map string_bytes words.entry.now)) result }
 {
     let matches = program(alloc)?.try_get_matches_from(words)?;
     match order_of(&matches) {

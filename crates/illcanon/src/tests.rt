@@ -2,6 +2,7 @@
 use crate::fault::{Fault, LineFault, status_of};
 use crate::line::order;
 use crate::order::{Order, Verb};
+use clap::Error as LineError;
 use clap::error::ErrorKind;
 use ill_jobs::{RunFault, Verdict};
 use ill_normal::{Cause, NodeId, PartId, Refusal, Side};
@@ -113,6 +114,14 @@ fn faults_are_told_in_one_line(rt: HostRuntime) -> Result<(), AllocError> {
         node: NodeId::EXPIRED,
         row: 1,
     });
+    let left_out = Cause::LeftOut(PartId {
+        node: NodeId::EXPIRED,
+        row: 5,
+    });
+    let no_part = Cause::Missing(PartId {
+        node: NodeId::EXPIRED,
+        row: 6,
+    });
     let rows = [
         (
             refused(1, 7, Cause::UnexpectedTag),
@@ -122,6 +131,16 @@ fn faults_are_told_in_one_line(rt: HostRuntime) -> Result<(), AllocError> {
         (
             refused(1, 7, missing),
             "refused at 7 in message 1: Missing Expired.transaction-id",
+            1,
+        ),
+        (
+            refused(3, 33, left_out),
+            "refused at 33 in message 3: LeftOut Expired.expired-extensions",
+            1,
+        ),
+        (
+            refused(1_000_000, 1_048_575, no_part),
+            "refused at 1048575 in message 1000000: Missing",
             1,
         ),
         (
@@ -167,6 +186,12 @@ fn faults_are_told_in_one_line(rt: HostRuntime) -> Result<(), AllocError> {
         assert!(rt; status_of(&Err(fault)) == status, "{line}");
     }
     Ok(())
+}
+
+#[test]
+fn want_of_memory_is_no_mistake_of_the_command_line(rt: HostRuntime) {
+    let fault = Fault::from(LineFault::Line(LineError::from(AllocError)));
+    assert!(rt; status_of(&Err(fault)) == 3);
 }
 
 #[test]

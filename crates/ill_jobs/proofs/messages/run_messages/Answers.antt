@@ -1,12 +1,13 @@
 use Rattle.std.proofs.Common.{◌≡◌, length, refl, ◌∙◌, arith, rules}
-use Rattle.ill_jobs.proofs.Writing.{reached_more, stops_reading, stops_writing, next_good}
+use Rattle.std.proofs.lemmas.Result.{err_from_is_err_and}
+use Rattle.ill_jobs.proofs.Writing.{reached_more, stops_reading, stops_writing, stops_behind, next_good}
 use Rattle.ill_jobs.proofs.messages.run_messages.Goals as goal
 use Rattle.ill_jobs.proofs.messages.run_messages.Goals.{then-not-piece, else-not-piece}
 
 pub returns-in-Err-clause-stops : goal.returns-in-Err-clause-stops
 returns-in-Err-clause-stops g c =
-    rw c.fault_at.ensures (stops_reading _ _ _ _ _ _ _ (g.W.Sink.contents c.loop-whole.sink) _ _ _ c.loop-whole.invariant.reached _ _ c.in-Err.failure c.loop-whole-test.true c.in-Err.ensures.refused
-    (λ e. c.next_piece.ensures.broken (c.in-Err.is ∙ e)))
+    rw c.fault_at.ensures (stops_reading _ _ _ _ _ _ _ (g.W.Sink.contents c.loop-whole.sink) _ _ _ c.loop-whole.invariant.reached _ _ c.in-Err.failure c.loop-whole-test.true c.in-Err.ensures.taken
+    c.in-Err.ensures.refused (λ e. c.next_piece.ensures.broken (c.in-Err.is ∙ e)) (λ e. c.next_piece.ensures.unfinished (c.in-Err.is ∙ e)))
 
 pub loop-whole-preserved : goal.loop-whole-preserved
 loop-whole-preserved g c =
@@ -28,4 +29,10 @@ returns-in-Err-put_all-clause-stops g c =
     let made = rw c.in-Ok-Some.field-0-is at c.in-Ok-Some.ensures.piece in
     let some = rw c.deref.ensures.value at c.in-Err-put_all.ensures.some in
     let fewer = rw c.deref.ensures.value at c.in-Err-put_all.ensures.fewer in
-    stops_writing _ _ _ _ _ _ _ _ _ _ _ c.loop-whole.invariant.reached _ _ c.in-Ok-Some.piece c.in-Err-put_all.count made some fewer (c.put_all.ensures.breaks (search rules))
+    stops_writing _ _ _ _ _ _ _ _ _ _ _ c.loop-whole.invariant.reached _ _ c.in-Ok-Some.piece c.in-Err-put_all.count c.loop-whole-test.true c.in-Ok-Some.ensures.taken made some fewer (c.put_all.ensures.breaks (search rules))
+
+pub returns-in_err-end_of_input-clause-stops : goal.returns-in_err-end_of_input-clause-stops
+returns-in_err-end_of_input-clause-stops g c =
+    let p = err_from_is_err_and c.from_residual.result c.from_residual.ensures.1 in
+    let last : c.loop-whole.whole ≡ 1_000_000 = omega arith in
+    rw (p.1, p.2) (stops_behind _ _ _ _ _ _ _ (g.W.Sink.contents c.loop-whole.sink) _ _ _ c.loop-whole.invariant.reached _ _ _ last c.in_err-end_of_input.ensures.more)

@@ -1,6 +1,7 @@
--- What is said where the same word stands twice.
-use Rattle.std.specs.Prelude.{Option, List}
+-- Why words give no order.
+use Rattle.std.specs.Prelude.{◌≡◌, [], Option, List, Result, Ok, Err}
 use Rattle.clap.specs.Walk.{Row, Text}
+use Rattle.clap.specs.Words.{HasKind, Kinds}
 use Rattle.illcanon.specs.declared.order.Order.{Order}
 use Rattle.illcanon.specs.declared.fault.LineFault.{LineFault}
 use Rattle.illcanon.specs.declared.fault.LineFault.TheVariants.{Line, SameWord}
@@ -10,3 +11,9 @@ use Rattle.illcanon.specs.Orders.{IsOrderOf, IsTwice}
 abbrev pub IsSameWordOnly : Option (Text × List Row) → LineFault → Type 0
 IsSameWordOnly found (Line error) = Unit {0}
 IsSameWordOnly found SameWord = (order : Order) × IsOrderOf found order × IsTwice order
+
+-- words in which clap finds faults of these kinds, none or some, are refused by one of them, and no others but for want of memory
+abbrev pub IsRefusedBy : Kinds → Result Order LineFault → Type 0
+IsRefusedBy kinds (Ok order) = kinds ≡ []
+IsRefusedBy kinds (Err (Line error)) = HasKind kinds error
+IsRefusedBy kinds (Err SameWord) = kinds ≡ []
