@@ -1,10 +1,12 @@
 #!/bin/sh
-# Builds the programs and runs what isn't part of rt ci: growths of memory refused in turn, the program on its rows, and the program under
-# faults. Takes minutes where the crates have to be proved first.
+# Builds the programs and runs what isn't part of rt ci: growths of memory refused in turn, the program on its rows, the program under faults,
+# and, where YAZ's headers are installed, the comparison with its codec. Takes minutes where the crates have to be proved first.
 cd "$(dirname "$0")" || exit 2
 (cd ../crates/illcanon && rt run -- --version >/dev/null 2>&1) || exit 2
 status=0
-for script in growths.sh program.sh faults.sh; do
+scripts="growths.sh program.sh faults.sh"
+[ -e /usr/include/yaz/ill.h ] && scripts="$scripts peer.sh"
+for script in $scripts; do
     echo "== $script"
     ./$script || status=1
 done

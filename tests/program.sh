@@ -59,6 +59,11 @@ row same-of-one-file 0 'same\n' '' same F F
 octets G $REQUEST
 row different-of-two-files 1 'different\n' '' same F G
 row check-of-no-message 0 '' '' check -
+examples=$(cd "$(dirname "$program")/../../../examples" && pwd)
+# Octets and normal forms of another encoder.
+row check-of-every-part 1 "$(cat "$examples/every-part.check")\n" '' check "$examples/every-part.ber"
+row every-part-into-a-file 0 '' '' canonicalise "$examples/every-part.ber" OUT
+cmp -s OUT "$examples/every-part.der" || { failed=$((failed + 1)) && echo 'failed: OUT is not the normal forms of every-part'; }
 octets F $INDEFINITE
 row check-of-indefinite 1 'message 1: Expired, 47 octets, not normal, normal form 33 octets\n' '' check F
 row canonicalise-into-a-file 0 '' '' canonicalise F OUT
