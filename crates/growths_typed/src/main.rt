@@ -1,4 +1,4 @@
-//! Makes one call on typed parts or APDUs: `growths_typed CALL`, run by `tests/growths.sh` with each growth of memory refused in turn. It
+//! Makes one call on a typed part or APDU: `growths_typed CALL`, run by `tests/growths.sh` with each growth of memory refused in turn. It
 //! says `right`, `want of memory`, `not begun` where what the row needs couldn't be built, or `wrong`. Without a word it makes each call and says
 //! what came of it, which has to be `right`: a call that always answered that memory is wanting would be found so.
 #![tactic(auto)]

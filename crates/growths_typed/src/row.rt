@@ -1,8 +1,8 @@
 //! The EXPIRED of the row, version 2, group "G", qualifier "Q", 29 February 2024, once as values and once typed.
 use ber_leaf::{DateText, GeneralText, IllString};
-use ill_apdu::{Apdu, Expired, Head};
+use ill_apdu::{Expired, Head};
 use ill_parts::{DateTime, ServiceDateTime, TransactionId};
-use ill_schema::{Message, Value};
+use ill_schema::Value;
 use std::alloc::Global;
 
 fn text(alloc: Global, letter: &[u8]) -> Option<IllString> {
@@ -45,11 +45,6 @@ pub fn body(alloc: Global) -> Option<Value> {
     )
 }
 
-/// The message.
-pub fn message(alloc: Global) -> Option<Message> {
-    Message::new(20, body(alloc)?).ok()
-}
-
 /// The transaction's identification, typed.
 pub fn transaction_id(alloc: Global) -> Option<TransactionId> {
     Some(TransactionId {
@@ -78,9 +73,4 @@ pub fn expired(alloc: Global) -> Option<Expired> {
         responder_id: None,
     };
     Some(Expired { head })
-}
-
-/// The EXPIRED as the choice of the APDUs.
-pub fn apdu(alloc: Global) -> Option<Apdu> {
-    Some(Apdu::Expired(expired(alloc)?))
 }
