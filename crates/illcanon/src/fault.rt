@@ -30,12 +30,22 @@ pub enum Fault {
 }
 
 impl From<LineFault> for Fault {
+    ghost use Rattle.std.specs.Prelude.{◌≡◌};
+    ghost use Rattle.illcanon.specs.declared.fault.Fault.{Fault};
+
+    ghost from_gives = { λ fault told. told ≡ Fault.Line fault };
+
     fn from(fault: LineFault) -> Fault {
         Fault::Line(fault)
     }
 }
 
 impl From<RunFault> for Fault {
+    ghost use Rattle.std.specs.Prelude.{◌≡◌};
+    ghost use Rattle.illcanon.specs.declared.fault.Fault.{Fault};
+
+    ghost from_gives = { λ fault told. told ≡ Fault.Run (record { 0 = fault }) };
+
     fn from(fault: RunFault) -> Fault {
         Fault::Run(RunLine(fault))
     }

@@ -1,9 +1,11 @@
 //! The command line.
-ghost use Rattle.std.specs.Prelude.{◌≡◌, ℕ, List, map, codes, false, Some, IfOk, IfErr, IfSome, IsTrue, ◌↔◌};
+ghost use Rattle.std.specs.Prelude.{◌≡◌, ℕ, List, map, codes, false, Some, IfOk, IfErr, IfSome, IfNone, IsTrue, ◌↔◌};
 ghost use Rattle.std.specs.String.{string_bytes};
 ghost use Rattle.clap.specs.Words.{FailsBy, app_of, fault_of, rule_of, subcommand_of, subcommand_rows_of};
 ghost use Rattle.clap.specs.declared.builder.command.Command.TheViews.{out-Command as fields_of};
 ghost use Rattle.illcanon.specs.CommandLine.{hex_rule, file_rule, one_file, two_files, program};
+ghost use Rattle.illcanon.specs.declared.order.Order.{Order};
+ghost use Rattle.illcanon.specs.declared.order.Verb.{Verb};
 ghost use Rattle.illcanon.specs.Orders.{verb_name, IsOrderOf, IsTwice};
 ghost use Rattle.illcanon.specs.Refused.{IsSameWordOnly, IsRefusedBy};
 
@@ -162,7 +164,8 @@ fn read<'a>(alloc: Global, words: &'a [String]) -> Result<Order<'a>, Error>
 }
 
 fn order_of<'a>(matches: &ArgMatches<'a>) -> Option<Order<'a>>
-    ensures { IfSome result (IsOrderOf (subcommand_rows_of matches.now)) }
+    ensures some { IfSome result (IsOrderOf (subcommand_rows_of matches.now)) }
+    ensures none { IfNone result ((order : Order) → IsOrderOf (subcommand_rows_of matches.now) order → ⊥) }
 {
     let (name, files) = matches.subcommand()?;
     Some(Order {
@@ -174,7 +177,8 @@ fn order_of<'a>(matches: &ArgMatches<'a>) -> Option<Order<'a>>
 }
 
 fn verb_of(name: &str) -> Option<Verb>
-    ensures { IfSome result (λ verb. name.now ≡ verb_name verb) }
+    ensures some { IfSome result (λ verb. name.now ≡ verb_name verb) }
+    ensures none { IfNone result ((verb : Verb) → name.now ≡ verb_name verb → ⊥) }
 {
     match name {
         "show" => Some(Verb::Show),
