@@ -2,7 +2,7 @@
 """Compares with another encoder: random APDUs, each spelled at random, must come to the normal form that is written here.
 
 Goes by the tables of crates/ill_schema/src/table.rt and the rules of X.690, and by nothing else of the crates. Wants the program built.
-Usage: random.py [SEED [COUNT]]. Prints the seed, with which a run is made again.
+Usage: spellings.py [SEED [COUNT]]. Prints the seed, with which a run is made again.
 """
 import random
 import re
@@ -31,7 +31,7 @@ def read_tables():
 
     def rows(text):
         return [
-            Row(presence, default, number and ("application" if macro == "apdu" else "context", int(number)), mode, node)
+            Row(presence, default, ("application" if macro == "apdu" else "context", int(number)) if number else None, mode, node)
             for macro, presence, default, number, mode, node in re.findall(row, text)
         ]
 
@@ -212,4 +212,5 @@ def main():
     sys.exit(0 if right and done.returncode == 0 else 1)
 
 
-main()
+if __name__ == "__main__":
+    main()
