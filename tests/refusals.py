@@ -12,7 +12,8 @@ import subprocess
 import sys
 from collections import Counter
 
-from spellings import CHOICES, LEAVES, LISTS, PROGRAM, ROWS, TOP, Speller, random_value
+from spellings import Speller
+from tables import CHOICES, LEAVES, LISTS, NAMES, PROGRAM, ROWS, random_value, seed_and_count
 
 LIMIT = 1_048_576
 DEPTH = 32
@@ -21,20 +22,6 @@ SEQUENCE = ("universal", 16)
 STRING_TAGS = {("universal", 27): "General", ("universal", 26): "Visible"}
 SHIFTS = b"\x0e\x0f\x1b"
 LETTERS = "ABCDEFGHIJKLMNOPQRSTUVWXYZabcdefghijklmnopqrstuvwxyz0123456789 '()+,-./:=?"
-
-
-def read_names():
-    """The name of each node, with those of its rows."""
-    source = (TOP / "crates/ill_schema/src/names.rt").read_text()
-    head = re.findall(r'"([^"]+)"', re.search(r"macro_rules! headed \{(.*?)\n\}", source, re.S).group(1))
-    constants = {
-        name: (head if kind else []) + re.findall(r'"([^"]*)"', text)
-        for name, kind, text in re.findall(r"const ([A-Z_]+): Names<\d+> =\s*(headed!)?\[(.*?)\];\n", source, re.S)
-    }
-    return {node: (title, constants[name]) for node, title, name in re.findall(r'NodeId::(\w+) => \("([^"]*)", &([A-Z_]+)\)', source)}
-
-
-NAMES = read_names()
 
 
 class Refused(Exception):
@@ -308,8 +295,7 @@ def changed(chance, octets):
 
 
 def main():
-    seed = int(sys.argv[1]) if len(sys.argv) > 1 else random.randrange(1_000_000)
-    count = int(sys.argv[2]) if len(sys.argv) > 2 else 2000
+    seed, count = seed_and_count()
     chance = random.Random(seed)
     causes, wrong = Counter(), 0
     for _ in range(count):

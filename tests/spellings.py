@@ -5,46 +5,15 @@ Goes by the tables of crates/ill_schema/src/table.rt and the rules of X.690, and
 Usage: spellings.py [SEED [COUNT]]. Prints the seed, with which a run is made again.
 """
 import random
-import re
 import subprocess
 import sys
 import tempfile
-from collections import namedtuple
 from pathlib import Path
 
-TOP = Path(__file__).resolve().parent.parent
-PROGRAM = TOP / "crates/illcanon/out/illcanon"
+from tables import CHOICES, LEAVES, LISTS, PROGRAM, ROWS, random_value, seed_and_count
+
 CLASSES = {"universal": 0x00, "application": 0x40, "context": 0x80}
-LEAVES = {"Boolean": 1, "Integer": 2, "Enumerated": 10, "IsoDate": 26, "IsoTime": 26, "PrintableString": 19}
 STRINGS = {"general": 27, "visible": 26}
-CHOICES = {"Symbol", "Name", "DeliveryService", "ShippedVia", "Results", "IllApdu"}
-PRINTABLE = "ABCXYZabcxyz0189 '()+,-./:=?"
-VISIBLE = "".join(map(chr, range(0x20, 0x7F)))
-
-Row = namedtuple("Row", "presence default tag mode node")
-
-
-def read_tables():
-    """The rows of each node."""
-    source = (TOP / "crates/ill_schema/src/table.rt").read_text()
-    row = r"(row|apdu)!\((\w+)(?:\((\d+)\))?, (?:untagged|(\d+), (\w+)), (\w+)\)"
-
-    def rows(text):
-        return [
-            Row(presence, default, ("application" if macro == "apdu" else "context", int(number)) if number else None, mode, node)
-            for macro, presence, default, number, mode, node in re.findall(row, text)
-        ]
-
-    head = rows(re.search(r"macro_rules! headed \{(.*?)\n\}", source, re.S).group(1))
-    constants = {}
-    for name, count, kind, text in re.findall(r"const ([A-Z_]+): \[Row; (\d+)\] = (headed!)?\[(.*?)\];\n", source, re.S):
-        constants[name] = (head if kind else []) + rows(text)
-        assert len(constants[name]) == int(count), name
-    return {node: constants[name] for node, name in re.findall(r"NodeId::(\w+) => &([A-Z_]+),", source)}
-
-
-ROWS = read_tables()
-LISTS = {node for node, rows in ROWS.items() if len(rows) == 1 and rows[0].tag is None and node not in CHOICES}
 
 
 def is_default(value, row):
@@ -97,7 +66,7 @@ class Writer:
         if node in CHOICES:
             return self.row(ROWS[node][value[0]], value[1])
         if node == "IllString":
-            return self.text(("universal", STRINGS[value[0]]), value[1].encode())
+            return self.text(("universal", STRINGS[value[0]]), value[1].encode("latin-1"))
         if node in ROWS:
             return self.element(tag or ("universal", 16), True, self.contents(node, value))
         tag = tag or ("universal", LEAVES[node])
@@ -159,48 +128,8 @@ class Speller(Writer):
         return self.chance.random() < 0.4
 
 
-def random_text(chance, alphabet):
-    return "".join(chance.choice(alphabet) for _ in range(chance.choice([0, 1, 2, 5, 20, 130, 300])))
-
-
-def random_leaf(chance, node):
-    if node == "Boolean":
-        return chance.random() < 0.5
-    if node == "IsoDate":
-        day = chance.choice(["0229", "0228", "0131", "1231", "%02d%02d" % (chance.randint(1, 12), chance.randint(1, 28))])
-        return chance.choice(["0000", "0004", "2000", "2024"]) + day
-    if node == "IsoTime":
-        return chance.choice(["240000", "000000", "235960", "%02d%02d%02d" % (chance.randint(0, 23), chance.randint(0, 59), chance.randint(0, 60))])
-    if node == "PrintableString":
-        return random_text(chance, PRINTABLE)
-    edges = [0, 1, -1, 127, 128, -128, -129, 255, 256, 2**31, -(2**31), 2**63 - 1, -(2**63)]
-    return chance.choice(edges + [chance.randint(-1000, 1000)])
-
-
-def random_value(chance, node):
-    if node == "IllString":
-        return chance.choice(list(STRINGS)), random_text(chance, VISIBLE)
-    if node in CHOICES:
-        number = chance.choice([i for i, row in enumerate(ROWS[node]) if row.presence != "LeftOut"])
-        return number, random_value(chance, ROWS[node][number].node)
-    if node in LISTS:
-        return [random_value(chance, ROWS[node][0].node) for _ in range(chance.choice([0, 1, 2, 4]))]
-    if node not in ROWS:
-        return random_leaf(chance, node)
-    return [random_entry(chance, row) for row in ROWS[node]]
-
-
-def random_entry(chance, row):
-    if row.presence == "LeftOut" or row.presence == "May" and chance.random() < 0.6:
-        return None
-    if row.presence == "Default" and chance.random() < 0.5:
-        return bool(int(row.default)) if row.node == "Boolean" else int(row.default)
-    return random_value(chance, row.node)
-
-
 def main():
-    seed = int(sys.argv[1]) if len(sys.argv) > 1 else random.randrange(1_000_000)
-    count = int(sys.argv[2]) if len(sys.argv) > 2 else 2000
+    seed, count = seed_and_count()
     chance = random.Random(seed)
     apdus = [random_value(chance, "IllApdu") for _ in range(count)]
     with tempfile.TemporaryDirectory() as folder:

@@ -1,0 +1,101 @@
+"""The tables and the names of crates/ill_schema/src, random values that fit them, and what the comparing scripts share."""
+import random
+import re
+import sys
+from collections import namedtuple
+from pathlib import Path
+
+TOP = Path(__file__).resolve().parent.parent
+PROGRAM = TOP / "crates/illcanon/out/illcanon"
+LEAVES = {"Boolean": 1, "Integer": 2, "Enumerated": 10, "IsoDate": 26, "IsoTime": 26, "PrintableString": 19}
+CHOICES = {"Symbol", "Name", "DeliveryService", "ShippedVia", "Results", "IllApdu"}
+PRINTABLE = "ABCXYZabcxyz0189 '()+,-./:=?"
+VISIBLE = "".join(map(chr, range(0x20, 0x7F)))
+# in Latin-1: no SO, SI and ESC
+GENERAL = VISIBLE + "\0\t\n\x7f\x80\xa0\xe9\xff"
+
+Row = namedtuple("Row", "presence default tag mode node")
+
+
+def read_tables():
+    """The rows of each node."""
+    source = (TOP / "crates/ill_schema/src/table.rt").read_text()
+    row = r"(row|apdu)!\((\w+)(?:\((\d+)\))?, (?:untagged|(\d+), (\w+)), (\w+)\)"
+
+    def rows(text):
+        return [
+            Row(presence, default, ("application" if macro == "apdu" else "context", int(number)) if number else None, mode, node)
+            for macro, presence, default, number, mode, node in re.findall(row, text)
+        ]
+
+    head = rows(re.search(r"macro_rules! headed \{(.*?)\n\}", source, re.S).group(1))
+    constants = {}
+    for name, count, kind, text in re.findall(r"const ([A-Z_]+): \[Row; (\d+)\] = (headed!)?\[(.*?)\];\n", source, re.S):
+        constants[name] = (head if kind else []) + rows(text)
+        assert len(constants[name]) == int(count), name
+    return {node: constants[name] for node, name in re.findall(r"NodeId::(\w+) => &([A-Z_]+),", source)}
+
+
+ROWS = read_tables()
+LISTS = {node for node, rows in ROWS.items() if len(rows) == 1 and rows[0].tag is None and node not in CHOICES}
+
+
+def read_names():
+    """The name of each node, with those of its rows."""
+    source = (TOP / "crates/ill_schema/src/names.rt").read_text()
+    head = re.findall(r'"([^"]+)"', re.search(r"macro_rules! headed \{(.*?)\n\}", source, re.S).group(1))
+    constants = {
+        name: (head if kind else []) + re.findall(r'"([^"]*)"', text)
+        for name, kind, text in re.findall(r"const ([A-Z_]+): Names<\d+> =\s*(headed!)?\[(.*?)\];\n", source, re.S)
+    }
+    entry = r'NodeId::(\w+) => \(\s*"([^"]*)",\s*&([A-Z_]+),?\s*\)'
+    return {node: (title, constants[name]) for node, title, name in re.findall(entry, source)}
+
+
+NAMES = read_names()
+
+
+def random_text(chance, alphabet):
+    return "".join(chance.choice(alphabet) for _ in range(chance.choice([0, 1, 2, 5, 20, 130, 300])))
+
+
+def random_leaf(chance, node):
+    if node == "Boolean":
+        return chance.random() < 0.5
+    if node == "IsoDate":
+        day = chance.choice(["0229", "0228", "0131", "1231", "%02d%02d" % (chance.randint(1, 12), chance.randint(1, 28))])
+        return chance.choice(["0000", "0004", "2000", "2024"]) + day
+    if node == "IsoTime":
+        return chance.choice(["240000", "000000", "235960", "%02d%02d%02d" % (chance.randint(0, 23), chance.randint(0, 59), chance.randint(0, 60))])
+    if node == "PrintableString":
+        return random_text(chance, PRINTABLE)
+    edges = [0, 1, -1, 127, 128, -128, -129, 255, 256, 2**31, -(2**31), 2**63 - 1, -(2**63)]
+    return chance.choice(edges + [chance.randint(-1000, 1000)])
+
+
+def random_value(chance, node):
+    if node == "IllString":
+        name, alphabet = chance.choice([("general", GENERAL), ("visible", VISIBLE)])
+        return name, random_text(chance, alphabet)
+    if node in CHOICES:
+        number = chance.choice([i for i, row in enumerate(ROWS[node]) if row.presence != "LeftOut"])
+        return number, random_value(chance, ROWS[node][number].node)
+    if node in LISTS:
+        return [random_value(chance, ROWS[node][0].node) for _ in range(chance.choice([0, 1, 2, 4]))]
+    if node not in ROWS:
+        return random_leaf(chance, node)
+    return [random_entry(chance, row) for row in ROWS[node]]
+
+
+def random_entry(chance, row):
+    if row.presence == "LeftOut" or row.presence == "May" and chance.random() < 0.6:
+        return None
+    if row.presence == "Default" and chance.random() < 0.5:
+        return bool(int(row.default)) if row.node == "Boolean" else int(row.default)
+    return random_value(chance, row.node)
+
+
+def seed_and_count():
+    """A run's seed and how many values it tries, as the command line has them."""
+    seed = int(sys.argv[1]) if len(sys.argv) > 1 else random.randrange(1_000_000)
+    return seed, int(sys.argv[2]) if len(sys.argv) > 2 else 2000
