@@ -1,9 +1,9 @@
 #!/usr/bin/env python3
-"""Compares with another judge: spelled APDUs are changed at random, and `illcanon check` has to refuse each at the offset and for the cause that
-the rules here give.
+"""Spelled APDUs are changed at random, and `illcanon check` has to refuse each at the offset and for the cause that the rules here give.
 
-Goes by the tables and the names in crates/ill_schema/src and the order in which docs/DEFINITIONS.md tells the faults, and by nothing else of the
-crates. Wants the program built. Usage: refusals.py [SEED [COUNT]]. Prints the seed, with which a run is made again.
+These are the rules once more, written by who knew the crates, and no judge from outside: the tables and names are those of crates/ill_schema/src,
+the alphabets those of Profile.antt, the order of the faults that of docs/DEFINITIONS.md. Wants the program built.
+Usage: refusals.py [SEED [COUNT]]. Prints the seed, with which a run is made again.
 """
 import datetime
 import random
