@@ -15,6 +15,3 @@ pub use fault::RunFault;
 pub use job::{Job, Verdict};
 pub use messages::run;
 pub use same::run_same;
-
-#[cfg(test)]
-mod tests;

@@ -24,6 +24,3 @@ pub use laws::{
 };
 pub use single::normalise;
 pub use stream::normalise_stream;
-
-#[cfg(test)]
-mod tests;

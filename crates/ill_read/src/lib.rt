@@ -20,6 +20,3 @@ pub use decoder::{Decoder, Progress};
 pub use failure::{Failure, ReadFailure};
 pub use laws::{one_outcome, one_place, refusals_stay, values_are_small};
 pub use read::{decode, read_kept, read_message};
-
-#[cfg(test)]
-mod tests;

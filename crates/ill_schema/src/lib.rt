@@ -36,6 +36,3 @@ pub use table::rows_of;
 pub use tagging::{replacement, wrapper};
 pub use unfit::Unfit;
 pub use value::Value;
-
-#[cfg(test)]
-mod tests;

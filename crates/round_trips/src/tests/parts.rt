@@ -1,5 +1,4 @@
 //! Values that are parts, and values that are none.
-use super::build::date_text;
 use super::general;
 use ber_leaf::{DateText, IllString, VisibleText};
 use ill_parts::{
@@ -8,6 +7,7 @@ use ill_parts::{
 use ill_schema::{NodeId, Value, equal};
 use std::alloc::{AllocError, Global};
 use std::test::Fail;
+use worked::date_text;
 
 fn day(alloc: Global, digits: &str) -> Result<DateText, Fail> {
     date_text(Vec::from_slice(alloc, digits.as_bytes())?)

@@ -1,146 +1,38 @@
 //! Worked messages, with their sizes from outside.
 
-use crate::{
+use ber_core::Class;
+use ill_schema::{
     Kind, LIMIT, LeafKind, Message, Mode, NodeId, PartId, Presence, Unfit, Value, apdu_name,
     apdu_node, equal, fits, is_carried, is_default, kind, may_lack, normal_form_is_a_spelling,
     normal_form_is_no_longer, normal_form_is_one_to_one, normal_size, normal_tree_means_the_value,
     one_meaning, one_value, part_name, profile_two_extends_profile_one, replacement, row, rows,
     rows_of, tables_are_well_formed, what_is_meant_fits, worked_messages, wrapper,
 };
-use ber_core::Class;
-use ber_leaf::{DateText, GeneralText, IllString, Leaf, VisibleText};
-use std::alloc::{AllocError, Global};
-use std::boxed::Box;
+use std::alloc::Global;
 use std::test::Fail;
+use worked::value;
 
-/// The rows that each APDU begins with: version 2, group "G", qualifier "Q", 29 February 2024.
-///
-/// A value is written part by part, and then what it is: `seq:n` of the last n parts, `list:n`, or
-/// `alt:n`, the alternative of row n. `-` is an absent part, and `none:n` is n of them.
-const HEAD: &str = "2 - general:G general:Q - seq:4 date:20240229 - seq:2 - seq:2 - -";
-
-/// A row a line: its name, the APDU's number, the size of the normal form or why there is none, and the rows behind the head.
+/// A row a line: its name, the APDU's number, the size of the normal form or why there is none, and the parts of the body,
+/// as [`worked::message`] reads them.
 const ROWS: &str = "\
-message-new-of-expired 20 33 - seq:6
-message-new-of-no-such-apdu 21 NotCarried - seq:6
-apdu-that-is-left-out 2 NotCarried - seq:6
-apdu-zero 0 NotCarried - seq:6
-too-few-entries 20 DoesNotFit seq:5
-note-within-the-second-limit 17 65536 letters:65490 - seq:7
-note-of-the-limit 17 1048576 letters:1048526 - seq:7
-message-new-past-second-limit 17 TooLong letters:1048527 - seq:7
-request-normal-form 1 54 1 none:3 1 list:1 - false false 1 1 seq:4 none:2 3 - none:23 seq:23 none:4 false false none:3 seq:26
-sizes-total-of-request-with-delivery 1 62 1 - general:mail alt:0 - 1 list:1 - false false 1 1 seq:4 none:2 3 - none:23 seq:23 none:4 false false none:3 seq:26
-request-with-empty-client-id 1 56 1 none:3 1 list:1 - false false 1 1 seq:4 none:2 3 none:3 seq:3 none:23 seq:23 none:4 false false none:3 seq:26
-overdue-normal-form 12 46 date:20240229 true seq:2 none:2 seq:8
-overdue-not-renewable 12 49 date:20240229 false seq:2 none:2 seq:8
-sizes-total-of-deep-answer 4 60 3 1 general:L alt:1 - seq:2 none:2 seq:3 list:1 seq:2 alt:2 none:7 seq:14";
-
-fn general(octets: Vec<u8>) -> Result<Value, Fail> {
-    if GeneralText::check(&octets).is_some() {
-        return Err("no GeneralString")?;
-    }
-    Ok(Value::Str(IllString::General(GeneralText::of(octets))))
-}
-
-fn visible(octets: Vec<u8>) -> Result<Value, Fail> {
-    if VisibleText::check(&octets).is_some() {
-        return Err("no VisibleString")?;
-    }
-    Ok(Value::Str(IllString::Visible(VisibleText::of(octets))))
-}
-
-fn date(octets: Vec<u8>) -> Result<Value, Fail> {
-    if DateText::check(&octets).is_some() {
-        return Err("no ISO-Date")?;
-    }
-    Ok(Value::Date(DateText::of(octets)))
-}
-
-fn leaf(alloc: Global, word: &str) -> Result<Value, Fail> {
-    let (kind, text) = word.split_once(':').unwrap_or((word, ""));
-    match kind {
-        "false" => Ok(Value::Flag(false)),
-        "true" => Ok(Value::Flag(true)),
-        "general" => general(Vec::from_slice(alloc, text.as_bytes())?),
-        "visible" => visible(Vec::from_slice(alloc, text.as_bytes())?),
-        "date" => date(Vec::from_slice(alloc, text.as_bytes())?),
-        "letters" => general(vec![in alloc; b'A'; text.parse::<usize>()?]?),
-        _ => Ok(Value::Whole(word.parse::<i64>()?)),
-    }
-}
-
-/// Takes off the last parts.
-fn last(parts: &mut Vec<Option<Value>>, count: usize) -> Result<Vec<Option<Value>>, Fail> {
-    if count > parts.len() {
-        return Err("too few parts")?;
-    }
-    let at = parts.len() - count;
-    Ok(parts.split_off(at)?)
-}
-
-fn skip(parts: &mut Vec<Option<Value>>, count: usize) -> Result<(), AllocError> {
-    for _ in 0..count {
-        parts.push(None)?;
-    }
-    Ok(())
-}
-
-fn list(alloc: Global, parts: Vec<Option<Value>>) -> Result<Value, Fail> {
-    let mut items = Vec::new(alloc);
-    for part in parts {
-        items.push(part.ok_or("an absent item")?)?;
-    }
-    Ok(Value::List(items))
-}
-
-fn chosen(alloc: Global, parts: &mut Vec<Option<Value>>, number: u8) -> Result<Value, Fail> {
-    match parts.pop() {
-        Some(Some(value)) => Ok(Value::Alt(number, Box::new(alloc, value)?)),
-        _ => Err("no alternative")?,
-    }
-}
-
-/// Adds what a word says to the parts.
-fn add(alloc: Global, parts: &mut Vec<Option<Value>>, word: &str) -> Result<(), Fail> {
-    let (kind, count) = word.split_once(':').unwrap_or((word, ""));
-    match kind {
-        "-" => Ok(parts.push(None)?),
-        "none" => Ok(skip(parts, count.parse::<usize>()?)?),
-        "seq" => {
-            let entries = last(parts, count.parse::<usize>()?)?;
-            Ok(parts.push(Some(Value::Seq(entries)))?)
-        }
-        "list" => {
-            let items = last(parts, count.parse::<usize>()?)?;
-            Ok(parts.push(Some(list(alloc, items)?))?)
-        }
-        "alt" => {
-            let value = chosen(alloc, parts, count.parse::<u8>()?)?;
-            Ok(parts.push(Some(value))?)
-        }
-        _ => Ok(parts.push(Some(leaf(alloc, word)?))?),
-    }
-}
-
-/// The value that the words write.
-fn value(alloc: Global, head: &str, rest: &str) -> Result<Value, Fail> {
-    let mut parts = Vec::new(alloc);
-    for word in head.split(' ') {
-        add(alloc, &mut parts, word)?;
-    }
-    for word in rest.split(' ') {
-        add(alloc, &mut parts, word)?;
-    }
-    match parts.pop() {
-        Some(Some(value)) => Ok(value),
-        _ => Err("no value")?,
-    }
-}
+message-new-of-expired 20 33 head - seq:6
+message-new-of-no-such-apdu 21 NotCarried head - seq:6
+apdu-that-is-left-out 2 NotCarried head - seq:6
+apdu-zero 0 NotCarried head - seq:6
+too-few-entries 20 DoesNotFit head seq:5
+note-within-the-second-limit 17 65536 head letters:65490 - seq:7
+note-of-the-limit 17 1048576 head letters:1048526 - seq:7
+message-new-past-second-limit 17 TooLong head letters:1048527 - seq:7
+request-normal-form 1 54 head 1 none:3 1 list:1 - false false 1 1 seq:4 none:2 3 - none:23 seq:23 none:4 false false none:3 seq:26
+sizes-total-of-request-with-delivery 1 62 head 1 - general:mail alt:0 - 1 list:1 - false false 1 1 seq:4 none:2 3 - none:23 seq:23 none:4 false false none:3 seq:26
+request-with-empty-client-id 1 56 head 1 none:3 1 list:1 - false false 1 1 seq:4 none:2 3 none:3 seq:3 none:23 seq:23 none:4 false false none:3 seq:26
+overdue-normal-form 12 46 head date:20240229 true seq:2 none:2 seq:8
+overdue-not-renewable 12 49 head date:20240229 false seq:2 none:2 seq:8
+sizes-total-of-deep-answer 4 60 head 3 1 general:L alt:1 - seq:2 none:2 seq:3 list:1 seq:2 alt:2 none:7 seq:14";
 
 /// The body of the Expired that row `expired-normal-form` spells.
 fn expired(alloc: Global) -> Result<Value, Fail> {
-    value(alloc, HEAD, "- seq:6")
+    value(alloc, "head - seq:6")
 }
 
 fn expectation(word: &str) -> Result<Result<u32, Unfit>, Fail> {
@@ -180,7 +72,7 @@ fn message_new(rt: HostRuntime) -> Result<(), Fail> {
         let (name, rest) = line.split_once(' ').ok_or("a name")?;
         let (apdu, rest) = rest.split_once(' ').ok_or("a number")?;
         let (expected, parts) = rest.split_once(' ').ok_or("an outcome")?;
-        let body = value(rt.alloc(), HEAD, parts)?;
+        let body = value(rt.alloc(), parts)?;
         let found = new_size(apdu.parse::<u8>()?, body);
         assert_eq!(rt; found, expectation(expected)?, "{name}");
     }
@@ -209,7 +101,7 @@ fn system_id_from_a_flag(rt: HostRuntime) {
 
 #[test]
 fn date_due_of_one_entry(rt: HostRuntime) -> Result<(), Fail> {
-    let due = value(rt.alloc(), "date:20240229", "seq:1")?;
+    let due = value(rt.alloc(), "date:20240229 seq:1")?;
     assert!(rt; !fits(&due, NodeId::DATE_DUE));
     Ok(())
 }
@@ -226,9 +118,9 @@ fn sizes_of_nodes(rt: HostRuntime) {
 
 #[test]
 fn visible_differs_from_general(rt: HostRuntime) -> Result<(), Fail> {
-    let head = "2 - visible:G general:Q - seq:4 date:20240229 - seq:2 - seq:2 - -";
+    let words = "2 - visible:G general:Q - seq:4 date:20240229 - seq:2 - seq:2 - - - seq:6";
     let a = message(20, expired(rt.alloc())?)?;
-    let b = message(20, value(rt.alloc(), head, "- seq:6")?)?;
+    let b = message(20, value(rt.alloc(), words)?)?;
     assert!(rt; a.same_apdu(&a));
     assert!(rt; !a.same_apdu(&b));
     assert_eq!(rt; b.octets(), 33, "group-qualifier-visible");

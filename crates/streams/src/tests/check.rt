@@ -1,7 +1,8 @@
 //! What there is to say of a message.
-use super::{EXPIRED_HEX, INDEFINITE_HEX, TYPED_SEGMENT_HEX, octets_of};
-use crate::{Cause, Checked, Pieces, ReadFailure, Refusal, check_one};
+use super::{EXPIRED_HEX, INDEFINITE_HEX, TYPED_SEGMENT_HEX};
+use ill_normal::{Cause, Checked, Pieces, ReadFailure, Refusal, check_one};
 use std::test::Fail;
+use worked::octets_of;
 
 /// A name, a message, the APDU's number, the message's size and that of its normal form in octets,
 /// and whether it is normal.

@@ -1,6 +1,5 @@
 //! Messages from words.
-ghost use Rattle.std.specs.Prelude.{◌≤◌};
-
+use crate::octets::octets_of;
 use ber_leaf::{DateText, GeneralText, IllString, Leaf, PrintableText, TimeText, VisibleText};
 use ill_schema::{Message, Value};
 use std::alloc::{AllocError, Global};
@@ -24,25 +23,6 @@ pub fn message(alloc: Global, apdu: &str, parts: &str) -> Result<Message, Fail> 
     match Message::new(apdu.parse::<u8>()?, value(alloc, parts)?) {
         Ok(message) => Ok(message),
         Err((_body, _unfit)) => Err("no message")?,
-    }
-}
-
-/// The octets that hexadecimal digits write.
-pub fn octets_of_hex(alloc: Global, hex: &str) -> Result<Vec<u8>, Fail> {
-    let mut octets = Vec::new(alloc);
-    for pair in hex.as_bytes().chunks_exact(2) {
-        octets.push(16 * digit(pair[0]) + digit(pair[1]))?;
-    }
-    Ok(octets)
-}
-
-fn digit(octet: u8) -> u8
-    ensures { result ≤ 15 }
-{
-    match octet {
-        b'0'..=b'9' => octet - b'0',
-        b'a'..=b'f' => octet - b'a' + 10,
-        _ => 0,
     }
 }
 
@@ -97,7 +77,7 @@ fn leaf(alloc: Global, word: &str) -> Result<Value, Fail> {
         "false" => Ok(Value::Flag(false)),
         "true" => Ok(Value::Flag(true)),
         "general" => general(Vec::from_slice(alloc, text.as_bytes())?),
-        "hex" => general(octets_of_hex(alloc, text)?),
+        "hex" => general(octets_of(alloc, text)?),
         "letters" => general(vec![in alloc; b'A'; text.parse::<usize>()?]?),
         "visible" => visible(Vec::from_slice(alloc, text.as_bytes())?),
         "print" => printable(Vec::from_slice(alloc, text.as_bytes())?),

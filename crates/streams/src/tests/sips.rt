@@ -1,5 +1,5 @@
 //! A sink that takes a few octets of each slice.
-use crate::{Broken, Sink};
+use ill_normal::{Broken, Sink};
 
 /// It keeps what it took, and breaks where memory is wanting.
 #[derive(Drop)]

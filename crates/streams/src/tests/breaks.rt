@@ -1,8 +1,8 @@
 //! Where a source or a sink breaks.
-use super::octets_of;
-use crate::{Job, RunFault, Verdict, run, run_same};
 use ber_core::{Pieces, Room, ToWrite};
+use ill_jobs::{Job, RunFault, Verdict, run, run_same};
 use std::test::Fail;
+use worked::octets_of;
 
 /// An EXPIRED in normal form, twice.
 const TWICE: &str =

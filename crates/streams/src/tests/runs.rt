@@ -1,9 +1,9 @@
 //! What `run` writes and answers, row by row.
-use super::octets_of;
-use crate::{Job, RunFault, Verdict, run};
 use ber_core::{Pieces, ToWrite};
+use ill_jobs::{Job, RunFault, Verdict, run};
 use ill_normal::{Cause, Refusal};
 use std::test::Fail;
+use worked::octets_of;
 
 /// A run. The input is text where `hex` says so, and otherwise octets, here in hexadecimal.
 struct Row {

@@ -1,46 +1,14 @@
-mod rows;
-
-use crate::{Decoder, Failure, Progress, ReadFailure, decode, read_message};
+//! Worked inputs through the decoder and the reader.
+use super::spelled::ROWS;
 use ber_core::{Broken, Pieces, Source};
+use ill_read::{Decoder, Failure, Progress, ReadFailure, decode, read_message};
 use ill_schema::{Cause, Message, PartId, Refusal, part_name};
-use rows::ROWS;
 use std::alloc::{AllocError, Global};
 use std::test::Fail;
+use worked::octets_of;
 
 const EXPIRED: &[u8] =
     b"\x74\x1f\x30\x1d\x80\x01\x02\xa1\x0a\xa1\x03\x1b\x01\x47\xa2\x03\x1b\x01\x51\xa2\x0c\xa0\x0a\x80\x0820240229";
-
-fn digit(octet: u8) -> u8 {
-    match octet {
-        b'0'..=b'9' => octet - b'0',
-        b'a'..=b'f' => octet - b'a' + 10,
-        _ => 0,
-    }
-}
-
-/// Adds the octets of a piece, as `1b0147` or `41*100`, to the others.
-fn add_piece(octets: &mut Vec<u8>, piece: &str) -> Result<(), AllocError> {
-    let (text, count) = match piece.split_once('*') {
-        Some((text, count)) => (text, count.parse::<u32>().unwrap_or(0)),
-        None => (piece, 1),
-    };
-    for _ in 0..count {
-        for pair in text.as_bytes().chunks(2) {
-            if let [high, low] = pair {
-                octets.push((digit(*high) & 15) * 16 + (digit(*low) & 15))?;
-            }
-        }
-    }
-    Ok(())
-}
-
-fn octets_of(alloc: Global, pieces: &str) -> Result<Vec<u8>, AllocError> {
-    let mut octets = Vec::new(alloc);
-    for piece in pieces.split(' ') {
-        add_piece(&mut octets, piece)?;
-    }
-    Ok(octets)
-}
 
 fn part_text(alloc: Global, cause: &str, part: PartId, at: u32) -> Result<String, AllocError> {
     let (node, row) = part_name(part).unwrap_or(("?", "?"));

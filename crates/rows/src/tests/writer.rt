@@ -1,15 +1,15 @@
 //! Worked messages, built by hand, with their normal forms from outside.
 ghost use Rattle.std.specs.Prelude.{None, false};
 
-use super::build::{message, octets_of_hex};
 use ber_core::{Broken, Room, Sink};
 use ill_schema::Message;
 use ill_write::{Sizes, WriteFailure, normal_bytes, normal_size_counts_normal_forms, write_normal};
 use std::alloc::Global;
 use std::test::Fail;
+use worked::{message, octets_of};
 
 /// A row a line: its name, the APDU's number, the normal form in hexadecimal, and the parts of the
-/// body, as [`message`] reads them. `..*n` in place of octets is `41`, n times.
+/// body, as [`worked::message`] reads them. `..*n` in place of octets is `41`, n times.
 const ROWS: &str = "\
 expired-normal-form 20 741f301d800102a10aa1031b0147a2031b0151a20ca00a80083230323430323239 head - seq:6
 group-qualifier-visible 20 741f301d800102a10aa1031a0147a2031b0151a20ca00a80083230323430323239 2 - visible:G general:Q - seq:4 date:20240229 - seq:2 - seq:2 - - - seq:6
@@ -54,7 +54,7 @@ const EXPIRED_NORMAL_FORM: &str =
 /// The octets of `HEX` or `HEX..*n`.
 fn octets(alloc: Global, text: &str) -> Result<Vec<u8>, Fail> {
     let (hex, count) = text.split_once("..*").unwrap_or((text, "0"));
-    let mut octets = octets_of_hex(alloc, hex)?;
+    let mut octets = octets_of(alloc, hex)?;
     let letters = vec![in alloc; b'A'; count.parse::<usize>()?]?;
     octets.extend_from_slice(&letters)?;
     Ok(octets)
@@ -144,7 +144,7 @@ fn written(
 #[test]
 fn sink_broken_after(rt: HostRuntime) -> Result<(), Fail> {
     let message = message(rt.alloc(), "20", EXPIRED)?;
-    let normal = octets_of_hex(rt.alloc(), EXPIRED_NORMAL_FORM)?;
+    let normal = octets_of(rt.alloc(), EXPIRED_NORMAL_FORM)?;
     for per_call in [1, 7, 64] {
         for n in 0..33usize {
             let (result, octets, broken) = written(rt.alloc(), &message, per_call, n)?;
@@ -183,7 +183,7 @@ fn largest_message_one_octet_sink(rt: HostRuntime) -> Result<(), Fail> {
 #[test]
 fn list_of_empty_system_ids(rt: HostRuntime) -> Result<(), Fail> {
     let message = message(rt.alloc(), "4", "head 2 none:4 empties:32744 none:3 seq:14")?;
-    let mut expected = octets_of_hex(
+    let mut expected = octets_of(
         rt.alloc(),
         "6482fffa3082fff6800102a10aa1031b0147a2031b0151a20ca00a800832303234303232399f1f0102bf2282ffd0",
     )?;

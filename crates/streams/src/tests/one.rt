@@ -1,67 +1,15 @@
-mod check;
-mod compare;
-mod hostile;
-mod rows;
-mod sips;
-mod stream;
-
-use crate::{
+//! Single messages to their normal form.
+use super::rows::ROWS;
+use super::sips::Sips;
+use super::{EXPIRED, LONG_FORM};
+use ill_normal::{
     Cause, NodeId, NormalFailure, PartId, Pieces, Refusal, Room, Source, apdu_name, decode,
     normal_form_is_accepted, normal_form_is_its_own, normal_forms_are_equal_exactly_if_apdus_are,
     normalise, one_prefix_is_accepted, one_refusal_of_a_slice, read_message,
 };
-use rows::ROWS;
-use sips::Sips;
-use std::alloc::{AllocError, Global};
+use std::alloc::Global;
 use std::test::Fail;
-
-const LONG_FORM: &[u8] =
-    b"\x74\x81\x29\x30\x81\x26\x80\x81\x01\x02\xa1\x81\x0e\xa1\x81\x04\x1b\x81\x01\x47\xa2\x81\x04\x1b\x81\x01\x51\xa2\x81\x0e\xa0\x81\x0b\x80\x81\x0820240229";
-
-const EXPIRED: &[u8] =
-    b"\x74\x1f\x30\x1d\x80\x01\x02\xa1\x0a\xa1\x03\x1b\x01\x47\xa2\x03\x1b\x01\x51\xa2\x0c\xa0\x0a\x80\x0820240229";
-
-/// The same in hexadecimal.
-const EXPIRED_HEX: &str = "741f301d800102a10aa1031b0147a2031b0151a20ca00a80083230323430323239";
-
-/// The same with indefinite lengths, in 47 octets.
-const INDEFINITE_HEX: &str =
-    "74803080800102a180a1801b01470000a2801b015100000000a280a080800832303234303232390000000000000000";
-
-/// An EXPIRED with a VisibleString in a GeneralString's segments.
-const TYPED_SEGMENT_HEX: &str =
-    "7421301f800102a10ca1053a031a0147a2031b0151a20ca00a80083230323430323239";
-
-fn digit(octet: u8) -> u8 {
-    match octet {
-        b'0'..=b'9' => octet - b'0',
-        b'a'..=b'f' => octet - b'a' + 10,
-        _ => 0,
-    }
-}
-
-fn add_piece(octets: &mut Vec<u8>, piece: &str) -> Result<(), AllocError> {
-    let (text, count) = match piece.split_once('*') {
-        Some((text, count)) => (text, count.parse::<u32>().unwrap_or(0)),
-        None => (piece, 1),
-    };
-    for _ in 0..count {
-        for pair in text.as_bytes().chunks(2) {
-            if let [high, low] = pair {
-                octets.push((digit(*high) & 15) * 16 + (digit(*low) & 15))?;
-            }
-        }
-    }
-    Ok(())
-}
-
-fn octets_of(alloc: Global, pieces: &str) -> Result<Vec<u8>, AllocError> {
-    let mut octets = Vec::new(alloc);
-    for piece in pieces.split(' ') {
-        add_piece(&mut octets, piece)?;
-    }
-    Ok(octets)
-}
+use worked::octets_of;
 
 /// The normal form of the first message, with as many octets a call at most.
 fn normal_form(

@@ -1,8 +1,8 @@
 //! What `show_text` says, row by row.
-use super::octets_of;
 use ill_normal::decode;
 use ill_text::show_text;
 use std::test::Fail;
+use worked::octets_of;
 
 /// The whole text, or one of its lines.
 enum Wanted {

@@ -1,9 +1,9 @@
 //! What `run_same` writes and answers, row by row.
-use super::octets_of;
-use crate::{RunFault, Verdict, run_same};
 use ber_core::{Pieces, ToWrite};
+use ill_jobs::{RunFault, Verdict, run_same};
 use ill_normal::{Cause, Refusal, Side};
 use std::test::Fail;
+use worked::octets_of;
 
 const ROWS: [(&str, &str, &str, Result<Verdict, RunFault>); 9] = [
     (

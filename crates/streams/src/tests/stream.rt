@@ -1,10 +1,11 @@
 //! Messages one after another.
-use super::{EXPIRED, EXPIRED_HEX, INDEFINITE_HEX, octets_of};
-use crate::{
+use super::{EXPIRED, EXPIRED_HEX, INDEFINITE_HEX};
+use ill_normal::{
     Broken, Cause, NormalFailure, Pieces, Refusal, Room, Sink, Source, StreamCause, StreamFailure,
     ToWrite, normalise_stream,
 };
 use std::test::Fail;
+use worked::octets_of;
 
 /// An EXPIRED over and over: so many times and some octets more, or for ever.
 #[derive(Drop)]

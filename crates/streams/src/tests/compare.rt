@@ -1,7 +1,8 @@
 //! Messages that are compared.
-use super::{EXPIRED_HEX, INDEFINITE_HEX, TYPED_SEGMENT_HEX, octets_of};
-use crate::{Cause, Failure, Refusal, Side, is_normal, same_message};
+use super::{EXPIRED_HEX, INDEFINITE_HEX, TYPED_SEGMENT_HEX};
+use ill_normal::{Cause, Failure, Refusal, Side, is_normal, same_message};
 use std::test::Fail;
+use worked::octets_of;
 
 /// A name, two messages, and whether they are of one APDU.
 const PAIRS: &str = "\

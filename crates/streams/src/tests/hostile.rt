@@ -1,12 +1,12 @@
 //! Inputs that end early, and sources and sinks that break: at each octet of each message of up to 200.
-use super::octets_of;
 use super::rows::ROWS;
-use crate::{
+use ill_normal::{
     Cause, Failure, NormalFailure, Pieces, ReadFailure, Refusal, Room, decode, normalise,
     read_message,
 };
 use std::alloc::Global;
 use std::test::Fail;
+use worked::octets_of;
 
 fn number(octets: usize) -> u32 {
     u32::try_from(octets).unwrap_or(u32::MAX)
