@@ -1,5 +1,5 @@
-//! Tests alone, of the typed parts and APDUs, and of the writer: a crate of their own, so that those crates are proved once and not once more
-//! with their tests.
+//! Tests alone, of the typed APDUs: a crate of their own, so that what they test is proved once and not once more
+//! with them.
 #![tactic(auto)]
 
 #[cfg(test)]

@@ -1,6 +1,4 @@
 //! Worked messages through the typed APDUs and back.
-mod parts;
-
 use ber_leaf::IllString;
 use ill_apdu::{Apdu, Expired, Head, MessageApdu, MessageFault};
 use ill_parts::{DateTime, ItemId, Part, ServiceDateTime, TransactionId, Typed};
@@ -9,7 +7,7 @@ use ill_schema::{Message, Value, equal};
 use ill_write::normal_bytes;
 use std::alloc::Global;
 use std::test::Fail;
-use worked::{date_text, general_text, message, value};
+use worked::{date_text, general_string, general_text, message, value};
 
 /// A message a line, of each APDU and with each result, in which every part is there: the APDU's number, and the
 /// parts of the body, as [`worked::message`] reads them.
@@ -43,17 +41,12 @@ const WHOLE_MESSAGES: &str = "\
 const REQUEST: &str =
     "head 1 none:3 1 list:1 - false false 1 1 seq:4 none:2 3 - none:23 seq:23 none:4 false false none:3 seq:26";
 
-fn general(alloc: Global, text: &str) -> Result<IllString, Fail> {
-    let octets = Vec::from_slice(alloc, text.as_bytes())?;
-    Ok(IllString::General(general_text(octets)?))
-}
-
 /// Version 2, group "G", qualifier "Q", 29 February 2024.
 fn head(alloc: Global) -> Result<Head, Fail> {
     let transaction_id = TransactionId {
         initial_requester_id: None,
-        transaction_group_qualifier: general(alloc, "G")?,
-        transaction_qualifier: general(alloc, "Q")?,
+        transaction_group_qualifier: general_string(alloc, "G")?,
+        transaction_qualifier: general_string(alloc, "Q")?,
         sub_transaction_qualifier: None,
     };
     let day = date_text(Vec::from_slice(alloc, b"20240229")?)?;

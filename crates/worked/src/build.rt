@@ -92,6 +92,12 @@ fn general(octets: Vec<u8>) -> Result<Value, Fail> {
     Ok(Value::Str(IllString::General(general_text(octets)?)))
 }
 
+/// A GeneralString of these letters.
+pub fn general_string(alloc: Global, letters: &str) -> Result<IllString, Fail> {
+    let octets = Vec::from_slice(alloc, letters.as_bytes())?;
+    Ok(IllString::General(general_text(octets)?))
+}
+
 /// The text of the octets.
 pub fn general_text(octets: Vec<u8>) -> Result<GeneralText, Fail> {
     match GeneralText::new(octets) {

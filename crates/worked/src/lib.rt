@@ -4,5 +4,5 @@
 mod build;
 mod octets;
 
-pub use build::{date_text, general_text, message, value};
+pub use build::{date_text, general_string, general_text, message, value};
 pub use octets::octets_of;

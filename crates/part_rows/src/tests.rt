@@ -1,5 +1,4 @@
 //! Values that are parts, and values that are none.
-use super::general;
 use ber_leaf::{DateText, IllString, VisibleText};
 use ill_parts::{
     CostInfo, DateDue, Node, Part, SearchType, SendTo, Symbol, SystemId, Typed, UnitsPerMedium,
@@ -7,7 +6,7 @@ use ill_parts::{
 use ill_schema::{NodeId, Value, equal};
 use std::alloc::{AllocError, Global};
 use std::test::Fail;
-use worked::date_text;
+use worked::{date_text, general_string};
 
 fn day(alloc: Global, digits: &str) -> Result<DateText, Fail> {
     date_text(Vec::from_slice(alloc, digits.as_bytes())?)
@@ -60,12 +59,12 @@ fn date_due_of_one_entry(rt: HostRuntime) -> Result<(), Fail> {
 
 #[test]
 fn visible_differs_from_general(rt: HostRuntime) -> Result<(), Fail> {
-    let a = library(general(rt.alloc(), "L")?);
+    let a = library(general_string(rt.alloc(), "L")?);
     let b = library(visible(rt.alloc(), "L")?);
     assert!(rt; a != b);
-    assert!(rt; a == library(general(rt.alloc(), "L")?));
+    assert!(rt; a == library(general_string(rt.alloc(), "L")?));
     a.one_view(&b);
-    let symbol = Symbol::PersonSymbol(general(rt.alloc(), "L")?);
+    let symbol = Symbol::PersonSymbol(general_string(rt.alloc(), "L")?);
     assert!(rt; a.person_or_institution_symbol != Some(symbol));
     Ok(())
 }
@@ -102,7 +101,7 @@ fn defaults_hold_their_value(rt: HostRuntime) -> Result<(), Fail> {
 #[test]
 fn debug_text(rt: HostRuntime) -> Result<(), Fail> {
     let one = SendTo {
-        system_id: library(general(rt.alloc(), "L")?),
+        system_id: library(general_string(rt.alloc(), "L")?),
         account_number: None,
         system_address: None,
     };

@@ -1,7 +1,7 @@
 //! Single messages to their normal form.
 use super::rows::ROWS;
 use super::sips::Sips;
-use super::{EXPIRED, LONG_FORM};
+use super::{EXPIRED, INDEFINITE_HEX, LONG_FORM};
 use ill_normal::{
     Cause, NodeId, NormalFailure, PartId, Pieces, Refusal, Room, Source, apdu_name, decode,
     normal_form_is_accepted, normal_form_is_its_own, normal_forms_are_equal_exactly_if_apdus_are,

@@ -1,13 +1,9 @@
-//! Normal forms and the jobs, on rows of inputs and where sources and sinks break.
-mod breaks;
+//! Normal forms, of rows of inputs and where sources and sinks break.
 mod check;
 mod compare;
 mod hostile;
 mod one;
 mod rows;
-mod runs;
-mod sames;
-mod shows;
 mod sips;
 mod stream;
 

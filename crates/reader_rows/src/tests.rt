@@ -1,8 +1,10 @@
 //! Worked inputs through the decoder and the reader.
-use super::spelled::ROWS;
+mod rows;
+
 use ber_core::{Broken, Pieces, Source};
 use ill_read::{Decoder, Failure, Progress, ReadFailure, decode, read_message};
 use ill_schema::{Cause, Message, PartId, Refusal, part_name};
+use rows::ROWS;
 use std::alloc::{AllocError, Global};
 use std::test::Fail;
 use worked::octets_of;
