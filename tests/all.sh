@@ -1,12 +1,13 @@
 #!/bin/sh
 # Builds the programs and runs what isn't part of rt ci: growths of memory refused in turn, the program on its rows, the program under faults,
-# and, where Python or YAZ's headers are installed, the comparisons with another encoder, judge and text, and with YAZ's codec. Takes minutes
-# where the crates have to be proved first.
+# and, where Python, GNU time or YAZ's headers are installed, the comparisons with another encoder, judge and text, the time and memory of the
+# worst inputs, and the comparison with YAZ's codec. Takes minutes where the crates have to be proved first.
 cd "$(dirname "$0")" || exit 2
 (cd ../crates/illcanon && rt run -- --version >/dev/null 2>&1) || exit 2
 status=0
 scripts="growths.sh program.sh faults.sh"
 command -v python3 >/dev/null && scripts="$scripts spellings.py refusals.py shown.py"
+command -v python3 >/dev/null && [ -x /usr/bin/time ] && scripts="$scripts worst.py"
 [ -e /usr/include/yaz/ill.h ] && scripts="$scripts peer.sh"
 for script in $scripts; do
     echo "== $script"

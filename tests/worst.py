@@ -1,0 +1,124 @@
+#!/usr/bin/env python3
+"""Time and memory of the program on messages of the greatest size: notes, lists of the smallest items of each kind, and a long text.
+
+Prints each, and fails where one takes more than a second of processor time for a megabyte of input, or more memory than BOUND. Wants the
+program built, and GNU time (Debian's package `time`). Usage: worst.py
+"""
+import subprocess
+import sys
+import tempfile
+from pathlib import Path
+
+from spellings import Writer
+from tables import CHOICES, LISTS, PROGRAM, ROWS
+
+LIMIT = 1_048_576
+# in kilobytes: of any input, and of those without lists, beyond the input
+BOUND, SMALL = 128 * 1024, 16 * 1024
+LEAST = {"Boolean": False, "Integer": 0, "Enumerated": 0, "IsoDate": "20240229", "IsoTime": "000000", "PrintableString": ""}
+
+
+def leasts(node, deep=True):
+    """The smallest value of a node, and each with one optional part beside, so far as deep."""
+    if node == "IllString":
+        return [("general", ""), ("general", "L")] if deep else [("general", "")]
+    if node in CHOICES:
+        chosen = [i for i, row in enumerate(ROWS[node]) if row.presence != "LeftOut"]
+        return [(i, value) for i in (chosen if deep else chosen[:1]) for value in leasts(ROWS[node][i].node, deep)]
+    if node in LISTS:
+        return [[]]
+    if node not in ROWS:
+        return [LEAST[node]]
+    least = [leasts(row.node, False)[0] if row.presence == "Must" else default(row) for row in ROWS[node]]
+    places = [i for i, row in enumerate(ROWS[node]) if row.presence in ("Must", "May")] if deep else []
+    found = [least]
+    found += [least[:i] + [value] + least[i + 1 :] for i in places for value in leasts(ROWS[node][i].node) if value != least[i]]
+    return found
+
+
+def default(row):
+    if row.presence != "Default":
+        return None
+    return bool(int(row.default)) if row.node == "Boolean" else int(row.default)
+
+
+def holding(node, wanted):
+    """The smallest value of a node in which the list stands, or None."""
+    if node == wanted:
+        return []
+    for i, row in enumerate(ROWS.get(node, [])):
+        inner = holding(row.node, wanted) if row.presence != "LeftOut" and node not in LISTS else None
+        if inner is not None and node in CHOICES:
+            return i, inner
+        if inner is not None:
+            least = leasts(node, False)[0]
+            return least[:i] + [inner] + least[i + 1 :]
+    return None
+
+
+class Filler(Writer):
+    """Writes these octets as the contents of one node."""
+
+    def __init__(self, node, octets):
+        self.node, self.octets = node, octets
+
+    def contents(self, node, value):
+        return self.octets if node == self.node else super().contents(node, value)
+
+
+def lists():
+    """For each list and each of its smallest items, the message with the most of them."""
+    for node in sorted(LISTS):
+        row = ROWS[node][0]
+        apdu = holding("IllApdu", node)
+        for item in leasts(row.node):
+            octets = Writer().row(row, item)
+            count = (LIMIT - len(Filler(node, bytes(LIMIT // 2)).value("IllApdu", apdu, None)) + LIMIT // 2) // len(octets)
+            message = Filler(node, octets * count).value("IllApdu", apdu, None)
+            assert LIMIT - len(octets) < len(message) <= LIMIT, (node, item)
+            yield f"{node} of {count} {octets.hex()}", message, []
+
+
+def smalls():
+    """The largest note, in one piece and in the smallest ones, a list of up to 65,535 octets, and the messages of a long text."""
+    head = bytes.fromhex("800102a10aa1031b0147a2031b0151a20ca00a80083230323430323239")
+    front = b"\x71\x80\x30\x80" + head + b"\xbf\x2e\x80"
+    yield "a note in one piece", front + b"\x1b\x83\x0f\xff\xce" + b"A" * 1_048_526 + bytes(6), []
+    nested = front + b"\x3b\x80" + b"\x24\x80" * 27 + b"\x04\x01A" * 349_474 + bytes(62)
+    yield "a note in segments of an octet, nested to depth 32", nested, []
+    answer = b"\x64\x82\xff\xfa\x30\x82\xff\xf6" + head + b"\x9f\x1f\x01\x02\xbf\x22\x82\xff\xd0"
+    yield "AlreadyTriedList of 32744 3000", answer + b"\x30\x00" * 32_744, []
+    expired = b"\x74\x1f\x30\x1d" + head
+    yield "text of 60,000 messages", (expired.hex() * 60_000).encode(), ["--hex"]
+
+
+def run(command, words, folder):
+    """The seconds of processor time, the kilobytes and the status of a command on the file of the message."""
+    outs = [folder / "out"] if command == "canonicalise" else []
+    call = ["/usr/bin/time", "-q", "-o", folder / "time", "-f", "%U %S %M", PROGRAM, command, *words, folder / "message", *outs]
+    done = subprocess.run(call, stdout=subprocess.DEVNULL, stderr=subprocess.PIPE, text=True)
+    user, system, kilobytes = (folder / "time").read_text().split()
+    return float(user) + float(system), int(kilobytes), done.returncode, done.stderr
+
+
+def main():
+    failed, most = 0, []
+    with tempfile.TemporaryDirectory() as name:
+        folder = Path(name)
+        for kind, small in ((smalls, True), (lists, False)):
+            for title, message, words in kind():
+                (folder / "message").write_bytes(message)
+                for command in ("check", "show", "canonicalise"):
+                    seconds, kilobytes, status, said = run(command, words, folder)
+                    most.append((kilobytes, title, command))
+                    slow = seconds > max(1, len(message) / 1_000_000)
+                    large = kilobytes > (SMALL + len(message) // 1024 if small else BOUND)
+                    wrong = status not in ((0, 1) if command == "check" else (0,)) or said
+                    failed += slow or large or bool(wrong)
+                    print(f"{seconds:5.2f} s {kilobytes / 1024:6.1f} MB  {command:12} {title}{'  FAILED ' + said if slow or large or wrong else ''}")
+    print(f"the most: {max(most)[0] / 1024:.1f} MB, {max(most)[2]} of {max(most)[1]}; {len(most) - failed} passed, {failed} failed")
+    sys.exit(1 if failed else 0)
+
+
+if __name__ == "__main__":
+    main()
