@@ -1,4 +1,2 @@
-pub mod Equality
-pub mod Requests
 pub mod Apdus
 pub mod SameApdu

@@ -7,21 +7,12 @@ ghost use Rattle.ill_schema.specs.Value.{content_of};
 ghost use Rattle.ill_parts.specs.Shape.{Is};
 ghost use Rattle.ill_apdu.specs.Carried.{number_of, node_of, body_of, view_of};
 
-use crate::answer::IllAnswer;
-use crate::cancel::{Cancel, CancelReply};
-use crate::conditional_reply::ConditionalReply;
-use crate::expired::Expired;
 use crate::fault::MessageFault;
-use crate::lost::{Damaged, Lost};
-use crate::overdue::Overdue;
-use crate::recall::Recall;
-use crate::received::Received;
-use crate::renew::{Renew, RenewAnswer};
-use crate::request::IllRequest;
-use crate::returned::{CheckedIn, Returned};
-use crate::shipped::Shipped;
-use crate::status_query::StatusQuery;
-use crate::text::MessageApdu;
+use ill_bodies::{
+    Cancel, CancelReply, CheckedIn, ConditionalReply, Damaged, Expired, IllAnswer, IllRequest,
+    Lost, MessageApdu, Overdue, Recall, Received, Renew, RenewAnswer, Returned, Shipped,
+    StatusQuery,
+};
 use ill_parts::Part;
 use ill_schema::{Message, Value};
 use std::alloc::{AllocError, Global};
