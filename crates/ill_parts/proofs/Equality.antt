@@ -1,9 +1,11 @@
 -- `==` of each part says exactly that the contents are equal.
-use Rattle.std.proofs.Common.{[], ◌∷◌}
+use Rattle.std.proofs.Common.{◌≡◌, [], ◌∷◌, refl}
+use Rattle.std.specs.Bool.{Decides}
 use Rattle.ill_parts.specs.Shape.{option_of}
-use Rattle.ill_parts.proofs.Exact.{Exact, no_truth, flag_exact, number_exact, date_exact, time_exact, printable_exact, string_exact, listed_exact, must, may, gap_after, record_exact}
+use Rattle.ill_parts.proofs.Exact.{Exact, Segment, no_truth, flag_exact, number_exact, date_exact, time_exact, printable_exact, string_exact, listed_exact, must, may, gap_after, segments_exact, record_exact}
 use Rattle.ill_parts.specs.declared.party.Symbol.{Symbol}
 use Rattle.ill_parts.specs.declared.party.Name.{Name}
+use Rattle.ill_parts.specs.declared.head.Head.{Head}
 use Rattle.ill_parts.specs.declared.delivery.DeliveryService.{DeliveryService}
 use Rattle.ill_parts.specs.declared.delivery.ShippedVia.{ShippedVia}
 use Rattle.ill_parts.specs.contracts.party.SymbolPartialEq.TheImpl.{eq-value as symbol_eq}
@@ -12,6 +14,7 @@ use Rattle.ill_parts.specs.contracts.party.SystemIdPartialEq.TheImpl.{eq-value a
 use Rattle.ill_parts.specs.contracts.transaction.TransactionIdPartialEq.TheImpl.{eq-value as transaction_id_eq}
 use Rattle.ill_parts.specs.contracts.transaction.DateTimePartialEq.TheImpl.{eq-value as date_time_eq}
 use Rattle.ill_parts.specs.contracts.transaction.ServiceDateTimePartialEq.TheImpl.{eq-value as service_date_time_eq}
+use Rattle.ill_parts.specs.contracts.head.HeadPartialEq.TheImpl.{eq-value as head_eq}
 use Rattle.ill_parts.specs.contracts.address.PostalAddressPartialEq.TheImpl.{eq-value as postal_address_eq}
 use Rattle.ill_parts.specs.contracts.address.SystemAddressPartialEq.TheImpl.{eq-value as system_address_eq}
 use Rattle.ill_parts.specs.contracts.address.DeliveryAddressPartialEq.TheImpl.{eq-value as delivery_address_eq}
@@ -30,7 +33,7 @@ use Rattle.ill_parts.specs.contracts.supply.DateDuePartialEq.TheImpl.{eq-value a
 use Rattle.ill_parts.specs.contracts.delivery.ShippedViaPartialEq.TheImpl.{eq-value as shipped_via_eq}
 use Rattle.ill_parts.specs.contracts.medium.UnitsPerMediumPartialEq.TheImpl.{eq-value as units_per_medium_eq}
 use Rattle.ill_parts.specs.contracts.supply.SupplyDetailsPartialEq.TheImpl.{eq-value as supply_details_eq}
-use Rattle.ill_parts.specs.Views.{symbol, name, system_id, transaction_id, date_time, service_date_time, postal_address, system_address, delivery_address, client_id, delivery_service, requester_optional_messages, responder_optional_messages, search_type, supply_medium_info, item_id, amount, cost_info, send_to, third_party_info, date_due, shipped_via, units_per_medium, supply_details}
+use Rattle.ill_parts.specs.Views.{symbol, name, system_id, transaction_id, date_time, service_date_time, postal_address, system_address, delivery_address, client_id, delivery_service, requester_optional_messages, responder_optional_messages, search_type, supply_medium_info, item_id, amount, cost_info, send_to, third_party_info, date_due, shipped_via, units_per_medium, supply_details, headed}
 
 pub symbol_exact : Exact symbol symbol_eq.it
 unfolding symbol option_of
@@ -242,3 +245,16 @@ supply_details_exact p q = record_exact (
     ∷ may amount_exact p.return_insurance_require q.return_insurance_require
     ∷ may (listed_exact units_per_medium_exact) p.no_of_units_per_medium q.no_of_units_per_medium
     ∷ [])
+
+pub heads_exact : (p q : Head) → Decides (head_eq.it p q) (headed p [] ≡ headed q [])
+heads_exact p q = segments_exact (
+    must number_exact p.protocol_version_num q.protocol_version_num
+    ∷ must transaction_id_exact p.transaction_id q.transaction_id
+    ∷ must service_date_time_exact p.service_date_time q.service_date_time
+    ∷ may system_id_exact p.requester_id q.requester_id
+    ∷ may system_id_exact p.responder_id q.responder_id
+    ∷ [])
+
+-- the head's fields
+abbrev pub head_segment : Head → Head → Segment
+head_segment p q = record { test = head_eq.it p q; left = headed p []; right = headed q []; even = refl; exact = heads_exact p q }

@@ -5,6 +5,7 @@ use Rattle.ill_parts.specs.Shape.{record_of, listed, option_of, flag_content, nu
 use Rattle.ill_parts.specs.declared.party.Symbol.{Symbol}
 use Rattle.ill_parts.specs.declared.party.Name.{Name}
 use Rattle.ill_parts.specs.declared.party.SystemId.{SystemId}
+use Rattle.ill_parts.specs.declared.head.Head.{Head}
 use Rattle.ill_parts.specs.declared.transaction.TransactionId.{TransactionId}
 use Rattle.ill_parts.specs.declared.transaction.DateTime.{DateTime}
 use Rattle.ill_parts.specs.declared.transaction.ServiceDateTime.{ServiceDateTime}
@@ -273,3 +274,13 @@ supply_details_rows p =
 
 unfoldable pub supply_details : SupplyDetails → Content
 supply_details p = record_of (supply_details_rows p)
+
+-- the entries of an APDU: those of its head, and then the others
+abbrev pub headed : Head → List (Option Content) → List (Option Content)
+headed h others =
+    Some (number_content h.protocol_version_num)
+    ∷ Some (transaction_id h.transaction_id)
+    ∷ Some (service_date_time h.service_date_time)
+    ∷ option_map system_id h.requester_id
+    ∷ option_map system_id h.responder_id
+    ∷ others

@@ -44,11 +44,12 @@ pub enum Slot {
 }
 
 /// What a tag begins, where that stands, and the alternative of a choice without a tag that it is.
+// The order of the fields lets the processor load each from one store.
 #[derive(Clone, Copy, Debug, PartialEq, Eq)]
 pub struct Due {
-    pub slot: Slot,
-    pub alternative: Option<u8>,
     pub found: Found,
+    pub alternative: Option<u8>,
+    pub slot: Slot,
 }
 
 /// What a tag begins, and the alternative of a choice without a tag that it is.

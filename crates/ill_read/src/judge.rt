@@ -56,12 +56,13 @@ pub struct Reading {
 }
 
 /// An element that is due and has the form that it may have.
+// The order of the fields lets the processor load each from one store.
 #[derive(Clone, Copy)]
 struct Started {
-    slot: Slot,
-    alternative: Option<u8>,
-    element: Element,
     constructed: bool,
+    slot: Slot,
+    element: Element,
+    alternative: Option<u8>,
 }
 
 impl Started {

@@ -1,0 +1,134 @@
+//! LOST and DAMAGED.
+use ber_leaf::IllString;
+use ill_parts::{
+    Head, Node, Part, Typed, entries, optional, optional_value, read_head, required_value, sequence,
+};
+use ill_schema::{NodeId, Value};
+use std::alloc::{AllocError, Global};
+
+/// LOST: the item is lost (APDU 15).
+///
+/// `lost-extensions` (row 6) is left out.
+#[derive(Debug, Drop, PartialEq, Eq)]
+pub struct Lost {
+    /// What each APDU begins with (rows 0 to 4).
+    pub head: Head,
+    /// A note (row 5).
+    pub note: Option<IllString>,
+}
+
+impl Node for Lost {
+    ghost use Rattle.ill_schema.specs.declared.node.NodeId.TheVariants.{Lost as TheNode};
+    ghost use Rattle.ill_tracking.specs.Views.{lost_rows};
+
+    ghost NODE = { TheNode };
+
+    ghost entries = { lost_rows };
+
+    const NODE: NodeId = NodeId::LOST;
+}
+
+#[tactic(auto, unfolding(crate::specs::Views::lost))]
+impl Part for Lost {
+    ghost use Rattle.ill_schema.specs.declared.node.NodeId.TheVariants.{Lost as TheNode};
+    ghost use Rattle.ill_parts.specs.Shape.{Is};
+    ghost use Rattle.ill_tracking.specs.Views.{lost};
+
+    ghost content = { lost };
+
+    ghost accepts = { Is TheNode };
+
+    fn to_value(&self, alloc: Global) -> Result<Value, AllocError> {
+        let entries = [
+            required_value(alloc, &self.head.protocol_version_num),
+            required_value(alloc, &self.head.transaction_id),
+            required_value(alloc, &self.head.service_date_time),
+            optional_value(alloc, &self.head.requester_id),
+            optional_value(alloc, &self.head.responder_id),
+            optional_value(alloc, &self.note),
+            Ok(None),
+        ];
+        sequence(alloc, self, entries)
+    }
+
+    fn read(alloc: Global, value: &Value) -> Result<Self, AllocError> {
+        let entries = entries::<Self>(value);
+        Ok(Lost {
+            note: optional(alloc, entries, 5)?,
+            head: read_head(alloc, entries)?,
+        })
+    }
+}
+
+impl Typed for Lost {
+    #[tactic(auto, using(crate::proofs::Equality::lost_exact))]
+    fn one_view(&self, other: &Self) {
+        let _ = other;
+    }
+
+    ghost is_node = { λ _. (λ fits. fits, λ fits. fits) };
+}
+
+/// DAMAGED: the item is damaged (APDU 16).
+///
+/// `damaged-details` (row 5) and `damaged-extensions` (row 7) are left out.
+#[derive(Debug, Drop, PartialEq, Eq)]
+pub struct Damaged {
+    /// What each APDU begins with (rows 0 to 4).
+    pub head: Head,
+    /// A note (row 6).
+    pub note: Option<IllString>,
+}
+
+impl Node for Damaged {
+    ghost use Rattle.ill_schema.specs.declared.node.NodeId.TheVariants.{Damaged as TheNode};
+    ghost use Rattle.ill_tracking.specs.Views.{damaged_rows};
+
+    ghost NODE = { TheNode };
+
+    ghost entries = { damaged_rows };
+
+    const NODE: NodeId = NodeId::DAMAGED;
+}
+
+#[tactic(auto, unfolding(crate::specs::Views::damaged))]
+impl Part for Damaged {
+    ghost use Rattle.ill_schema.specs.declared.node.NodeId.TheVariants.{Damaged as TheNode};
+    ghost use Rattle.ill_parts.specs.Shape.{Is};
+    ghost use Rattle.ill_tracking.specs.Views.{damaged};
+
+    ghost content = { damaged };
+
+    ghost accepts = { Is TheNode };
+
+    fn to_value(&self, alloc: Global) -> Result<Value, AllocError> {
+        let entries = [
+            required_value(alloc, &self.head.protocol_version_num),
+            required_value(alloc, &self.head.transaction_id),
+            required_value(alloc, &self.head.service_date_time),
+            optional_value(alloc, &self.head.requester_id),
+            optional_value(alloc, &self.head.responder_id),
+            Ok(None),
+            optional_value(alloc, &self.note),
+            Ok(None),
+        ];
+        sequence(alloc, self, entries)
+    }
+
+    fn read(alloc: Global, value: &Value) -> Result<Self, AllocError> {
+        let entries = entries::<Self>(value);
+        Ok(Damaged {
+            note: optional(alloc, entries, 6)?,
+            head: read_head(alloc, entries)?,
+        })
+    }
+}
+
+impl Typed for Damaged {
+    #[tactic(auto, using(crate::proofs::Equality::damaged_exact))]
+    fn one_view(&self, other: &Self) {
+        let _ = other;
+    }
+
+    ghost is_node = { λ _. (λ fits. fits, λ fits. fits) };
+}

@@ -1,0 +1,75 @@
+//! OVERDUE.
+use ber_leaf::IllString;
+use ill_parts::{
+    DateDue, Head, Node, Part, Typed, entries, optional, optional_value, read_head, required,
+    required_value, sequence,
+};
+use ill_schema::{NodeId, Value};
+use std::alloc::{AllocError, Global};
+
+/// OVERDUE: the item should have been returned (APDU 12).
+///
+/// `overdue-extensions` (row 7) is left out.
+#[derive(Debug, Drop, PartialEq, Eq)]
+pub struct Overdue {
+    /// What each APDU begins with (rows 0 to 4).
+    pub head: Head,
+    /// When it was due (row 5).
+    pub date_due: DateDue,
+    /// A note of the responder (row 6).
+    pub responder_note: Option<IllString>,
+}
+
+impl Node for Overdue {
+    ghost use Rattle.ill_schema.specs.declared.node.NodeId.TheVariants.{Overdue as TheNode};
+    ghost use Rattle.ill_tracking.specs.Views.{overdue_rows};
+
+    ghost NODE = { TheNode };
+
+    ghost entries = { overdue_rows };
+
+    const NODE: NodeId = NodeId::OVERDUE;
+}
+
+#[tactic(auto, unfolding(crate::specs::Views::overdue))]
+impl Part for Overdue {
+    ghost use Rattle.ill_schema.specs.declared.node.NodeId.TheVariants.{Overdue as TheNode};
+    ghost use Rattle.ill_parts.specs.Shape.{Is};
+    ghost use Rattle.ill_tracking.specs.Views.{overdue};
+
+    ghost content = { overdue };
+
+    ghost accepts = { Is TheNode };
+
+    fn to_value(&self, alloc: Global) -> Result<Value, AllocError> {
+        let entries = [
+            required_value(alloc, &self.head.protocol_version_num),
+            required_value(alloc, &self.head.transaction_id),
+            required_value(alloc, &self.head.service_date_time),
+            optional_value(alloc, &self.head.requester_id),
+            optional_value(alloc, &self.head.responder_id),
+            required_value(alloc, &self.date_due),
+            optional_value(alloc, &self.responder_note),
+            Ok(None),
+        ];
+        sequence(alloc, self, entries)
+    }
+
+    fn read(alloc: Global, value: &Value) -> Result<Self, AllocError> {
+        let entries = entries::<Self>(value);
+        Ok(Overdue {
+            date_due: required(alloc, entries, 5)?,
+            responder_note: optional(alloc, entries, 6)?,
+            head: read_head(alloc, entries)?,
+        })
+    }
+}
+
+impl Typed for Overdue {
+    #[tactic(auto, using(crate::proofs::Equality::overdue_exact))]
+    fn one_view(&self, other: &Self) {
+        let _ = other;
+    }
+
+    ghost is_node = { λ _. (λ fits. fits, λ fits. fits) };
+}

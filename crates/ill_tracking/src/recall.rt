@@ -1,0 +1,70 @@
+//! RECALL.
+use ber_leaf::IllString;
+use ill_parts::{
+    Head, Node, Part, Typed, entries, optional, optional_value, read_head, required_value, sequence,
+};
+use ill_schema::{NodeId, Value};
+use std::alloc::{AllocError, Global};
+
+/// RECALL: the responder wants the item back (APDU 9).
+///
+/// `recall-extensions` (row 6) is left out.
+#[derive(Debug, Drop, PartialEq, Eq)]
+pub struct Recall {
+    /// What each APDU begins with (rows 0 to 4).
+    pub head: Head,
+    /// A note of the responder (row 5).
+    pub responder_note: Option<IllString>,
+}
+
+impl Node for Recall {
+    ghost use Rattle.ill_schema.specs.declared.node.NodeId.TheVariants.{Recall as TheNode};
+    ghost use Rattle.ill_tracking.specs.Views.{recall_rows};
+
+    ghost NODE = { TheNode };
+
+    ghost entries = { recall_rows };
+
+    const NODE: NodeId = NodeId::RECALL;
+}
+
+#[tactic(auto, unfolding(crate::specs::Views::recall))]
+impl Part for Recall {
+    ghost use Rattle.ill_schema.specs.declared.node.NodeId.TheVariants.{Recall as TheNode};
+    ghost use Rattle.ill_parts.specs.Shape.{Is};
+    ghost use Rattle.ill_tracking.specs.Views.{recall};
+
+    ghost content = { recall };
+
+    ghost accepts = { Is TheNode };
+
+    fn to_value(&self, alloc: Global) -> Result<Value, AllocError> {
+        let entries = [
+            required_value(alloc, &self.head.protocol_version_num),
+            required_value(alloc, &self.head.transaction_id),
+            required_value(alloc, &self.head.service_date_time),
+            optional_value(alloc, &self.head.requester_id),
+            optional_value(alloc, &self.head.responder_id),
+            optional_value(alloc, &self.responder_note),
+            Ok(None),
+        ];
+        sequence(alloc, self, entries)
+    }
+
+    fn read(alloc: Global, value: &Value) -> Result<Self, AllocError> {
+        let entries = entries::<Self>(value);
+        Ok(Recall {
+            responder_note: optional(alloc, entries, 5)?,
+            head: read_head(alloc, entries)?,
+        })
+    }
+}
+
+impl Typed for Recall {
+    #[tactic(auto, using(crate::proofs::Equality::recall_exact))]
+    fn one_view(&self, other: &Self) {
+        let _ = other;
+    }
+
+    ghost is_node = { λ _. (λ fits. fits, λ fits. fits) };
+}

@@ -1,0 +1,151 @@
+//! RETURNED and CHECKED-IN.
+use ber_leaf::{DateText, IllString};
+use ill_parts::{
+    Amount, Head, Node, Part, Typed, entries, optional, optional_value, read_head, required,
+    required_value, sequence,
+};
+use ill_schema::{NodeId, Value};
+use std::alloc::{AllocError, Global};
+
+/// RETURNED: the requester has sent the item back (APDU 10).
+///
+/// `supplemental-item-description` (row 5) and `returned-extensions` (row 10) are left out.
+#[derive(Debug, Drop, PartialEq, Eq)]
+pub struct Returned {
+    /// What each APDU begins with (rows 0 to 4).
+    pub head: Head,
+    /// The day on which it was sent back (row 6).
+    pub date_returned: DateText,
+    /// How it was sent back (row 7).
+    pub returned_via: Option<IllString>,
+    /// For how much it is insured (row 8).
+    pub insured_for: Option<Amount>,
+    /// A note of the requester (row 9).
+    pub requester_note: Option<IllString>,
+}
+
+impl Node for Returned {
+    ghost use Rattle.ill_schema.specs.declared.node.NodeId.TheVariants.{Returned as TheNode};
+    ghost use Rattle.ill_tracking.specs.Views.{returned_rows};
+
+    ghost NODE = { TheNode };
+
+    ghost entries = { returned_rows };
+
+    const NODE: NodeId = NodeId::RETURNED;
+}
+
+#[tactic(auto, unfolding(crate::specs::Views::returned))]
+impl Part for Returned {
+    ghost use Rattle.ill_schema.specs.declared.node.NodeId.TheVariants.{Returned as TheNode};
+    ghost use Rattle.ill_parts.specs.Shape.{Is};
+    ghost use Rattle.ill_tracking.specs.Views.{returned};
+
+    ghost content = { returned };
+
+    ghost accepts = { Is TheNode };
+
+    fn to_value(&self, alloc: Global) -> Result<Value, AllocError> {
+        let entries = [
+            required_value(alloc, &self.head.protocol_version_num),
+            required_value(alloc, &self.head.transaction_id),
+            required_value(alloc, &self.head.service_date_time),
+            optional_value(alloc, &self.head.requester_id),
+            optional_value(alloc, &self.head.responder_id),
+            Ok(None),
+            required_value(alloc, &self.date_returned),
+            optional_value(alloc, &self.returned_via),
+            optional_value(alloc, &self.insured_for),
+            optional_value(alloc, &self.requester_note),
+            Ok(None),
+        ];
+        sequence(alloc, self, entries)
+    }
+
+    fn read(alloc: Global, value: &Value) -> Result<Self, AllocError> {
+        let entries = entries::<Self>(value);
+        Ok(Returned {
+            date_returned: required(alloc, entries, 6)?,
+            returned_via: optional(alloc, entries, 7)?,
+            insured_for: optional(alloc, entries, 8)?,
+            requester_note: optional(alloc, entries, 9)?,
+            head: read_head(alloc, entries)?,
+        })
+    }
+}
+
+impl Typed for Returned {
+    #[tactic(auto, using(crate::proofs::Equality::returned_exact))]
+    fn one_view(&self, other: &Self) {
+        let _ = other;
+    }
+
+    ghost is_node = { λ _. (λ fits. fits, λ fits. fits) };
+}
+
+/// CHECKED-IN: the responder has the item again (APDU 11).
+///
+/// `checked-in-extensions` (row 7) is left out.
+#[derive(Debug, Drop, PartialEq, Eq)]
+pub struct CheckedIn {
+    /// What each APDU begins with (rows 0 to 4).
+    pub head: Head,
+    /// The day on which it was checked in (row 5).
+    pub date_checked_in: DateText,
+    /// A note of the responder (row 6).
+    pub responder_note: Option<IllString>,
+}
+
+impl Node for CheckedIn {
+    ghost use Rattle.ill_schema.specs.declared.node.NodeId.TheVariants.{CheckedIn as TheNode};
+    ghost use Rattle.ill_tracking.specs.Views.{checked_in_rows};
+
+    ghost NODE = { TheNode };
+
+    ghost entries = { checked_in_rows };
+
+    const NODE: NodeId = NodeId::CHECKED_IN;
+}
+
+#[tactic(auto, unfolding(crate::specs::Views::checked_in))]
+impl Part for CheckedIn {
+    ghost use Rattle.ill_schema.specs.declared.node.NodeId.TheVariants.{CheckedIn as TheNode};
+    ghost use Rattle.ill_parts.specs.Shape.{Is};
+    ghost use Rattle.ill_tracking.specs.Views.{checked_in};
+
+    ghost content = { checked_in };
+
+    ghost accepts = { Is TheNode };
+
+    fn to_value(&self, alloc: Global) -> Result<Value, AllocError> {
+        let entries = [
+            required_value(alloc, &self.head.protocol_version_num),
+            required_value(alloc, &self.head.transaction_id),
+            required_value(alloc, &self.head.service_date_time),
+            optional_value(alloc, &self.head.requester_id),
+            optional_value(alloc, &self.head.responder_id),
+            required_value(alloc, &self.date_checked_in),
+            optional_value(alloc, &self.responder_note),
+            Ok(None),
+        ];
+        sequence(alloc, self, entries)
+    }
+
+    fn read(alloc: Global, value: &Value) -> Result<Self, AllocError> {
+        let entries = entries::<Self>(value);
+        Ok(CheckedIn {
+            date_checked_in: required(alloc, entries, 5)?,
+            responder_note: optional(alloc, entries, 6)?,
+            head: read_head(alloc, entries)?,
+        })
+    }
+}
+
+impl Typed for CheckedIn {
+    #[tactic(auto, using(crate::proofs::Equality::checked_in_exact))]
+    fn one_view(&self, other: &Self) {
+        let _ = other;
+    }
+
+    ghost is_node = { λ _. (λ fits. fits, λ fits. fits) };
+}

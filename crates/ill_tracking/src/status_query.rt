@@ -1,0 +1,70 @@
+//! STATUS-QUERY.
+use ber_leaf::IllString;
+use ill_parts::{
+    Head, Node, Part, Typed, entries, optional, optional_value, read_head, required_value, sequence,
+};
+use ill_schema::{NodeId, Value};
+use std::alloc::{AllocError, Global};
+
+/// STATUS-QUERY: a party asks how the transaction stands (APDU 18).
+///
+/// `status-query-extensions` (row 6) is left out.
+#[derive(Debug, Drop, PartialEq, Eq)]
+pub struct StatusQuery {
+    /// What each APDU begins with (rows 0 to 4).
+    pub head: Head,
+    /// A note (row 5).
+    pub note: Option<IllString>,
+}
+
+impl Node for StatusQuery {
+    ghost use Rattle.ill_schema.specs.declared.node.NodeId.TheVariants.{StatusQuery as TheNode};
+    ghost use Rattle.ill_tracking.specs.Views.{status_query_rows};
+
+    ghost NODE = { TheNode };
+
+    ghost entries = { status_query_rows };
+
+    const NODE: NodeId = NodeId::STATUS_QUERY;
+}
+
+#[tactic(auto, unfolding(crate::specs::Views::status_query))]
+impl Part for StatusQuery {
+    ghost use Rattle.ill_schema.specs.declared.node.NodeId.TheVariants.{StatusQuery as TheNode};
+    ghost use Rattle.ill_parts.specs.Shape.{Is};
+    ghost use Rattle.ill_tracking.specs.Views.{status_query};
+
+    ghost content = { status_query };
+
+    ghost accepts = { Is TheNode };
+
+    fn to_value(&self, alloc: Global) -> Result<Value, AllocError> {
+        let entries = [
+            required_value(alloc, &self.head.protocol_version_num),
+            required_value(alloc, &self.head.transaction_id),
+            required_value(alloc, &self.head.service_date_time),
+            optional_value(alloc, &self.head.requester_id),
+            optional_value(alloc, &self.head.responder_id),
+            optional_value(alloc, &self.note),
+            Ok(None),
+        ];
+        sequence(alloc, self, entries)
+    }
+
+    fn read(alloc: Global, value: &Value) -> Result<Self, AllocError> {
+        let entries = entries::<Self>(value);
+        Ok(StatusQuery {
+            note: optional(alloc, entries, 5)?,
+            head: read_head(alloc, entries)?,
+        })
+    }
+}
+
+impl Typed for StatusQuery {
+    #[tactic(auto, using(crate::proofs::Equality::status_query_exact))]
+    fn one_view(&self, other: &Self) {
+        let _ = other;
+    }
+
+    ghost is_node = { λ _. (λ fits. fits, λ fits. fits) };
+}

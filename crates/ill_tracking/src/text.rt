@@ -1,0 +1,70 @@
+//! MESSAGE.
+use ber_leaf::IllString;
+use ill_parts::{
+    Head, Node, Part, Typed, entries, optional_value, read_head, required, required_value, sequence,
+};
+use ill_schema::{NodeId, Value};
+use std::alloc::{AllocError, Global};
+
+/// MESSAGE: a text for the other party (APDU 17).
+///
+/// `message-extensions` (row 6) is left out.
+#[derive(Debug, Drop, PartialEq, Eq)]
+pub struct MessageApdu {
+    /// What each APDU begins with (rows 0 to 4).
+    pub head: Head,
+    /// The text (row 5).
+    pub note: IllString,
+}
+
+impl Node for MessageApdu {
+    ghost use Rattle.ill_schema.specs.declared.node.NodeId.TheVariants.{MessageApdu as TheNode};
+    ghost use Rattle.ill_tracking.specs.Views.{message_apdu_rows};
+
+    ghost NODE = { TheNode };
+
+    ghost entries = { message_apdu_rows };
+
+    const NODE: NodeId = NodeId::MESSAGE_APDU;
+}
+
+#[tactic(auto, unfolding(crate::specs::Views::message_apdu))]
+impl Part for MessageApdu {
+    ghost use Rattle.ill_schema.specs.declared.node.NodeId.TheVariants.{MessageApdu as TheNode};
+    ghost use Rattle.ill_parts.specs.Shape.{Is};
+    ghost use Rattle.ill_tracking.specs.Views.{message_apdu};
+
+    ghost content = { message_apdu };
+
+    ghost accepts = { Is TheNode };
+
+    fn to_value(&self, alloc: Global) -> Result<Value, AllocError> {
+        let entries = [
+            required_value(alloc, &self.head.protocol_version_num),
+            required_value(alloc, &self.head.transaction_id),
+            required_value(alloc, &self.head.service_date_time),
+            optional_value(alloc, &self.head.requester_id),
+            optional_value(alloc, &self.head.responder_id),
+            required_value(alloc, &self.note),
+            Ok(None),
+        ];
+        sequence(alloc, self, entries)
+    }
+
+    fn read(alloc: Global, value: &Value) -> Result<Self, AllocError> {
+        let entries = entries::<Self>(value);
+        Ok(MessageApdu {
+            note: required(alloc, entries, 5)?,
+            head: read_head(alloc, entries)?,
+        })
+    }
+}
+
+impl Typed for MessageApdu {
+    #[tactic(auto, using(crate::proofs::Equality::message_apdu_exact))]
+    fn one_view(&self, other: &Self) {
+        let _ = other;
+    }
+
+    ghost is_node = { λ _. (λ fits. fits, λ fits. fits) };
+}
