@@ -10,6 +10,7 @@ use Rattle.ber_core.specs.declared.header.Len.TheVariants.{Definite, Indefinite}
 use Rattle.ber_core.specs.Header.{IsHeader, SpellsLen}
 use Rattle.ber_core.specs.Id.{tag_of_id, form_of_id}
 use Rattle.ber_core.specs.Identifier.{Tag, identifier, HasIdentifier}
+use Rattle.ber_core.specs.Length.{IsLength, short as short_form, long as long_form}
 use Rattle.ber_core.specs.Octets.{are_octets}
 use Rattle.ber_core.proofs.Identifiers.{IsEnd, identifier_no_end}
 use Rattle.ber_leaf.specs.Profile.{Profile, profile_two}
@@ -311,33 +312,79 @@ inside_reaches : (place : List Open) (k n : ℕ) (w more : List ℕ) → k < bou
 inside_reaches place k n w more lt want true m one = mark_needs place k n w more lt want (and_parts (is_indefinite place) (begins_zero w) m).1 one
 inside_reaches place k n w more lt want false m need = element_reaches place k n w more lt m (wants_element place w want m) need
 
--- so many octets surely still belong to the message
-pub need_surely : (path : Path) (at : ℕ) (s octets : List ℕ) (l : StandsLast path at s octets) (n : ℕ) → IsNeed l.0.place at octets n
-    → (more : List ℕ) (a : Apdu) (m : ℕ) → IsTrue (are_octets (s ++ more)) → Accepts profile_two (s ++ more) a m → length s + n ≤ m
-need_surely path at s octets l n need more a m ok h =
+-- what each judgement reaches, a message does
+reaches_surely : (path : Path) (at : ℕ) (s octets : List ℕ) (l : StandsLast path at s octets) (n : ℕ) (more : List ℕ) → ReachesNeed l.0.place (length l.0.before) octets more n
+    → (a : Apdu) (m : ℕ) → IsTrue (are_octets (s ++ more)) → Accepts profile_two (s ++ more) a m → length s + n ≤ m
+reaches_surely path at s octets l n more reaches a m ok h =
     let b = l.0 in
     let u = b.before in
     let w = octets ++ more in
     let e : s ++ more ≡ u ++ w = ap (λ z. z ++ more) b.joined ∙ append_assoc u octets more in
     let is_due : IsDue profile_two (s ++ more) (length u) b.place = subst (λ z. IsDue profile_two z (length u) b.place) (sym e) (due_at profile_two b.place u w b.is_place) in
     let rest : drop (length u) (s ++ more) ≡ w = ap (drop (length u)) e ∙ drop-all u w in
+    let octets_ok : IsTrue (are_octets w) = octets_right u w (subst (λ z. IsTrue (are_octets z)) e ok) in
+    let judgement = judge profile_two b.place (length u) w in
+    let j = judged profile_two b.place (length u) w octets_ok in
+    let keeps = reaches_keeps profile_two b.place (length u) (length u + length octets + n) w judgement j (reaches judgement j) in
+    let le = reads_before profile_two (s ++ more) b.place (length u) (length u + length octets + n) a m ok is_due
+    (subst (λ z. Keeps (length u + length octets + n) (step profile_two b.place (length u) z)) (sym rest) keeps) h.0 h.1.encodes in
+    omega (arith, ap length b.joined, length-append u octets)
+
+-- so many octets surely still belong to the message
+pub need_surely : (path : Path) (at : ℕ) (s octets : List ℕ) (l : StandsLast path at s octets) (n : ℕ) → IsNeed l.0.place at octets n
+    → (more : List ℕ) (a : Apdu) (m : ℕ) → IsTrue (are_octets (s ++ more)) → Accepts profile_two (s ++ more) a m → length s + n ≤ m
+need_surely path at s octets l n need more a m ok h =
+    let b = l.0 in
+    let u = b.before in
     let near = short path at s octets l in
-    let size : at + length octets + n ≡ length s + n = omega (arith, b.offset, ap length b.joined, length-append u octets) in
-    let reach : (x : Option ℕ) → outermost b.place ≡ x → NeedsBefore x b.place at octets n → at + length octets + n ≤ m = λ x. elim x as (λ x. outermost b.place ≡ x → NeedsBefore x b.place at octets n → at + length octets + n ≤ m) [
-      | Some e ↦ λ q is. let le = ends_before profile_two (s ++ more) b.place (length u) e a m ok is_due (has_outermost b.place e q) h.0 h.1.encodes in omega arith
+    let reach : (x : Option ℕ) → outermost b.place ≡ x → NeedsBefore x b.place at octets n → length s + n ≤ m = λ x. elim x as (λ x. outermost b.place ≡ x → NeedsBefore x b.place at octets n → length s + n ≤ m) [
+      | Some e ↦ λ q is.
+          let is_due : IsDue profile_two (s ++ more) (length u) b.place =
+          subst (λ z. IsDue profile_two z (length u) b.place) (sym (ap (λ z. z ++ more) b.joined ∙ append_assoc u octets more)) (due_at profile_two b.place u (octets ++ more) b.is_place) in
+          let le = ends_before profile_two (s ++ more) b.place (length u) e a m ok is_due (has_outermost b.place e q) h.0 h.1.encodes in
+          omega (arith, b.offset, ap length b.joined, length-append u octets)
       | None ↦ λ q is.
           let lt : length u < bound profile_two b.place = omega (arith, b.offset, near.0) in
-          let octets_ok : IsTrue (are_octets w) = octets_right u w (subst (λ z. IsTrue (are_octets z)) e ok) in
-          let judgement = judge profile_two b.place (length u) w in
-          let j = judged profile_two b.place (length u) w octets_ok in
-          let reached = inside_reaches b.place (length u) n octets more lt near.1 (in_mark b.place octets) refl is judgement j in
-          let keeps = reaches_keeps profile_two b.place (length u) (length u + length octets + n) w judgement j reached in
-          let le = reads_before profile_two (s ++ more) b.place (length u) (length u + length octets + n) a m ok is_due
-          (subst (λ z. Keeps (length u + length octets + n) (step profile_two b.place (length u) z)) (sym rest) keeps) h.0 h.1.encodes in
-          omega (arith, b.offset)
+          reaches_surely path at s octets l n more (inside_reaches b.place (length u) n octets more lt near.1 (in_mark b.place octets) refl is) a m ok h
     ] in
-    let le = reach (outermost b.place) refl need in
-    omega arith
+    reach (outermost b.place) refl need
+
+-- an identifier has an octet at least, and so has a length
+identifier_some : (t : Tag) (f : Bool) (x : List ℕ) → HasIdentifier t f → identifier t f ≡ x → 0 < length x
+identifier_some t f [] v e = absurd (let d : part_identifier ≡ identified t f [] = sym (ap (λ z. read_identifier (z ++ [])) e) ∙ identifier_read t f [] v in cc)
+identifier_some t f (a ∷ x) v e = omega arith
+
+length_some : (n : ℕ) (octets : List ℕ) → IsLength n octets → 0 < length octets
+length_some n octets (short_form h) = omega arith
+length_some n octets (long_form some few below is) = omega arith
+
+-- whatever comes at a place where none ends takes two octets
+two_reach : (p : Profile) (path : List Open) (k : ℕ) (rest : List ℕ) (j : Judgement) → k < bound p path → Judged p path k rest j → Reaches (k + 2) k j
+two_reach p path k rest (faulty f) lt r = tt
+two_reach p path k rest (closes m) lt r = elim r.how [
+  | inl x ↦ absurd (no_end_here p r.innermost r.outer k (subst (λ z. k < bound p z) r.is_path lt) x.1)
+  | inr x ↦ omega (arith, x.0)
+]
+two_reach p path k rest (opens tag x h end) lt r =
+    let one = identifier_some tag true (identifier tag true) r.started.has_identifier refl in
+    let other : 0 < length r.octets = elim r.how [
+      | inl y ↦ omega (arith, ap length y.0)
+      | inr y ↦ length_some y.0 r.octets y.1
+    ] in
+    let size = r.size in
+    omega (arith, length-append (identifier tag true) r.octets)
+two_reach p path k rest (reads tag h content) lt r =
+    let one = identifier_some tag false (identifier tag false) r.started.has_identifier refl in
+    let other = length_some (length content) r.octets r.is_length in
+    let size = r.size in
+    omega (arith, length-append (identifier tag false) r.octets)
+
+-- so two octets surely belong to the message where no definite element is open
+pub two_surely : (path : Path) (at : ℕ) (s : List ℕ) (l : StandsLast path at s []) → (more : List ℕ) (a : Apdu) (m : ℕ) → IsTrue (are_octets (s ++ more)) → Accepts profile_two (s ++ more) a m → length s + 2 ≤ m
+two_surely path at s l more a m ok h =
+    let lt : length l.0.before < bound profile_two l.0.place = omega (arith, l.0.offset, (short path at s [] l).0) in
+    let size : length l.0.before + 2 ≡ length l.0.before + 0 + 2 = omega arith in
+    reaches_surely path at s [] l 2 more (λ j r. subst (λ z. Reaches z (length l.0.before) j) size (two_reach profile_two l.0.place (length l.0.before) more j lt r)) a m ok h
 
 -- of a part of a length, or of a content, octets are wanting
 length_open : (place : List Open) (octets r : List ℕ) (f : Bool) (n : ℕ) → LengthWants profile_two place f r → (tag : Tag) → read_identifier octets ≡ identified tag f r → NeedsOfLength (read_length f r) octets n → 0 < n

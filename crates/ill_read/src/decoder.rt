@@ -77,6 +77,20 @@ impl Decoder {
         need_at(&self.path, self.at, &self.pending[..room])
     }
 
+    /// How many octets a source is asked for: as many as are needed, and two where a header or an end mark begins, since neither has fewer.
+    #[inline(always)]
+    pub(crate) fn ask(&self) -> u32
+        ensures closed { self.now.state ≢ State.Open → result ≡ 0 }
+        ensures some { (fed : List ℕ) → IsFed self.now fed → self.now.state ≡ State.Open → 0 < result }
+        ensures surely { (fed more : List ℕ) (a : Apdu) (n : ℕ) → IsFed self.now fed → IsTrue (are_octets (fed ++ more)) → self.now.state ≡ State.Open
+            → Accepts profile_two (fed ++ more) a n → length fed + result ≤ n }
+    {
+        match self.need() {
+            1 if self.pending.is_empty() => 2,
+            need => need,
+        }
+    }
+
     /// Takes a piece of at most `need()` octets. With all octets that were fed so far, it answers Done where they begin with a message,
     /// More where one may still become of them, and else their fault; a failure is answered again by each further call.
     #[inline(always)]

@@ -148,7 +148,7 @@ fn pull<R: Source>(
     ensures broken { IsErr result → IsTrue (R.is_broken source.new) }
     ensures stays { IsTrue (R.is_broken source.old) → IsTrue (R.is_broken source.new) }
 {
-    let wanted = (decoder.need().min(room) as usize).min(buffer.len());
+    let wanted = (decoder.ask().min(room) as usize).min(buffer.len());
     if wanted == 0 {
         return Ok(0);
     }

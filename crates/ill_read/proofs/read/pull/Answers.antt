@@ -14,7 +14,7 @@ returns-then-wanted-eq0-clause-fed g c b h exact =
     record {
       fed = subst (IsFed d) (sym none) h;
       exact = subst NoneEndsWithin (sym none) exact;
-      ended = λ e. pulled_ended d d _ c.need.result c.min-wanted.result (λ closed. refl) (λ is_open. c.need.ensures.some b h is_open)
+      ended = λ e. pulled_ended d d _ c.ask.result c.min-wanted.result (λ closed. refl) (λ is_open. c.ask.ensures.some b h is_open)
           (λ z. omega (arith, z, c.min-wanted.ensures, c.min.ensures, space, room))
           (λ l. absurd (omega (arith, l, zero)));
     }
@@ -22,8 +22,8 @@ returns-then-wanted-eq0-clause-fed g c b h exact =
 pub returns-in_err-count-clause-unfinished : goal.returns-in_err-count-clause-unfinished
 returns-in_err-count-clause-unfinished g c is_err b h a n accepted =
     let wanted = c.if-wanted-eq0.false in
-    none_yet c.args.decoder.now b c.need.result h c.need.ensures.closed (λ zero. wanted (omega (arith, zero, c.min-wanted.ensures, c.min.ensures)))
-    (λ x k is_open octets spelled. c.need.ensures.surely b [] x k h octets is_open spelled) a n accepted
+    none_yet c.args.decoder.now b c.ask.result h c.ask.ensures.closed (λ zero. wanted (omega (arith, zero, c.min-wanted.ensures, c.min.ensures)))
+    (λ x k is_open octets spelled. c.ask.ensures.surely b [] x k h octets is_open spelled) a n accepted
 
 pub returns-clause-fed : goal.returns-clause-fed
 returns-clause-fed g c b h exact =
@@ -34,14 +34,14 @@ returns-clause-fed g c b h exact =
     let le = c.in_ok-count.ensures.count in
     let len : length given ≡ c.min-wanted.result = search rules in
     let long : length piece ≡ n = ap length (take-append-le n given (drop c.min-wanted.result c.args.buffer.now) le) ∙ length-take-le n given le in
-    let needed : length piece ≤ c.need.result = omega (arith, long, len, le, c.min-wanted.ensures, c.min.ensures) in
+    let needed : length piece ≤ c.ask.result = omega (arith, long, len, le, c.min-wanted.ensures, c.min.ensures) in
     let space = c.requires.space in let room = c.requires.room in
-    let ends : NoneEndsWithin (b ++ piece) = pulled_exact d b piece c.need.result h c.feed.ensures.octets exact c.need.ensures.closed
-    (λ a k is_open ok accepted. c.need.ensures.surely b piece a k h ok is_open accepted) needed in
+    let ends : NoneEndsWithin (b ++ piece) = pulled_exact d b piece c.ask.result h c.feed.ensures.octets exact c.ask.ensures.closed
+    (λ a k is_open ok accepted. c.ask.ensures.surely b piece a k h ok is_open accepted) needed in
     record {
       fed = c.feed.ensures.fed b h;
       exact = ends;
-      ended = λ e. pulled_ended d c.feed.new.self _ c.need.result c.min-wanted.result c.feed.ensures.stays (λ is_open. c.need.ensures.some b h is_open)
+      ended = λ e. pulled_ended d c.feed.new.self _ c.ask.result c.min-wanted.result c.feed.ensures.stays (λ is_open. c.ask.ensures.some b h is_open)
           (λ z. omega (arith, z, c.min-wanted.ensures, c.min.ensures, space, room))
           (λ l. c.in_ok-count.ensures.octets.1 (let q = ap length e in omega (arith, q, long)) (omega (arith, l, len)));
     }
