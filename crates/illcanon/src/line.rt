@@ -43,60 +43,57 @@ fn on_one<'a>(
 ) -> Result<Command<'a>, AllocError>
     ensures { IfOk result (λ c. (app_of c ≡ one_file name.entry.now) × ((fields_of c).has_globals ≡ false)) }
 {
-    let input = file(
-        alloc,
-        "first",
-        "FILE",
-        "The messages; `-` is standard input",
-    );
     Command::new(alloc, name)
         .about(about)
         .after_help(after)
         .arg(hex_flag(alloc))?
-        .arg(input)
+        .arg(file(
+            alloc,
+            "first",
+            "FILE",
+            "The messages; `-` is standard input",
+        ))
+}
+
+fn show<'a>(alloc: Global) -> Result<Command<'a>, AllocError>
+    ensures { IfOk result (λ c. (app_of c ≡ one_file (codes "show")) × ((fields_of c).has_globals ≡ false)) }
+{
+    on_one(alloc, "show", "Writes the messages as text", help::SHOW)
+}
+
+fn check<'a>(alloc: Global) -> Result<Command<'a>, AllocError>
+    ensures { IfOk result (λ c. (app_of c ≡ one_file (codes "check")) × ((fields_of c).has_globals ≡ false)) }
+{
+    let about = "Says of each message whether it is its normal form";
+    on_one(alloc, "check", about, help::CHECK)
 }
 
 fn same<'a>(alloc: Global) -> Result<Command<'a>, AllocError>
     ensures { IfOk result (λ c. (app_of c ≡ two_files (codes "same")) × ((fields_of c).has_globals ≡ false)) }
 {
-    let first = file(alloc, "first", "FILE", "A message; `-` is standard input");
-    let second = file(alloc, "second", "OTHER", "Another; `-` is standard input");
     Command::new(alloc, "same")
         .about("Says whether two files hold the same message, however it is spelled")
         .after_help(help::SAME)
         .arg(hex_flag(alloc))?
-        .arg(first)?
-        .arg(second)
+        .arg(file(alloc, "first", "FILE", "A message; `-` is standard input"))?
+        .arg(file(alloc, "second", "OTHER", "Another; `-` is standard input"))
 }
 
 fn canonicalise<'a>(alloc: Global) -> Result<Command<'a>, AllocError>
     ensures { IfOk result (λ c. (app_of c ≡ two_files (codes "canonicalise")) × ((fields_of c).has_globals ≡ false)) }
 {
-    let input = file(alloc, "first", "IN", "The messages; `-` is standard input");
-    let output = file(
-        alloc,
-        "second",
-        "OUT",
-        "Where the normal forms go; `-` is standard output",
-    );
+    let output = "Where the normal forms go; `-` is standard output";
     Command::new(alloc, "canonicalise")
         .about("Writes the normal form (DER) of each message in IN to OUT")
         .after_help(help::CANONICALISE)
         .arg(hex_flag(alloc))?
-        .arg(input)?
-        .arg(output)
+        .arg(file(alloc, "first", "IN", "The messages; `-` is standard input"))?
+        .arg(file(alloc, "second", "OUT", output))
 }
 
 fn program<'a>(alloc: Global) -> Result<Command<'a>, AllocError>
     ensures { IfOk result (λ c. app_of c ≡ program) }
 {
-    let show = on_one(alloc, "show", "Writes the messages as text", help::SHOW)?;
-    let check = on_one(
-        alloc,
-        "check",
-        "Says of each message whether it is its normal form",
-        help::CHECK,
-    )?;
     Command::new(alloc, "illcanon")
         .bin_name("illcanon")?
         .version("0.1.0")
@@ -106,8 +103,8 @@ fn program<'a>(alloc: Global) -> Result<Command<'a>, AllocError>
         .after_help(help::PROGRAM)
         .subcommand_required(true)
         .arg_required_else_help(true)
-        .subcommand(show)?
-        .subcommand(check)?
+        .subcommand(show(alloc)?)?
+        .subcommand(check(alloc)?)?
         .subcommand(same(alloc)?)?
         .subcommand(canonicalise(alloc)?)
 }
