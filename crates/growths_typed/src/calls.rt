@@ -1,35 +1,49 @@
 //! The calls, by name.
 use crate::row::{body, expired, transaction_id, transaction_value};
-use ill_apdu::Expired;
 use ill_parts::{Part, SystemId, TransactionId, Typed};
+use ill_requests::Expired;
 use ill_schema::{Value, equal};
 use outcomes::Outcome;
-use std::alloc::Global;
+use std::alloc::{AllocError, Global};
 
 pub const NAMES: &str =
     "part-to-value part-from-flag part-from-value expired-to-value expired-from-value";
 
 /// Makes the call of this name, None where there is none.
 pub fn call(alloc: Global, name: &str) -> Option<Outcome> {
-    match name {
-        "part-to-value" => Some(part_to_value(alloc)),
+    let outcome = match name {
+        "part-to-value" => part_to_value(alloc),
         "part-from-flag" => Some(part_from_flag(alloc)),
-        "part-from-value" => Some(part_from_value(alloc)),
-        "expired-to-value" => Some(expired_to_value(alloc)),
-        "expired-from-value" => Some(expired_from_value(alloc)),
-        _ => None,
+        "part-from-value" => part_from_value(alloc),
+        "expired-to-value" => expired_to_value(alloc),
+        "expired-from-value" => expired_from_value(alloc),
+        _ => return None,
+    };
+    Some(outcome.unwrap_or(Outcome::NotBegun))
+}
+
+/// What came of a call that makes a value.
+fn of_value(made: Result<Value, AllocError>, want: &Value) -> Outcome {
+    match made {
+        Ok(value) => Outcome::right(equal(&value, want)),
+        Err(_) => Outcome::WantOfMemory,
     }
 }
 
-/// The transaction's identification as a value.
-fn part_to_value(alloc: Global) -> Outcome {
-    let (Some(id), Some(want)) = (transaction_id(alloc), transaction_value(alloc)) else {
-        return Outcome::NotBegun;
-    };
-    match id.to_value(alloc) {
-        Ok(value) => Outcome::right(equal(&value, &want)),
+/// What came of a call that reads a part.
+fn of_part<P: PartialEq + Drop>(read: Result<Option<P>, AllocError>, want: &P) -> Outcome {
+    match read {
+        Ok(Some(part)) => Outcome::right(part == *want),
+        Ok(None) => Outcome::right(false),
         Err(_) => Outcome::WantOfMemory,
     }
+}
+
+/// The transaction's identification as a value; None where what it needs couldn't be built.
+fn part_to_value(alloc: Global) -> Option<Outcome> {
+    let id = transaction_id(alloc)?;
+    let want = transaction_value(alloc)?;
+    Some(of_value(id.to_value(alloc), &want))
 }
 
 /// A party of a flag, which is none and takes no memory.
@@ -41,34 +55,22 @@ fn part_from_flag(alloc: Global) -> Outcome {
 }
 
 /// The transaction's identification of its value.
-fn part_from_value(alloc: Global) -> Outcome {
-    let (Some(want), Some(value)) = (transaction_id(alloc), transaction_value(alloc)) else {
-        return Outcome::NotBegun;
-    };
-    match TransactionId::from_value(alloc, &value) {
-        Ok(found) => Outcome::right(found == Some(want)),
-        Err(_) => Outcome::WantOfMemory,
-    }
+fn part_from_value(alloc: Global) -> Option<Outcome> {
+    let want = transaction_id(alloc)?;
+    let value = transaction_value(alloc)?;
+    Some(of_part(TransactionId::from_value(alloc, &value), &want))
 }
 
 /// The EXPIRED as a value.
-fn expired_to_value(alloc: Global) -> Outcome {
-    let (Some(expired), Some(want)) = (expired(alloc), body(alloc)) else {
-        return Outcome::NotBegun;
-    };
-    match expired.to_value(alloc) {
-        Ok(value) => Outcome::right(equal(&value, &want)),
-        Err(_) => Outcome::WantOfMemory,
-    }
+fn expired_to_value(alloc: Global) -> Option<Outcome> {
+    let expired = expired(alloc)?;
+    let want = body(alloc)?;
+    Some(of_value(expired.to_value(alloc), &want))
 }
 
 /// The EXPIRED of its value.
-fn expired_from_value(alloc: Global) -> Outcome {
-    let (Some(want), Some(value)) = (expired(alloc), body(alloc)) else {
-        return Outcome::NotBegun;
-    };
-    match Expired::from_value(alloc, &value) {
-        Ok(found) => Outcome::right(found == Some(want)),
-        Err(_) => Outcome::WantOfMemory,
-    }
+fn expired_from_value(alloc: Global) -> Option<Outcome> {
+    let want = expired(alloc)?;
+    let value = body(alloc)?;
+    Some(of_part(Expired::from_value(alloc, &value), &want))
 }

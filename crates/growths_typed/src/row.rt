@@ -1,7 +1,7 @@
 //! The EXPIRED of the row, version 2, group "G", qualifier "Q", 29 February 2024, once as values and once typed.
 use ber_leaf::{DateText, GeneralText, IllString};
-use ill_apdu::{Expired, Head};
-use ill_parts::{DateTime, ServiceDateTime, TransactionId};
+use ill_parts::{DateTime, Head, ServiceDateTime, TransactionId};
+use ill_requests::Expired;
 use ill_schema::Value;
 use std::alloc::Global;
 

@@ -1,2 +1,3 @@
 pub mod Apdus
+pub mod Equality
 pub mod SameApdu

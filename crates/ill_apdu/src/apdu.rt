@@ -8,13 +8,18 @@ ghost use Rattle.ill_parts.specs.Shape.{Is};
 ghost use Rattle.ill_apdu.specs.Carried.{number_of, node_of, body_of, view_of};
 
 use crate::fault::MessageFault;
+use crate::lost::{Damaged, Lost};
+use crate::overdue::Overdue;
+use crate::recall::Recall;
+use crate::received::Received;
+use crate::renew::{Renew, RenewAnswer};
+use crate::returned::{CheckedIn, Returned};
+use crate::shipped::Shipped;
+use crate::status_query::StatusQuery;
+use crate::text::MessageApdu;
 use ill_parts::Part;
 use ill_requests::{Cancel, CancelReply, ConditionalReply, Expired, IllAnswer, IllRequest};
 use ill_schema::{Message, Value};
-use ill_tracking::{
-    CheckedIn, Damaged, Lost, MessageApdu, Overdue, Recall, Received, Renew, RenewAnswer, Returned,
-    Shipped, StatusQuery,
-};
 use std::alloc::{AllocError, Global};
 
 /// A carried APDU. FORWARD-NOTIFICATION (APDU 2) and STATUS-OR-ERROR-REPORT (APDU 19) are left out.

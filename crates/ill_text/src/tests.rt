@@ -41,22 +41,26 @@ fn sequence<const N: usize>(
     Ok(Some(Value::Seq(Vec::from_array(alloc, entries)?)))
 }
 
-fn expired(alloc: Global) -> Result<Message, Fail> {
+fn transaction(alloc: Global) -> Result<Option<Value>, Fail> {
     let group = general(alloc, b"a\"b\\c\x7f\x00 ~")?;
     let qualifier = visible(alloc, b"")?;
-    let transaction = sequence(alloc, [None, group, qualifier, None])?;
+    sequence(alloc, [None, group, qualifier, None])
+}
+
+fn service(alloc: Global) -> Result<Option<Value>, Fail> {
     let day = sequence(alloc, [date(alloc, b"20240229")?, None])?;
-    let service = sequence(alloc, [day, None])?;
-    let requester = sequence(alloc, [None, None])?;
-    let body = [
-        Some(Value::Whole(-5)),
-        transaction,
-        service,
-        requester,
-        None,
-        None,
-    ];
-    let body = Value::Seq(Vec::from_array(alloc, body)?);
+    sequence(alloc, [day, None])
+}
+
+fn expired(alloc: Global) -> Result<Message, Fail> {
+    let mut rows = Vec::new(alloc);
+    rows.push(Some(Value::Whole(-5)))?;
+    rows.push(transaction(alloc)?)?;
+    rows.push(service(alloc)?)?;
+    rows.push(sequence(alloc, [None, None])?)?;
+    rows.push(None)?;
+    rows.push(None)?;
+    let body = Value::Seq(rows);
     match Message::new(20, body) {
         Ok(message) => Ok(message),
         Err(_) => Err(Fail::from("no message")),

@@ -47,6 +47,11 @@ fn system_id_from_a_flag(rt: HostRuntime) -> Result<(), Fail> {
 fn date_due_of_one_entry(rt: HostRuntime) -> Result<(), Fail> {
     let short = due_entries(rt.alloc(), 1)?;
     assert!(rt; DateDue::from_value(rt.alloc(), &short)?.is_none());
+    Ok(())
+}
+
+#[test]
+fn date_due_of_two_entries(rt: HostRuntime) -> Result<(), Fail> {
     let whole = due_entries(rt.alloc(), 2)?;
     let due = DateDue {
         date_due_field: day(rt.alloc(), "20240229")?,

@@ -41,18 +41,22 @@ const WHOLE_MESSAGES: &str = "\
 const REQUEST: &str =
     "head 1 none:3 1 list:1 - false false 1 1 seq:4 none:2 3 - none:23 seq:23 none:4 false false none:3 seq:26";
 
-/// Version 2, group "G", qualifier "Q", 29 February 2024.
-fn head(alloc: Global) -> Result<Head, Fail> {
-    let transaction_id = TransactionId {
+/// Group "G", qualifier "Q".
+fn transaction_id(alloc: Global) -> Result<TransactionId, Fail> {
+    Ok(TransactionId {
         initial_requester_id: None,
         transaction_group_qualifier: general_string(alloc, "G")?,
         transaction_qualifier: general_string(alloc, "Q")?,
         sub_transaction_qualifier: None,
-    };
+    })
+}
+
+/// Version 2, that transaction, 29 February 2024.
+fn head(alloc: Global) -> Result<Head, Fail> {
     let day = date_text(Vec::from_slice(alloc, b"20240229")?)?;
     Ok(Head {
         protocol_version_num: 2,
-        transaction_id,
+        transaction_id: transaction_id(alloc)?,
         service_date_time: ServiceDateTime {
             date_time_of_this_service: DateTime {
                 date: day,
@@ -100,7 +104,7 @@ fn message_new_of_expired(rt: HostRuntime) -> Result<(), Fail> {
 
 #[test]
 fn transaction_id_of_expired(rt: HostRuntime) -> Result<(), Fail> {
-    let id = head(rt.alloc())?.transaction_id;
+    let id = transaction_id(rt.alloc())?;
     let made = id.to_value(rt.alloc())?;
     let expected = value(rt.alloc(), "- general:G general:Q - seq:4")?;
     assert!(rt; equal(&made, &expected));
@@ -122,20 +126,31 @@ fn note_within_the_second_limit(rt: HostRuntime) -> Result<(), Fail> {
 #[test]
 fn request_value(rt: HostRuntime) -> Result<(), Fail> {
     let made = message(rt.alloc(), "1", REQUEST)?;
-    match Apdu::from_message(rt.alloc(), &made)? {
-        Apdu::IllRequest(request) => {
-            assert_eq!(rt; request.transaction_type, 1);
-            assert!(rt; request.ill_service_type.as_slice() == [1].as_slice());
-            assert_eq!(rt; request.place_on_hold, 3);
-            assert!(rt; !request.retry_flag);
-            assert!(rt; !request.forward_flag);
-            assert!(rt; request.client_id.is_none());
-            let nothing = value(rt.alloc(), "none:23 seq:23")?;
-            assert!(rt; ItemId::from_value(rt.alloc(), &nothing)? == Some(request.item_id));
-        }
-        _ => assert!(rt; false),
-    }
+    let apdu = Apdu::from_message(rt.alloc(), &made)?;
+    let Apdu::IllRequest(request) = &apdu else {
+        return Err(Fail::from("another APDU"));
+    };
+    assert_eq!(rt; request.transaction_type, 1);
+    assert!(rt; request.ill_service_type.as_slice() == [1].as_slice());
+    assert_eq!(rt; request.place_on_hold, 3);
+    assert!(rt; !request.retry_flag);
+    assert!(rt; !request.forward_flag);
+    assert!(rt; request.client_id.is_none());
+    let nothing = value(rt.alloc(), "none:23 seq:23")?;
+    let Some(item) = ItemId::from_value(rt.alloc(), &nothing)? else {
+        return Err(Fail::from("no item"));
+    };
+    assert!(rt; item == request.item_id);
     Ok(())
+}
+
+/// The APDU that a message's octets are read as.
+fn read_back(alloc: Global, message: &Message) -> Result<Apdu, Fail> {
+    let octets = normal_bytes(alloc, message)?;
+    match decode(alloc, &octets) {
+        Ok(read) => Ok(Apdu::from_message(alloc, &read)?),
+        Err(_) => Err(Fail::from("not read")),
+    }
 }
 
 #[test]
@@ -149,11 +164,7 @@ fn whole_messages(rt: HostRuntime) -> Result<(), Fail> {
         let made = sent(rt.alloc(), &apdu)?;
         assert!(rt; made.same_apdu(&given), "{number}");
         assert_eq!(rt; made.octets(), given.octets(), "{number}");
-        let octets = normal_bytes(rt.alloc(), &made)?;
-        let Ok(read) = decode(rt.alloc(), &octets) else {
-            return Err(Fail::from("not read"));
-        };
-        let again = Apdu::from_message(rt.alloc(), &read)?;
+        let again = read_back(rt.alloc(), &made)?;
         assert!(rt; again == apdu, "{number}");
         assert!(rt; last != apdu, "{number}");
         last = again;

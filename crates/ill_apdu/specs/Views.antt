@@ -3,18 +3,18 @@ use Rattle.std.specs.Prelude.{List, [], ◌∷◌, Option, Some, None, option_ma
 use Rattle.ill_schema.specs.Content.{Content}
 use Rattle.ill_parts.specs.Shape.{record_of, flag_content, number_content, date_content, string_content}
 use Rattle.ill_parts.specs.Views.{headed, system_id, postal_address, system_address, client_id, responder_optional_messages, amount, supply_details, date_due}
-use Rattle.ill_tracking.specs.declared.shipped.Shipped.{Shipped}
-use Rattle.ill_tracking.specs.declared.received.Received.{Received}
-use Rattle.ill_tracking.specs.declared.recall.Recall.{Recall}
-use Rattle.ill_tracking.specs.declared.returned.Returned.{Returned}
-use Rattle.ill_tracking.specs.declared.returned.CheckedIn.{CheckedIn}
-use Rattle.ill_tracking.specs.declared.overdue.Overdue.{Overdue}
-use Rattle.ill_tracking.specs.declared.renew.Renew.{Renew}
-use Rattle.ill_tracking.specs.declared.renew.RenewAnswer.{RenewAnswer}
-use Rattle.ill_tracking.specs.declared.lost.Lost.{Lost}
-use Rattle.ill_tracking.specs.declared.lost.Damaged.{Damaged}
-use Rattle.ill_tracking.specs.declared.text.MessageApdu.{MessageApdu}
-use Rattle.ill_tracking.specs.declared.status_query.StatusQuery.{StatusQuery}
+use Rattle.ill_apdu.specs.declared.shipped.Shipped.{Shipped}
+use Rattle.ill_apdu.specs.declared.received.Received.{Received}
+use Rattle.ill_apdu.specs.declared.recall.Recall.{Recall}
+use Rattle.ill_apdu.specs.declared.returned.Returned.{Returned}
+use Rattle.ill_apdu.specs.declared.returned.CheckedIn.{CheckedIn}
+use Rattle.ill_apdu.specs.declared.overdue.Overdue.{Overdue}
+use Rattle.ill_apdu.specs.declared.renew.Renew.{Renew}
+use Rattle.ill_apdu.specs.declared.renew.RenewAnswer.{RenewAnswer}
+use Rattle.ill_apdu.specs.declared.lost.Lost.{Lost}
+use Rattle.ill_apdu.specs.declared.lost.Damaged.{Damaged}
+use Rattle.ill_apdu.specs.declared.text.MessageApdu.{MessageApdu}
+use Rattle.ill_apdu.specs.declared.status_query.StatusQuery.{StatusQuery}
 
 abbrev pub shipped_rows : Shipped → List (Option Content)
 shipped_rows p =

@@ -1,40 +1,40 @@
-//! MESSAGE.
+//! STATUS-QUERY.
 use ber_leaf::IllString;
 use ill_parts::{
-    Head, Node, Part, Typed, entries, optional_value, read_head, required, required_value, sequence,
+    Head, Node, Part, Typed, entries, optional, optional_value, read_head, required_value, sequence,
 };
 use ill_schema::{NodeId, Value};
 use std::alloc::{AllocError, Global};
 
-/// MESSAGE: a text for the other party (APDU 17).
+/// STATUS-QUERY: a party asks how the transaction stands (APDU 18).
 ///
-/// `message-extensions` (row 6) is left out.
+/// `status-query-extensions` (row 6) is left out.
 #[derive(Debug, Drop, PartialEq, Eq)]
-pub struct MessageApdu {
+pub struct StatusQuery {
     /// What each APDU begins with (rows 0 to 4).
     pub head: Head,
-    /// The text (row 5).
-    pub note: IllString,
+    /// A note (row 5).
+    pub note: Option<IllString>,
 }
 
-impl Node for MessageApdu {
-    ghost use Rattle.ill_schema.specs.declared.node.NodeId.TheVariants.{MessageApdu as TheNode};
-    ghost use Rattle.ill_tracking.specs.Views.{message_apdu_rows};
+impl Node for StatusQuery {
+    ghost use Rattle.ill_schema.specs.declared.node.NodeId.TheVariants.{StatusQuery as TheNode};
+    ghost use Rattle.ill_apdu.specs.Views.{status_query_rows};
 
     ghost NODE = { TheNode };
 
-    ghost entries = { message_apdu_rows };
+    ghost entries = { status_query_rows };
 
-    const NODE: NodeId = NodeId::MESSAGE_APDU;
+    const NODE: NodeId = NodeId::STATUS_QUERY;
 }
 
-#[tactic(auto, unfolding(crate::specs::Views::message_apdu))]
-impl Part for MessageApdu {
-    ghost use Rattle.ill_schema.specs.declared.node.NodeId.TheVariants.{MessageApdu as TheNode};
+#[tactic(auto, unfolding(crate::specs::Views::status_query))]
+impl Part for StatusQuery {
+    ghost use Rattle.ill_schema.specs.declared.node.NodeId.TheVariants.{StatusQuery as TheNode};
     ghost use Rattle.ill_parts.specs.Shape.{Is};
-    ghost use Rattle.ill_tracking.specs.Views.{message_apdu};
+    ghost use Rattle.ill_apdu.specs.Views.{status_query};
 
-    ghost content = { message_apdu };
+    ghost content = { status_query };
 
     ghost accepts = { Is TheNode };
 
@@ -45,7 +45,7 @@ impl Part for MessageApdu {
             required_value(alloc, &self.head.service_date_time),
             optional_value(alloc, &self.head.requester_id),
             optional_value(alloc, &self.head.responder_id),
-            required_value(alloc, &self.note),
+            optional_value(alloc, &self.note),
             Ok(None),
         ];
         sequence(alloc, self, entries)
@@ -53,15 +53,15 @@ impl Part for MessageApdu {
 
     fn read(alloc: Global, value: &Value) -> Result<Self, AllocError> {
         let entries = entries::<Self>(value);
-        Ok(MessageApdu {
-            note: required(alloc, entries, 5)?,
+        Ok(StatusQuery {
+            note: optional(alloc, entries, 5)?,
             head: read_head(alloc, entries)?,
         })
     }
 }
 
-impl Typed for MessageApdu {
-    #[tactic(auto, using(crate::proofs::Equality::message_apdu_exact))]
+impl Typed for StatusQuery {
+    #[tactic(auto, using(crate::proofs::Equality::status_query_exact))]
     fn one_view(&self, other: &Self) {
         let _ = other;
     }

@@ -39,7 +39,7 @@ pub struct Shipped {
 
 impl Node for Shipped {
     ghost use Rattle.ill_schema.specs.declared.node.NodeId.TheVariants.{Shipped as TheNode};
-    ghost use Rattle.ill_tracking.specs.Views.{shipped_rows};
+    ghost use Rattle.ill_apdu.specs.Views.{shipped_rows};
 
     ghost NODE = { TheNode };
 
@@ -52,7 +52,7 @@ impl Node for Shipped {
 impl Part for Shipped {
     ghost use Rattle.ill_schema.specs.declared.node.NodeId.TheVariants.{Shipped as TheNode};
     ghost use Rattle.ill_parts.specs.Shape.{Is};
-    ghost use Rattle.ill_tracking.specs.Views.{shipped};
+    ghost use Rattle.ill_apdu.specs.Views.{shipped};
 
     ghost content = { shipped };
 

@@ -22,7 +22,7 @@ pub struct Renew {
 
 impl Node for Renew {
     ghost use Rattle.ill_schema.specs.declared.node.NodeId.TheVariants.{Renew as TheNode};
-    ghost use Rattle.ill_tracking.specs.Views.{renew_rows};
+    ghost use Rattle.ill_apdu.specs.Views.{renew_rows};
 
     ghost NODE = { TheNode };
 
@@ -35,7 +35,7 @@ impl Node for Renew {
 impl Part for Renew {
     ghost use Rattle.ill_schema.specs.declared.node.NodeId.TheVariants.{Renew as TheNode};
     ghost use Rattle.ill_parts.specs.Shape.{Is};
-    ghost use Rattle.ill_tracking.specs.Views.{renew};
+    ghost use Rattle.ill_apdu.specs.Views.{renew};
 
     ghost content = { renew };
 
@@ -91,7 +91,7 @@ pub struct RenewAnswer {
 
 impl Node for RenewAnswer {
     ghost use Rattle.ill_schema.specs.declared.node.NodeId.TheVariants.{RenewAnswer as TheNode};
-    ghost use Rattle.ill_tracking.specs.Views.{renew_answer_rows};
+    ghost use Rattle.ill_apdu.specs.Views.{renew_answer_rows};
 
     ghost NODE = { TheNode };
 
@@ -104,7 +104,7 @@ impl Node for RenewAnswer {
 impl Part for RenewAnswer {
     ghost use Rattle.ill_schema.specs.declared.node.NodeId.TheVariants.{RenewAnswer as TheNode};
     ghost use Rattle.ill_parts.specs.Shape.{Is};
-    ghost use Rattle.ill_tracking.specs.Views.{renew_answer};
+    ghost use Rattle.ill_apdu.specs.Views.{renew_answer};
 
     ghost content = { renew_answer };
 

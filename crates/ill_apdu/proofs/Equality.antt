@@ -2,19 +2,19 @@
 use Rattle.std.proofs.Common.{[], ◌∷◌}
 use Rattle.ill_parts.proofs.Exact.{Exact, flag_exact, number_exact, date_exact, string_exact, must, may, gap_after, record_exact}
 use Rattle.ill_parts.proofs.Equality.{head_segment, system_id_exact, postal_address_exact, system_address_exact, client_id_exact, responder_optional_messages_exact, amount_exact, supply_details_exact, date_due_exact}
-use Rattle.ill_tracking.specs.contracts.shipped.ShippedPartialEq.TheImpl.{eq-value as shipped_eq}
-use Rattle.ill_tracking.specs.contracts.received.ReceivedPartialEq.TheImpl.{eq-value as received_eq}
-use Rattle.ill_tracking.specs.contracts.recall.RecallPartialEq.TheImpl.{eq-value as recall_eq}
-use Rattle.ill_tracking.specs.contracts.returned.ReturnedPartialEq.TheImpl.{eq-value as returned_eq}
-use Rattle.ill_tracking.specs.contracts.returned.CheckedInPartialEq.TheImpl.{eq-value as checked_in_eq}
-use Rattle.ill_tracking.specs.contracts.overdue.OverduePartialEq.TheImpl.{eq-value as overdue_eq}
-use Rattle.ill_tracking.specs.contracts.renew.RenewPartialEq.TheImpl.{eq-value as renew_eq}
-use Rattle.ill_tracking.specs.contracts.renew.RenewAnswerPartialEq.TheImpl.{eq-value as renew_answer_eq}
-use Rattle.ill_tracking.specs.contracts.lost.LostPartialEq.TheImpl.{eq-value as lost_eq}
-use Rattle.ill_tracking.specs.contracts.lost.DamagedPartialEq.TheImpl.{eq-value as damaged_eq}
-use Rattle.ill_tracking.specs.contracts.text.MessageApduPartialEq.TheImpl.{eq-value as message_apdu_eq}
-use Rattle.ill_tracking.specs.contracts.status_query.StatusQueryPartialEq.TheImpl.{eq-value as status_query_eq}
-use Rattle.ill_tracking.specs.Views.{shipped, received, recall, returned, checked_in, overdue, renew, renew_answer, lost, damaged, message_apdu, status_query}
+use Rattle.ill_apdu.specs.contracts.shipped.ShippedPartialEq.TheImpl.{eq-value as shipped_eq}
+use Rattle.ill_apdu.specs.contracts.received.ReceivedPartialEq.TheImpl.{eq-value as received_eq}
+use Rattle.ill_apdu.specs.contracts.recall.RecallPartialEq.TheImpl.{eq-value as recall_eq}
+use Rattle.ill_apdu.specs.contracts.returned.ReturnedPartialEq.TheImpl.{eq-value as returned_eq}
+use Rattle.ill_apdu.specs.contracts.returned.CheckedInPartialEq.TheImpl.{eq-value as checked_in_eq}
+use Rattle.ill_apdu.specs.contracts.overdue.OverduePartialEq.TheImpl.{eq-value as overdue_eq}
+use Rattle.ill_apdu.specs.contracts.renew.RenewPartialEq.TheImpl.{eq-value as renew_eq}
+use Rattle.ill_apdu.specs.contracts.renew.RenewAnswerPartialEq.TheImpl.{eq-value as renew_answer_eq}
+use Rattle.ill_apdu.specs.contracts.lost.LostPartialEq.TheImpl.{eq-value as lost_eq}
+use Rattle.ill_apdu.specs.contracts.lost.DamagedPartialEq.TheImpl.{eq-value as damaged_eq}
+use Rattle.ill_apdu.specs.contracts.text.MessageApduPartialEq.TheImpl.{eq-value as message_apdu_eq}
+use Rattle.ill_apdu.specs.contracts.status_query.StatusQueryPartialEq.TheImpl.{eq-value as status_query_eq}
+use Rattle.ill_apdu.specs.Views.{shipped, received, recall, returned, checked_in, overdue, renew, renew_answer, lost, damaged, message_apdu, status_query}
 
 pub shipped_exact : Exact shipped shipped_eq.it
 unfolding shipped

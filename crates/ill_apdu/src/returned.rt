@@ -26,7 +26,7 @@ pub struct Returned {
 
 impl Node for Returned {
     ghost use Rattle.ill_schema.specs.declared.node.NodeId.TheVariants.{Returned as TheNode};
-    ghost use Rattle.ill_tracking.specs.Views.{returned_rows};
+    ghost use Rattle.ill_apdu.specs.Views.{returned_rows};
 
     ghost NODE = { TheNode };
 
@@ -39,7 +39,7 @@ impl Node for Returned {
 impl Part for Returned {
     ghost use Rattle.ill_schema.specs.declared.node.NodeId.TheVariants.{Returned as TheNode};
     ghost use Rattle.ill_parts.specs.Shape.{Is};
-    ghost use Rattle.ill_tracking.specs.Views.{returned};
+    ghost use Rattle.ill_apdu.specs.Views.{returned};
 
     ghost content = { returned };
 
@@ -98,7 +98,7 @@ pub struct CheckedIn {
 
 impl Node for CheckedIn {
     ghost use Rattle.ill_schema.specs.declared.node.NodeId.TheVariants.{CheckedIn as TheNode};
-    ghost use Rattle.ill_tracking.specs.Views.{checked_in_rows};
+    ghost use Rattle.ill_apdu.specs.Views.{checked_in_rows};
 
     ghost NODE = { TheNode };
 
@@ -111,7 +111,7 @@ impl Node for CheckedIn {
 impl Part for CheckedIn {
     ghost use Rattle.ill_schema.specs.declared.node.NodeId.TheVariants.{CheckedIn as TheNode};
     ghost use Rattle.ill_parts.specs.Shape.{Is};
-    ghost use Rattle.ill_tracking.specs.Views.{checked_in};
+    ghost use Rattle.ill_apdu.specs.Views.{checked_in};
 
     ghost content = { checked_in };
 

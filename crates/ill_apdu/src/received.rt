@@ -26,7 +26,7 @@ pub struct Received {
 
 impl Node for Received {
     ghost use Rattle.ill_schema.specs.declared.node.NodeId.TheVariants.{Received as TheNode};
-    ghost use Rattle.ill_tracking.specs.Views.{received_rows};
+    ghost use Rattle.ill_apdu.specs.Views.{received_rows};
 
     ghost NODE = { TheNode };
 
@@ -39,7 +39,7 @@ impl Node for Received {
 impl Part for Received {
     ghost use Rattle.ill_schema.specs.declared.node.NodeId.TheVariants.{Received as TheNode};
     ghost use Rattle.ill_parts.specs.Shape.{Is};
-    ghost use Rattle.ill_tracking.specs.Views.{received};
+    ghost use Rattle.ill_apdu.specs.Views.{received};
 
     ghost content = { received };
 

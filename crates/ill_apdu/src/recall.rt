@@ -1,43 +1,40 @@
-//! OVERDUE.
+//! RECALL.
 use ber_leaf::IllString;
 use ill_parts::{
-    DateDue, Head, Node, Part, Typed, entries, optional, optional_value, read_head, required,
-    required_value, sequence,
+    Head, Node, Part, Typed, entries, optional, optional_value, read_head, required_value, sequence,
 };
 use ill_schema::{NodeId, Value};
 use std::alloc::{AllocError, Global};
 
-/// OVERDUE: the item should have been returned (APDU 12).
+/// RECALL: the responder wants the item back (APDU 9).
 ///
-/// `overdue-extensions` (row 7) is left out.
+/// `recall-extensions` (row 6) is left out.
 #[derive(Debug, Drop, PartialEq, Eq)]
-pub struct Overdue {
+pub struct Recall {
     /// What each APDU begins with (rows 0 to 4).
     pub head: Head,
-    /// When it was due (row 5).
-    pub date_due: DateDue,
-    /// A note of the responder (row 6).
+    /// A note of the responder (row 5).
     pub responder_note: Option<IllString>,
 }
 
-impl Node for Overdue {
-    ghost use Rattle.ill_schema.specs.declared.node.NodeId.TheVariants.{Overdue as TheNode};
-    ghost use Rattle.ill_tracking.specs.Views.{overdue_rows};
+impl Node for Recall {
+    ghost use Rattle.ill_schema.specs.declared.node.NodeId.TheVariants.{Recall as TheNode};
+    ghost use Rattle.ill_apdu.specs.Views.{recall_rows};
 
     ghost NODE = { TheNode };
 
-    ghost entries = { overdue_rows };
+    ghost entries = { recall_rows };
 
-    const NODE: NodeId = NodeId::OVERDUE;
+    const NODE: NodeId = NodeId::RECALL;
 }
 
-#[tactic(auto, unfolding(crate::specs::Views::overdue))]
-impl Part for Overdue {
-    ghost use Rattle.ill_schema.specs.declared.node.NodeId.TheVariants.{Overdue as TheNode};
+#[tactic(auto, unfolding(crate::specs::Views::recall))]
+impl Part for Recall {
+    ghost use Rattle.ill_schema.specs.declared.node.NodeId.TheVariants.{Recall as TheNode};
     ghost use Rattle.ill_parts.specs.Shape.{Is};
-    ghost use Rattle.ill_tracking.specs.Views.{overdue};
+    ghost use Rattle.ill_apdu.specs.Views.{recall};
 
-    ghost content = { overdue };
+    ghost content = { recall };
 
     ghost accepts = { Is TheNode };
 
@@ -48,7 +45,6 @@ impl Part for Overdue {
             required_value(alloc, &self.head.service_date_time),
             optional_value(alloc, &self.head.requester_id),
             optional_value(alloc, &self.head.responder_id),
-            required_value(alloc, &self.date_due),
             optional_value(alloc, &self.responder_note),
             Ok(None),
         ];
@@ -57,16 +53,15 @@ impl Part for Overdue {
 
     fn read(alloc: Global, value: &Value) -> Result<Self, AllocError> {
         let entries = entries::<Self>(value);
-        Ok(Overdue {
-            date_due: required(alloc, entries, 5)?,
-            responder_note: optional(alloc, entries, 6)?,
+        Ok(Recall {
+            responder_note: optional(alloc, entries, 5)?,
             head: read_head(alloc, entries)?,
         })
     }
 }
 
-impl Typed for Overdue {
-    #[tactic(auto, using(crate::proofs::Equality::overdue_exact))]
+impl Typed for Recall {
+    #[tactic(auto, using(crate::proofs::Equality::recall_exact))]
     fn one_view(&self, other: &Self) {
         let _ = other;
     }

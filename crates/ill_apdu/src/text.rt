@@ -1,40 +1,40 @@
-//! STATUS-QUERY.
+//! MESSAGE.
 use ber_leaf::IllString;
 use ill_parts::{
-    Head, Node, Part, Typed, entries, optional, optional_value, read_head, required_value, sequence,
+    Head, Node, Part, Typed, entries, optional_value, read_head, required, required_value, sequence,
 };
 use ill_schema::{NodeId, Value};
 use std::alloc::{AllocError, Global};
 
-/// STATUS-QUERY: a party asks how the transaction stands (APDU 18).
+/// MESSAGE: a text for the other party (APDU 17).
 ///
-/// `status-query-extensions` (row 6) is left out.
+/// `message-extensions` (row 6) is left out.
 #[derive(Debug, Drop, PartialEq, Eq)]
-pub struct StatusQuery {
+pub struct MessageApdu {
     /// What each APDU begins with (rows 0 to 4).
     pub head: Head,
-    /// A note (row 5).
-    pub note: Option<IllString>,
+    /// The text (row 5).
+    pub note: IllString,
 }
 
-impl Node for StatusQuery {
-    ghost use Rattle.ill_schema.specs.declared.node.NodeId.TheVariants.{StatusQuery as TheNode};
-    ghost use Rattle.ill_tracking.specs.Views.{status_query_rows};
+impl Node for MessageApdu {
+    ghost use Rattle.ill_schema.specs.declared.node.NodeId.TheVariants.{MessageApdu as TheNode};
+    ghost use Rattle.ill_apdu.specs.Views.{message_apdu_rows};
 
     ghost NODE = { TheNode };
 
-    ghost entries = { status_query_rows };
+    ghost entries = { message_apdu_rows };
 
-    const NODE: NodeId = NodeId::STATUS_QUERY;
+    const NODE: NodeId = NodeId::MESSAGE_APDU;
 }
 
-#[tactic(auto, unfolding(crate::specs::Views::status_query))]
-impl Part for StatusQuery {
-    ghost use Rattle.ill_schema.specs.declared.node.NodeId.TheVariants.{StatusQuery as TheNode};
+#[tactic(auto, unfolding(crate::specs::Views::message_apdu))]
+impl Part for MessageApdu {
+    ghost use Rattle.ill_schema.specs.declared.node.NodeId.TheVariants.{MessageApdu as TheNode};
     ghost use Rattle.ill_parts.specs.Shape.{Is};
-    ghost use Rattle.ill_tracking.specs.Views.{status_query};
+    ghost use Rattle.ill_apdu.specs.Views.{message_apdu};
 
-    ghost content = { status_query };
+    ghost content = { message_apdu };
 
     ghost accepts = { Is TheNode };
 
@@ -45,7 +45,7 @@ impl Part for StatusQuery {
             required_value(alloc, &self.head.service_date_time),
             optional_value(alloc, &self.head.requester_id),
             optional_value(alloc, &self.head.responder_id),
-            optional_value(alloc, &self.note),
+            required_value(alloc, &self.note),
             Ok(None),
         ];
         sequence(alloc, self, entries)
@@ -53,15 +53,15 @@ impl Part for StatusQuery {
 
     fn read(alloc: Global, value: &Value) -> Result<Self, AllocError> {
         let entries = entries::<Self>(value);
-        Ok(StatusQuery {
-            note: optional(alloc, entries, 5)?,
+        Ok(MessageApdu {
+            note: required(alloc, entries, 5)?,
             head: read_head(alloc, entries)?,
         })
     }
 }
 
-impl Typed for StatusQuery {
-    #[tactic(auto, using(crate::proofs::Equality::status_query_exact))]
+impl Typed for MessageApdu {
+    #[tactic(auto, using(crate::proofs::Equality::message_apdu_exact))]
     fn one_view(&self, other: &Self) {
         let _ = other;
     }

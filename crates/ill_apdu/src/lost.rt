@@ -19,7 +19,7 @@ pub struct Lost {
 
 impl Node for Lost {
     ghost use Rattle.ill_schema.specs.declared.node.NodeId.TheVariants.{Lost as TheNode};
-    ghost use Rattle.ill_tracking.specs.Views.{lost_rows};
+    ghost use Rattle.ill_apdu.specs.Views.{lost_rows};
 
     ghost NODE = { TheNode };
 
@@ -32,7 +32,7 @@ impl Node for Lost {
 impl Part for Lost {
     ghost use Rattle.ill_schema.specs.declared.node.NodeId.TheVariants.{Lost as TheNode};
     ghost use Rattle.ill_parts.specs.Shape.{Is};
-    ghost use Rattle.ill_tracking.specs.Views.{lost};
+    ghost use Rattle.ill_apdu.specs.Views.{lost};
 
     ghost content = { lost };
 
@@ -82,7 +82,7 @@ pub struct Damaged {
 
 impl Node for Damaged {
     ghost use Rattle.ill_schema.specs.declared.node.NodeId.TheVariants.{Damaged as TheNode};
-    ghost use Rattle.ill_tracking.specs.Views.{damaged_rows};
+    ghost use Rattle.ill_apdu.specs.Views.{damaged_rows};
 
     ghost NODE = { TheNode };
 
@@ -95,7 +95,7 @@ impl Node for Damaged {
 impl Part for Damaged {
     ghost use Rattle.ill_schema.specs.declared.node.NodeId.TheVariants.{Damaged as TheNode};
     ghost use Rattle.ill_parts.specs.Shape.{Is};
-    ghost use Rattle.ill_tracking.specs.Views.{damaged};
+    ghost use Rattle.ill_apdu.specs.Views.{damaged};
 
     ghost content = { damaged };
 

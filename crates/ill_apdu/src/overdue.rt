@@ -1,40 +1,43 @@
-//! RECALL.
+//! OVERDUE.
 use ber_leaf::IllString;
 use ill_parts::{
-    Head, Node, Part, Typed, entries, optional, optional_value, read_head, required_value, sequence,
+    DateDue, Head, Node, Part, Typed, entries, optional, optional_value, read_head, required,
+    required_value, sequence,
 };
 use ill_schema::{NodeId, Value};
 use std::alloc::{AllocError, Global};
 
-/// RECALL: the responder wants the item back (APDU 9).
+/// OVERDUE: the item should have been returned (APDU 12).
 ///
-/// `recall-extensions` (row 6) is left out.
+/// `overdue-extensions` (row 7) is left out.
 #[derive(Debug, Drop, PartialEq, Eq)]
-pub struct Recall {
+pub struct Overdue {
     /// What each APDU begins with (rows 0 to 4).
     pub head: Head,
-    /// A note of the responder (row 5).
+    /// When it was due (row 5).
+    pub date_due: DateDue,
+    /// A note of the responder (row 6).
     pub responder_note: Option<IllString>,
 }
 
-impl Node for Recall {
-    ghost use Rattle.ill_schema.specs.declared.node.NodeId.TheVariants.{Recall as TheNode};
-    ghost use Rattle.ill_tracking.specs.Views.{recall_rows};
+impl Node for Overdue {
+    ghost use Rattle.ill_schema.specs.declared.node.NodeId.TheVariants.{Overdue as TheNode};
+    ghost use Rattle.ill_apdu.specs.Views.{overdue_rows};
 
     ghost NODE = { TheNode };
 
-    ghost entries = { recall_rows };
+    ghost entries = { overdue_rows };
 
-    const NODE: NodeId = NodeId::RECALL;
+    const NODE: NodeId = NodeId::OVERDUE;
 }
 
-#[tactic(auto, unfolding(crate::specs::Views::recall))]
-impl Part for Recall {
-    ghost use Rattle.ill_schema.specs.declared.node.NodeId.TheVariants.{Recall as TheNode};
+#[tactic(auto, unfolding(crate::specs::Views::overdue))]
+impl Part for Overdue {
+    ghost use Rattle.ill_schema.specs.declared.node.NodeId.TheVariants.{Overdue as TheNode};
     ghost use Rattle.ill_parts.specs.Shape.{Is};
-    ghost use Rattle.ill_tracking.specs.Views.{recall};
+    ghost use Rattle.ill_apdu.specs.Views.{overdue};
 
-    ghost content = { recall };
+    ghost content = { overdue };
 
     ghost accepts = { Is TheNode };
 
@@ -45,6 +48,7 @@ impl Part for Recall {
             required_value(alloc, &self.head.service_date_time),
             optional_value(alloc, &self.head.requester_id),
             optional_value(alloc, &self.head.responder_id),
+            required_value(alloc, &self.date_due),
             optional_value(alloc, &self.responder_note),
             Ok(None),
         ];
@@ -53,15 +57,16 @@ impl Part for Recall {
 
     fn read(alloc: Global, value: &Value) -> Result<Self, AllocError> {
         let entries = entries::<Self>(value);
-        Ok(Recall {
-            responder_note: optional(alloc, entries, 5)?,
+        Ok(Overdue {
+            date_due: required(alloc, entries, 5)?,
+            responder_note: optional(alloc, entries, 6)?,
             head: read_head(alloc, entries)?,
         })
     }
 }
 
-impl Typed for Recall {
-    #[tactic(auto, using(crate::proofs::Equality::recall_exact))]
+impl Typed for Overdue {
+    #[tactic(auto, using(crate::proofs::Equality::overdue_exact))]
     fn one_view(&self, other: &Self) {
         let _ = other;
     }
