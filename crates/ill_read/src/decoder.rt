@@ -91,8 +91,9 @@ impl Decoder {
         }
     }
 
-    /// Takes a piece of at most `need()` octets. With all octets that were fed so far, it answers Done where they begin with a message,
-    /// More where one may still become of them, and else their fault; a failure is answered again by each further call.
+    /// Takes the next piece; one of at most `need()` octets holds none behind the message. With all octets that were fed so far, it answers
+    /// Done where they begin with a message, More where one may still become of them, and else their fault; a failure is answered again by
+    /// each further call.
     #[inline(always)]
     pub fn feed(&mut self, piece: &[u8]) -> Result<Progress, Failure>
         ensures fed { (fed : List ℕ) → IsFed self.old fed → IsFed self.new (fed ++ piece.now) }
