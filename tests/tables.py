@@ -48,8 +48,8 @@ def read_names():
         name: (head if kind else []) + re.findall(r'"([^"]*)"', text)
         for name, kind, text in re.findall(r"const ([A-Z_]+): Names<\d+> =\s*(headed!)?\[(.*?)\];\n", source, re.S)
     }
-    entry = r'NodeId::(\w+) => \(\s*"([^"]*)",\s*&([A-Z_]+),?\s*\)'
-    return {node: (title, constants[name]) for node, title, name in re.findall(entry, source)}
+    titles = dict(re.findall(r'NodeId::(\w+) => "([^"]*)",', source))
+    return {node: (titles.get(node, ""), constants[name]) for node, name in re.findall(r"NodeId::(\w+) => &([A-Z_]+),", source)}
 
 
 NAMES = read_names()

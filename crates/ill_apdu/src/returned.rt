@@ -1,7 +1,7 @@
 //! RETURNED and CHECKED-IN.
 use ber_leaf::{DateText, IllString};
 use ill_parts::{
-    Amount, Head, Node, Part, Typed, entries, optional, optional_value, read_head, required,
+    Amount, Head, Node, Part, Typed, both, entries, optional, optional_value, read_head, required,
     required_value, sequence,
 };
 use ill_schema::{NodeId, Value};
@@ -64,12 +64,18 @@ impl Part for Returned {
 
     fn read(alloc: Global, value: &Value) -> Result<Self, AllocError> {
         let entries = entries::<Self>(value);
+        let front = both(read_head(alloc, entries), required(alloc, entries, 6));
+        let via = both(optional(alloc, entries, 7), optional(alloc, entries, 8));
+        let back = both(via, optional(alloc, entries, 9));
+        let ((head, date_returned), ((returned_via, insured_for), requester_note)) = both(
+            front, back,
+        )?;
         Ok(Returned {
-            date_returned: required(alloc, entries, 6)?,
-            returned_via: optional(alloc, entries, 7)?,
-            insured_for: optional(alloc, entries, 8)?,
-            requester_note: optional(alloc, entries, 9)?,
-            head: read_head(alloc, entries)?,
+            head,
+            date_returned,
+            returned_via,
+            insured_for,
+            requester_note,
         })
     }
 }

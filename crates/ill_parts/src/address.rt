@@ -1,5 +1,7 @@
 //! Addresses.
-use crate::part::{Node, Part, Typed, entries, optional, optional_value, sequence};
+use crate::part::{
+    Node, Part, Typed, both, entries, four_optional, optional, optional_value, sequence,
+};
 use crate::party::Name;
 use ber_leaf::IllString;
 use ill_schema::{NodeId, Value};
@@ -63,15 +65,18 @@ impl Part for PostalAddress {
 
     fn read(alloc: Global, value: &Value) -> Result<Self, AllocError> {
         let entries = entries::<Self>(value);
+        let lines = four_optional(alloc, entries, (0, 1, 2, 3));
+        let place = four_optional(alloc, entries, (4, 5, 6, 7));
+        let (lines, place) = both(lines, place)?;
         Ok(PostalAddress {
-            name_of_person_or_institution: optional(alloc, entries, 0)?,
-            extended_postal_delivery_address: optional(alloc, entries, 1)?,
-            street_and_number: optional(alloc, entries, 2)?,
-            post_office_box: optional(alloc, entries, 3)?,
-            city: optional(alloc, entries, 4)?,
-            region: optional(alloc, entries, 5)?,
-            country: optional(alloc, entries, 6)?,
-            postal_code: optional(alloc, entries, 7)?,
+            name_of_person_or_institution: lines.0,
+            extended_postal_delivery_address: lines.1,
+            street_and_number: lines.2,
+            post_office_box: lines.3,
+            city: place.0,
+            region: place.1,
+            country: place.2,
+            postal_code: place.3,
         })
     }
 }
@@ -183,8 +188,8 @@ impl Part for DeliveryAddress {
     fn read(alloc: Global, value: &Value) -> Result<Self, AllocError> {
         let entries = entries::<Self>(value);
         Ok(DeliveryAddress {
-            postal_address: optional(alloc, entries, 0)?,
             electronic_address: optional(alloc, entries, 1)?,
+            postal_address: optional(alloc, entries, 0)?,
         })
     }
 }

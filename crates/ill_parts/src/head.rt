@@ -4,7 +4,7 @@ ghost use Rattle.ill_schema.specs.declared.node.NodeId.TheVariants.{Integer, Tra
 ghost use Rattle.ill_parts.specs.Shape.{Is, Must, May, entry_at, number_content};
 ghost use Rattle.ill_parts.specs.Views.{transaction_id, service_date_time, system_id};
 
-use crate::part::{optional, required};
+use crate::part::{both, optional, required};
 use crate::party::SystemId;
 use crate::transaction::{ServiceDateTime, TransactionId};
 use ill_schema::Value;
@@ -40,11 +40,18 @@ pub fn read_head(alloc: Global, entries: &[Option<Value>]) -> Result<Head, Alloc
     ensures requester { IfOk result (λ h. option_map system_id h.requester_id ≡ entry_at entries.now 3) }
     ensures responder { IfOk result (λ h. option_map system_id h.responder_id ≡ entry_at entries.now 4) }
 {
+    let protocol_version_num = required(alloc, entries, 0)?;
+    let transaction = both(required(alloc, entries, 1), required(alloc, entries, 2));
+    let parties = both(optional(alloc, entries, 3), optional(alloc, entries, 4));
+    let ((transaction_id, service_date_time), (requester_id, responder_id)) = both(
+        transaction,
+        parties,
+    )?;
     Ok(Head {
-        protocol_version_num: required(alloc, entries, 0)?,
-        transaction_id: required(alloc, entries, 1)?,
-        service_date_time: required(alloc, entries, 2)?,
-        requester_id: optional(alloc, entries, 3)?,
-        responder_id: optional(alloc, entries, 4)?,
+        protocol_version_num,
+        transaction_id,
+        service_date_time,
+        requester_id,
+        responder_id,
     })
 }

@@ -3,7 +3,8 @@ use crate::cost::Amount;
 use crate::delivery::ShippedVia;
 use crate::medium::UnitsPerMedium;
 use crate::part::{
-    Node, Part, Typed, entries, optional, optional_value, required, required_value, sequence,
+    Node, Part, Typed, both, entries, four_optional, optional, optional_value, required,
+    required_value, sequence,
 };
 use ber_leaf::DateText;
 use ill_schema::{NodeId, Value};
@@ -126,16 +127,20 @@ impl Part for SupplyDetails {
 
     fn read(alloc: Global, value: &Value) -> Result<Self, AllocError> {
         let entries = entries::<Self>(value);
+        let dates = four_optional(alloc, entries, (0, 1, 2, 3));
+        let terms = four_optional(alloc, entries, (4, 5, 6, 7));
+        let units = optional(alloc, entries, 8);
+        let ((dates, terms), units) = both(both(dates, terms), units)?;
         Ok(SupplyDetails {
-            date_shipped: optional(alloc, entries, 0)?,
-            date_due: optional(alloc, entries, 1)?,
-            chargeable_units: optional(alloc, entries, 2)?,
-            cost: optional(alloc, entries, 3)?,
-            shipped_conditions: optional(alloc, entries, 4)?,
-            shipped_via: optional(alloc, entries, 5)?,
-            insured_for: optional(alloc, entries, 6)?,
-            return_insurance_require: optional(alloc, entries, 7)?,
-            no_of_units_per_medium: optional(alloc, entries, 8)?,
+            date_shipped: dates.0,
+            date_due: dates.1,
+            chargeable_units: dates.2,
+            cost: dates.3,
+            shipped_conditions: terms.0,
+            shipped_via: terms.1,
+            insured_for: terms.2,
+            return_insurance_require: terms.3,
+            no_of_units_per_medium: units,
         })
     }
 }

@@ -52,9 +52,9 @@ impl Part for SendTo {
     fn read(alloc: Global, value: &Value) -> Result<Self, AllocError> {
         let entries = entries::<Self>(value);
         Ok(SendTo {
-            system_id: required(alloc, entries, 0)?,
             account_number: optional(alloc, entries, 1)?,
             system_address: optional(alloc, entries, 2)?,
+            system_id: required(alloc, entries, 0)?,
         })
     }
 }

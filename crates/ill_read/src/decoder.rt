@@ -8,7 +8,7 @@ use crate::path::{Body, Path};
 use crate::whole::message_of;
 use ill_schema::{Cause, LIMIT, Message, Refusal};
 use std::alloc::Global;
-use std::mem;
+use std::{fmt, mem};
 
 /// Whether a message is whole.
 #[derive(Clone, Copy, Debug, PartialEq, Eq)]
@@ -18,7 +18,7 @@ pub enum Progress {
 }
 
 /// A decoder that is fed a message in pieces.
-#[derive(Debug, Drop)]
+#[derive(Drop)]
 pub struct Decoder {
     alloc: Global,
     path: Path,
@@ -30,11 +30,21 @@ pub struct Decoder {
     ghost within: { at ≤ 1_048_576 },
 }
 
-#[derive(Debug, Drop)]
+#[derive(Drop)]
 enum State {
     Open,
     Whole(Message),
     Failed(Failure),
+}
+
+/// Shows how far the decoder is, and not what it holds.
+impl fmt::Debug for Decoder {
+    fn fmt<W: fmt::Write>(&self, f: &mut fmt::Formatter<W>) -> fmt::Result {
+        f.debug_struct("Decoder")
+            .field("at", &self.at)
+            .field("pending", &self.pending.len())
+            .finish_non_exhaustive()
+    }
 }
 
 impl Decoder {

@@ -19,7 +19,7 @@ use ber_core::Id;
 use ill_schema::{Kind, NodeId, PartId, Presence, Row, kind, rows_of};
 
 /// What may come next in an open element.
-#[derive(Clone, Copy, Debug, PartialEq, Eq)]
+#[derive(Clone, Copy)]
 pub enum Next {
     /// The rows of a sequence, from a position on.
     Rows(NodeId, u8),
@@ -35,7 +35,7 @@ pub enum Next {
 }
 
 /// Where an element stands in the element round it.
-#[derive(Clone, Copy, Debug, PartialEq, Eq)]
+#[derive(Clone, Copy)]
 pub enum Slot {
     Row(u8),
     Item,
@@ -45,7 +45,7 @@ pub enum Slot {
 
 /// What a tag begins, where that stands, and the alternative of a choice without a tag that it is.
 // The order of the fields lets the processor load each from one store.
-#[derive(Clone, Copy, Debug, PartialEq, Eq)]
+#[derive(Clone, Copy)]
 pub struct Due {
     pub found: Found,
     pub alternative: Option<u8>,

@@ -15,7 +15,7 @@ use ber_core::{Class, Id};
 use ill_schema::{Kind, LeafKind, Mode, NodeId, PartId, Presence, Row, kind};
 
 /// An element, as what it is read.
-#[derive(Clone, Copy, Debug, PartialEq, Eq)]
+#[derive(Clone, Copy)]
 pub enum Element {
     Leaf(LeafType),
     Sequence(NodeId),
@@ -44,21 +44,21 @@ impl Element {
 }
 
 /// What an explicit tag stands round.
-#[derive(Clone, Copy, Debug, PartialEq, Eq)]
+#[derive(Clone, Copy)]
 pub struct Wrapped {
     pub part: PartId,
     pub node: NodeId,
 }
 
 /// What a tag begins.
-#[derive(Clone, Copy, Debug, PartialEq, Eq)]
+#[derive(Clone, Copy)]
 pub enum Found {
     Element(Element),
     LeftOut(PartId),
 }
 
 /// How a row's elements are tagged.
-#[derive(Clone, Copy, Debug, PartialEq, Eq)]
+#[derive(Clone, Copy)]
 pub enum Tagging {
     Untagged,
     Implicit(Class, u32),

@@ -7,7 +7,7 @@ use crate::leaf_type::LeafType;
 use ill_schema::NodeId;
 
 /// An open element: a constructed one whose header has been read.
-#[derive(Clone, Copy, Debug)]
+#[derive(Clone, Copy)]
 pub struct Frame {
     pub element: Element,
     /// Where its value goes in the element round it.

@@ -6,7 +6,7 @@ ghost use Rattle.ill_read.specs.Reading.{class_of};
 use ber_core::{Class, HeaderFault, HeaderState, Id, Len};
 
 /// What the octets at hand show of a header.
-#[derive(Clone, Copy, Debug, PartialEq, Eq)]
+#[derive(Clone, Copy)]
 pub enum HeaderRead {
     NoIdentifier,
     PartIdentifier,
@@ -15,7 +15,7 @@ pub enum HeaderRead {
 }
 
 /// What the octets behind an identifier show of a length.
-#[derive(Clone, Copy, Debug, PartialEq, Eq)]
+#[derive(Clone, Copy)]
 pub enum LengthRead {
     NoLength,
     /// How many octets surely still belong to the header.

@@ -10,7 +10,7 @@ use ber_core::{Id, Len};
 use ill_schema::{Cause, Refusal};
 
 /// What is done at a place where nothing is at fault but, perhaps, the text or content of a leaf.
-#[derive(Clone, Copy, Debug)]
+#[derive(Clone, Copy)]
 pub enum Judgement {
     /// The innermost element ends, behind so many octets of an end mark.
     Closes(u32),
@@ -35,7 +35,7 @@ impl Judgement {
 }
 
 /// A constructed element: the size of its header, and its end.
-#[derive(Clone, Copy, Debug)]
+#[derive(Clone, Copy)]
 pub struct Opening {
     pub slot: Slot,
     pub alternative: Option<u8>,
@@ -46,7 +46,7 @@ pub struct Opening {
 }
 
 /// A primitive element: the sizes of its header and its content.
-#[derive(Clone, Copy, Debug)]
+#[derive(Clone, Copy)]
 pub struct Reading {
     pub slot: Slot,
     pub alternative: Option<u8>,

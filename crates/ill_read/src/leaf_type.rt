@@ -11,7 +11,7 @@ use ber_leaf::{
 use ill_schema::Value;
 
 /// A type of leaf, with the two strings of an ILL-String apart.
-#[derive(Clone, Copy, Debug, PartialEq, Eq)]
+#[derive(Clone, Copy)]
 pub enum LeafType {
     Boolean,
     Integer,

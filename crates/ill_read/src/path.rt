@@ -34,7 +34,7 @@ const TOP: Next = Next::Inner(Wrapped {
 });
 
 /// The open elements, innermost last, with what has been read in them.
-#[derive(Debug, Drop)]
+#[derive(Drop)]
 pub struct Path {
     alloc: Global,
     frames: ArrayVec<Frame, DEPTH>,
@@ -44,7 +44,7 @@ pub struct Path {
 }
 
 /// The value of a message, with the row of ILL-APDU that it is of.
-#[derive(Debug, Drop)]
+#[derive(Drop)]
 pub struct Body {
     pub row: u8,
     pub value: Value,

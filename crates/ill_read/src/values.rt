@@ -12,7 +12,7 @@ use ill_schema::{Kind, LeafKind, NodeId, PartId, Presence, Row, Value, kind, row
 use std::alloc::{AllocError, Global};
 
 /// The values in the open elements, those of the innermost last. A sequence has an entry for each row up to that of its last element.
-#[derive(Debug, Drop)]
+#[derive(Drop)]
 pub struct Values {
     held: Vec<Option<Value>>,
 }

@@ -1,8 +1,8 @@
 //! ILL-ANSWER.
 use ber_leaf::IllString;
 use ill_parts::{
-    Head, Node, Part, ResponderOptionalMessages, SendTo, SystemId, Typed, entries, optional,
-    optional_value, read_head, required, required_value, sequence,
+    Head, Node, Part, ResponderOptionalMessages, SendTo, SystemId, Typed, both, entries,
+    four_optional, optional, optional_value, read_head, required, required_value, sequence,
 };
 use ill_results::Results;
 use ill_schema::{NodeId, Value};
@@ -74,14 +74,18 @@ impl Part for IllAnswer {
 
     fn read(alloc: Global, value: &Value) -> Result<Self, AllocError> {
         let entries = entries::<Self>(value);
+        let transaction_results = required(alloc, entries, 5)?;
+        let lists = four_optional(alloc, entries, (9, 10, 11, 12));
+        let results = both(optional(alloc, entries, 6), lists);
+        let (head, (results_explanation, lists)) = both(read_head(alloc, entries), results)?;
         Ok(IllAnswer {
-            transaction_results: required(alloc, entries, 5)?,
-            responder_optional_messages: optional(alloc, entries, 11)?,
-            responder_note: optional(alloc, entries, 12)?,
-            already_tried_list: optional(alloc, entries, 10)?,
-            send_to_list: optional(alloc, entries, 9)?,
-            results_explanation: optional(alloc, entries, 6)?,
-            head: read_head(alloc, entries)?,
+            head,
+            transaction_results,
+            results_explanation,
+            send_to_list: lists.0,
+            already_tried_list: lists.1,
+            responder_optional_messages: lists.2,
+            responder_note: lists.3,
         })
     }
 }

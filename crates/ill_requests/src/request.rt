@@ -7,8 +7,8 @@ ghost use Rattle.ill_parts.specs.Views.{delivery_address, delivery_service, requ
 use ber_leaf::IllString;
 use ill_parts::{
     ClientId, CostInfo, DeliveryAddress, DeliveryService, Head, ItemId, Node, Part,
-    RequesterOptionalMessages, SearchType, SupplyMediumInfo, ThirdPartyInfo, Typed, entries,
-    optional, optional_value, read_head, required, required_value, sequence,
+    RequesterOptionalMessages, SearchType, SupplyMediumInfo, ThirdPartyInfo, Typed, both, entries,
+    four_optional, optional, optional_value, read_head, required, required_value, sequence,
 };
 use ill_schema::{NodeId, Value};
 use std::alloc::{AllocError, Global};
@@ -175,12 +175,18 @@ fn read_order(alloc: Global, entries: &[Option<Value>]) -> Result<Order, AllocEr
     ensures billing_address { IfOk result (λ r. option_map delivery_address r.billing_address ≡ entry_at entries.now 8) }
     ensures ill_service_type { IfOk result (λ r. Some (listed number_content r.ill_service_type) ≡ entry_at entries.now 9) }
 {
+    let transaction_type = required(alloc, entries, 5)?;
+    let delivery = both(optional(alloc, entries, 6), optional(alloc, entries, 7));
+    let last = both(optional(alloc, entries, 8), required(alloc, entries, 9));
+    let ((delivery_address, delivery_service), (billing_address, ill_service_type)) = both(
+        delivery, last,
+    )?;
     Ok(Order {
-        transaction_type: required(alloc, entries, 5)?,
-        ill_service_type: required(alloc, entries, 9)?,
-        delivery_service: optional(alloc, entries, 7)?,
-        delivery_address: optional(alloc, entries, 6)?,
-        billing_address: optional(alloc, entries, 8)?,
+        transaction_type,
+        delivery_address,
+        delivery_service,
+        billing_address,
+        ill_service_type,
     })
 }
 
@@ -209,13 +215,18 @@ fn read_terms(alloc: Global, entries: &[Option<Value>]) -> Result<Terms, AllocEr
     ensures client_id { IfOk result (λ r. option_map client_id r.client_id ≡ entry_at entries.now 15) }
     ensures item_id { IfOk result (λ r. Some (item_id r.item_id) ≡ entry_at entries.now 16) }
 {
+    let requester_optional_messages = required(alloc, entries, 11)?;
+    let place_on_hold = required(alloc, entries, 14)?;
+    let supply = both(optional(alloc, entries, 12), optional(alloc, entries, 13));
+    let item = both(optional(alloc, entries, 15), required(alloc, entries, 16));
+    let ((search_type, supply_medium_info_type), (client_id, item_id)) = both(supply, item)?;
     Ok(Terms {
-        requester_optional_messages: required(alloc, entries, 11)?,
-        place_on_hold: required(alloc, entries, 14)?,
-        search_type: optional(alloc, entries, 12)?,
-        supply_medium_info_type: optional(alloc, entries, 13)?,
-        client_id: optional(alloc, entries, 15)?,
-        item_id: required(alloc, entries, 16)?,
+        requester_optional_messages,
+        search_type,
+        supply_medium_info_type,
+        place_on_hold,
+        client_id,
+        item_id,
     })
 }
 
@@ -247,13 +258,17 @@ fn read_remarks(alloc: Global, entries: &[Option<Value>]) -> Result<Remarks, All
     ensures requester_note { IfOk result (λ r. option_map string_content r.requester_note ≡ entry_at entries.now 23) }
     ensures forward_note { IfOk result (λ r. option_map string_content r.forward_note ≡ entry_at entries.now 24) }
 {
+    let retry_flag = required(alloc, entries, 21)?;
+    let forward_flag = required(alloc, entries, 22)?;
+    let rules = four_optional(alloc, entries, (18, 19, 20, 23));
+    let (rules, forward_note) = both(rules, optional(alloc, entries, 24))?;
     Ok(Remarks {
-        cost_info_type: optional(alloc, entries, 18)?,
-        copyright_compliance: optional(alloc, entries, 19)?,
-        third_party_info_type: optional(alloc, entries, 20)?,
-        retry_flag: required(alloc, entries, 21)?,
-        forward_flag: required(alloc, entries, 22)?,
-        requester_note: optional(alloc, entries, 23)?,
-        forward_note: optional(alloc, entries, 24)?,
+        cost_info_type: rules.0,
+        copyright_compliance: rules.1,
+        third_party_info_type: rules.2,
+        retry_flag,
+        forward_flag,
+        requester_note: rules.3,
+        forward_note,
     })
 }

@@ -327,77 +327,134 @@ const ILL_APDU: Names<20> = [
     "Expired",
 ];
 
-/// The name of a node, and the names of its rows in order.
-fn names_of(node: NodeId) -> (&'static str, &'static [&'static str])
-    ensures node { result.0.now ≡ (names_of node).0 }
-    ensures rows { map (λ name. name.now) result.1.now ≡ (names_of node).1 }
+/// The name of a node, which is empty for a list that stands inside a row.
+fn node_name(node: NodeId) -> &'static str
+    ensures { result.now ≡ (names_of node).0 }
 {
     match node {
-        NodeId::Symbol => ("Symbol", &SYMBOL),
-        NodeId::Name => ("Name", &NAME),
-        NodeId::SystemId => ("System-Id", &SYSTEM_ID),
-        NodeId::TransactionId => ("Transaction-Id", &TRANSACTION_ID),
-        NodeId::DateTime => ("Date-Time", &DATE_TIME),
-        NodeId::ServiceDateTime => ("Service-Date-Time", &SERVICE_DATE_TIME),
-        NodeId::PostalAddress => ("Postal-Address", &POSTAL_ADDRESS),
-        NodeId::SystemAddress => ("System-Address", &SYSTEM_ADDRESS),
-        NodeId::DeliveryAddress => ("Delivery-Address", &DELIVERY_ADDRESS),
-        NodeId::ClientId => ("Client-Id", &CLIENT_ID),
-        NodeId::DeliveryService => ("Delivery-Service", &DELIVERY_SERVICE),
-        NodeId::RequesterOptionalMessages => (
-            "Requester-Optional-Messages",
-            &REQUESTER_OPTIONAL_MESSAGES,
-        ),
-        NodeId::ResponderOptionalMessages => (
-            "Responder-Optional-Messages",
-            &RESPONDER_OPTIONAL_MESSAGES,
-        ),
-        NodeId::SearchType => ("Search-Type", &SEARCH_TYPE),
-        NodeId::SupplyMediumInfo => ("Supply-Medium-Info", &SUPPLY_MEDIUM_INFO),
-        NodeId::ItemId => ("Item-Id", &ITEM_ID),
-        NodeId::Amount => ("Amount", &AMOUNT),
-        NodeId::CostInfo => ("Cost-Info", &COST_INFO),
-        NodeId::SendTo => ("Send-To", &SEND_TO),
-        NodeId::SendToList => ("Send-To-List", &SEND_TO_LIST),
-        NodeId::AlreadyTriedList => ("Already-Tried-List", &ALREADY_TRIED_LIST),
-        NodeId::ThirdPartyInfo => ("Third-Party-Info", &THIRD_PARTY_INFO),
-        NodeId::UnitsPerMedium => ("Units-Per-Medium", &UNITS_PER_MEDIUM),
-        NodeId::UnitsPerMediumList => ("", &UNITS_PER_MEDIUM_LIST),
-        NodeId::DateDue => ("Date-Due", &DATE_DUE),
-        NodeId::ShippedVia => ("Shipped-Via", &SHIPPED_VIA),
-        NodeId::SupplyDetails => ("Supply-Details", &SUPPLY_DETAILS),
-        NodeId::IllServiceTypes => ("", &ILL_SERVICE_TYPES),
-        NodeId::SupplyMediumInfos => ("", &SUPPLY_MEDIUM_INFOS),
-        NodeId::IllRequest => ("ILL-Request", &ILL_REQUEST),
-        NodeId::Shipped => ("Shipped", &SHIPPED),
-        NodeId::LocationInfo => ("Location-Info", &LOCATION_INFO),
-        NodeId::Locs => ("Locs", &LOCS),
-        NodeId::Conditional => ("Conditional", &CONDITIONAL),
-        NodeId::Retry => ("Retry", &RETRY),
-        NodeId::Unfilled => ("Unfilled", &UNFILLED),
-        NodeId::Locations => ("Locations", &LOCATIONS),
-        NodeId::WillSupply => ("Will-Supply", &WILL_SUPPLY),
-        NodeId::HoldPlaced => ("Hold-Placed", &HOLD_PLACED),
-        NodeId::Estimate => ("Estimate", &ESTIMATE),
-        NodeId::Results => ("Results", &RESULTS),
-        NodeId::IllAnswer => ("ILL-Answer", &ILL_ANSWER),
-        NodeId::ConditionalReply => ("Conditional-Reply", &CONDITIONAL_REPLY),
-        NodeId::Cancel => ("Cancel", &CANCEL),
-        NodeId::CancelReply => ("Cancel-Reply", &CANCEL_REPLY),
-        NodeId::Received => ("Received", &RECEIVED),
-        NodeId::Recall => ("Recall", &RECALL),
-        NodeId::Returned => ("Returned", &RETURNED),
-        NodeId::CheckedIn => ("Checked-In", &CHECKED_IN),
-        NodeId::Overdue => ("Overdue", &OVERDUE),
-        NodeId::Renew => ("Renew", &RENEW),
-        NodeId::RenewAnswer => ("Renew-Answer", &RENEW_ANSWER),
-        NodeId::Lost => ("Lost", &LOST),
-        NodeId::Damaged => ("Damaged", &DAMAGED),
-        NodeId::MessageApdu => ("Message", &MESSAGE_APDU),
-        NodeId::StatusQuery => ("Status-Query", &STATUS_QUERY),
-        NodeId::Expired => ("Expired", &EXPIRED),
-        NodeId::IllApdu => ("ILL-APDU", &ILL_APDU),
-        _ => ("", &[]),
+        NodeId::Symbol => "Symbol",
+        NodeId::Name => "Name",
+        NodeId::SystemId => "System-Id",
+        NodeId::TransactionId => "Transaction-Id",
+        NodeId::DateTime => "Date-Time",
+        NodeId::ServiceDateTime => "Service-Date-Time",
+        NodeId::PostalAddress => "Postal-Address",
+        NodeId::SystemAddress => "System-Address",
+        NodeId::DeliveryAddress => "Delivery-Address",
+        NodeId::ClientId => "Client-Id",
+        NodeId::DeliveryService => "Delivery-Service",
+        NodeId::RequesterOptionalMessages => "Requester-Optional-Messages",
+        NodeId::ResponderOptionalMessages => "Responder-Optional-Messages",
+        NodeId::SearchType => "Search-Type",
+        NodeId::SupplyMediumInfo => "Supply-Medium-Info",
+        NodeId::ItemId => "Item-Id",
+        NodeId::Amount => "Amount",
+        NodeId::CostInfo => "Cost-Info",
+        NodeId::SendTo => "Send-To",
+        NodeId::SendToList => "Send-To-List",
+        NodeId::AlreadyTriedList => "Already-Tried-List",
+        NodeId::ThirdPartyInfo => "Third-Party-Info",
+        NodeId::UnitsPerMedium => "Units-Per-Medium",
+        NodeId::DateDue => "Date-Due",
+        NodeId::ShippedVia => "Shipped-Via",
+        NodeId::SupplyDetails => "Supply-Details",
+        NodeId::IllRequest => "ILL-Request",
+        NodeId::Shipped => "Shipped",
+        NodeId::LocationInfo => "Location-Info",
+        NodeId::Locs => "Locs",
+        NodeId::Conditional => "Conditional",
+        NodeId::Retry => "Retry",
+        NodeId::Unfilled => "Unfilled",
+        NodeId::Locations => "Locations",
+        NodeId::WillSupply => "Will-Supply",
+        NodeId::HoldPlaced => "Hold-Placed",
+        NodeId::Estimate => "Estimate",
+        NodeId::Results => "Results",
+        NodeId::IllAnswer => "ILL-Answer",
+        NodeId::ConditionalReply => "Conditional-Reply",
+        NodeId::Cancel => "Cancel",
+        NodeId::CancelReply => "Cancel-Reply",
+        NodeId::Received => "Received",
+        NodeId::Recall => "Recall",
+        NodeId::Returned => "Returned",
+        NodeId::CheckedIn => "Checked-In",
+        NodeId::Overdue => "Overdue",
+        NodeId::Renew => "Renew",
+        NodeId::RenewAnswer => "Renew-Answer",
+        NodeId::Lost => "Lost",
+        NodeId::Damaged => "Damaged",
+        NodeId::MessageApdu => "Message",
+        NodeId::StatusQuery => "Status-Query",
+        NodeId::Expired => "Expired",
+        NodeId::IllApdu => "ILL-APDU",
+        _ => "",
+    }
+}
+
+/// The names of a node's rows, in order.
+fn row_names(node: NodeId) -> &'static [&'static str]
+    ensures { map (λ name. name.now) result.now ≡ (names_of node).1 }
+{
+    match node {
+        NodeId::Symbol => &SYMBOL,
+        NodeId::Name => &NAME,
+        NodeId::SystemId => &SYSTEM_ID,
+        NodeId::TransactionId => &TRANSACTION_ID,
+        NodeId::DateTime => &DATE_TIME,
+        NodeId::ServiceDateTime => &SERVICE_DATE_TIME,
+        NodeId::PostalAddress => &POSTAL_ADDRESS,
+        NodeId::SystemAddress => &SYSTEM_ADDRESS,
+        NodeId::DeliveryAddress => &DELIVERY_ADDRESS,
+        NodeId::ClientId => &CLIENT_ID,
+        NodeId::DeliveryService => &DELIVERY_SERVICE,
+        NodeId::RequesterOptionalMessages => &REQUESTER_OPTIONAL_MESSAGES,
+        NodeId::ResponderOptionalMessages => &RESPONDER_OPTIONAL_MESSAGES,
+        NodeId::SearchType => &SEARCH_TYPE,
+        NodeId::SupplyMediumInfo => &SUPPLY_MEDIUM_INFO,
+        NodeId::ItemId => &ITEM_ID,
+        NodeId::Amount => &AMOUNT,
+        NodeId::CostInfo => &COST_INFO,
+        NodeId::SendTo => &SEND_TO,
+        NodeId::SendToList => &SEND_TO_LIST,
+        NodeId::AlreadyTriedList => &ALREADY_TRIED_LIST,
+        NodeId::ThirdPartyInfo => &THIRD_PARTY_INFO,
+        NodeId::UnitsPerMedium => &UNITS_PER_MEDIUM,
+        NodeId::UnitsPerMediumList => &UNITS_PER_MEDIUM_LIST,
+        NodeId::DateDue => &DATE_DUE,
+        NodeId::ShippedVia => &SHIPPED_VIA,
+        NodeId::SupplyDetails => &SUPPLY_DETAILS,
+        NodeId::IllServiceTypes => &ILL_SERVICE_TYPES,
+        NodeId::SupplyMediumInfos => &SUPPLY_MEDIUM_INFOS,
+        NodeId::IllRequest => &ILL_REQUEST,
+        NodeId::Shipped => &SHIPPED,
+        NodeId::LocationInfo => &LOCATION_INFO,
+        NodeId::Locs => &LOCS,
+        NodeId::Conditional => &CONDITIONAL,
+        NodeId::Retry => &RETRY,
+        NodeId::Unfilled => &UNFILLED,
+        NodeId::Locations => &LOCATIONS,
+        NodeId::WillSupply => &WILL_SUPPLY,
+        NodeId::HoldPlaced => &HOLD_PLACED,
+        NodeId::Estimate => &ESTIMATE,
+        NodeId::Results => &RESULTS,
+        NodeId::IllAnswer => &ILL_ANSWER,
+        NodeId::ConditionalReply => &CONDITIONAL_REPLY,
+        NodeId::Cancel => &CANCEL,
+        NodeId::CancelReply => &CANCEL_REPLY,
+        NodeId::Received => &RECEIVED,
+        NodeId::Recall => &RECALL,
+        NodeId::Returned => &RETURNED,
+        NodeId::CheckedIn => &CHECKED_IN,
+        NodeId::Overdue => &OVERDUE,
+        NodeId::Renew => &RENEW,
+        NodeId::RenewAnswer => &RENEW_ANSWER,
+        NodeId::Lost => &LOST,
+        NodeId::Damaged => &DAMAGED,
+        NodeId::MessageApdu => &MESSAGE_APDU,
+        NodeId::StatusQuery => &STATUS_QUERY,
+        NodeId::Expired => &EXPIRED,
+        NodeId::IllApdu => &ILL_APDU,
+        _ => &[],
     }
 }
 
@@ -407,9 +464,8 @@ pub fn part_name(part: PartId) -> Option<(&'static str, &'static str)>
     ensures names { MatchOption result (part_name_of part ≡ None) (λ names. part_name_of part ≡ Some (names.0.now, names.1.now)) }
     ensures there { IsSome result ↔ IsSome (slice_get (rows_of part.node) part.row) }
 {
-    let (node, rows) = names_of(part.node);
-    let row = rows.get(part.row as usize)?;
-    Some((node, *row))
+    let row = row_names(part.node).get(part.row as usize)?;
+    Some((node_name(part.node), *row))
 }
 
 /// The node of an APDU's body, None where no APDU of the number is carried.
@@ -431,5 +487,5 @@ pub fn apdu_name(number: u8) -> Option<&'static str>
     ensures { MatchOption result (apdu_name_of number ≡ None) (λ name. apdu_name_of number ≡ Some name.now) }
 {
     let node = apdu_node(number)?;
-    Some(names_of(node).0)
+    Some(node_name(node))
 }

@@ -1,7 +1,7 @@
 //! Values that are parts, and values that are none.
 use ber_leaf::{DateText, IllString, VisibleText};
 use ill_parts::{
-    CostInfo, DateDue, Node, Part, SearchType, SendTo, Symbol, SystemId, Typed, UnitsPerMedium,
+    CostInfo, DateDue, Node, Part, SearchType, Symbol, SystemId, Typed, UnitsPerMedium,
 };
 use ill_schema::{NodeId, Value, equal};
 use std::alloc::{AllocError, Global};
@@ -58,7 +58,17 @@ fn date_due_of_two_entries(rt: HostRuntime) -> Result<(), Fail> {
         renewable: false,
     };
     assert!(rt; equal(&due.to_value(rt.alloc())?, &whole));
-    assert!(rt; DateDue::from_value(rt.alloc(), &whole)? == Some(due));
+    Ok(())
+}
+
+#[test]
+fn date_due_is_read_from_two_entries(rt: HostRuntime) -> Result<(), Fail> {
+    let whole = due_entries(rt.alloc(), 2)?;
+    let Some(due) = DateDue::from_value(rt.alloc(), &whole)? else {
+        return Err("no DateDue")?;
+    };
+    assert!(rt; due.date_due_field == day(rt.alloc(), "20240229")?);
+    assert!(rt; !due.renewable);
     Ok(())
 }
 
@@ -67,10 +77,23 @@ fn visible_differs_from_general(rt: HostRuntime) -> Result<(), Fail> {
     let a = library(general_string(rt.alloc(), "L")?);
     let b = library(visible(rt.alloc(), "L")?);
     assert!(rt; a != b);
-    assert!(rt; a == library(general_string(rt.alloc(), "L")?));
     a.one_view(&b);
-    let symbol = Symbol::PersonSymbol(general_string(rt.alloc(), "L")?);
-    assert!(rt; a.person_or_institution_symbol != Some(symbol));
+    Ok(())
+}
+
+#[test]
+fn equal_texts_are_equal_symbols(rt: HostRuntime) -> Result<(), Fail> {
+    let a = library(general_string(rt.alloc(), "L")?);
+    let b = library(general_string(rt.alloc(), "L")?);
+    assert!(rt; a == b);
+    Ok(())
+}
+
+#[test]
+fn a_person_differs_from_an_institution(rt: HostRuntime) -> Result<(), Fail> {
+    let a = Symbol::InstitutionSymbol(general_string(rt.alloc(), "L")?);
+    let b = Symbol::PersonSymbol(general_string(rt.alloc(), "L")?);
+    assert!(rt; a != b);
     Ok(())
 }
 
@@ -89,31 +112,36 @@ fn lists_are_equal_item_by_item(rt: HostRuntime) -> Result<(), AllocError> {
     Ok(())
 }
 
+/// A SearchType with nothing but its default.
+const SEARCH: SearchType = SearchType {
+    level_of_service: None,
+    need_before_date: None,
+    expiry_flag: 3,
+    expiry_date: None,
+};
+
 #[test]
 fn defaults_hold_their_value(rt: HostRuntime) -> Result<(), Fail> {
-    let search = SearchType {
-        level_of_service: None,
-        need_before_date: None,
-        expiry_flag: 3,
-        expiry_date: None,
-    };
-    let value = search.to_value(rt.alloc())?;
-    assert!(rt; SearchType::from_value(rt.alloc(), &value)? == Some(search));
+    let value = SEARCH.to_value(rt.alloc())?;
+    let read = SearchType::from_value(rt.alloc(), &value)?;
+    assert!(rt; read == Some(SEARCH));
+    Ok(())
+}
+
+#[test]
+fn a_search_type_is_no_cost(rt: HostRuntime) -> Result<(), Fail> {
+    let value = SEARCH.to_value(rt.alloc())?;
     assert!(rt; CostInfo::from_value(rt.alloc(), &value)?.is_none());
     Ok(())
 }
 
 #[test]
 fn debug_text(rt: HostRuntime) -> Result<(), Fail> {
-    let one = SendTo {
-        system_id: library(general_string(rt.alloc(), "L")?),
-        account_number: None,
-        system_address: None,
-    };
+    let one = library(general_string(rt.alloc(), "L")?);
     let text = format!(in rt.alloc(); "{one:?}")?;
     assert!(rt;
         text.as_str().starts_with(
-            "SendTo { system_id: SystemId { person_or_institution_symbol: Some(InstitutionSymbol(General("
+            "SystemId { person_or_institution_symbol: Some(InstitutionSymbol(General("
         )
     );
     Ok(())

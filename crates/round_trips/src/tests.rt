@@ -5,7 +5,7 @@ use ill_parts::{DateTime, ItemId, Part, ServiceDateTime, TransactionId, Typed};
 use ill_read::decode;
 use ill_schema::{Message, Value, equal};
 use ill_write::normal_bytes;
-use std::alloc::Global;
+use std::alloc::{AllocError, Global};
 use std::test::Fail;
 use worked::{date_text, general_string, general_text, message, value};
 
@@ -96,9 +96,15 @@ fn message_new_of_expired(rt: HostRuntime) -> Result<(), Fail> {
     assert_eq!(rt; made.apdu(), 20);
     assert_eq!(rt; made.octets(), 33);
     assert!(rt; equal(made.body(), &value(rt.alloc(), "head - seq:6")?));
-    let read = Apdu::from_message(rt.alloc(), &made)?;
-    assert!(rt; read == expired(rt.alloc())?);
-    read.one_view(&read);
+    Ok(())
+}
+
+#[test]
+fn expired_is_read_from_its_message(rt: HostRuntime) -> Result<(), Fail> {
+    let given = expired(rt.alloc())?;
+    let read = Apdu::from_message(rt.alloc(), &sent(rt.alloc(), &given)?)?;
+    assert!(rt; read == given);
+    read.one_view(&given);
     Ok(())
 }
 
@@ -172,18 +178,27 @@ fn whole_messages(rt: HostRuntime) -> Result<(), Fail> {
     Ok(())
 }
 
+fn is_expired(alloc: Global, value: &Value) -> Result<bool, AllocError> {
+    Ok(Expired::from_value(alloc, value)?.is_some())
+}
+
 #[test]
 fn bodies_that_do_not_fit(rt: HostRuntime) -> Result<(), Fail> {
-    assert!(rt; Expired::from_value(rt.alloc(), &Value::Flag(true))?.is_none());
+    assert!(rt; !is_expired(rt.alloc(), &Value::Flag(true))?);
     let cancel = value(rt.alloc(), "head none:2 seq:7")?;
-    assert!(rt; Expired::from_value(rt.alloc(), &cancel)?.is_none());
+    assert!(rt; !is_expired(rt.alloc(), &cancel)?);
+    Ok(())
+}
+
+#[test]
+fn debug_text_of_a_fault(rt: HostRuntime) -> Result<(), AllocError> {
+    let text = format!(in rt.alloc(); "{:?}", MessageFault::TooLong)?;
+    assert!(rt; text.as_str() == "TooLong");
     Ok(())
 }
 
 #[test]
 fn debug_text(rt: HostRuntime) -> Result<(), Fail> {
-    let text = format!(in rt.alloc(); "{:?}", MessageFault::TooLong)?;
-    assert!(rt; text.as_str() == "TooLong");
     let text = format!(in rt.alloc(); "{:?}", expired(rt.alloc())?)?;
     assert!(rt;
         text.as_str().starts_with(
