@@ -113,10 +113,10 @@ impl Part for ItemId {
         let edition = four_optional(alloc, entries, (8, 9, 10, 11));
         let article = four_optional(alloc, entries, (12, 13, 14, 15));
         let numbers = four_optional(alloc, entries, (16, 18, 19, 21));
-        let last = both(numbers, optional(alloc, entries, 22));
+        let references = both(numbers, optional(alloc, entries, 22));
         let ((work, title), ((edition, article), (numbers, reference))) = both(
             both(work, title),
-            both(both(edition, article), last),
+            both(both(edition, article), references),
         )?;
         Ok(ItemId {
             item_type: work.0,

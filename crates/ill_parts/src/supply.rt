@@ -127,15 +127,15 @@ impl Part for SupplyDetails {
 
     fn read(alloc: Global, value: &Value) -> Result<Self, AllocError> {
         let entries = entries::<Self>(value);
-        let dates = four_optional(alloc, entries, (0, 1, 2, 3));
+        let shipment = four_optional(alloc, entries, (0, 1, 2, 3));
         let terms = four_optional(alloc, entries, (4, 5, 6, 7));
         let units = optional(alloc, entries, 8);
-        let ((dates, terms), units) = both(both(dates, terms), units)?;
+        let ((shipment, terms), units) = both(both(shipment, terms), units)?;
         Ok(SupplyDetails {
-            date_shipped: dates.0,
-            date_due: dates.1,
-            chargeable_units: dates.2,
-            cost: dates.3,
+            date_shipped: shipment.0,
+            date_due: shipment.1,
+            chargeable_units: shipment.2,
+            cost: shipment.3,
             shipped_conditions: terms.0,
             shipped_via: terms.1,
             insured_for: terms.2,

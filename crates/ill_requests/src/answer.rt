@@ -78,14 +78,15 @@ impl Part for IllAnswer {
         let lists = four_optional(alloc, entries, (9, 10, 11, 12));
         let results = both(optional(alloc, entries, 6), lists);
         let (head, (results_explanation, lists)) = both(read_head(alloc, entries), results)?;
+        let (send_to_list, already_tried_list, responder_optional_messages, responder_note) = lists;
         Ok(IllAnswer {
             head,
             transaction_results,
             results_explanation,
-            send_to_list: lists.0,
-            already_tried_list: lists.1,
-            responder_optional_messages: lists.2,
-            responder_note: lists.3,
+            send_to_list,
+            already_tried_list,
+            responder_optional_messages,
+            responder_note,
         })
     }
 }

@@ -177,9 +177,9 @@ fn read_order(alloc: Global, entries: &[Option<Value>]) -> Result<Order, AllocEr
 {
     let transaction_type = required(alloc, entries, 5)?;
     let delivery = both(optional(alloc, entries, 6), optional(alloc, entries, 7));
-    let last = both(optional(alloc, entries, 8), required(alloc, entries, 9));
+    let service = both(optional(alloc, entries, 8), required(alloc, entries, 9));
     let ((delivery_address, delivery_service), (billing_address, ill_service_type)) = both(
-        delivery, last,
+        delivery, service,
     )?;
     Ok(Order {
         transaction_type,
@@ -260,15 +260,16 @@ fn read_remarks(alloc: Global, entries: &[Option<Value>]) -> Result<Remarks, All
 {
     let retry_flag = required(alloc, entries, 21)?;
     let forward_flag = required(alloc, entries, 22)?;
-    let rules = four_optional(alloc, entries, (18, 19, 20, 23));
-    let (rules, forward_note) = both(rules, optional(alloc, entries, 24))?;
+    let remarks = four_optional(alloc, entries, (18, 19, 20, 23));
+    let (remarks, forward_note) = both(remarks, optional(alloc, entries, 24))?;
+    let (cost_info_type, copyright_compliance, third_party_info_type, requester_note) = remarks;
     Ok(Remarks {
-        cost_info_type: rules.0,
-        copyright_compliance: rules.1,
-        third_party_info_type: rules.2,
+        cost_info_type,
+        copyright_compliance,
+        third_party_info_type,
         retry_flag,
         forward_flag,
-        requester_note: rules.3,
+        requester_note,
         forward_note,
     })
 }
