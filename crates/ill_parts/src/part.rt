@@ -1,5 +1,5 @@
 //! What typed parts have in common: how they are written as values and read from them.
-ghost use Rattle.std.specs.Prelude.{◌≡◌, ◌↔◌, IfOk, IsTrue, List, [], map, Option, option_map, MatchOption, Ok};
+ghost use Rattle.std.specs.Prelude.{◌≡◌, ◌↔◌, ◌⊎◌, IfOk, IfErr, IsTrue, List, [], map, Option, option_map, MatchOption, Ok, Err};
 ghost use Rattle.ber_leaf.specs.Profile.{profile_two};
 ghost use Rattle.ill_schema.specs.declared.node.NodeId.{NodeId};
 ghost use Rattle.ill_schema.specs.Content.{Content};
@@ -209,7 +209,8 @@ pub fn both<A: Drop, B: Drop>(
     first: Result<A, AllocError>,
     second: Result<B, AllocError>,
 ) -> Result<(A, B), AllocError>
-    ensures { IfOk result (λ values. (first ≡ Ok values.0) × (second ≡ Ok values.1)) }
+    ensures both { IfOk result (λ values. (first ≡ Ok values.0) × (second ≡ Ok values.1)) }
+    ensures error { IfErr result (λ error. (first ≡ Err error) ⊎ (second ≡ Err error)) }
 {
     Ok((first?, second?))
 }
