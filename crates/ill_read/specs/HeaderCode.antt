@@ -1,5 +1,5 @@
 -- What the decoder reads of a header.
-use Rattle.std.specs.Prelude.{◌≡◌, ℕ, ◌<◌, ◌≤◌, min, List, ◌++◌, length, drop}
+use Rattle.std.specs.Prelude.{◌≡◌, ℕ, ◌-◌, ◌<◌, ◌≤◌, min, List, ◌++◌, length, drop}
 use Rattle.ber_core.specs.declared.header.Header.{Header}
 use Rattle.ber_core.specs.declared.header.Len.{Len}
 use Rattle.ber_core.specs.declared.header.Len.TheVariants.{Definite, Indefinite}
@@ -32,3 +32,10 @@ IsHeaderRead NoIdentifier octets = read_identifier octets ≡ no_identifier
 IsHeaderRead PartIdentifier octets = read_identifier octets ≡ part_identifier
 IsHeaderRead (Identified id length) octets =
     (rest : List ℕ) × (read_identifier octets ≡ identified (tag_of_id id) (form_of_id id) rest) × IsLengthRead length (read_length (form_of_id id) rest) octets
+
+-- how many octets of an element are still to come, where its header was read in so many
+abbrev pub need_read : HeaderRead → ℕ → ℕ
+need_read PartIdentifier count = 1
+need_read (Identified id (PartLength due)) count = due
+need_read (Identified id (Whole (Definite size) header)) count = size - (count - header)
+need_read _ count = 0

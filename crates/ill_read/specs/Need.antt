@@ -1,13 +1,9 @@
 -- How many octets surely still belong to a message.
-use Rattle.std.specs.Prelude.{◌≡◌, ℕ, ◌+◌, ◌-◌, Bool, true, false, ◌&&◌, nat_eq, List, [], ◌∷◌, length, Option, Some, None}
-use Rattle.ber_core.specs.declared.header.Len.TheVariants.{Definite}
+use Rattle.std.specs.Prelude.{◌≡◌, ℕ, ◌+◌, Bool, true, false, ◌&&◌, nat_eq, List, [], ◌∷◌, length, Option, Some, None}
 use Rattle.ill_read.specs.Fault.{is_indefinite}
 use Rattle.ill_read.specs.HeaderCode.{Lacks}
 use Rattle.ill_read.specs.Place.{Open}
 use Rattle.ill_read.specs.Reading.{IdentifierRead, identified, part_identifier, no_identifier, read_identifier, LengthRead, definite, indefinite, part_length, no_length, read_length}
-use Rattle.ill_read.specs.declared.header.HeaderRead.{HeaderRead}
-use Rattle.ill_read.specs.declared.header.HeaderRead.TheVariants.{PartIdentifier, Identified}
-use Rattle.ill_read.specs.declared.header.LengthRead.TheVariants.{PartLength, Whole}
 
 -- the end of the outermost element of definite length
 abbrev pub outermost : List Open → Option ℕ
@@ -48,10 +44,3 @@ NeedsBefore None place at octets n = NeedsAfterMark (in_mark place octets) octet
 -- behind octets that don't reach the next place: as many as lie before the end of the outermost definite element, else what the end mark or the element there still needs
 abbrev pub IsNeed : List Open → ℕ → List ℕ → ℕ → Type 0
 IsNeed place at octets n = NeedsBefore (outermost place) place at octets n
-
--- the same, as the decoder reads it from so many octets
-abbrev pub need_read : HeaderRead → ℕ → ℕ
-need_read PartIdentifier count = 1
-need_read (Identified id (PartLength due)) count = due
-need_read (Identified id (Whole (Definite size) header)) count = size - (count - header)
-need_read _ count = 0

@@ -1,7 +1,8 @@
 //! How many octets surely still belong to a message.
 ghost use Rattle.std.specs.Prelude.{◌≡◌, ℕ, ◌≤◌, List, length};
 ghost use Rattle.ill_read.specs.Feeding.{StandsLast};
-ghost use Rattle.ill_read.specs.Need.{IsNeed, begins_zero, need_read};
+ghost use Rattle.ill_read.specs.HeaderCode.{need_read};
+ghost use Rattle.ill_read.specs.Need.{IsNeed, begins_zero};
 
 use crate::header::{HeaderRead, LengthRead, read_header};
 use crate::path::Path;
