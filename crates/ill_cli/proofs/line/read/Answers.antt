@@ -2,8 +2,8 @@ use Rattle.std.proofs.Common.{◌≡◌, ◌∙◌, true, refl, sym, ap, map}
 use Rattle.std.specs.String.{string_bytes}
 use Rattle.clap.specs.Simple.{App}
 use Rattle.clap.specs.Words.{app_of, fault_of, is_simple_and_free}
-use Rattle.illcanon.specs.CommandLine.{program}
-use Rattle.illcanon.proofs.line.read.Goals as goal
+use Rattle.ill_cli.specs.CommandLine.{program}
+use Rattle.ill_cli.proofs.line.read.Goals as goal
 
 -- no argument of the program has a rule on another
 simple : is_simple_and_free program ≡ true

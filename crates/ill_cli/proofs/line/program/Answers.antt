@@ -1,8 +1,8 @@
 use Rattle.std.proofs.Common.{◌≡◌, ◌∙◌, ap, ap₂, true, codes}
 use Rattle.std.proofs.lemmas.Result.{IfOk-weaker}
 use Rattle.clap.specs.Simple.{App, app_of, app_of_fields, new_app, with_subcommand}
-use Rattle.illcanon.specs.CommandLine.{top}
-use Rattle.illcanon.proofs.line.program.Goals as goal
+use Rattle.ill_cli.specs.CommandLine.{top}
+use Rattle.ill_cli.proofs.line.program.Goals as goal
 
 abbrev with_version : App → App
 with_version a = record a { top = record a.top { has_version = true } }

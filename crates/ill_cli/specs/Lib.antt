@@ -2,3 +2,4 @@ pub mod Opened
 pub mod CommandLine
 pub mod Orders
 pub mod Refused
+pub mod Status

@@ -1,9 +1,7 @@
 //! Command lines, the lines that the program prints where it fails, and its statuses.
-use crate::fault::{Fault, LineFault, status_of};
-use crate::line::order;
-use crate::order::{Order, Verb};
 use clap::Error as LineError;
 use clap::error::ErrorKind;
+use ill_cli::{Fault, LineFault, Order, Verb, order, status_of};
 use ill_jobs::{RunFault, Verdict};
 use ill_normal::{Cause, NodeId, PartId, Refusal, Side};
 use std::alloc::{AllocError, Global};
@@ -55,7 +53,7 @@ fn command_lines_are_orders(rt: HostRuntime) -> Result<(), AllocError> {
 }
 
 #[test]
-fn the_same_word_twice_is_no_order(rt: HostRuntime) -> Result<(), AllocError> {
+fn the_same_word_twice_is_refused(rt: HostRuntime) -> Result<(), AllocError> {
     let alloc = rt.alloc();
     for line in ["illcanon same - -", "illcanon canonicalise a a"] {
         let words = words_of(alloc, line)?;
@@ -108,7 +106,7 @@ fn refused_side(side: Side, at: u32, cause: Cause) -> Fault {
 }
 
 #[test]
-fn faults_are_told_in_one_line(rt: HostRuntime) -> Result<(), AllocError> {
+fn each_fault_is_one_line(rt: HostRuntime) -> Result<(), AllocError> {
     let alloc = rt.alloc();
     let missing = Cause::Missing(PartId {
         node: NodeId::EXPIRED,
@@ -174,22 +172,24 @@ fn faults_are_told_in_one_line(rt: HostRuntime) -> Result<(), AllocError> {
             3,
         ),
         (Fault::Flush, "flush fault", 3),
+        (Fault::cannot_open(alloc, "NAME"), "cannot open NAME", 3),
         (
-            Fault::CannotOpen(String::from_str(alloc, "NAME")?),
-            "cannot open NAME",
+            Fault::cannot_replace(alloc, "NAME"),
+            "cannot replace NAME",
             3,
         ),
+        (Fault::SameFile, "IN and OUT are the same file", 2),
     ];
     for (fault, line, status) in rows {
-        let told = format!(in alloc; "{fault}")?;
-        assert!(rt; told.as_str() == line, "{line}");
+        let line_of_fault = format!(in alloc; "{fault}")?;
+        assert!(rt; line_of_fault.as_str() == line, "{line}");
         assert!(rt; status_of(&Err(fault)) == status, "{line}");
     }
     Ok(())
 }
 
 #[test]
-fn want_of_memory_is_no_mistake_of_the_command_line(rt: HostRuntime) {
+fn out_of_memory_is_no_mistake_of_the_command_line(rt: HostRuntime) {
     let fault = Fault::from(LineFault::Line(LineError::from(AllocError)));
     assert!(rt; status_of(&Err(fault)) == 3);
 }

@@ -2,8 +2,8 @@ use Rattle.std.proofs.Common.{◌≡◌, ◌∙◌, List, Some, None, option_map
 use Rattle.clap.specs.Walk.{Row, Text, first_of}
 use Rattle.clap.specs.Words.{found_of, rows_of}
 use Rattle.clap.proofs.WalkLemmas.{first_value-rows, one_text-rows}
-use Rattle.illcanon.proofs.Found.{both_parts, whichever}
-use Rattle.illcanon.proofs.line.order_of.Goals as goal
+use Rattle.ill_cli.proofs.Found.{both_parts, whichever}
+use Rattle.ill_cli.proofs.line.order_of.Goals as goal
 
 pub returns-clause-some : goal.returns-clause-some
 returns-clause-some c =

@@ -1,8 +1,10 @@
 -- Which words give an order.
 use Rattle.std.specs.Prelude.{◌≡◌, ◌≢◌, true, false, List, codes, Option, Some, option_map}
 use Rattle.clap.specs.Walk.{Row, Text, first_of, one_of}
-use Rattle.illcanon.specs.declared.order.Order.{Order}
-use Rattle.illcanon.specs.declared.order.Verb.{Verb}
+use Rattle.ill_cli.specs.declared.orders.Order.{Order}
+use Rattle.ill_jobs.specs.declared.job.Job.{Job}
+use Rattle.ill_cli.specs.declared.orders.Task.{Task}
+use Rattle.ill_cli.specs.declared.orders.Verb.{Verb}
 
 abbrev pub verb_name : Verb → Text
 verb_name Verb.Show = codes "show"
@@ -27,3 +29,10 @@ IsTwice order = elim order.command as (λ _. Type 0) [
   | Verb.Show ↦ ⊥
   | Verb.Check ↦ ⊥
 ]
+
+-- what a command does: a job with one input, or a comparison of two
+abbrev pub task_of_verb : Verb → Task
+task_of_verb Verb.Show = Task.Run Job.Show
+task_of_verb Verb.Check = Task.Run Job.Check
+task_of_verb Verb.Canonicalise = Task.Run Job.Canonicalise
+task_of_verb Verb.Same = Task.Compare

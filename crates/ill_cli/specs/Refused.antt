@@ -2,10 +2,10 @@
 use Rattle.std.specs.Prelude.{◌≡◌, [], Option, List, Result, Ok, Err}
 use Rattle.clap.specs.Walk.{Row, Text}
 use Rattle.clap.specs.Words.{HasKind, Kinds}
-use Rattle.illcanon.specs.declared.order.Order.{Order}
-use Rattle.illcanon.specs.declared.fault.LineFault.{LineFault}
-use Rattle.illcanon.specs.declared.fault.LineFault.TheVariants.{Line, SameWord}
-use Rattle.illcanon.specs.Orders.{IsOrderOf, IsTwice}
+use Rattle.ill_cli.specs.declared.orders.Order.{Order}
+use Rattle.ill_cli.specs.declared.fault.LineFault.{LineFault}
+use Rattle.ill_cli.specs.declared.fault.LineFault.TheVariants.{Line, SameWord}
+use Rattle.ill_cli.specs.Orders.{IsOrderOf, IsTwice}
 
 -- it is said only where the words have an order with the same word twice
 abbrev pub IsSameWordOnly : Option (Text × List Row) → LineFault → Type 0

@@ -1,4 +1,4 @@
-//! What stands at the end of each help text: what is written, an example, and the statuses.
+//! The end of each help text: what is written, an example, and the statuses.
 
 pub const PROGRAM: &str = "\
 `-` in place of a file is standard input, or standard output for OUT.
@@ -6,7 +6,7 @@ pub const PROGRAM: &str = "\
 Example: illcanon check messages.ber
 
 Status: 0 done, and all is well; 1 a message is refused or not normal, messages are
-different, or the hexadecimal text is none; 2 usage; 3 memory, files or pipes.";
+different, or the hexadecimal text is invalid; 2 usage; 3 memory, files or pipes.";
 
 pub const SHOW: &str = "\
 Each message is a line `message 1 Expired` and then a line for each leaf, as
@@ -14,7 +14,7 @@ Each message is a line `message 1 Expired` and then a line for each leaf, as
 
 Example: illcanon show messages.ber
 
-Status: 0 done; 1 a message is refused, or the hexadecimal text is none; 2 usage;
+Status: 0 done; 1 a message is refused, or the hexadecimal text is invalid; 2 usage;
 3 memory, files or pipes.";
 
 pub const CHECK: &str = "\
@@ -24,7 +24,7 @@ Each message has a line, as `message 1: Expired, 33 octets, normal` or
 Example: illcanon check messages.ber | grep 'not normal'
 
 Status: 0 all are normal; 1 one is not normal or is refused, or the hexadecimal text
-is none; 2 usage; 3 memory, files or pipes.";
+is invalid; 2 usage; 3 memory, files or pipes.";
 
 pub const SAME: &str = "\
 Writes `same` or `different`. Each file holds one message; at most one file is `-`.
@@ -36,9 +36,16 @@ or pipes.";
 
 pub const CANONICALISE: &str = "\
 With --hex the output has a line of hexadecimal digits for each message, and otherwise
-the octets. The messages before one that is refused are written.
+the octets. Where a message is refused, OUT holds the messages before it: it is empty
+if the first is refused, and also if the hexadecimal text is invalid. IN and OUT must
+be different files.
+
+Where OUT is absent, or a regular file with one name, the output is written to a new
+file beside it, OUT.part, which takes the name OUT at the end. So OUT is as it was if
+the output can't be written, or if the command is killed. All other files (devices,
+pipes, links) are written directly, and so is OUT where no new file can be made.
 
 Example: illcanon canonicalise messages.ber messages.der
 
-Status: 0 done; 1 a message is refused, or the hexadecimal text is none; 2 usage;
-3 memory, files or pipes.";
+Status: 0 done; 1 a message is refused, or the hexadecimal text is invalid; 2 usage,
+or IN and OUT are the same file; 3 memory, files or pipes.";

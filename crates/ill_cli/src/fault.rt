@@ -1,39 +1,78 @@
-//! What the program says where it fails, and with which status it ends.
+//! The line that the program prints where it fails, and the status that it ends with.
+ghost use Rattle.std.specs.Prelude.{◌≡◌};
+ghost use Rattle.ill_cli.specs.Status.{is_output_lost, line_status_is, run_status_is, status_is};
+
+use crate::names::Name;
 use clap::Error as LineError;
+use clap::error::ErrorKind;
 use ill_jobs::{RunFault, Verdict};
 use ill_normal::{Cause, PartId, Refusal, Side, part_name};
+use std::alloc::Global;
 use std::{fmt, io};
 use thiserror::Error;
 
-/// Why a command line is no order.
+/// Why a command line gives no order.
 #[derive(Debug, Drop, Error)]
 pub enum LineFault {
-    /// What `clap` says of it: a mistake, or help that was asked for; or that memory was wanting.
+    /// What `clap` reports: a mistake, or help that was asked for, or that memory ran out.
     #[error("{0}")]
     Line(LineError),
-    /// The same word stands twice where two files are wanted.
+    /// Two files are named by the same word.
     #[error("the same word twice")]
     SameWord,
 }
 
-/// Why the program has not done what it was told.
+/// Why the program has not done what its words say. Each is printed as one line.
 #[derive(Debug, Drop, Error)]
 pub enum Fault {
+    /// The words give no order.
     #[error("{0}")]
     Line(LineFault),
+    /// The job was not done to the end of its input.
     #[error("{0}")]
     Run(RunLine),
+    /// The input and the output are one regular file. Nothing was written.
+    #[error("IN and OUT are the same file")]
+    SameFile,
+    /// A file of this name can't be opened, to be read or to be written.
     #[error("cannot open {0}")]
-    CannotOpen(String),
+    CannotOpen(Name),
+    /// The output was written to a new file, which can't be given this name. The file of this name is as it was.
+    #[error("cannot replace {0}")]
+    CannotReplace(Name),
+    /// The end of the output could not be written. A file that was to be replaced is as it was.
     #[error("flush fault")]
     Flush,
 }
 
+impl Fault {
+    /// Memory ran out outside a job.
+    pub fn out_of_memory() -> Fault {
+        Fault::from(RunFault::OutOfMemory)
+    }
+
+    /// There is no file of this name to be read or written.
+    pub fn cannot_open(alloc: Global, name: &str) -> Fault {
+        match name.as_bytes().to_vec(alloc) {
+            Ok(octets) => Fault::CannotOpen(Name(octets)),
+            Err(_) => Fault::out_of_memory(),
+        }
+    }
+
+    /// A new file can't be given this name.
+    pub fn cannot_replace(alloc: Global, name: &str) -> Fault {
+        match name.as_bytes().to_vec(alloc) {
+            Ok(octets) => Fault::CannotReplace(Name(octets)),
+            Err(_) => Fault::out_of_memory(),
+        }
+    }
+}
+
 impl From<LineFault> for Fault {
     ghost use Rattle.std.specs.Prelude.{◌≡◌};
-    ghost use Rattle.illcanon.specs.declared.fault.Fault.{Fault};
+    ghost use Rattle.ill_cli.specs.declared.fault.Fault.{Fault};
 
-    ghost from_gives = { λ fault told. told ≡ Fault.Line fault };
+    ghost from_gives = { λ fault result. result ≡ Fault.Line fault };
 
     fn from(fault: LineFault) -> Fault {
         Fault::Line(fault)
@@ -42,9 +81,9 @@ impl From<LineFault> for Fault {
 
 impl From<RunFault> for Fault {
     ghost use Rattle.std.specs.Prelude.{◌≡◌};
-    ghost use Rattle.illcanon.specs.declared.fault.Fault.{Fault};
+    ghost use Rattle.ill_cli.specs.declared.fault.Fault.{Fault};
 
-    ghost from_gives = { λ fault told. told ≡ Fault.Run (record { 0 = fault }) };
+    ghost from_gives = { λ fault result. result ≡ Fault.Run (record { 0 = fault }) };
 
     fn from(fault: RunFault) -> Fault {
         Fault::Run(RunLine(fault))
@@ -107,20 +146,24 @@ fn write_part<W: fmt::Write>(f: &mut fmt::Formatter<W>, cause: &str, part: PartI
     }
 }
 
-/// 0 where all is well, or help was asked for; 1 for what is wrong with the messages; 2 for the
-/// command line; 3 for memory, files and pipes.
-pub fn status_of(done: &Result<Verdict, Fault>) -> u8 {
+/// The exit status: 0 where all is well, or help was asked for; 1 for what is wrong with the messages; 2 for the command
+/// line; 3 for memory, files and pipes.
+pub fn status_of(done: &Result<Verdict, Fault>) -> u8
+    ensures { result ≡ status_is done.now }
+{
     match done {
         Ok(Verdict::Good) => 0,
         Ok(Verdict::NotGood) => 1,
         Err(Fault::Line(LineFault::Line(error))) => line_status(error),
-        Err(Fault::Line(LineFault::SameWord)) => 2,
+        Err(Fault::Line(LineFault::SameWord) | Fault::SameFile) => 2,
         Err(Fault::Run(RunLine(fault))) => run_status(fault),
-        Err(Fault::CannotOpen(_) | Fault::Flush) => 3,
+        Err(Fault::CannotOpen(_) | Fault::CannotReplace(_) | Fault::Flush) => 3,
     }
 }
 
-fn run_status(fault: &RunFault) -> u8 {
+fn run_status(fault: &RunFault) -> u8
+    ensures { result ≡ run_status_is fault.now }
+{
     match fault {
         RunFault::Refused { .. } | RunFault::RefusedSide(..) | RunFault::TooManyMessages => 1,
         RunFault::OddHex | RunFault::BadHex(_) | RunFault::HexTooLong => 1,
@@ -128,15 +171,27 @@ fn run_status(fault: &RunFault) -> u8 {
     }
 }
 
-/// Want of memory on the command line is no mistake of its writer.
-fn line_status(error: &LineError) -> u8 {
-    if error.kind() == clap::error::ErrorKind::OutOfMemory {
+/// That memory runs out is no mistake of who wrote the command line.
+fn line_status(error: &LineError) -> u8
+    ensures { result ≡ line_status_is error.now }
+{
+    if error.kind() == ErrorKind::OutOfMemory {
         3
     } else if error.use_stderr() {
         2
     } else {
         0
     }
+}
+
+/// Whether some of the output was not written, so that it must not replace a file.
+pub(crate) fn is_output_lost(done: &Result<Verdict, Fault>) -> bool
+    ensures { result ≡ is_output_lost done.now }
+{
+    matches!(
+        done,
+        Err(Fault::Flush | Fault::Run(RunLine(RunFault::WriteFault(_))))
+    )
 }
 
 /// Prints clap's text as it is, and any other fault as one line on standard error.

@@ -3,15 +3,15 @@ ghost use Rattle.std.specs.Prelude.{◌≡◌, ℕ, List, map, codes, false, Som
 ghost use Rattle.std.specs.String.{string_bytes};
 ghost use Rattle.clap.specs.Words.{FailsBy, app_of, fault_of, rule_of, subcommand_of, subcommand_rows_of};
 ghost use Rattle.clap.specs.declared.builder.command.Command.TheViews.{out-Command as fields_of};
-ghost use Rattle.illcanon.specs.CommandLine.{hex_rule, file_rule, one_file, two_files, program};
-ghost use Rattle.illcanon.specs.declared.order.Order.{Order};
-ghost use Rattle.illcanon.specs.declared.order.Verb.{Verb};
-ghost use Rattle.illcanon.specs.Orders.{verb_name, IsOrderOf, IsTwice};
-ghost use Rattle.illcanon.specs.Refused.{IsSameWordOnly, IsRefusedBy};
+ghost use Rattle.ill_cli.specs.CommandLine.{hex_rule, file_rule, one_file, two_files, program};
+ghost use Rattle.ill_cli.specs.declared.orders.Order.{Order};
+ghost use Rattle.ill_cli.specs.declared.orders.Verb.{Verb};
+ghost use Rattle.ill_cli.specs.Orders.{verb_name, IsOrderOf, IsTwice};
+ghost use Rattle.ill_cli.specs.Refused.{IsSameWordOnly, IsRefusedBy};
 
 use crate::fault::LineFault;
 use crate::help;
-use crate::order::{Order, Verb};
+use crate::orders::{Order, Verb};
 use clap::{Arg, ArgAction, ArgMatches, Command, Error};
 use std::alloc::{AllocError, Global};
 
@@ -64,7 +64,7 @@ fn show<'a>(alloc: Global) -> Result<Command<'a>, AllocError>
 fn check<'a>(alloc: Global) -> Result<Command<'a>, AllocError>
     ensures { IfOk result (λ c. (app_of c ≡ one_file (codes "check")) × ((fields_of c).has_globals ≡ false)) }
 {
-    let about = "Says of each message whether it is its normal form";
+    let about = "Reports for each message whether it is in normal form";
     on_one(alloc, "check", about, help::CHECK)
 }
 
@@ -72,7 +72,7 @@ fn same<'a>(alloc: Global) -> Result<Command<'a>, AllocError>
     ensures { IfOk result (λ c. (app_of c ≡ two_files (codes "same")) × ((fields_of c).has_globals ≡ false)) }
 {
     Command::new(alloc, "same")
-        .about("Says whether two files hold the same message, however it is spelled")
+        .about("Reports whether two files hold the same message, however it is spelled")
         .after_help(help::SAME)
         .arg(hex_flag(alloc))?
         .arg(file(alloc, "first", "FILE", "A message; `-` is standard input"))?
@@ -113,15 +113,14 @@ fn program<'a>(alloc: Global) -> Result<Command<'a>, AllocError>
 ///
 /// # Errors
 ///
-/// What `clap` says of words that are no command line, or that ask for help; and that the same word
-/// stands twice, where two files are wanted: `-` and `-` for `same`, any but `-` for
-/// `canonicalise`.
+/// What `clap` reports of words that are no command line, or that ask for help. Or two files are named by the same word: `-`
+/// for `same`, any but `-` for `canonicalise`.
 pub fn order<'a>(alloc: Global, words: &'a [String]) -> Result<Order<'a>, LineFault>
-    // The words have the order's command, flag and files, which are not the same word twice.
+    // The words have the order's command, flag and files, and the files are not the same word twice.
     ensures order { IfOk result (IsOrderOf (subcommand_of program (map string_bytes words.entry.now))) }
     ensures not_twice { IfOk result (λ order. IsTwice order → ⊥) }
     ensures twice { IfErr result (IsSameWordOnly (subcommand_of program (map string_bytes words.entry.now))) }
-    // What clap finds wrong is refused, and nothing else, unless memory is wanting.
+    // What clap finds wrong is refused, and nothing else, unless memory runs out.
     ensures faults { IsRefusedBy (fault_of program (map string_bytes words.entry.now)) result }
 {
     let order = match read(alloc, words) {
@@ -134,7 +133,7 @@ pub fn order<'a>(alloc: Global, words: &'a [String]) -> Result<Order<'a>, LineFa
     Ok(order)
 }
 
-/// Whether the same word stands twice where two files are wanted.
+/// Whether two files are named by the same word.
 fn is_twice(order: &Order<'_>) -> bool
     ensures { IsTrue result ↔ IsTwice order.now }
 {
@@ -155,7 +154,7 @@ fn read<'a>(alloc: Global, words: &'a [String]) -> Result<Order<'a>, Error>
     let matches = program(alloc)?.try_get_matches_from(words)?;
     match order_of(&matches) {
         Some(order) => Ok(order),
-        // clap has matched a command and its files, or has answered with an error.
+        // clap has matched a command and its files, or has returned an error.
         None => Err(Error::from(AllocError)),
     }
 }

@@ -1,0 +1,45 @@
+-- The status that the program ends with.
+use Rattle.std.specs.Prelude.{ℕ, Bool, true, false, Result, Ok, Err}
+use Rattle.clap.specs.Words.{kind_of}
+use Rattle.clap.specs.declared.error.Error.{Error}
+use Rattle.clap.specs.declared.error.kind.ErrorKind.{ErrorKind}
+use Rattle.ill_jobs.specs.declared.fault.RunFault.{RunFault}
+use Rattle.ill_jobs.specs.declared.job.Verdict.{Verdict}
+use Rattle.ill_cli.specs.declared.fault.Fault.{Fault}
+use Rattle.ill_cli.specs.declared.fault.LineFault.{LineFault}
+
+-- of a job: 3 for memory, the source and the sink, 1 for the messages and their text
+abbrev pub run_status_is : RunFault → ℕ
+run_status_is RunFault.OutOfMemory = 3
+run_status_is RunFault.ReadFault = 3
+run_status_is (RunFault.WriteFault n) = 3
+run_status_is _ = 1
+
+-- of what clap reports: 0 for help and the version, 3 for memory, 2 for mistakes
+abbrev pub kind_status : ErrorKind → ℕ
+kind_status ErrorKind.DisplayHelp = 0
+kind_status ErrorKind.DisplayVersion = 0
+kind_status ErrorKind.OutOfMemory = 3
+kind_status _ = 2
+
+abbrev pub line_status_is : Error → ℕ
+line_status_is error = kind_status (kind_of error)
+
+abbrev pub fault_status : Fault → ℕ
+fault_status (Fault.Line (LineFault.Line error)) = line_status_is error
+fault_status (Fault.Line LineFault.SameWord) = 2
+fault_status Fault.SameFile = 2
+fault_status (Fault.Run line) = run_status_is line.0
+fault_status _ = 3
+
+-- 0 where all is well, 1 where a message is not normal or two are different
+abbrev pub status_is : Result Verdict Fault → ℕ
+status_is (Ok Verdict.Good) = 0
+status_is (Ok Verdict.NotGood) = 1
+status_is (Err fault) = fault_status fault
+
+-- some of the output was not written: a write, flush or sync fault
+abbrev pub is_output_lost : Result Verdict Fault → Bool
+is_output_lost (Err Fault.Flush) = true
+is_output_lost (Err (Fault.Run line)) = elim line.0 as (λ _. Bool) [ RunFault.WriteFault n ↦ true | _ ↦ false ]
+is_output_lost _ = false

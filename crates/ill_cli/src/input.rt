@@ -1,0 +1,71 @@
+//! Inputs that are files or standard input.
+ghost use Rattle.std.specs.Prelude.{◌≡◌};
+ghost use Rattle.ill_cli.specs.Opened.{left_of, is_broken_of};
+
+use crate::fault::Fault;
+use crate::same_file::FileId;
+use ber_core::{Broken, FromRead, Source};
+use std::alloc::Global;
+use std::fs::{self, OpenFile};
+use std::io::{BufReader, Read};
+use std::rt::Files;
+
+/// A source that was opened: standard input or a file.
+#[derive(Drop)]
+pub enum Opened<S, F> {
+    Standard(S),
+    File(F),
+}
+
+impl<S: Source, F: Source> Source for Opened<S, F> {
+    ghost left = { λ opened. left_of S.left F.left opened };
+
+    ghost is_broken = { λ opened. is_broken_of S.is_broken F.is_broken opened };
+
+    fn take(&mut self, buffer: &mut [u8]) -> Result<usize, Broken> {
+        match self {
+            Opened::Standard(source) => source.take(buffer),
+            Opened::File(source) => source.take(buffer),
+        }
+    }
+
+    fn broken(&self) -> bool {
+        match self {
+            Opened::Standard(source) => source.broken(),
+            Opened::File(source) => source.broken(),
+        }
+    }
+}
+
+/// A reader as a buffered source.
+pub type Buffered<R> = FromRead<BufReader<R>>;
+
+/// The source of an input under the runtime `R`.
+pub type InputSource<R> = Opened<Buffered<<R as Input>::Reader>, Buffered<<R as Files>::File>>;
+
+/// Opens the input of this name, standard input for `-`.
+///
+/// # Errors
+///
+/// There is no file of this name that can be read, or memory ran out.
+pub fn open<R: Input + Files + AllocGlobal>(rt: &R, name: &str) -> Result<InputSource<R>, Fault> {
+    let (source, _) = open_and_identify(rt, name)?;
+    Ok(source)
+}
+
+/// Opens an input as [`open`] does, and returns which regular file it is, None where it is none.
+pub fn open_and_identify<R: Input + Files + AllocGlobal>(
+    rt: &R,
+    name: &str,
+) -> Result<(InputSource<R>, Option<FileId>), Fault> {
+    let alloc = rt.alloc();
+    if name == "-" {
+        let file = FileId::of_standard_input(rt);
+        let reader = BufReader::new(alloc, rt.reader()).map_err(|_| Fault::out_of_memory())?;
+        return Ok((Opened::Standard(FromRead::new(reader)), file));
+    }
+    let opened = fs::open(rt, name).map_err(|_| Fault::cannot_open(alloc, name))?;
+    let file = FileId::of(opened.metadata());
+    let reader = BufReader::new(alloc, opened).map_err(|_| Fault::out_of_memory())?;
+    Ok((Opened::File(FromRead::new(reader)), file))
+}

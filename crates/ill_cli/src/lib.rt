@@ -1,0 +1,29 @@
+//! The program `illcanon` between its words and its files: the command line, what each command opens and does, the line
+//! that a fault is printed as, and the exit status.
+//!
+//! All of it is generic over the runtime, so that tests run it on words, streams and files of their own. A program is
+//!
+//! ```
+//! fn main(rt: HostRuntime) -> ExitCode {
+//!     ExitCode::from(ill_cli::run_program(&rt))
+//! }
+//! ```
+#![tactic(auto)]
+
+mod commands;
+mod fault;
+mod help;
+mod input;
+mod line;
+mod names;
+mod orders;
+mod replacement;
+mod same_file;
+mod words;
+
+pub use commands::{obey, run_program};
+pub use fault::{CauseName, Fault, LineFault, RunLine, print, status_of};
+pub use input::Opened;
+pub use line::order;
+pub use names::Name;
+pub use orders::{Order, Task, Verb, task_of};

@@ -1,0 +1,46 @@
+//! Whether an input and an output are one file.
+use std::fs::{self, Metadata};
+use std::io;
+use std::os::unix::fs::MetadataExt;
+use std::rt::Files;
+
+/// The name by which the system knows standard input.
+const STANDARD_INPUT: &str = "/dev/stdin";
+
+/// The name by which the system knows standard output.
+const STANDARD_OUTPUT: &str = "/dev/stdout";
+
+/// Which regular file something is: its device and its number there.
+#[derive(Clone, Copy, Debug, PartialEq, Eq)]
+pub struct FileId {
+    device: u64,
+    number: u64,
+}
+
+impl FileId {
+    /// The regular file that this was read of; None for all else, and where it can't be known.
+    pub fn of(found: io::Result<Metadata>) -> Option<FileId> {
+        match found {
+            Ok(found) if found.is_file() => Some(FileId {
+                device: found.dev(),
+                number: found.ino(),
+            }),
+            _ => None,
+        }
+    }
+
+    /// The regular file that standard input comes from.
+    pub fn of_standard_input<R: Files>(rt: &R) -> Option<FileId> {
+        FileId::of_name(rt, STANDARD_INPUT)
+    }
+
+    /// The regular file that standard output goes to.
+    pub fn of_standard_output<R: Files>(rt: &R) -> Option<FileId> {
+        FileId::of_name(rt, STANDARD_OUTPUT)
+    }
+
+    /// The regular file of this name.
+    pub fn of_name<R: Files>(rt: &R, name: &str) -> Option<FileId> {
+        FileId::of(fs::metadata(rt, name))
+    }
+}

@@ -1,0 +1,6 @@
+//! Command lines and fault lines; and the whole program over a runtime of ours, with files of the host.
+mod fake;
+mod files;
+mod lines;
+mod names;
+mod outputs;
