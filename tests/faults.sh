@@ -38,16 +38,20 @@ for _ in 1 2 3 4 5 6 7 8 9 10 11 12 13 14 15 16 17; do cat MANY MANY >MORE && mv
 } >LARGE
 
 # A pipe that is closed by who reads it.
-"$program" canonicalise MANY - 2>err | head -c 10 >OUT
+"$program" canonicalise MANY - 2>err | head -c 10 >PART
 status=${PIPESTATUS[0]}
 expect closed-pipe 3 'illcanon: write fault after [0-9]* octets'
 
-# A file of at most one block.
-(trap '' XFSZ && ulimit -f 1 && exec "$program" canonicalise MANY OUT 2>err)
+# A file of at most one block, as standard output; and as OUT, which isn't made then.
+(trap '' XFSZ && ulimit -f 1 && exec "$program" canonicalise MANY - >PART 2>err)
 status=$?
 expect file-size 3 'illcanon: write fault after [0-9]* octets'
-front file-size OUT MANY
-[ "$(stat -c %s OUT)" = "$(tr -dc 0-9 <err)" ] || { failed=$((failed + 1)) && echo 'failed: file-size: another number of octets'; }
+front file-size PART MANY
+[ "$(stat -c %s PART)" = "$(tr -dc 0-9 <err)" ] || { failed=$((failed + 1)) && echo 'failed: file-size: another number of octets'; }
+(trap '' XFSZ && ulimit -f 1 && exec "$program" canonicalise MANY OUT 2>err)
+status=$?
+expect file-size-of-out 3 'illcanon: write fault after [0-9]* octets'
+ls OUT OUT.part 2>/dev/null && failed=$((failed + 1)) && echo 'failed: file-size-of-out: a file is left'
 
 # Memory that suffices for small messages, and not for a large one behind them.
 cat ONE ONE LARGE >THREE

@@ -146,7 +146,7 @@ row refused-behind-a-message 1 'message 1: Expired, 33 octets, normal\n' 'illcan
 status=$?
 echo 400 >want-out
 compare check-into-grep 0
-# An empty OUT is left where hexadecimal text is none.
+# OUT is empty where hexadecimal text is invalid.
 printf 7 >in
 "$program" canonicalise --hex - OUT <in >out 2>err
 status=$?
@@ -154,6 +154,150 @@ status=$?
 printf 'illcanon: hex: odd number of digits\n' >want-err
 compare out-is-made-before-the-text-is-read 1
 if [ ! -e OUT ] || [ -s OUT ]; then failed=$((failed + 1)) && echo 'failed: OUT is no empty file'; fi
+: >in
+
+# One file under two names is refused, and stays as it was.
+octets F $INDEFINITE
+cp F KEPT
+ln F HARD
+ln -s F SOFT
+ln -s "$folder" LOOP
+same_line='illcanon: IN and OUT are the same file\n'
+# unlost NAME FILE: after a refusal the file is what it was
+unlost() {
+    cmp -s KEPT "$2" || { failed=$((failed + 1)) && echo "failed: $1: the file has changed"; }
+}
+for names in 'F ./F' "F $folder/F" 'F HARD' 'HARD F' 'F SOFT' 'SOFT F' 'F LOOP/F' '/dev/stdin F'; do
+    "$program" canonicalise $names <F >out 2>err
+    status=$?
+    : >want-out
+    printf "$same_line" >want-err
+    compare "one-file: $names" 2
+    unlost "one-file: $names" F
+done
+"$program" canonicalise - F <F >out 2>err
+status=$?
+compare one-file-as-standard-input 2
+unlost one-file-as-standard-input F
+"$program" canonicalise F - >>F 2>err
+status=$?
+: >out
+compare one-file-as-standard-output 2
+unlost one-file-as-standard-output F
+"$program" canonicalise - - <F >>F 2>err
+status=$?
+compare one-file-as-both 2
+unlost one-file-as-both F
+row one-file-as-hexadecimal-text 2 '' "$same_line" canonicalise --hex F HARD
+row one-device-is-no-file 0 '' '' canonicalise /dev/null //dev/null
+rm HARD SOFT LOOP
+
+# OUT is whole, or what it was before.
+octets G $EXPIRED
+echo before >OLD
+cp OLD OUT && chmod 600 OUT
+row replaced-with-its-mode 0 '' '' canonicalise F OUT
+cmp -s G OUT || { failed=$((failed + 1)) && echo 'failed: OUT is not the normal form'; }
+[ "$(stat -c %a OUT)" = 600 ] || { failed=$((failed + 1)) && echo 'failed: the mode of OUT has changed'; }
+rm OUT
+(umask 027 && "$program" canonicalise F OUT)
+[ "$(stat -c %a OUT)" = 640 ] || { failed=$((failed + 1)) && echo 'failed: a new OUT has another mode than the shell makes'; }
+mkfifo FIFO
+cat FIFO >OTHER &
+row fifo-as-output 0 '' '' canonicalise F FIFO
+wait
+cmp -s G OTHER || { failed=$((failed + 1)) && echo 'failed: the fifo got something else'; }
+row full-device-as-output 3 '' 'illcanon: flush fault\n' canonicalise F /dev/full
+ln -s TARGET LINK
+row link-as-output 0 '' '' canonicalise F LINK
+{ [ -L LINK ] && cmp -s G TARGET; } || { failed=$((failed + 1)) && echo 'failed: the link is gone, or its file is not written'; }
+cp OLD OUT && ln OUT SECOND
+row second-name-as-output 0 '' '' canonicalise F OUT
+cmp -s G SECOND || { failed=$((failed + 1)) && echo 'failed: the second name has something else'; }
+rm OUT SECOND LINK TARGET OTHER
+ls | grep part && failed=$((failed + 1)) && echo 'failed: a temporary file is left'
+
+# A folder or a file that may not be written to, by a user who isn't root.
+as_nobody=
+if [ "$(id -u)" = 0 ]; then
+    command -v setpriv >/dev/null && as_nobody='setpriv --reuid 65534 --regid 65534 --clear-groups' || as_nobody=skip
+fi
+if [ "$as_nobody" != skip ]; then
+    chmod 711 "$folder" && mkdir READONLY && cp OLD READONLY/OUT && cp OLD READONLY/LOCKED
+    chmod 666 READONLY/OUT && chmod 444 READONLY/LOCKED && chmod 555 READONLY
+    cp "$program" illcanon && chmod 755 illcanon && chmod 644 F
+    $as_nobody ./illcanon canonicalise F READONLY/OUT >out 2>err
+    status=$?
+    : >want-out
+    : >want-err
+    compare read-only-folder 0
+    cmp -s G READONLY/OUT || { failed=$((failed + 1)) && echo 'failed: OUT in a read-only folder is not the normal form'; }
+    for name in READONLY/NEW READONLY/LOCKED; do
+        $as_nobody ./illcanon canonicalise F $name >out 2>err
+        status=$?
+        printf "illcanon: cannot open $name\n" >want-err
+        compare "may-not-be-written: $name" 3
+    done
+    cmp -s OLD READONLY/LOCKED || { failed=$((failed + 1)) && echo 'failed: a locked OUT has changed'; }
+    # A folder that may be written to, with a read-only file.
+    mkdir WRITABLE && cp OLD WRITABLE/LOCKED && chmod 444 WRITABLE/LOCKED && chmod 777 WRITABLE
+    $as_nobody ./illcanon canonicalise F WRITABLE/LOCKED >out 2>err
+    status=$?
+    printf "illcanon: cannot open WRITABLE/LOCKED\n" >want-err
+    compare read-only-file 3
+    cmp -s OLD WRITABLE/LOCKED || { failed=$((failed + 1)) && echo 'failed: a locked OUT was replaced'; }
+    # A file of another owner, whom a new file can't have.
+    if [ "$(id -u)" = 0 ]; then
+        cp OLD WRITABLE/OUT && chmod 666 WRITABLE/OUT
+        number=$(stat -c %i WRITABLE/OUT)
+        $as_nobody ./illcanon canonicalise F WRITABLE/OUT >out 2>err
+        status=$?
+        : >want-err
+        compare owned-by-another 0
+        { cmp -s G WRITABLE/OUT && [ "$(stat -c %i,%u WRITABLE/OUT)" = "$number,0" ]; } || { failed=$((failed + 1)) && echo 'failed: OUT has lost its owner'; }
+        [ "$(ls WRITABLE)" = "$(printf 'LOCKED\nOUT')" ] || { failed=$((failed + 1)) && echo 'failed: a temporary file is left'; }
+        # root can give the new file its owner, group and mode.
+        chown 65534:65534 WRITABLE/OUT && chmod 4711 WRITABLE/OUT
+        row owner-group-and-mode 0 '' '' canonicalise F WRITABLE/OUT
+        [ "$(stat -c %u:%g:%a WRITABLE/OUT)" = 65534:65534:4711 ] || { failed=$((failed + 1)) && echo 'failed: owner, group or mode have changed'; }
+    fi
+    chmod 755 READONLY
+fi
+
+# A kill in the middle of 100 MB: OUT is what it was, and only the temporary file is left.
+cp G MANY
+for _ in 1 2 3 4 5 6 7 8 9 10 11 12; do cat MANY MANY >MORE && mv MORE MANY; done
+{
+    printf '\x71\x80\x30\x80\x80\x01\x02\xa1\x0a\xa1\x03\x1b\x01\x47\xa2\x03\x1b\x01\x51\xa2\x0c\xa0\x0a\x80\x0820240229\xbf\x2e\x80\x1b\x83\x0f\xff\xce'
+    head -c 1048526 /dev/zero | tr '\0' A
+    printf '\0\0\0\0\0\0'
+} >LARGE
+cp OLD OUT
+{ for _ in $(seq 100); do cat LARGE; done; sleep 60; } | "$program" canonicalise - OUT 2>err &
+for _ in $(seq 200); do [ "$(stat -c %s OUT.part 2>/dev/null || echo 0)" -gt 100000000 ] && break; sleep 0.1; done
+pkill -9 -x -f "$program canonicalise - OUT"
+wait $! 2>/dev/null
+if cmp -s OLD OUT && [ -s OUT.part ]; then passed=$((passed + 1)); else failed=$((failed + 1)) && echo 'failed: killed: OUT is not what it was'; fi
+pkill -f -x 'sleep 60' 2>/dev/null
+row after-a-kill 0 '' '' canonicalise F OUT
+cmp -s G OUT || { failed=$((failed + 1)) && echo 'failed: OUT is not the normal form after a kill'; }
+rm OUT.part
+
+# Names in lines: one line each, and the shell reads it back.
+for name in 'a b' "it's" 'K\303\266ln' 'x\ny' '\033[2J' 'caf\351' '\302\205' "a\\tb'c"; do
+    word=$(printf "$name.")
+    word=${word%.}
+    "$program" check "$word" >out 2>err
+    status=$?
+    line=$(cat err)
+    shown=${line#illcanon: cannot open }
+    case $shown in \$\'*) eval "read=$shown" ;; *) read=$shown ;; esac
+    if [ $status = 3 ] && [ "$(wc -l <err)" = 1 ] && [ "$read" = "$word" ] && ! LC_ALL=C grep -q "[$(printf '\001')-$(printf '\037')]" err; then
+        passed=$((passed + 1))
+    else
+        failed=$((failed + 1)) && echo "failed: name $name: status $status" && cat -v err
+    fi
+done
 
 cd / && rm -rf "$folder"
 echo "$passed passed, $failed failed"
