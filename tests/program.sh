@@ -265,8 +265,6 @@ if [ "$as_nobody" != skip ]; then
 fi
 
 # A kill in the middle of 100 MB: OUT is what it was, and only the temporary file is left.
-cp G MANY
-for _ in 1 2 3 4 5 6 7 8 9 10 11 12; do cat MANY MANY >MORE && mv MORE MANY; done
 {
     printf '\x71\x80\x30\x80\x80\x01\x02\xa1\x0a\xa1\x03\x1b\x01\x47\xa2\x03\x1b\x01\x51\xa2\x0c\xa0\x0a\x80\x0820240229\xbf\x2e\x80\x1b\x83\x0f\xff\xce'
     head -c 1048526 /dev/zero | tr '\0' A

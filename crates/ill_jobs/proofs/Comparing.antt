@@ -39,13 +39,13 @@ no_text s left' e h = same_octets s left' h.text h.taken ∙ h.stands
 -- the answer where a side was not read
 unread_fault : (hex x : Bool) (s : List ℕ) (left' : Option (List ℕ)) (e fault : RunFault) → SideFails hex (Some s) left' x e → side_octets hex s ≡ Err fault → (e ≡ fault) ⊎ IsFault e
 unread_fault true x s left' e fault (inl h) k = inl (same_err (hex_octets s) e fault (no_text s left' e h) k)
-unread_fault true x s left' e fault (inr u) k = inr (is_fault x e u)
-unread_fault false x s left' e fault u k = inr (is_fault x e u)
+unread_fault true x s left' e fault (inr u) k = inr (is_fault 4_194_305 (Some s) left' x e u)
+unread_fault false x s left' e fault u k = inr (is_fault 1_048_577 (Some s) left' x e u)
 
 unread_octets : (hex x : Bool) (s : List ℕ) (left' : Option (List ℕ)) (e : RunFault) (o : List ℕ) → SideFails hex (Some s) left' x e → side_octets hex s ≡ Ok o → IsFault e
 unread_octets true x s left' e o (inl h) k = absurd (not_both (hex_octets s) o e k (no_text s left' e h))
-unread_octets true x s left' e o (inr u) k = is_fault x e u
-unread_octets false x s left' e o u k = is_fault x e u
+unread_octets true x s left' e o (inr u) k = is_fault 4_194_305 (Some s) left' x e u
+unread_octets false x s left' e o u k = is_fault 1_048_577 (Some s) left' x e u
 
 pub first_unread : (hex x : Bool) (left left' other : Option (List ℕ)) (e : RunFault) → SideFails hex left left' x e
     → IfSome left (λ s. IfSome other (λ t. RefusesTexts hex s t (Err e)))

@@ -4,3 +4,4 @@ pub mod Writing
 pub mod Deciding
 pub mod Texts
 pub mod Comparing
+pub mod Taking

@@ -88,27 +88,27 @@ module _ (job : Job) (held held' : Option (List ℕ)) (x y : Bool) (answer : Res
     text_stands None left' t = tt
     text_stands (Some s) left' t = λ fault e. absurd (not_both (hex_octets s) octets fault (stands s left' t) e)
 
-pub is_fault : (x : Bool) (e : RunFault) → IsUnread x e → IsFault e
-is_fault x RunFault.OutOfMemory h = tt
-is_fault x RunFault.ReadFault h = tt
-is_fault x (RunFault.Refused message refusal) h = absurd h
-is_fault x (RunFault.RefusedSide side refusal) h = absurd h
-is_fault x RunFault.OddHex h = absurd h
-is_fault x (RunFault.BadHex n) h = absurd h
-is_fault x RunFault.HexTooLong h = absurd h
-is_fault x RunFault.TooManyMessages h = absurd h
-is_fault x (RunFault.WriteFault n) h = absurd h
+pub is_fault : (n : ℕ) (left left' : Option (List ℕ)) (x : Bool) (e : RunFault) → IsUnread n left left' x e → IsFault e
+is_fault n left left' x RunFault.OutOfMemory h = tt
+is_fault n left left' x RunFault.ReadFault h = tt
+is_fault n left left' x (RunFault.Refused message refusal) h = absurd h
+is_fault n left left' x (RunFault.RefusedSide side refusal) h = absurd h
+is_fault n left left' x RunFault.OddHex h = absurd h
+is_fault n left left' x (RunFault.BadHex i) h = absurd h
+is_fault n left left' x RunFault.HexTooLong h = absurd h
+is_fault n left left' x RunFault.TooManyMessages h = absurd h
+is_fault n left left' x (RunFault.WriteFault i) h = absurd h
 
-refused_or : (x : Bool) (e : RunFault) (i : ℕ) (f : Fault) → IsUnread x e → IsRefused e i f
-refused_or x RunFault.OutOfMemory i f h = tt
-refused_or x RunFault.ReadFault i f h = tt
-refused_or x (RunFault.Refused message refusal) i f h = absurd h
-refused_or x (RunFault.RefusedSide side refusal) i f h = absurd h
-refused_or x RunFault.OddHex i f h = absurd h
-refused_or x (RunFault.BadHex n) i f h = absurd h
-refused_or x RunFault.HexTooLong i f h = absurd h
-refused_or x RunFault.TooManyMessages i f h = absurd h
-refused_or x (RunFault.WriteFault n) i f h = absurd h
+refused_or : (n : ℕ) (left left' : Option (List ℕ)) (x : Bool) (e : RunFault) (i : ℕ) (f : Fault) → IsUnread n left left' x e → IsRefused e i f
+refused_or n left left' x RunFault.OutOfMemory i f h = tt
+refused_or n left left' x RunFault.ReadFault i f h = tt
+refused_or n left left' x (RunFault.Refused message refusal) i f h = absurd h
+refused_or n left left' x (RunFault.RefusedSide side refusal) i f h = absurd h
+refused_or n left left' x RunFault.OddHex i f h = absurd h
+refused_or n left left' x (RunFault.BadHex place) i f h = absurd h
+refused_or n left left' x RunFault.HexTooLong i f h = absurd h
+refused_or n left left' x RunFault.TooManyMessages i f h = absurd h
+refused_or n left left' x (RunFault.WriteFault count) i f h = absurd h
 
 -- a text that was not read, or stands for nothing
 module _ (job : Job) (x : Bool) (e : RunFault) where
@@ -118,19 +118,19 @@ module _ (job : Job) (x : Bool) (e : RunFault) where
   pub unread_does : (left left' : Option (List ℕ)) → FailsText left left' x e → IfSome left (λ s. DoesMessages job true s (Err e))
   unread_does None left' h = tt
   unread_does (Some s) left' (inl t) = λ o ms k h le. absurd (not_both (hex_octets s) o e k (stands_not s left' t))
-  unread_does (Some s) left' (inr u) = λ o ms k h le. is_fault x e u
+  unread_does (Some s) left' (inr u) = λ o ms k h le. is_fault 4_194_305 (Some s) left' x e u
 
   pub unread_refuses : (left left' : Option (List ℕ)) → FailsText left left' x e → IfSome left (λ s. RefusesFirst true s (Err e))
   unread_refuses None left' h = tt
   unread_refuses (Some s) left' (inl t) = λ o r ms f k h lt some only. absurd (not_both (hex_octets s) o e k (stands_not s left' t))
-  unread_refuses (Some s) left' (inr u) = λ o r ms f k h lt some only. refused_or x e (length ms + 1) f u
+  unread_refuses (Some s) left' (inr u) = λ o r ms f k h lt some only. refused_or 4_194_305 (Some s) left' x e (length ms + 1) f u
 
   pub unread_more : (left left' : Option (List ℕ)) → FailsText left left' x e → IfSome left (λ s. RefusesMore true s (Err e))
   unread_more None left' h = tt
   unread_more (Some s) left' (inl t) = λ o r ms k h many some. absurd (not_both (hex_octets s) o e k (stands_not s left' t))
-  unread_more (Some s) left' (inr u) = λ o r ms k h many some. inr (is_fault x e u)
+  unread_more (Some s) left' (inr u) = λ o r ms k h many some. inr (is_fault 4_194_305 (Some s) left' x e u)
 
   pub unread_text : (left left' : Option (List ℕ)) → FailsText left left' x e → IfSome left (λ s. RefusesText true s (Err e))
   unread_text None left' h = tt
   unread_text (Some s) left' (inl t) = λ fault k. inl (same_err (hex_octets s) e fault (stands_not s left' t) k)
-  unread_text (Some s) left' (inr u) = λ fault k. inr (is_fault x e u)
+  unread_text (Some s) left' (inr u) = λ fault k. inr (is_fault 4_194_305 (Some s) left' x e u)

@@ -162,9 +162,9 @@ module _ (job : Job) (hex : Bool) (left left' left'' held held' held'' : Option 
       stops = (omega (arith, r.count), broken, broke_within piece k p w fewer);
     }
 
-    -- behind the last message that an input may have an octet was taken, or the source broke
-    pub stops_behind : (e : RunFault) → whole ≡ 1_000_000 → GoesOn left' left'' x e → StopsAfter job hex left left'' held held' x y e
-    stops_behind RunFault.TooManyMessages last h = record {
+    -- after the last message that an input may have an octet was taken, or the source broke
+    pub stops_at_the_end : (e : RunFault) → whole ≡ 1_000_000 → GoesOn left' left'' x e → StopsAfter job hex left left'' held held' x y e
+    stops_at_the_end RunFault.TooManyMessages last h = record {
       messages = r.messages;
       rest = left';
       grown = held';
@@ -172,7 +172,7 @@ module _ (job : Job) (hex : Bool) (left left' left'' held held' held'' : Option 
       taken = (h.0 ∷ [], h.1, omega arith);
       stops = (omega (arith, r.count), h, Keeps-refl held');
     }
-    stops_behind RunFault.ReadFault last h =
+    stops_at_the_end RunFault.ReadFault last h =
         let none = Consumes-kept left' left' left'' [] (Consumes-nil left') h.1 in
         record {
           messages = r.messages;
@@ -182,10 +182,10 @@ module _ (job : Job) (hex : Bool) (left left' left'' held held' held'' : Option 
           taken = ([], none, omega arith);
           stops = (omega (arith, r.count), h.0, ([], none, λ a n accepted. accepts_some profile_two [] a n refl accepted), Keeps-refl held');
         }
-    stops_behind (RunFault.Refused message refusal) last h = absurd h
-    stops_behind (RunFault.RefusedSide side refusal) last h = absurd h
-    stops_behind RunFault.OddHex last h = absurd h
-    stops_behind (RunFault.BadHex n) last h = absurd h
-    stops_behind RunFault.HexTooLong last h = absurd h
-    stops_behind RunFault.OutOfMemory last h = absurd h
-    stops_behind (RunFault.WriteFault n) last h = absurd h
+    stops_at_the_end (RunFault.Refused message refusal) last h = absurd h
+    stops_at_the_end (RunFault.RefusedSide side refusal) last h = absurd h
+    stops_at_the_end RunFault.OddHex last h = absurd h
+    stops_at_the_end (RunFault.BadHex n) last h = absurd h
+    stops_at_the_end RunFault.HexTooLong last h = absurd h
+    stops_at_the_end RunFault.OutOfMemory last h = absurd h
+    stops_at_the_end (RunFault.WriteFault n) last h = absurd h

@@ -21,15 +21,16 @@ abbrev pub ReadsSide : Bool → Option (List ℕ) → Option (List ℕ) → List
 ReadsSide true left left' octets = TextOf left left' octets
 ReadsSide false left left' octets = Consumes left left' octets × (length octets ≤ 1_048_577) × (length octets < 1_048_577 → IsAtEnd left')
 
+-- a side was not read; whatever the failure, at most as many octets were taken as of a side that is read
 abbrev pub SideFails : Bool → Option (List ℕ) → Option (List ℕ) → Bool → RunFault → Type 0
 SideFails true left left' source_broken fault = FailsText left left' source_broken fault
-SideFails false left left' source_broken fault = IsUnread source_broken fault
+SideFails false left left' source_broken fault = IsUnread 1_048_577 left left' source_broken fault
 
 -- each is one message, and they are good exactly if they are of one APDU
 abbrev pub Compares : List ℕ → List ℕ → Verdict → Type 0
 Compares s t verdict = (a : Apdu) × (b : Apdu) × SpellsApdu profile_two a s × SpellsApdu profile_two b t × ((verdict ≡ Verdict.Good) ↔ (a ≡ b))
 
--- the first side that isn't one message, or want of memory
+-- the first side that isn't one message, or out of memory
 abbrev pub NotCompared : List ℕ → List ℕ → RunFault → Type 0
 NotCompared s t (RunFault.RefusedSide side refusal) = RefusesSide s t side (fault_is refusal)
 NotCompared s t RunFault.OutOfMemory = Unit {0}

@@ -13,6 +13,7 @@ use Rattle.ill_jobs.specs.declared.job.Verdict.{Verdict}
 use Rattle.ill_jobs.specs.declared.fault.RunFault.{RunFault}
 use Rattle.ill_jobs.specs.Output.{Spelling, AreSpelled, output, verdict_of}
 use Rattle.ill_jobs.specs.Hexadecimal.{hex_octets, TakesText}
+use Rattle.ill_jobs.specs.Unread.{TakesAtMost}
 
 -- the octets that were taken are these messages, and their output was written
 pub record Writes (job : Job) (hex : Bool) (left left' held held' : Option (List ℕ)) (messages : List Spelling) : Type 0 where
@@ -86,15 +87,15 @@ pub record NoHex (left left' : Option (List ℕ)) (fault : RunFault) : Type 0 wh
   pub taken : TakesText left left' text
   pub stands : hex_octets text ≡ Err fault
 
--- memory or the source failed before any message was read
-abbrev pub IsUnread : Bool → RunFault → Type 0
-IsUnread source_broken RunFault.OutOfMemory = Unit {0}
-IsUnread source_broken RunFault.ReadFault = IsTrue source_broken
-IsUnread source_broken _ = ⊥
+-- memory or the source failed before any message was read; of the source at most n octets were taken by then
+abbrev pub IsUnread : ℕ → Option (List ℕ) → Option (List ℕ) → Bool → RunFault → Type 0
+IsUnread n left left' source_broken RunFault.OutOfMemory = TakesAtMost n left left'
+IsUnread n left left' source_broken RunFault.ReadFault = IsTrue source_broken × TakesAtMost n left left'
+IsUnread n left left' source_broken _ = ⊥
 
--- the octets of an input were not read
+-- a text stands for no octets, or was not read; whatever the failure, at most 4,194,305 octets were taken
 abbrev pub FailsText : Option (List ℕ) → Option (List ℕ) → Bool → RunFault → Type 0
-FailsText left left' source_broken fault = NoHex left left' fault ⊎ IsUnread source_broken fault
+FailsText left left' source_broken fault = NoHex left left' fault ⊎ IsUnread 4_194_305 left left' source_broken fault
 
 -- the same of an input that is read as octets, or as hexadecimal text
 abbrev pub RunDone : Bool → Job → Option (List ℕ) → Option (List ℕ) → Option (List ℕ) → Option (List ℕ) → Verdict → Type 0

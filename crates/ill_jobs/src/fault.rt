@@ -16,9 +16,9 @@ pub enum RunFault {
     BadHex(u64),
     /// The hexadecimal text has more than 4,194,304 octets. Nothing was written.
     HexTooLong,
-    /// The input goes on behind 1,000,000 messages. Their output was written.
+    /// The input goes on after 1,000,000 messages. Their output was written.
     TooManyMessages,
-    /// Memory was wanting. The output of the messages before was written.
+    /// Out of memory. The output of the messages before was written.
     OutOfMemory,
     /// The source is broken. The output of the messages before was written.
     ReadFault,

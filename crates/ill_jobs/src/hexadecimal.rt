@@ -27,7 +27,12 @@ impl From<FromHexError> for RunFault {
     }
 }
 
-/// Reads a text to its end, and answers the octets that it stands for.
+/// Reads a text to its end, and returns the octets that it stands for. At most 4,194,305 octets are
+/// taken of the source, whatever the result.
+///
+/// # Errors
+///
+/// Why the text stands for no octets, out of memory, or a source that is broken.
 pub fn read_hex<R: Source>(alloc: Global, source: &mut R) -> Result<Vec<u8>, RunFault>
     ensures octets { IfOk result (λ octets. TextOf (R.left source.old) (R.left source.new) octets.items) }
     ensures fails { IfErr result (FailsText (R.left source.old) (R.left source.new) (R.is_broken source.new)) }

@@ -19,7 +19,9 @@ const MESSAGES: u32 = 1_000_000;
 
 /// Does a job with the messages of an input, one after another up to its end. With `hex` the input
 /// is hexadecimal text, which is read whole first; otherwise one message is held at a time. A
-/// message's whole output is made before any of it is written.
+/// message's whole output is made before any of it is written. Whatever the result, at most
+/// 4,194,305 octets are taken of a text; of other input at most 1,048,576 octets are taken after
+/// the last message that was done.
 ///
 /// # Errors
 ///
@@ -35,7 +37,7 @@ pub fn run<R: Source, W: Sink>(
     ensures done { IfOk result (RunDone hex job (R.left source.old) (R.left source.new) (W.contents sink.old) (W.contents sink.new)) }
     ensures fails { IfErr result (RunFails hex job (R.left source.old) (R.left source.new) (W.contents sink.old) (W.contents sink.new)
         (R.is_broken source.new) (W.is_broken sink.new)) }
-    // Each input has one answer, unless memory, the source or the sink fails.
+    // Each input has one result, unless memory, the source or the sink fails.
     ensures does { IfSome (R.left source.old) (λ s. DoesMessages job hex s result) }
     ensures refuses { IfSome (R.left source.old) (λ s. RefusesFirst hex s result) }
     ensures too_many { IfSome (R.left source.old) (λ s. RefusesMore hex s result) }

@@ -12,7 +12,9 @@ use ill_normal::{Failure, LIMIT, same_message};
 use std::alloc::Global;
 
 /// Writes `same` or `different`, and a line end, for two inputs of one message each. The first
-/// input is read, then the second, and then they are compared.
+/// input is read, then the second, and then they are compared. Whatever the result, at most
+/// 1,048,577 octets are taken of an input, one more than a message may have, and with `hex` at most
+/// 4,194,305.
 ///
 /// # Errors
 ///
@@ -30,7 +32,7 @@ pub fn run_same<R: Source, S: Source, W: Sink>(
         (W.contents sink.old) (W.contents sink.new)) }
     ensures fails { IfErr result (SameFails hex (R.left first.old) (R.left first.new) (S.left second.old) (S.left second.new)
         (W.contents sink.old) (W.contents sink.new) (R.is_broken first.new) (S.is_broken second.new) (W.is_broken sink.new)) }
-    // Two inputs have one answer, unless memory, a source or the sink fails.
+    // Two inputs have one result, unless memory, a source or the sink fails.
     ensures compares { IfSome (R.left first.old) (λ s. IfSome (S.left second.old) (λ t. ComparesBoth hex s t result)) }
     ensures refuses { IfSome (R.left first.old) (λ s. IfSome (S.left second.old) (λ t. RefusesOne hex s t result)) }
     ensures no_hex { IfSome (R.left first.old) (λ s. IfSome (S.left second.old) (λ t. RefusesTexts hex s t result)) }
@@ -68,7 +70,8 @@ fn compare(alloc: Global, one: &[u8], other: &[u8]) -> Result<Verdict, RunFault>
     }
 }
 
-/// The octets of an input. One octet more than a message may have tells that it is too long.
+/// The octets of an input. One octet more than a message may have tells that it is too long; no
+/// more is taken, whatever the result.
 fn read_side<R: Source>(alloc: Global, hex: bool, source: &mut R) -> Result<Vec<u8>, RunFault>
     ensures read { IfOk result (λ octets. ReadsSide hex (R.left source.old) (R.left source.new) octets.items) }
     ensures fails { IfErr result (SideFails hex (R.left source.old) (R.left source.new) (R.is_broken source.new)) }

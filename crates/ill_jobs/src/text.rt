@@ -2,6 +2,7 @@
 ghost use Rattle.std.specs.Prelude.{◌<◌, ◌≤◌, length, IfOk, IsErrOf, IsTrue};
 ghost use Rattle.std.specs.Io.KnownBytes.{Consumes, IsAtEnd};
 ghost use Rattle.ill_jobs.specs.declared.text.Unread.{Unread};
+ghost use Rattle.ill_jobs.specs.Unread.{TakesAtMost};
 
 use crate::fault::RunFault;
 use ber_core::{Broken, Source};
@@ -31,11 +32,17 @@ impl From<Unread> for RunFault {
     }
 }
 
-/// Reads to the end of the input, but at most so many octets.
+/// Reads to the end of the input, but at most `most` octets. No more than these are taken of the
+/// source, whatever the result.
+///
+/// # Errors
+///
+/// Out of memory, or a source that is broken.
 pub fn read_most<R: Source>(alloc: Global, source: &mut R, most: usize) -> Result<Vec<u8>, Unread>
     ensures taken { IfOk result (λ text. Consumes (R.left source.old) (R.left source.new) text.items) }
     ensures most { IfOk result (λ text. length text.items ≤ most) }
     ensures end { IfOk result (λ text. length text.items < most → IsAtEnd (R.left source.new)) }
+    ensures bound { TakesAtMost most (R.left source.old) (R.left source.new) }
     ensures broken { IsErrOf result Unread.Broken → IsTrue (R.is_broken source.new) }
     ensures stays { IsTrue (R.is_broken source.old) → IsTrue (R.is_broken source.new) }
 {

@@ -10,7 +10,7 @@ use Rattle.ill_schema.proofs.OneMeaning.{one_message}
 use Rattle.ill_schema.proofs.Streams.{accepts_once}
 use Rattle.ill_read.specs.Fault.{Fault, fault}
 use Rattle.ill_read.specs.declared.failure.Failure.{Failure}
-use Rattle.ill_read.specs.Feeding.{DecodeAnswers}
+use Rattle.ill_read.specs.Answers.{DecodeAnswers}
 use Rattle.ill_read.specs.Judged.{fault_is}
 use Rattle.ill_read.specs.Answers.{IfRefused, RefusesWhole}
 

@@ -7,6 +7,7 @@ use Rattle.ill_read.specs.Fault.{Fault}
 use Rattle.ill_read.specs.Outcome.{OnlyRefuses}
 use Rattle.ber_leaf.specs.Profile.{profile_two}
 use Rattle.ill_read.specs.Judged.{fault_is}
+use Rattle.ill_read.specs.Answers.{TakesFront}
 use Rattle.ill_normal.specs.declared.failure.NormalFailure.{NormalFailure}
 use Rattle.ill_normal.specs.declared.failure.StreamCause.{StreamCause}
 use Rattle.ill_normal.specs.declared.failure.StreamFailure.{StreamFailure}
@@ -146,12 +147,13 @@ stops_normal rest left' grown held' x y whole NormalFailure.ReadFault lt h = (om
 stops_normal rest left' grown held' x y whole (NormalFailure.WriteFault n) lt h = (omega arith, h)
 
 pub stops_here : (left rest left' held grown held' : Option (List ℕ)) (x y : Bool) (whole before : ℕ) (e : NormalFailure) → Passes left rest held grown whole before
-    → whole < 1_000_000 → Fails rest left' grown held' x y e
+    → whole < 1_000_000 → TakesFront rest left' → Fails rest left' grown held' x y e
     → StopsAfter left left' held held' x y (record { whole = whole; before = before; why = StreamCause.Normal e })
-stops_here left rest left' held grown held' x y whole before e p lt h = record {
+stops_here left rest left' held grown held' x y whole before e p lt t h = record {
   rest = rest;
   grown = grown;
   passes = p;
+  taken = t;
   stops = stops_normal rest left' grown held' x y whole e lt h;
 }
 
@@ -162,15 +164,19 @@ stops_full left rest left' held held' x y before p h = record {
   rest = rest;
   grown = held';
   passes = p;
+  taken = (h.0 ∷ [], h.1, omega arith);
   stops = (refl, h, Keeps-refl held');
 }
 
--- the source broke behind a million messages
+-- the source broke after a million messages
 pub stops_broken : (left rest left' held held' : Option (List ℕ)) (x y : Bool) (before : ℕ) → Passes left rest held held' 1_000_000 before → IsTrue x → Keeps rest left'
     → StopsAfter left left' held held' x y (record { whole = 1_000_000; before = before; why = StreamCause.Normal NormalFailure.ReadFault })
-stops_broken left rest left' held held' x y before p broken kept = record {
-  rest = rest;
-  grown = held';
-  passes = p;
-  stops = (omega arith, (broken, ([], Consumes-kept rest rest left' [] (Consumes-nil rest) kept, λ a n accepted. accepts_some profile_two [] a n refl accepted), Keeps-refl held'));
-}
+stops_broken left rest left' held held' x y before p broken kept =
+    let none = Consumes-kept rest rest left' [] (Consumes-nil rest) kept in
+    record {
+      rest = rest;
+      grown = held';
+      passes = p;
+      taken = ([], none, omega arith);
+      stops = (omega arith, (broken, ([], none, λ a n accepted. accepts_some profile_two [] a n refl accepted), Keeps-refl held'));
+    }

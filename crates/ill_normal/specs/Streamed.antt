@@ -5,6 +5,7 @@ use Rattle.ill_schema.specs.Apdu.{Apdu, IsStream, normal_form}
 use Rattle.ill_read.specs.Fault.{Fault}
 use Rattle.ber_leaf.specs.Profile.{profile_two}
 use Rattle.ill_read.specs.Judged.{fault_is}
+use Rattle.ill_read.specs.Answers.{TakesFront}
 use Rattle.ill_normal.specs.declared.failure.NormalFailure.{NormalFailure}
 use Rattle.ill_normal.specs.declared.failure.StreamCause.{StreamCause}
 use Rattle.ill_normal.specs.declared.failure.StreamFailure.{StreamFailure}
@@ -29,11 +30,12 @@ Stops left left' held held' source_broken sink_broken whole (StreamCause.Normal 
 Stops left left' held held' source_broken sink_broken whole StreamCause.TooManyMessages =
     (whole ≡ 1_000_000) × ((octet : ℕ) × Consumes left left' (octet ∷ [])) × Keeps held held'
 
--- the messages that were whole before the failure, and why no further one was normalised
+-- the messages that were whole before the failure, and why no further one was normalised; of what follows them at most 1,048,576 octets were taken, whatever the failure
 pub record StopsAfter (left left' held held' : Option (List ℕ)) (source_broken sink_broken : Bool) (failure : StreamFailure) : Type 0 where
   pub rest : Option (List ℕ)
   pub grown : Option (List ℕ)
   pub passes : Passes left rest held grown failure.whole failure.before
+  pub taken : TakesFront rest left'
   pub stops : Stops rest left' grown held' source_broken sink_broken failure.whole failure.why
 
 -- a stream's answer is this number, or a fault

@@ -29,9 +29,9 @@ pub struct Checked {
 ///
 /// # Errors
 ///
-/// The one refusal of an input that begins with no message, want of memory, or the source's fault.
+/// The one refusal of an input that begins with no message, out of memory, or the source's fault.
 pub fn check_one<R: Source>(alloc: Global, source: &mut R) -> Result<Option<Checked>, ReadFailure>
-    // The octets that were taken spell an APDU, of which the answer speaks.
+    // The octets that were taken spell an APDU, which the result describes.
     ensures checked { IfOk result (λ found. IfSome found (λ x. (a : Apdu) × (b : List ℕ) × SpellsApdu profile_two a b
         × Consumes (R.left source.old) (R.left source.new) b × (x.apdu ≡ a.number) × (x.octets ≡ length b)
         × (x.normal ≡ length (normal_form a)) × (IsTrue x.is_normal ↔ (b ≡ normal_form a)))) }

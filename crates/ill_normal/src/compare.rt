@@ -20,7 +20,7 @@ pub enum Side {
 ///
 /// # Errors
 ///
-/// The first side that is not exactly one message, and why; or want of memory.
+/// The first side that is not exactly one message, and why; or out of memory.
 pub fn same_message(alloc: Global, first: &[u8], second: &[u8]) -> Result<bool, (Side, Failure)>
     ensures same { IfOk result (λ same. (a : Apdu) × (b : Apdu) × SpellsApdu profile_two a first.now × SpellsApdu profile_two b second.now
         × (IsTrue same ↔ (a ≡ b)) × (IsTrue same ↔ (normal_form a ≡ normal_form b))) }
@@ -45,7 +45,7 @@ pub fn same_message(alloc: Global, first: &[u8], second: &[u8]) -> Result<bool, 
 ///
 /// # Errors
 ///
-/// Why they are not exactly one message; or want of memory.
+/// Why they are not exactly one message; or out of memory.
 pub fn is_normal(alloc: Global, octets: &[u8]) -> Result<bool, Failure>
     ensures normal { IfOk result (λ yes. (a : Apdu) × SpellsApdu profile_two a octets.now × (IsTrue yes ↔ (octets.now ≡ normal_form a))) }
     ensures refused { IfErr result (λ e. IfRefused e (RefusesWhole octets.now)) }

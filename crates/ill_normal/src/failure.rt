@@ -11,7 +11,7 @@ use ill_write::WriteFailure;
 pub enum NormalFailure {
     /// The input begins with no message. Nothing was written.
     Refused(Refusal),
-    /// Memory was wanting. Nothing was written.
+    /// Out of memory. Nothing was written.
     OutOfMemory,
     /// The source is broken. Nothing was written.
     ReadFault,

@@ -48,12 +48,12 @@ pub(crate) fn forward<R: Source, W: Sink>(
     }))
 }
 
-/// Writes the normal form of the message that the source begins with, and answers how many octets
+/// Writes the normal form of the message that the source begins with, and returns how many octets
 /// it has; None where the source is at its end. Exactly the octets of the message are taken.
 ///
 /// # Errors
 ///
-/// The one refusal of an input that begins with no message, want of memory, or the fault of the
+/// The one refusal of an input that begins with no message, out of memory, or the fault of the
 /// source or the sink. Nothing was written, unless the sink broke.
 pub fn normalise<R: Source, W: Sink>(
     alloc: Global,

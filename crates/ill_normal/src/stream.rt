@@ -16,12 +16,13 @@ use std::alloc::Global;
 const MESSAGES: u32 = 1_000_000;
 
 /// Writes the normal forms of the messages that the source holds up to its end, at most 1,000,000,
-/// and answers how many messages they are. One message is held in memory at a time.
+/// and returns how many messages they are. One message is held in memory at a time.
 ///
 /// # Errors
 ///
-/// Where a message is not normalised, or the input goes on behind 1,000,000 messages, how many
-/// messages were normalised before, how many octets they had in the input, and the cause.
+/// Where a message is not normalised, or the input goes on after 1,000,000 messages, how many
+/// messages were normalised before, how many octets they had in the input, and the cause. After
+/// those messages at most 1,048,576 octets of the input were taken.
 pub fn normalise_stream<R: Source, W: Sink>(
     alloc: Global,
     source: &mut R,

@@ -1,6 +1,6 @@
 -- What a decoder knows at the end of a message, and of octets that follow.
 use Rattle.std.proofs.Common.{◌≡◌, ◌≢◌, ℕ, ◌+◌, ◌<◌, ◌≤◌, List, [], ◌∷◌, ◌++◌, length, length-append, take, Some, None, Err, IsTrue, refl, sym, ap, subst, ◌∙◌, inl, inr, arith, append_assoc}
-use Rattle.std.proofs.lemmas.List.{take-append-le}
+use Rattle.std.proofs.lemmas.List.{nil_from_length, take-append-le}
 use Rattle.ber_core.specs.Octets.{are_octets}
 use Rattle.ber_leaf.specs.Profile.{profile_two}
 use Rattle.ill_schema.specs.declared.message.Message.{Message}
@@ -9,11 +9,14 @@ use Rattle.ill_schema.specs.declared.refusal.Refusal.{Refusal}
 use Rattle.ill_schema.specs.Apdu.{Apdu, Encodes, Accepts}
 use Rattle.ill_schema.specs.Message.{apdu_of, octets_of}
 use Rattle.ill_read.specs.Fault.{Fault, fault, faulty, judge, Refuses}
-use Rattle.ill_read.specs.Feeding.{IsRead, IsPart, IsRefused, IsMessageOf, FinishAnswers, DecodeAnswers, StandsBefore, StandsLast, InState}
+use Rattle.ill_read.specs.Answers.{IsRead, IsPart, IsRefused, DecodeAnswers}
+use Rattle.ill_read.specs.DecoderCode.{IsFed, IsMessageOf, FinishAnswers, StandsBefore, StandsLast, InState}
+use Rattle.ill_read.specs.Feeding.{ended, IsOpenAfter, StatesAreApart}
 use Rattle.ill_read.specs.Judged.{fault_is}
 use Rattle.ill_read.specs.Outcome.{OnlyAccepts, OnlyRefuses}
 use Rattle.ill_read.specs.Place.{Open, IsPlace, bound}
 use Rattle.ill_read.specs.declared.failure.Failure.{Failure}
+use Rattle.ill_read.specs.declared.decoder.Decoder.{Decoder}
 use Rattle.ill_read.specs.declared.decoder.State.{State}
 use Rattle.ill_read.specs.declared.decoder.State.TheVariants as state
 use Rattle.ill_read.specs.declared.path.Path.{Path}
@@ -53,7 +56,7 @@ ended_longer state.Open s x A B n h = absurd (n refl)
 ended_longer (state.Whole m) s x A B n h = accepts_longer s x (apdu_of m) (octets_of m) h.0
 ended_longer (state.Failed f) s x A B n h = refused_longer s x f h
 
--- octets that come behind those that wait
+-- octets that come after those that wait
 pub running_longer : (st : State) (path : Path) (at : ℕ) (s rest x : List ℕ) → IsTrue (are_octets x) → InState st s (StandsLast path at s rest) → InState st (s ++ x) (StandsBefore path at (s ++ x) (rest ++ x))
 running_longer state.Open path at s rest x ok h =
     let b = h.0 in
@@ -69,7 +72,7 @@ running_longer state.Open path at s rest x ok h =
 running_longer (state.Whole m) path at s rest x ok h = accepts_longer s x (apdu_of m) (octets_of m) h.0
 running_longer (state.Failed f) path at s rest x ok h = refused_longer s x f h
 
--- a place whose next octets are wanting: the input ends too early
+-- a place whose next octets are missing: the input ends too early
 pub stands_part : (path : Path) (at : ℕ) (s rest : List ℕ) → StandsLast path at s rest → IsPart s
 stands_part path at s rest h =
     let b = h.0 in
@@ -77,7 +80,7 @@ stands_part path at s rest h =
     (refused_at profile_two b.place b.before rest (fault Cause.Truncated (length s)) b.is_place
     (subst (λ k. judge profile_two b.place k rest ≡ faulty (fault Cause.Truncated (length s))) b.offset h.1))
 
--- nothing is open behind the end
+-- nothing is open after the end
 pub after_end : (st : State) (s : List ℕ) (A : Type 0) → InState st s ⊥ → InState st s A
 after_end state.Open s A h = absurd h
 after_end (state.Whole m) s A h = h
@@ -114,6 +117,9 @@ last_size path at s rest h =
     let limit = place_bound b.place b.before b.is_place in
     (n, omega arith)
 
+pub nothing_waits : (d : Decoder) → IsOpenAfter d [] → d.pending.items ≡ []
+nothing_waits d h = nil_from_length d.pending.items (let size = (last_size d.path d.at [] d.pending.items h.1).0 in omega arith)
+
 -- nothing refuses an empty input but that it ends
 pub failed_finish : (s : List ℕ) (failure : Failure) → IsRefused s failure → FinishAnswers s (Err failure)
 failed_finish s (Failure.Refused r) h = (h.0, filled s (λ e. h.1 (ap (λ (f : Fault). f.cause) (sym (h.0.1 (fault Cause.Truncated 0) (subst (λ z. Refuses profile_two z (fault Cause.Truncated 0)) (sym e) empty))))))
@@ -125,6 +131,39 @@ failed_finish s (Failure.Refused r) h = (h.0, filled s (λ e. h.1 (ap (λ (f : F
     filled [] n = absurd (n refl)
     filled (x ∷ s) n = omega arith
 failed_finish s Failure.OutOfMemory h = tt
+
+-- what is returned of a decoder that is whole, or has failed, holds of each that isn't open
+pub once_closed : (st : State) (P : Type 0) → ((m : Message) → st ≡ state.Whole m → P) → ((f : Failure) → st ≡ state.Failed f → P) → st ≢ state.Open → P
+once_closed state.Open P whole failed closed = absurd (closed refl)
+once_closed (state.Whole m) P whole failed closed = whole m refl
+once_closed (state.Failed f) P whole failed closed = failed f refl
+
+-- an open decoder was fed its octets
+pub is_fed : (d : Decoder) (fed : List ℕ) → IsOpenAfter d fed → IsFed d fed
+is_fed d fed h = subst (λ st. InState st fed (StandsLast d.path d.at fed d.pending.items)) (sym h.0) h.1
+
+pub is_open : (d : Decoder) (fed : List ℕ) → IsFed d fed → d.state ≡ state.Open → IsOpenAfter d fed
+is_open d fed h e = (e, subst (λ st. InState st fed (StandsLast d.path d.at fed d.pending.items)) e h)
+
+-- an open decoder's octets end too early, or there are none
+pub ended_finish : (s : List ℕ) → IsPart s → FinishAnswers s (ended s)
+ended_finish [] h = refl
+ended_finish (octet ∷ s) h = (h, omega arith)
+
+pub ended_some : (fed : List ℕ) (n : ℕ) → length fed ≡ n → n ≢ 0 → ended fed ≡ Err (Failure.Refused (record { at = n; cause = Cause.Truncated }))
+ended_some [] n e some = absurd (some (sym e))
+ended_some (octet ∷ fed) n e some = ap (λ k. Err (Failure.Refused (record { at = k; cause = Cause.Truncated }))) e
+
+-- the states of a decoder
+pub states_apart : (d : Decoder) → StatesAreApart d
+states_apart d = record {
+  part = λ fed h. stands_part d.path d.at fed d.pending.items h.1;
+  open_or_whole = λ fed m h w. let q : state.Open ≡ state.Whole m = sym h.0 ∙ w in cc;
+  open_or_failed = λ fed f h w. let q : state.Open ≡ state.Failed f = sym h.0 ∙ w in cc;
+  whole_or_failed = λ m f h w. let q : state.Whole m ≡ state.Failed f = sym h ∙ w in cc;
+  one_message = λ m n h w. let q : state.Whole m ≡ state.Whole n = sym h ∙ w in cc;
+  one_failure = λ f g h w. let q : state.Failed f ≡ state.Failed g = sym h ∙ w in cc;
+}
 
 pub decode_fails : (s : List ℕ) (failure : Failure) → IsRefused s failure → DecodeAnswers s (Err failure)
 decode_fails s (Failure.Refused r) h = inl h.0

@@ -1,5 +1,5 @@
--- A decoder that is fed from a source has what the source gave up, and no octet behind a message.
-use Rattle.std.proofs.Common.{◌≡◌, ◌≢◌, ◌⊎◌, ℕ, ◌+◌, ◌<◌, ◌≤◌, List, [], ◌∷◌, ◌++◌, length, length-append, Option, Some, None, Ok, Err, IsTrue, refl, sym, ap, subst, ◌∙◌, inl, inr, arith, append-nil}
+-- A decoder that is fed from a source has what the source gave up, and no octet after a message.
+use Rattle.std.proofs.Common.{◌≡◌, ◌≢◌, ◌⊎◌, ℕ, ◌+◌, ◌<◌, ◌≤◌, List, [], ◌∷◌, ◌++◌, length, length-append, Option, Some, None, Result, Ok, Err, IsTrue, refl, sym, ap, subst, ◌∙◌, inl, inr, arith, append-nil}
 use Rattle.std.specs.Prelude.{IfNone, IfSome}
 use Rattle.std.specs.Io.KnownBytes.{Consumes, IsAtEnd}
 use Rattle.std.proofs.lemmas.Bool.{cases_lt}
@@ -9,17 +9,28 @@ use Rattle.ber_leaf.specs.Profile.{profile_two}
 use Rattle.ill_schema.specs.declared.message.Message.{Message}
 use Rattle.ill_schema.specs.Apdu.{Apdu, Accepts, SpellsApdu}
 use Rattle.ill_schema.specs.Message.{apdu_of, octets_of}
-use Rattle.ill_read.specs.Answers.{IsSpelled, IsUnfinished, IfReadRefused}
+use Rattle.ill_read.specs.Answers.{IsRead, IsSpelled, IsUnfinished, IfReadRefused}
 use Rattle.ill_read.specs.Failures.{read_failure}
-use Rattle.ill_read.specs.Feeding.{FinishAnswers, InState, IsFed, IsRead, StandsLast}
+use Rattle.ill_read.specs.DecoderCode.{FinishAnswers, InState, IsFed, StandsLast}
+use Rattle.ill_read.specs.Feeding.{ended, HasFailedWith, IsOpenAfter, IsWholeWith}
 use Rattle.ill_read.specs.Filling.{NoneEndsWithin, HasFilled, HasKept}
 use Rattle.ill_read.specs.Outcome.{OnlyRefuses}
 use Rattle.ill_read.specs.declared.decoder.Decoder.{Decoder}
 use Rattle.ill_read.specs.declared.decoder.State.{State}
 use Rattle.ill_read.specs.declared.decoder.State.TheVariants as state
 use Rattle.ill_read.specs.declared.failure.Failure.{Failure}
-use Rattle.ill_read.proofs.Fed.{ended_longer, last_size}
+use Rattle.ill_read.proofs.Fed.{ended_longer, failed_finish, ended_finish, is_open, last_size, stands_part}
 use Rattle.ill_read.proofs.Readings.{octets_join}
+
+-- what finish returns, of the octets that were fed
+pub finished : (d : Decoder) (r : Result (Option Message) Failure) → ((fed : List ℕ) → IsOpenAfter d fed → r ≡ ended fed) → ((m : Message) → IsWholeWith d m → r ≡ Ok (Some m))
+    → ((f : Failure) → HasFailedWith d f → r ≡ Err f) → (s : List ℕ) → IsFed d s → FinishAnswers s r
+finished d r opened whole failed s h = go d.state refl
+  where
+    go : (st : State) → d.state ≡ st → FinishAnswers s r
+    go state.Open e = let o = is_open d s h e in subst (FinishAnswers s) (sym (opened s o)) (ended_finish s (stands_part d.path d.at s d.pending.items o.1))
+    go (state.Whole m) e = subst (FinishAnswers s) (sym (whole m e)) (subst (λ st. InState st s (StandsLast d.path d.at s d.pending.items)) e h)
+    go (state.Failed f) e = subst (FinishAnswers s) (sym (failed f e)) (failed_finish s f (subst (λ st. InState st s (StandsLast d.path d.at s d.pending.items)) e h))
 
 open_or_closed : (st : State) → (st ≡ state.Open) ⊎ (st ≢ state.Open)
 open_or_closed state.Open = inl refl

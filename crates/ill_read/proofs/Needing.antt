@@ -14,12 +14,13 @@ use Rattle.ber_core.specs.Length.{IsLength, short as short_form, long as long_fo
 use Rattle.ber_core.specs.Octets.{are_octets}
 use Rattle.ber_core.proofs.Identifiers.{IsEnd, identifier_no_end}
 use Rattle.ber_leaf.specs.Profile.{Profile, profile_two}
+use Rattle.ill_schema.specs.declared.refusal.Cause.{Cause}
 use Rattle.ill_schema.specs.Apdu.{Apdu, Accepts}
-use Rattle.ill_read.specs.Fault.{Judgement, faulty, closes, opens, reads, is_indefinite, judge}
-use Rattle.ill_read.specs.Feeding.{StandsLast}
+use Rattle.ill_read.specs.Fault.{fault, Judgement, faulty, closes, opens, reads, is_indefinite, judge}
+use Rattle.ill_read.specs.DecoderCode.{StandsLast}
 use Rattle.ill_read.specs.HeaderCode.{Lacks, IsHeaderRead, IsLengthRead, IsWholeLength, need_read}
 use Rattle.ill_read.specs.JudgeCode.{outermost_end}
-use Rattle.ill_read.specs.Need.{outermost, begins_zero, in_mark, NeedsOfLength, NeedsOfElement, NeedsAfterMark, NeedsBefore, IsNeed}
+use Rattle.ill_read.specs.Need.{NeedsAfter, outermost, begins_zero, in_mark, NeedsOfLength, NeedsOfElement, NeedsAfterMark, NeedsBefore, IsNeed}
 use Rattle.ill_read.specs.Place.{Open, bound, IsPlace, IsDue}
 use Rattle.ill_read.specs.Reading.{identified, part_identifier, no_identifier, read_identifier, definite, indefinite, part_length, no_length, read_length}
 use Rattle.ill_read.specs.Step.{close, moved}
@@ -313,9 +314,9 @@ inside_reaches place k n w more lt want true m one = mark_needs place k n w more
 inside_reaches place k n w more lt want false m need = element_reaches place k n w more lt m (wants_element place w want m) need
 
 -- what each judgement reaches, a message does
-reaches_surely : (path : Path) (at : ℕ) (s octets : List ℕ) (l : StandsLast path at s octets) (n : ℕ) (more : List ℕ) → ReachesNeed l.0.place (length l.0.before) octets more n
+reaches_at_least : (path : Path) (at : ℕ) (s octets : List ℕ) (l : StandsLast path at s octets) (n : ℕ) (more : List ℕ) → ReachesNeed l.0.place (length l.0.before) octets more n
     → (a : Apdu) (m : ℕ) → IsTrue (are_octets (s ++ more)) → Accepts profile_two (s ++ more) a m → length s + n ≤ m
-reaches_surely path at s octets l n more reaches a m ok h =
+reaches_at_least path at s octets l n more reaches a m ok h =
     let b = l.0 in
     let u = b.before in
     let w = octets ++ more in
@@ -331,9 +332,9 @@ reaches_surely path at s octets l n more reaches a m ok h =
     omega (arith, ap length b.joined, length-append u octets)
 
 -- so many octets surely still belong to the message
-pub need_surely : (path : Path) (at : ℕ) (s octets : List ℕ) (l : StandsLast path at s octets) (n : ℕ) → IsNeed l.0.place at octets n
+pub need_at_least : (path : Path) (at : ℕ) (s octets : List ℕ) (l : StandsLast path at s octets) (n : ℕ) → IsNeed l.0.place at octets n
     → (more : List ℕ) (a : Apdu) (m : ℕ) → IsTrue (are_octets (s ++ more)) → Accepts profile_two (s ++ more) a m → length s + n ≤ m
-need_surely path at s octets l n need more a m ok h =
+need_at_least path at s octets l n need more a m ok h =
     let b = l.0 in
     let u = b.before in
     let near = short path at s octets l in
@@ -345,7 +346,7 @@ need_surely path at s octets l n need more a m ok h =
           omega (arith, b.offset, ap length b.joined, length-append u octets)
       | None ↦ λ q is.
           let lt : length u < bound profile_two b.place = omega (arith, b.offset, near.0) in
-          reaches_surely path at s octets l n more (inside_reaches b.place (length u) n octets more lt near.1 (in_mark b.place octets) refl is) a m ok h
+          reaches_at_least path at s octets l n more (inside_reaches b.place (length u) n octets more lt near.1 (in_mark b.place octets) refl is) a m ok h
     ] in
     reach (outermost b.place) refl need
 
@@ -380,11 +381,11 @@ two_reach p path k rest (reads tag h content) lt r =
     omega (arith, length-append (identifier tag false) r.octets)
 
 -- so two octets surely belong to the message where no definite element is open
-pub two_surely : (path : Path) (at : ℕ) (s : List ℕ) (l : StandsLast path at s []) → (more : List ℕ) (a : Apdu) (m : ℕ) → IsTrue (are_octets (s ++ more)) → Accepts profile_two (s ++ more) a m → length s + 2 ≤ m
-two_surely path at s l more a m ok h =
+pub two_at_least : (path : Path) (at : ℕ) (s : List ℕ) (l : StandsLast path at s []) → (more : List ℕ) (a : Apdu) (m : ℕ) → IsTrue (are_octets (s ++ more)) → Accepts profile_two (s ++ more) a m → length s + 2 ≤ m
+two_at_least path at s l more a m ok h =
     let lt : length l.0.before < bound profile_two l.0.place = omega (arith, l.0.offset, (short path at s [] l).0) in
     let size : length l.0.before + 2 ≡ length l.0.before + 0 + 2 = omega arith in
-    reaches_surely path at s [] l 2 more (λ j r. subst (λ z. Reaches z (length l.0.before) j) size (two_reach profile_two l.0.place (length l.0.before) more j lt r)) a m ok h
+    reaches_at_least path at s [] l 2 more (λ j r. subst (λ z. Reaches z (length l.0.before) j) size (two_reach profile_two l.0.place (length l.0.before) more j lt r)) a m ok h
 
 -- of a part of a length, or of a content, octets are wanting
 length_open : (place : List Open) (octets r : List ℕ) (f : Bool) (n : ℕ) → LengthWants profile_two place f r → (tag : Tag) → read_identifier octets ≡ identified tag f r → NeedsOfLength (read_length f r) octets n → 0 < n
@@ -403,6 +404,20 @@ length_open place octets r f n (inl l) tag q h =
           let whole : octets ≡ (octets ++ rest) ++ [] = sym (append-nil (octets ++ rest) ∙ ap (λ z. octets ++ z) (nil_from_length rest zero) ∙ append-nil octets) in
           absurd (no_header header (octets ++ rest) [] octets lacks.1.2 whole (inr (tag, f, r, q, l)))
     ]
+
+-- and in the words of the octets alone
+pub needs_after : (path : Path) (at : ℕ) (fed octets : List ℕ) (l : StandsLast path at fed octets) (n : ℕ) → IsNeed l.0.place at octets n → NeedsAfter fed n
+needs_after path at fed octets l n need =
+    let b = l.0 in
+    record {
+      place = b.place;
+      before = b.before;
+      rest = octets;
+      joined = b.joined;
+      is_place = b.is_place;
+      ends = subst (λ k. judge profile_two b.place k octets ≡ faulty (fault Cause.Truncated (length fed))) b.offset l.1;
+      needed = subst (λ k. IsNeed b.place k octets n) b.offset need;
+    }
 
 -- and there are some
 pub need_open : (path : Path) (at : ℕ) (s octets : List ℕ) (l : StandsLast path at s octets) (n : ℕ) → IsNeed l.0.place at octets n → 0 < n

@@ -1,7 +1,7 @@
 -- Each input has exactly one outcome.
 use Rattle.std.proofs.Common.{◌≡◌, ℕ, ◌+◌, ◌*◌, ◌<◌, ◌≤◌, List, [], ◌++◌, length, length-append, take, drop, Some, IsTrue, refl, sym, ap, subst, ◌∙◌, inl, inr, arith, ltb-true, ltb-false}
 use Rattle.std.specs.Prelude.{nat_lt}
-use Rattle.std.proofs.lemmas.List.{take-append-drop, length-take-le}
+use Rattle.std.proofs.lemmas.List.{length-drop, length-take-le, take-append-drop}
 use Rattle.ber_core.specs.Tree.{Tree, Spells}
 use Rattle.ill_schema.specs.declared.refusal.Cause.{Cause}
 use Rattle.ill_schema.specs.Apdu.{Apdu, MeansApdu, Encodes, normal_form}
@@ -17,6 +17,7 @@ use Rattle.ill_read.proofs.Placing.{IsMessage, Placed, ends}
 use Rattle.ill_read.proofs.Readings.{take-all}
 use Rattle.ill_read.proofs.Reaching.{place_run, message_run}
 use Rattle.ill_read.proofs.Running.{step_is}
+use Rattle.ill_read.proofs.Wanting.{truncated_at}
 use Rattle.ill_read.proofs.Sequences.{two_cases}
 
 abbrev pub begin : List ℕ → Step
@@ -45,6 +46,14 @@ pub fault_run : (p : Profile) (s : List ℕ) (path : List Open) (k : ℕ) (f : F
 fault_run p s path k f h e =
     let st : step p path k (drop k s) ≡ refused f = step_is p path k (drop k s) (faulty f) (is_faulty _ f e) in
     runs-trans p _ _ _ (due_run p s path k h) (runs-step p path k (drop k s) (refused f) st)
+
+-- the fault of octets that end too early is at their end
+pub truncated_size : (p : Profile) (s : List ℕ) (f : Fault) → f.cause ≡ Cause.Truncated → Refuses p s f → f.at ≡ length s
+truncated_size p s f c (inl h) =
+    let at : f ≡ fault Cause.Truncated (h.1 + length (drop h.1 s)) = (truncated_at p h.0 h.1 (drop h.1 s) f (is_faulty _ f h.3) c).1 in
+    let le = h.2.0 in
+    ap (λ (x : Fault). x.at) at ∙ omega (arith, length-drop h.1 s, le)
+truncated_size p s f c (inr h) = absurd (let q : Cause.NormalTooLong ≡ Cause.Truncated = sym (ap (λ (x : Fault). x.cause) h.0) ∙ c in cc)
 
 one_fault : (p : Profile) (s : List ℕ) (f g : Fault) → Runs p (begin s) (refused f) → Runs p (begin s) (refused g) → f ≡ g
 one_fault p s f g h k = let e : refused f ≡ refused g = one_end p (begin s) (refused f) (refused g) tt tt h k in cc

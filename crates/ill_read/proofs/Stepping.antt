@@ -12,7 +12,8 @@ use Rattle.ill_schema.specs.Meaning.{Means}
 use Rattle.ill_schema.specs.Tagging.{untagged}
 use Rattle.ill_schema.specs.Value.{content_of}
 use Rattle.ill_read.specs.Fault.{Fault, Judgement, closes, reads, judge, or_faulty}
-use Rattle.ill_read.specs.Feeding.{StandsBefore, IsRefused, body_apdu}
+use Rattle.ill_read.specs.Answers.{IsRefused}
+use Rattle.ill_read.specs.DecoderCode.{StandsBefore, body_apdu}
 use Rattle.ill_read.specs.Judged.{fault_is, IsJudgement, IsBody, IsStep}
 use Rattle.ill_read.specs.Place.{Open}
 use Rattle.ill_read.specs.Progress.{size_of, depth_of, IsProgress}

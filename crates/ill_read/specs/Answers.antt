@@ -1,5 +1,5 @@
--- What is answered of a source or of a whole slice.
-use Rattle.std.specs.Prelude.{◌≡◌, ◌⊎◌, ℕ, ◌<◌, ◌≤◌, List, length, Option, Some, None, Result, Ok, Err}
+-- What is returned for octets: fed in pieces, out of a source, or a whole slice.
+use Rattle.std.specs.Prelude.{◌≡◌, ◌≢◌, ◌⊎◌, ℕ, ◌<◌, ◌≤◌, List, length, Option, Some, None, Result, Ok, Err}
 use Rattle.std.specs.Io.KnownBytes.{Consumes}
 use Rattle.ber_leaf.specs.Profile.{profile_two}
 use Rattle.ill_schema.specs.declared.message.Message.{Message}
@@ -8,9 +8,22 @@ use Rattle.ill_schema.specs.Apdu.{Apdu, SpellsApdu, Accepts}
 use Rattle.ill_schema.specs.Message.{apdu_of, octets_of}
 use Rattle.ill_read.specs.Fault.{Fault, fault}
 use Rattle.ill_read.specs.Judged.{fault_is}
-use Rattle.ill_read.specs.Outcome.{OnlyRefuses}
+use Rattle.ill_read.specs.Outcome.{OnlyAccepts, OnlyRefuses}
 use Rattle.ill_read.specs.declared.failure.Failure.{Failure}
 use Rattle.ill_read.specs.declared.failure.ReadFailure.{ReadFailure}
+
+-- the octets begin with the message and no other, and aren't refused
+abbrev pub IsRead : List ℕ → Message → Type 0
+IsRead s m = OnlyAccepts profile_two s (apdu_of m) (octets_of m)
+
+-- the octets end too early, and are at no other fault
+abbrev pub IsPart : List ℕ → Type 0
+IsPart s = OnlyRefuses profile_two s (fault Cause.Truncated (length s))
+
+-- a refusal is the one fault of the octets, and more octets don't mend it; out of memory says nothing of them
+abbrev pub IsRefused : List ℕ → Failure → Type 0
+IsRefused s (Failure.Refused refusal) = OnlyRefuses profile_two s (fault_is refusal) × (refusal.cause ≢ Cause.Truncated)
+IsRefused s Failure.OutOfMemory = Unit {0}
 
 -- the octets spell the message's APDU, and the message says how many they are
 pub record IsSpelled (m : Message) (b : List ℕ) : Type 0 where
@@ -43,6 +56,12 @@ IfReadRefused ReadFailure.ReadFault P = Unit {0}
 abbrev pub RefusesWhole : List ℕ → Fault → Type 0
 RefusesWhole s f = OnlyRefuses profile_two s f
     ⊎ ((a : Apdu) × (n : ℕ) × Accepts profile_two s a n × (n < length s) × (f ≡ fault Cause.TrailingBytes n))
+
+-- of octets that are to be one message
+abbrev pub DecodeAnswers : List ℕ → Result Message Failure → Type 0
+DecodeAnswers s (Ok m) = IsSpelled m s
+DecodeAnswers s (Err (Failure.Refused refusal)) = RefusesWhole s (fault_is refusal)
+DecodeAnswers s (Err Failure.OutOfMemory) = Unit {0}
 
 -- memory or the source failed
 abbrev pub IsReadFault : ReadFailure → Type 0

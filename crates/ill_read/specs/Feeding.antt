@@ -1,117 +1,42 @@
--- What a decoder has been fed, and what its calls answer.
-use Rattle.std.specs.Prelude.{◌≡◌, ◌≢◌, ℕ, ◌+◌, ◌<◌, ◌≤◌, List, [], ◌++◌, length, drop, Option, Some, None, Result, Ok, Err, IsTrue}
-use Rattle.ber_core.specs.Octets.{are_octets}
-use Rattle.ber_leaf.specs.Profile.{profile_two}
+-- The three states of a decoder, of which no two hold at once, and what each call makes of them.
+use Rattle.std.specs.Prelude.{◌≡◌, ℕ, List, [], ◌∷◌, length, Option, None, Result, Ok, Err}
 use Rattle.ill_schema.specs.declared.message.Message.{Message}
 use Rattle.ill_schema.specs.declared.refusal.Cause.{Cause}
-use Rattle.ill_schema.specs.declared.refusal.Refusal.{Refusal}
-use Rattle.ill_schema.specs.Apdu.{Apdu, normal_form}
-use Rattle.ill_schema.specs.Message.{apdu_of, octets_of}
-use Rattle.ill_schema.specs.Value.{apdu_with}
-use Rattle.ill_read.specs.Answers.{IsSpelled, RefusesWhole}
-use Rattle.ill_read.specs.Fault.{fault, faulty, judge}
-use Rattle.ill_read.specs.Judged.{fault_is, IsJudgement}
-use Rattle.ill_read.specs.Outcome.{OnlyAccepts, OnlyRefuses}
-use Rattle.ill_read.specs.Place.{Open, IsPlace}
-use Rattle.ill_read.specs.Standing.{StandsAt}
+use Rattle.ill_read.specs.Answers.{IsPart, IsRead, IsRefused}
+use Rattle.ill_read.specs.DecoderCode.{StandsLast}
 use Rattle.ill_read.specs.declared.decoder.Decoder.{Decoder}
 use Rattle.ill_read.specs.declared.decoder.Progress.{Progress}
-use Rattle.ill_read.specs.declared.decoder.State.{State}
 use Rattle.ill_read.specs.declared.decoder.State.TheVariants as state
 use Rattle.ill_read.specs.declared.failure.Failure.{Failure}
-use Rattle.ill_read.specs.declared.judge.Judgement.{Judgement}
-use Rattle.ill_read.specs.declared.path.Body.{Body}
-use Rattle.ill_read.specs.declared.path.Path.{Path}
 
--- the octets begin with the message and no other, and aren't refused
-abbrev pub IsRead : List ℕ → Message → Type 0
-IsRead s m = OnlyAccepts profile_two s (apdu_of m) (octets_of m)
+-- open: these octets were fed, and more of them may still make a message (how the path stands for them is the code's business)
+abbrev pub IsOpenAfter : Decoder → List ℕ → Type 0
+IsOpenAfter d fed = (d.state ≡ state.Open) × StandsLast d.path d.at fed d.pending.items
 
--- the octets end too early, and are at no other fault
-abbrev pub IsPart : List ℕ → Type 0
-IsPart s = OnlyRefuses profile_two s (fault Cause.Truncated (length s))
+-- whole, with this message
+abbrev pub IsWholeWith : Decoder → Message → Type 0
+IsWholeWith d m = d.state ≡ state.Whole m
 
--- a refusal is the one fault of the octets, which more octets don't mend; want of memory says nothing
-abbrev pub IsRefused : List ℕ → Failure → Type 0
-IsRefused s (Failure.Refused refusal) = OnlyRefuses profile_two s (fault_is refusal) × (refusal.cause ≢ Cause.Truncated)
-IsRefused s Failure.OutOfMemory = Unit {0}
+-- failed, with this failure
+abbrev pub HasFailedWith : Decoder → Failure → Type 0
+HasFailedWith d f = d.state ≡ state.Failed f
 
--- a path that stands at a place of the octets, with the rest of them behind it
-pub record StandsBefore (path : Path) (at : ℕ) (s rest : List ℕ) : Type 0 where
-  pub place : List Open
-  pub before : List ℕ
-  pub joined : s ≡ before ++ rest
-  pub octets : IsTrue (are_octets s)
-  pub offset : at ≡ length before
-  pub stands : StandsAt path place
-  pub is_place : IsPlace profile_two before place
+-- where a piece leads, of all the octets that were fed, and what is returned for it
+abbrev pub FeedsTo : Decoder → List ℕ → Result Progress Failure → Type 0
+FeedsTo d fed (Ok Progress.More) = IsOpenAfter d fed × IsPart fed
+FeedsTo d fed (Ok Progress.Done) = (m : Message) × IsWholeWith d m × IsRead fed m
+FeedsTo d fed (Err failure) = HasFailedWith d failure × IsRefused fed failure
 
--- the rest doesn't reach the next place
-abbrev pub StandsLast : Path → ℕ → List ℕ → List ℕ → Type 0
-StandsLast path at s rest = (b : StandsBefore path at s rest) × (judge profile_two b.place at rest ≡ faulty (fault Cause.Truncated (length s)))
+-- what an open decoder returns after the last octet: nothing where nothing was fed, else that the octets end too early, at their end
+abbrev pub ended : List ℕ → Result (Option Message) Failure
+ended [] = Ok None
+ended (octet ∷ fed) = Err (Failure.Refused (record { at = length (octet ∷ fed); cause = Cause.Truncated }))
 
--- a message was read of the octets, or they are refused, or else this holds
-abbrev pub InState : State → List ℕ → Type 0 → Type 0
-InState state.Open s IfOpen = IfOpen
-InState (state.Whole m) s IfOpen = IsRead s m
-InState (state.Failed f) s IfOpen = IsRefused s f
-
-abbrev pub IsRunning : Decoder → List ℕ → List ℕ → Type 0
-IsRunning d s rest = InState d.state s (StandsBefore d.path d.at s rest)
-
-abbrev pub HasStopped : Decoder → List ℕ → List ℕ → Type 0
-HasStopped d s rest = InState d.state s (StandsLast d.path d.at s rest)
-
--- the judgement is the definitions' one at its place
-abbrev pub CanStep : Decoder → List ℕ → List ℕ → Judgement → Type 0
-CanStep d s rest judgement = (b : StandsBefore d.path d.at s rest) × IsJudgement d.path b.place d.at rest judgement (judge profile_two b.place d.at rest)
-
--- the refusal is the definitions' judgement there
-abbrev pub CanRefuse : Decoder → List ℕ → List ℕ → Refusal → Type 0
-CanRefuse d s rest refusal = (b : StandsBefore d.path d.at s rest) × (judge profile_two b.place d.at rest ≡ faulty (fault_is refusal))
-
--- it went on behind so many octets, or stopped
-abbrev pub HasAdvanced : Decoder → List ℕ → List ℕ → Option ℕ → Type 0
-HasAdvanced d s rest (Some size) = IsRunning d s (drop size rest)
-HasAdvanced d s rest None = HasStopped d s rest
-
-abbrev pub body_apdu : Body → Apdu
-body_apdu body = apdu_with (body.row + 1) body.value
-
--- the message of an APDU that was read from so many octets, None where its normal form passes the limit
-abbrev pub IsMessageOf : Apdu → ℕ → Option Message → Type 0
-IsMessageOf a octets None = profile_two.limit < length (normal_form a)
-IsMessageOf a octets (Some m) = (apdu_of m ≡ a) × (octets_of m ≡ octets) × (length (normal_form a) ≤ profile_two.limit)
-
--- nothing is open any more
-abbrev pub HasEnded : Decoder → List ℕ → Type 0
-HasEnded d s = InState d.state s ⊥
-
--- the decoder has been fed these octets
-abbrev pub IsFed : Decoder → List ℕ → Type 0
-IsFed d s = HasStopped d s d.pending.items
-
--- after some octets more: a message is whole, or one may still become so, or none does
-abbrev pub FeedAnswers : List ℕ → Result Progress Failure → Type 0
-FeedAnswers s (Ok Progress.Done) = (a : Apdu) × (n : ℕ) × OnlyAccepts profile_two s a n
-FeedAnswers s (Ok Progress.More) = IsPart s
-FeedAnswers s (Err failure) = IsRefused s failure
-
--- what has come of the octets
-abbrev pub HasOutcome : List ℕ → Result (Option Message) Failure → Type 0
-HasOutcome s (Ok (Some m)) = IsRead s m
-HasOutcome s (Ok None) = IsPart s × (length s < 1_048_576)
-HasOutcome s (Err failure) = IsRefused s failure
-
--- after the last octet
-abbrev pub FinishAnswers : List ℕ → Result (Option Message) Failure → Type 0
-FinishAnswers s (Ok (Some m)) = IsRead s m
-FinishAnswers s (Ok None) = s ≡ []
-FinishAnswers s (Err (Failure.Refused refusal)) = OnlyRefuses profile_two s (fault_is refusal) × (0 < length s)
-FinishAnswers s (Err Failure.OutOfMemory) = Unit {0}
-
--- of octets that are to be one message
-abbrev pub DecodeAnswers : List ℕ → Result Message Failure → Type 0
-DecodeAnswers s (Ok m) = IsSpelled m s
-DecodeAnswers s (Err (Failure.Refused refusal)) = RefusesWhole s (fault_is refusal)
-DecodeAnswers s (Err Failure.OutOfMemory) = Unit {0}
+-- no two of the states hold at once, and each determines what it names
+pub record StatesAreApart (d : Decoder) : Type 0 where
+  pub part : (fed : List ℕ) → IsOpenAfter d fed → IsPart fed
+  pub open_or_whole : (fed : List ℕ) (m : Message) → IsOpenAfter d fed → IsWholeWith d m → ⊥
+  pub open_or_failed : (fed : List ℕ) (f : Failure) → IsOpenAfter d fed → HasFailedWith d f → ⊥
+  pub whole_or_failed : (m : Message) (f : Failure) → IsWholeWith d m → HasFailedWith d f → ⊥
+  pub one_message : (m n : Message) → IsWholeWith d m → IsWholeWith d n → m ≡ n
+  pub one_failure : (f g : Failure) → HasFailedWith d f → HasFailedWith d g → f ≡ g

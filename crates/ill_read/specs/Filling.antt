@@ -3,7 +3,7 @@ use Rattle.std.specs.Prelude.{◌≡◌, ◌≢◌, ◌⊎◌, ℕ, ◌≤◌, L
 use Rattle.std.specs.Io.KnownBytes.{Consumes, IsAtEnd}
 use Rattle.ber_leaf.specs.Profile.{profile_two}
 use Rattle.ill_schema.specs.Apdu.{Apdu, Accepts}
-use Rattle.ill_read.specs.Feeding.{IsFed}
+use Rattle.ill_read.specs.DecoderCode.{IsFed}
 use Rattle.ill_read.specs.declared.decoder.Decoder.{Decoder}
 use Rattle.ill_read.specs.declared.decoder.State.TheVariants as state
 
@@ -25,7 +25,7 @@ pub record HasFilled (left after : Option (List ℕ)) (d : Decoder) : Type 0 whe
   pub exact : NoneEndsWithin octets
   pub ended : (d.state ≢ state.Open) ⊎ IsAtEnd after
 
--- and these octets were kept behind those that stood there
+-- and these octets were kept after those that stood there
 pub record HasKept (left after : Option (List ℕ)) (d : Decoder) (old new : List ℕ) : Type 0 where
   pub filled : HasFilled left after d
   pub kept : new ≡ old ++ filled.octets

@@ -15,6 +15,7 @@ pub mod Held
 pub mod Step
 pub mod Judged
 pub mod Stepping
+pub mod DecoderCode
 pub mod Feeding
 pub mod JudgeCode
 pub mod Need

@@ -1,8 +1,10 @@
--- How many octets surely still belong to a message.
-use Rattle.std.specs.Prelude.{◌≡◌, ℕ, ◌+◌, Bool, true, false, ◌&&◌, nat_eq, List, [], ◌∷◌, length, Option, Some, None}
-use Rattle.ill_read.specs.Fault.{is_indefinite}
+-- How many octets at least still belong to a message.
+use Rattle.std.specs.Prelude.{◌≡◌, ℕ, ◌+◌, Bool, true, false, ◌&&◌, nat_eq, List, [], ◌∷◌, ◌++◌, length, Option, Some, None}
+use Rattle.ber_leaf.specs.Profile.{profile_two}
+use Rattle.ill_schema.specs.declared.refusal.Cause.{Cause}
+use Rattle.ill_read.specs.Fault.{fault, faulty, is_indefinite, judge}
 use Rattle.ill_read.specs.HeaderCode.{Lacks}
-use Rattle.ill_read.specs.Place.{Open}
+use Rattle.ill_read.specs.Place.{Open, IsPlace}
 use Rattle.ill_read.specs.Reading.{IdentifierRead, identified, part_identifier, no_identifier, read_identifier, LengthRead, definite, indefinite, part_length, no_length, read_length}
 
 -- the end of the outermost element of definite length
@@ -41,6 +43,16 @@ abbrev pub NeedsBefore : Option ℕ → List Open → ℕ → List ℕ → ℕ �
 NeedsBefore (Some e) place at octets n = e ≡ at + length octets + n
 NeedsBefore None place at octets n = NeedsAfterMark (in_mark place octets) octets n
 
--- behind octets that don't reach the next place: as many as lie before the end of the outermost definite element, else what the end mark or the element there still needs
+-- after octets that don't reach the next place: as many as lie before the end of the outermost definite element, else what the end mark or the element there still needs
 abbrev pub IsNeed : List Open → ℕ → List ℕ → ℕ → Type 0
 IsNeed place at octets n = NeedsBefore (outermost place) place at octets n
+
+-- what these octets need: some of them lead to a place, the rest of them end there too early, and so many are needed
+pub record NeedsAfter (fed : List ℕ) (n : ℕ) : Type 0 where
+  pub place : List Open
+  pub before : List ℕ
+  pub rest : List ℕ
+  pub joined : fed ≡ before ++ rest
+  pub is_place : IsPlace profile_two before place
+  pub ends : judge profile_two place (length before) rest ≡ faulty (fault Cause.Truncated (length fed))
+  pub needed : IsNeed place (length before) rest n

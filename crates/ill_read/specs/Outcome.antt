@@ -31,6 +31,10 @@ RefusalsStay p = (s x : List ℕ) (f : Fault) → f.cause ≢ Cause.Truncated �
 abbrev pub PrefixesAreTruncated : Profile → Type 0
 PrefixesAreTruncated p = (s : List ℕ) (a : Apdu) (m n : ℕ) → IsTrue (are_octets s) → Accepts p s a n → m < n → Refuses p (take m s) (fault Cause.Truncated m)
 
+-- an input that is refused as ending too early is refused at its end
+abbrev pub TruncatedIsAtTheEnd : Profile → Type 0
+TruncatedIsAtTheEnd p = (s : List ℕ) (f : Fault) → f.cause ≡ Cause.Truncated → Refuses p s f → f.at ≡ length s
+
 -- an offset and a number of open elements say one place
 abbrev pub PlacesAreApart : Profile → Type 0
 PlacesAreApart p = (s : List ℕ) (a b : List Open) (k : ℕ) → IsTrue (are_octets s) → IsDue p s k a → IsDue p s k b → length a ≡ length b → a ≡ b

@@ -24,7 +24,7 @@ pub struct Decoder {
     path: Path,
     /// The offset of the place that the decoder is at.
     at: u32,
-    /// The octets behind that place that came so far.
+    /// The octets after that place that came so far.
     pending: Vec<u8>,
     state: State,
     ghost within: { at ≤ 1_048_576 },
@@ -48,18 +48,19 @@ impl fmt::Debug for Decoder {
 }
 
 impl Decoder {
-    ghost use Rattle.std.specs.Prelude.{◌≡◌, ◌≢◌, ℕ, ◌+◌, ◌-◌, ◌*◌, ◌<◌, List, [], ◌++◌, length, drop, take, IfSome, OnSome, IsTrue, Err};
+    ghost use Rattle.std.specs.Prelude.{◌≡◌, ◌≢◌, ℕ, ◌+◌, ◌-◌, ◌*◌, ◌<◌, List, [], ◌++◌, length, drop, take, IfSome, OnSome, IsTrue, Ok, Err, Some};
     ghost use Rattle.ber_leaf.specs.Profile.{profile_two};
     ghost use Rattle.ill_schema.specs.Apdu.{Apdu, Accepts, Encodes};
     ghost use Rattle.ber_core.specs.Octets.{are_octets};
-    ghost use Rattle.ill_read.specs.Feeding.{body_apdu, CanRefuse, CanStep, FeedAnswers, FinishAnswers, HasAdvanced, HasEnded, HasOutcome, HasStopped, IsFed, IsRunning, StandsLast};
-    ghost use Rattle.ill_read.specs.Need.{IsNeed};
+    ghost use Rattle.ill_schema.specs.declared.message.Message.{Message};
+    ghost use Rattle.ill_read.specs.DecoderCode.{body_apdu, CanRefuse, CanStep, HasAdvanced, HasEnded, HasOutcome, HasStopped, IsFed, IsRunning};
+    ghost use Rattle.ill_read.specs.Feeding.{ended, FeedsTo, HasFailedWith, IsOpenAfter, IsWholeWith};
+    ghost use Rattle.ill_read.specs.Need.{NeedsAfter};
     ghost use Rattle.ill_read.specs.Progress.{depth_of, size_of, IsProgress, StepsTo};
 
-    /// A decoder that nothing was fed.
+    /// An open decoder that nothing was fed.
     pub fn new(alloc: Global) -> Decoder
-        ensures fed { IsFed result [] }
-        ensures pending { result.pending.items ≡ [] }
+        ensures open { IsOpenAfter result [] }
     {
         Decoder {
             alloc,
@@ -70,15 +71,16 @@ impl Decoder {
         }
     }
 
-    /// How many octets surely still belong to the message; 0 once it is whole or a failure was answered.
+    /// How many octets at least still belong to the message: 1 or more while the decoder is open, and 0 once a message is whole or a
+    /// failure was returned.
     #[inline(always)]
     pub fn need(&self) -> u32
-        ensures closed { self.now.state ≢ State.Open → result ≡ 0 }
-        ensures exact { (fed : List ℕ) (stands : StandsLast self.now.path self.now.at fed self.now.pending.items) → self.now.state ≡ State.Open
-            → IsNeed stands.0.place self.now.at self.now.pending.items result }
-        ensures some { (fed : List ℕ) → IsFed self.now fed → self.now.state ≡ State.Open → 0 < result }
-        ensures surely { (fed more : List ℕ) (a : Apdu) (n : ℕ) → IsFed self.now fed → IsTrue (are_octets (fed ++ more)) → self.now.state ≡ State.Open
+        ensures exact { (fed : List ℕ) → IsOpenAfter self.now fed → NeedsAfter fed result }
+        ensures some { (fed : List ℕ) → IsOpenAfter self.now fed → 0 < result }
+        ensures at_least { (fed more : List ℕ) (a : Apdu) (n : ℕ) → IsOpenAfter self.now fed → IsTrue (are_octets (fed ++ more))
             → Accepts profile_two (fed ++ more) a n → length fed + result ≤ n }
+        ensures whole { (m : Message) → IsWholeWith self.now m → result ≡ 0 }
+        ensures failed { (failure : Failure) → HasFailedWith self.now failure → result ≡ 0 }
     {
         if !matches!(&self.state, State::Open) {
             return 0;
@@ -92,7 +94,7 @@ impl Decoder {
     pub(crate) fn ask(&self) -> u32
         ensures closed { self.now.state ≢ State.Open → result ≡ 0 }
         ensures some { (fed : List ℕ) → IsFed self.now fed → self.now.state ≡ State.Open → 0 < result }
-        ensures surely { (fed more : List ℕ) (a : Apdu) (n : ℕ) → IsFed self.now fed → IsTrue (are_octets (fed ++ more)) → self.now.state ≡ State.Open
+        ensures at_least { (fed more : List ℕ) (a : Apdu) (n : ℕ) → IsFed self.now fed → IsTrue (are_octets (fed ++ more)) → self.now.state ≡ State.Open
             → Accepts profile_two (fed ++ more) a n → length fed + result ≤ n }
     {
         match self.need() {
@@ -101,16 +103,18 @@ impl Decoder {
         }
     }
 
-    /// Takes the next piece; one of at most `need()` octets holds none behind the message. With all octets that were fed so far, it answers
-    /// Done where they begin with a message, More where one may still become of them, and else their fault; a failure is answered again by
-    /// each further call.
+    /// Takes the next piece. Returns Done once the octets that were fed begin with a message, and More while they may still begin with
+    /// one. A piece of at most [`need`](Decoder::need) octets holds none after the message. A decoder that is whole or has failed returns
+    /// the same again, and nothing changes it any more.
+    ///
+    /// # Errors
+    ///
+    /// The one fault of the octets that were fed, once no further octet mends it; or out of memory.
     #[inline(always)]
     pub fn feed(&mut self, piece: &[u8]) -> Result<Progress, Failure>
-        ensures fed { (fed : List ℕ) → IsFed self.old fed → IsFed self.new (fed ++ piece.now) }
-        ensures answers { (fed : List ℕ) → IsFed self.old fed → FeedAnswers (fed ++ piece.now) result }
-        ensures octets { IsTrue (are_octets piece.now) }
-        ensures stays { self.old.state ≢ State.Open → self.new ≡ self.old }
-        ensures again { (failure : Failure) → self.old.state ≡ State.Failed failure → result ≡ Err failure }
+        ensures open { (fed : List ℕ) → IsOpenAfter self.old fed → FeedsTo self.new (fed ++ piece.now) result }
+        ensures whole { (m : Message) → IsWholeWith self.old m → (result ≡ Ok Progress.Done) × (self.new ≡ self.old) }
+        ensures failed { (failure : Failure) → HasFailedWith self.old failure → (result ≡ Err failure) × (self.new ≡ self.old) }
     {
         self.take(piece);
         match &self.state {
@@ -120,10 +124,12 @@ impl Decoder {
         }
     }
 
+    /// Takes the next piece, and goes as far as the octets reach.
     #[inline(always)]
-    fn take(&mut self, piece: &[u8])
+    pub(crate) fn take(&mut self, piece: &[u8])
         ensures fed { (fed : List ℕ) → IsFed self.old fed → IsFed self.new (fed ++ piece.now) }
         ensures stays { self.old.state ≢ State.Open → self.new ≡ self.old }
+        ensures octets { IsTrue (are_octets piece.now) }
     {
         if !matches!(&self.state, State::Open) {
             return;
@@ -137,14 +143,14 @@ impl Decoder {
         match octets.extend_from_slice(piece) {
             Ok(()) => {
                 let count = self.run(&octets);
-                self.keep_behind(octets, count);
+                self.keep_after(octets, count);
             }
             Err(error) => self.state = State::Failed(Failure::from(error)),
         }
     }
 
-    /// Keeps the octets behind those that were passed, in the memory that they have.
-    fn keep_behind(&mut self, mut octets: Vec<u8>, count: usize)
+    /// Keeps the octets after those that were passed, in the memory that they have.
+    fn keep_after(&mut self, mut octets: Vec<u8>, count: usize)
         requires within { count ≤ length octets.items }
         ensures { (fed : List ℕ) → HasStopped self.old fed (drop count octets.items) → IsFed self.new fed }
     {
@@ -173,7 +179,7 @@ impl Decoder {
         }
     }
 
-    /// Goes from place to place as far as the octets reach, and answers how many belong to the elements that were passed.
+    /// Goes from place to place as far as the octets reach, and returns how many belong to the elements that were passed.
     pub(crate) fn run(&mut self, octets: &[u8]) -> usize
         ensures count { result ≤ length octets.now }
         ensures pending { self.new.pending ≡ self.old.pending }
@@ -186,7 +192,7 @@ impl Decoder {
         octets.len() - rest.len()
     }
 
-    /// Goes on to the next place, and answers how many octets that took, or None where the rest doesn't reach it or nothing is open.
+    /// Goes on to the next place, and returns how many octets that took, or None where the rest doesn't reach it or nothing is open.
     fn advance(&mut self, rest: &[u8]) -> Option<usize>
         ensures pending { self.new.pending ≡ self.old.pending }
         ensures progress { IfSome result (λ size. (size ≤ length rest.now) × (2 * (length rest.now - size) + depth_of self.new.path < 2 * length rest.now + depth_of self.old.path)) }
@@ -215,7 +221,7 @@ impl Decoder {
         }
     }
 
-    /// Does what was judged, and answers how many octets that took, or None where it failed.
+    /// Does what was judged, and returns how many octets that took, or None where it failed.
     fn step(&mut self, judgement: Judgement, rest: &[u8]) -> Option<usize>
         requires open { self.old.state ≡ State.Open }
         requires progress { IsProgress (depth_of self.old.path) (length rest.now) judgement }
@@ -269,8 +275,8 @@ impl Decoder {
             state,
         } = self;
         match state {
-            State::Whole(message) => Ok(Some(message)),
-            State::Failed(failure) => Err(failure),
+            State::Whole(found) => Ok(Some(found)),
+            State::Failed(error) => Err(error),
             State::Open => Ok(None),
         }
     }
@@ -279,10 +285,13 @@ impl Decoder {
     ///
     /// # Errors
     ///
-    /// The failure that was answered, or Truncated at the end of what was fed.
+    /// The failure that was returned before; or, where some octets were fed and the message isn't whole, Truncated, with their number as
+    /// its offset.
     #[inline(always)]
     pub fn finish(self) -> Result<Option<Message>, Failure>
-        ensures { (fed : List ℕ) → IsFed self fed → FinishAnswers fed result }
+        ensures open { (fed : List ℕ) → IsOpenAfter self fed → result ≡ ended fed }
+        ensures whole { (m : Message) → IsWholeWith self m → result ≡ Ok (Some m) }
+        ensures failed { (failure : Failure) → HasFailedWith self failure → result ≡ Err failure }
     {
         let Decoder {
             alloc: _,

@@ -1,7 +1,9 @@
 //! What holds of each input. Each law is the contract of a function that does nothing.
 ghost use Rattle.ber_leaf.specs.Profile.{Profile};
 ghost use Rattle.ill_read.specs.Bounds.{ValuesAreSmall};
-ghost use Rattle.ill_read.specs.Outcome.{HasOneOutcome, OutcomesAreExact, RefusalsStay, PrefixesAreTruncated, PlacesAreApart, FaultsAreLast};
+ghost use Rattle.ill_read.specs.Feeding.{StatesAreApart};
+ghost use Rattle.ill_read.specs.declared.decoder.Decoder.{Decoder};
+ghost use Rattle.ill_read.specs.Outcome.{HasOneOutcome, OutcomesAreExact, RefusalsStay, PrefixesAreTruncated, TruncatedIsAtTheEnd, PlacesAreApart, FaultsAreLast};
 
 /// Each input is accepted as one APDU of one size, or refused with one fault.
 pub fn one_outcome()
@@ -12,6 +14,16 @@ pub fn one_outcome()
 pub fn refusals_stay()
     ensures stay { (p : Profile) → RefusalsStay p }
     ensures cut { (p : Profile) → PrefixesAreTruncated p }
+{}
+
+/// An input that is refused as Truncated is refused at its size.
+pub fn truncated_at_the_end()
+    ensures { (p : Profile) → TruncatedIsAtTheEnd p }
+{}
+
+/// A decoder is open, whole or failed, and no two of them at once; while it is open, what it was fed is part of a message.
+pub fn decoders_are_apart()
+    ensures { (d : Decoder) → StatesAreApart d }
 {}
 
 /// An offset and a number of open elements say one place, and only the last place can have a fault.

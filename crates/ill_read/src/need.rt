@@ -1,6 +1,6 @@
-//! How many octets surely still belong to a message.
+//! How many octets at least still belong to a message.
 ghost use Rattle.std.specs.Prelude.{◌≡◌, ℕ, ◌≤◌, List, length};
-ghost use Rattle.ill_read.specs.Feeding.{StandsLast};
+ghost use Rattle.ill_read.specs.DecoderCode.{StandsLast};
 ghost use Rattle.ill_read.specs.HeaderCode.{need_read};
 ghost use Rattle.ill_read.specs.Need.{IsNeed, begins_zero};
 
@@ -8,7 +8,7 @@ use crate::header::{HeaderRead, LengthRead, read_header};
 use crate::path::Path;
 use ber_core::Len;
 
-/// How many octets surely still belong to a message, behind octets that don't reach the next place.
+/// How many octets at least still belong to a message, after octets that don't reach the next place.
 pub fn need_at(path: &Path, at: u32, octets: &[u8]) -> u32
     requires { length octets.now ≤ 1_048_576 }
     ensures { (s : List ℕ) (stands : StandsLast path.now at s octets.now) → IsNeed stands.0.place at octets.now result }
@@ -23,7 +23,7 @@ pub fn need_at(path: &Path, at: u32, octets: &[u8]) -> u32
     need_in_element(read_header(octets), count)
 }
 
-/// How many octets surely still belong to an element of which so many came.
+/// How many octets at least still belong to an element of which so many came.
 fn need_in_element(read: HeaderRead, count: u32) -> u32
     ensures { result ≡ need_read read count }
 {

@@ -2,10 +2,10 @@
 ghost use Rattle.std.specs.Prelude.{◌≡◌, ℕ, ◌<◌, ◌≤◌, List, [], ◌++◌, length, take, IfErr, IfNone, IfOk, IfSome, IsErr, IsErrOf, IsTrue};
 ghost use Rattle.std.specs.Io.KnownBytes.{Consumes, IsAtEnd, Keeps};
 ghost use Rattle.ber_leaf.specs.Profile.{profile_two};
-ghost use Rattle.ill_read.specs.Answers.{IfReadRefused, IsSpelled, IsUnfinished, TakesFront, TakesNoMessage};
+ghost use Rattle.ill_read.specs.Answers.{DecodeAnswers, IfReadRefused, IsRead, IsSpelled, IsUnfinished, TakesFront, TakesNoMessage};
 ghost use Rattle.ill_read.specs.Filling.{HasFilled, HasKept, HasPulled, NoneEndsWithin};
 ghost use Rattle.ill_read.specs.Outcome.{OnlyRefuses};
-ghost use Rattle.ill_read.specs.Feeding.{DecodeAnswers, HasOutcome, IsFed, IsRead};
+ghost use Rattle.ill_read.specs.DecoderCode.{HasOutcome, IsFed};
 ghost use Rattle.ill_read.specs.declared.failure.ReadFailure.{ReadFailure};
 
 use crate::decoder::Decoder;
@@ -153,7 +153,7 @@ fn pull<R: Source>(
         return Ok(0);
     }
     let count = source.take(&mut buffer[..wanted])?;
-    let _ = decoder.feed(&buffer[..count]);
+    decoder.take(&buffer[..count]);
     Ok(count)
 }
 

@@ -3,7 +3,12 @@ ghost use Rattle.std.specs.Prelude.{◌≡◌, false};
 use super::{Broken, Source};
 use std::io::Read;
 
-/// A reader as a source. It breaks where a read answers an error, also that of an interrupted read, and nowhere else.
+/// A reader as a source.
+///
+/// The contract says: `take` gives exactly the octets that the reader gave; it returns [`Broken`] exactly where the source is broken
+/// after the call, and then the reader gave nothing; a broken source stays broken. It doesn't say when the source breaks, since the
+/// contract of [`Read`] has no word for a call that failed. The tests in the crate `test_core` show the rest: the source breaks where a
+/// read returned an error, also that of an interrupted read, and nowhere else, and then no further call reaches the reader.
 #[derive(Drop)]
 pub struct FromRead<R> {
     inner: R,

@@ -55,12 +55,6 @@ fn one_file_under_two_names_is_refused(rt: HostRuntime) -> Result<(), Fail> {
     fs::hard_link(&rt, "in.ber", "hard.ber")?;
     symlink(&rt, "in.ber", "soft.ber")?;
     let input = octets_of(rt.alloc(), INDEFINITE)?;
-    let standard = Start {
-        input: &input,
-        input_file: Some("in.ber"),
-        output_file: Some("in.ber"),
-        ..Start::default()
-    };
     let rows = [
         ("in.ber", "./in.ber"),
         ("in.ber", "hard.ber"),
@@ -71,7 +65,14 @@ fn one_file_under_two_names_is_refused(rt: HostRuntime) -> Result<(), Fail> {
         ("-", "-"),
     ];
     for (first, second) in rows {
-        let ended = canonicalise(&rt, first, second, standard);
+        // A standard stream is the file only where its word is `-`.
+        let start = Start {
+            input: &input,
+            input_file: (first == "-").then_some("in.ber"),
+            output_file: (second == "-").then_some("in.ber"),
+            ..Start::default()
+        };
+        let ended = canonicalise(&rt, first, second, start);
         assert!(rt; ended.status == 2, "{first} {second}");
         assert!(rt; ended.output.is_empty(), "{first} {second}");
         assert!(rt;

@@ -199,3 +199,13 @@ fn verdicts_are_statuses(rt: HostRuntime) {
     assert!(rt; status_of(&Ok(Verdict::Good)) == 0);
     assert!(rt; status_of(&Ok(Verdict::NotGood)) == 1);
 }
+
+#[test]
+fn always_out_of_memory(rt: HostRuntime) -> Result<(), AllocError> {
+    let alloc = rt.alloc();
+    let words = words_of(alloc, "illcanon check a")?;
+    assert!(rt; order(alloc, &words).is_ok());
+    assert!(rt; matches!(Fault::cannot_open(alloc, "a"), Fault::CannotOpen(_)));
+    assert!(rt; matches!(Fault::cannot_replace(alloc, "a"), Fault::CannotReplace(_)));
+    Ok(())
+}

@@ -226,6 +226,12 @@ fn write_faults_count_what_left_the_buffer(rt: HostRuntime) -> Result<(), Fail> 
     };
     let ended = run_line(&rt, "check A", full)?;
     assert!(rt; ended.status == 3 && ended.has_reported("illcanon: flush fault\n"));
+    // Where a message after it is refused, the output of the first is lost all the same.
+    let mut refused = octets_of(alloc, EXPIRED)?;
+    refused.extend_from_slice(&octets_of(alloc, REFUSED)?)?;
+    fs::write(&rt, "R", refused.as_slice())?;
+    let ended = run_line(&rt, "check R", full)?;
+    assert!(rt; ended.status == 3 && ended.has_reported("illcanon: flush fault\n"));
     Ok(fs::remove_dir_all(&rt, folder.as_str())?)
 }
 

@@ -1,6 +1,6 @@
 use Rattle.std.proofs.Common.{◌≡◌, length, refl, ◌∙◌, arith, rules}
 use Rattle.std.proofs.lemmas.Result.{err_from_is_err_and}
-use Rattle.ill_jobs.proofs.Writing.{reached_more, stops_reading, stops_writing, stops_behind, next_good}
+use Rattle.ill_jobs.proofs.Writing.{reached_more, stops_reading, stops_writing, stops_at_the_end, next_good}
 use Rattle.ill_jobs.proofs.messages.run_messages.Goals as goal
 use Rattle.ill_jobs.proofs.messages.run_messages.Goals.{then-not-piece, else-not-piece}
 
@@ -35,4 +35,4 @@ pub returns-in_err-end_of_input-clause-stops : goal.returns-in_err-end_of_input-
 returns-in_err-end_of_input-clause-stops g c =
     let p = err_from_is_err_and c.from_residual.result c.from_residual.ensures.1 in
     let last : c.loop-whole.whole ≡ 1_000_000 = omega arith in
-    rw (p.1, p.2) (stops_behind _ _ _ _ _ _ _ (g.W.Sink.contents c.loop-whole.sink) _ _ _ c.loop-whole.invariant.reached _ _ _ last c.in_err-end_of_input.ensures.more)
+    rw (p.1, p.2) (stops_at_the_end _ _ _ _ _ _ _ (g.W.Sink.contents c.loop-whole.sink) _ _ _ c.loop-whole.invariant.reached _ _ _ last c.in_err-end_of_input.ensures.more)

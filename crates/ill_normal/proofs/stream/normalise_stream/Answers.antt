@@ -40,15 +40,15 @@ loop-whole-preserved g c =
 
 pub returns-in-Err-clause-accepts : goal.returns-in-Err-clause-accepts
 returns-in-Err-clause-accepts g c =
-    stops_accepts _ _ _ _ _ _ _ (stops_here _ _ _ _ _ _ _ _ _ _ _ c.loop-whole.invariant.passes (omega arith) c.in-Err.ensures.fails)
+    stops_accepts _ _ _ _ _ _ _ (stops_here _ _ _ _ _ _ _ _ _ _ _ c.loop-whole.invariant.passes (omega arith) c.in-Err.ensures.taken c.in-Err.ensures.fails)
 
 pub returns-in-Err-clause-refuses : goal.returns-in-Err-clause-refuses
 returns-in-Err-clause-refuses g c =
-    stops_refuses _ _ _ _ _ _ _ (stops_here _ _ _ _ _ _ _ _ _ _ _ c.loop-whole.invariant.passes (omega arith) c.in-Err.ensures.fails)
+    stops_refuses _ _ _ _ _ _ _ (stops_here _ _ _ _ _ _ _ _ _ _ _ c.loop-whole.invariant.passes (omega arith) c.in-Err.ensures.taken c.in-Err.ensures.fails)
 
 pub returns-in-Err-clause-too_many : goal.returns-in-Err-clause-too_many
 returns-in-Err-clause-too_many g c =
-    stops_too_many _ _ _ _ _ _ _ (stops_here _ _ _ _ _ _ _ _ _ _ _ c.loop-whole.invariant.passes (omega arith) c.in-Err.ensures.fails)
+    stops_too_many _ _ _ _ _ _ _ (stops_here _ _ _ _ _ _ _ _ _ _ _ c.loop-whole.invariant.passes (omega arith) c.in-Err.ensures.taken c.in-Err.ensures.fails)
 
 pub returns-in-Ok-eq0-clause-accepts : goal.returns-in-Ok-eq0-clause-accepts
 returns-in-Ok-eq0-clause-accepts g c =

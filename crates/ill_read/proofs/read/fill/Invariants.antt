@@ -1,6 +1,6 @@
 use Rattle.std.proofs.Common.{◌≡◌, ℕ, ◌+◌, List, length, IsTrue}
 use Rattle.std.specs.Io.KnownBytes.{Consumes}
-use Rattle.ill_read.specs.Feeding.{IsFed}
+use Rattle.ill_read.specs.DecoderCode.{IsFed}
 use Rattle.ill_read.specs.Filling.{NoneEndsWithin}
 use Rattle.ill_read.proofs.read.fill.Given as goal
 

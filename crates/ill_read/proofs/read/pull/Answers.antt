@@ -1,6 +1,6 @@
 use Rattle.std.proofs.Common.{rules, ◌≡◌, ◌≤◌, [], ◌++◌, length, append-nil, take, drop, refl, sym, subst, ap, ◌∙◌, arith}
 use Rattle.std.proofs.lemmas.List.{length-take-le, take-append-le}
-use Rattle.ill_read.specs.Feeding.{IsFed}
+use Rattle.ill_read.specs.DecoderCode.{IsFed}
 use Rattle.ill_read.specs.Filling.{NoneEndsWithin}
 use Rattle.ill_read.proofs.Filled.{none_yet, pulled_exact, pulled_ended}
 use Rattle.ill_read.proofs.read.pull.Goals as goal
@@ -23,7 +23,7 @@ pub returns-in_err-count-clause-unfinished : goal.returns-in_err-count-clause-un
 returns-in_err-count-clause-unfinished g c is_err b h a n accepted =
     let wanted = c.if-wanted-eq0.false in
     none_yet c.args.decoder.now b c.ask.result h c.ask.ensures.closed (λ zero. wanted (omega (arith, zero, c.min-wanted.ensures, c.min.ensures)))
-    (λ x k is_open octets spelled. c.ask.ensures.surely b [] x k h octets is_open spelled) a n accepted
+    (λ x k is_open octets spelled. c.ask.ensures.at_least b [] x k h octets is_open spelled) a n accepted
 
 pub returns-clause-fed : goal.returns-clause-fed
 returns-clause-fed g c b h exact =
@@ -36,12 +36,12 @@ returns-clause-fed g c b h exact =
     let long : length piece ≡ n = ap length (take-append-le n given (drop c.min-wanted.result c.args.buffer.now) le) ∙ length-take-le n given le in
     let needed : length piece ≤ c.ask.result = omega (arith, long, len, le, c.min-wanted.ensures, c.min.ensures) in
     let space = c.requires.space in let room = c.requires.room in
-    let ends : NoneEndsWithin (b ++ piece) = pulled_exact d b piece c.ask.result h c.feed.ensures.octets exact c.ask.ensures.closed
-    (λ a k is_open ok accepted. c.ask.ensures.surely b piece a k h ok is_open accepted) needed in
+    let ends : NoneEndsWithin (b ++ piece) = pulled_exact d b piece c.ask.result h c.take-2.ensures.octets exact c.ask.ensures.closed
+    (λ a k is_open ok accepted. c.ask.ensures.at_least b piece a k h ok is_open accepted) needed in
     record {
-      fed = c.feed.ensures.fed b h;
+      fed = c.take-2.ensures.fed b h;
       exact = ends;
-      ended = λ e. pulled_ended d c.feed.new.self _ c.ask.result c.min-wanted.result c.feed.ensures.stays (λ is_open. c.ask.ensures.some b h is_open)
+      ended = λ e. pulled_ended d c.take-2.new.self _ c.ask.result c.min-wanted.result c.take-2.ensures.stays (λ is_open. c.ask.ensures.some b h is_open)
           (λ z. omega (arith, z, c.min-wanted.ensures, c.min.ensures, space, room))
           (λ l. c.in_ok-count.ensures.octets.1 (let q = ap length e in omega (arith, q, long)) (omega (arith, l, len)));
     }

@@ -1,13 +1,15 @@
 use Rattle.std.proofs.Common.{◌≡◌, ◌≤◌, ℕ, List, length, take, ap, subst, ◌∙◌, arith}
 use Rattle.std.proofs.lemmas.List.{take_all}
-use Rattle.ill_read.specs.Feeding.{InState, StandsLast}
+use Rattle.ill_read.specs.DecoderCode.{StandsLast}
 use Rattle.ill_read.specs.Need.{IsNeed}
-use Rattle.ill_read.proofs.Needing.{few, need_open, need_surely}
+use Rattle.ill_read.proofs.Needing.{few, needs_after, need_open, need_at_least}
 use Rattle.ill_read.proofs.decoder.Decoder.need.Goals as goal
+use Rattle.ill_read.proofs.decoder.Decoder.need.Goals.{in-Open, in_default}
 
 -- The pending octets are few, so all of them are looked at.
-pub returns-clause-exact : goal.returns-clause-exact
-returns-clause-exact c fed stands o =
+needed : (c : goal.After-need_at) (fed : List ℕ) (stands : StandsLast c.args.self.now.path c.args.self.now.at fed c.args.self.now.pending.items)
+    → IsNeed stands.0.place c.args.self.now.at c.args.self.now.pending.items c.need_at.result
+needed c fed stands =
     let d = c.args.self.now in
     let items = d.pending.items in
     let le : length items ≤ c.min-room.result = omega (arith, c.min-room.ensures, c.len.ensures, few d.path d.at fed items stands) in
@@ -15,14 +17,17 @@ returns-clause-exact c fed stands o =
     let P : List ℕ → Type 0 = λ z. (l : StandsLast d.path d.at fed z) → IsNeed l.0.place d.at z c.need_at.result in
     subst P whole (c.need_at.ensures fed) stands
 
-pub returns-clause-some : goal.returns-clause-some
-returns-clause-some c fed is o =
+pub returns-clause-exact : goal.returns-clause-exact
+returns-clause-exact c fed is =
     let d = c.args.self.now in
-    let stands = subst (λ st. InState st fed (StandsLast d.path d.at fed d.pending.items)) o is in
-    need_open d.path d.at fed d.pending.items stands c.need_at.result (returns-clause-exact c fed stands o)
+    needs_after d.path d.at fed d.pending.items is.1 c.need_at.result (needed c fed is.1)
 
-pub returns-clause-surely : goal.returns-clause-surely
-returns-clause-surely c fed more a n is ok o h =
+pub returns-clause-some : goal.returns-clause-some
+returns-clause-some c fed is =
     let d = c.args.self.now in
-    let stands = subst (λ st. InState st fed (StandsLast d.path d.at fed d.pending.items)) o is in
-    need_surely d.path d.at fed d.pending.items stands c.need_at.result (returns-clause-exact c fed stands o) more a n ok h
+    need_open d.path d.at fed d.pending.items is.1 c.need_at.result (needed c fed is.1)
+
+pub returns-clause-at_least : goal.returns-clause-at_least
+returns-clause-at_least c fed more a n is ok h =
+    let d = c.args.self.now in
+    need_at_least d.path d.at fed d.pending.items is.1 c.need_at.result (needed c fed is.1) more a n ok h

@@ -1,8 +1,12 @@
 use Rattle.std.proofs.Common.{[], refl, sym, subst}
-use Rattle.ill_read.specs.Feeding.{StandsLast}
+use Rattle.ill_read.specs.DecoderCode.{StandsLast}
 use Rattle.ill_read.proofs.decoder.Decoder.new.Goals as goal
 
-pub returns-clause-fed : goal.returns-clause-fed
-returns-clause-fed c =
+pub returns : goal.returns
+returns c = record {
+  «open» = (
+    refl,
     subst (StandsLast c.new.result 0 []) (sym c.new-2.ensures.items)
-    (record { place = []; before = []; joined = refl; octets = refl; offset = refl; stands = c.new.ensures; is_place = refl }, refl)
+        (record { place = []; before = []; joined = refl; octets = refl; offset = refl; stands = c.new.ensures; is_place = refl }, refl),
+  );
+}

@@ -1,5 +1,5 @@
 use Rattle.std.proofs.Common.{◌≡◌, ℕ, ◌+◌, ◌-◌, ◌*◌, ◌≤◌, List, length, drop}
-use Rattle.ill_read.specs.Feeding.{IsRunning}
+use Rattle.ill_read.specs.DecoderCode.{IsRunning}
 use Rattle.ill_read.specs.Progress.{depth_of}
 use Rattle.ill_read.proofs.decoder.Decoder.run.Given as goal
 

@@ -2,7 +2,7 @@ use Rattle.std.proofs.Common.{◌+◌, ◌≤◌, Ok, drop, take, length, sym, s
 use Rattle.ber_leaf.specs.Profile.{profile_two}
 use Rattle.ill_schema.specs.Apdu.{Encodes}
 use Rattle.ill_read.specs.Fault.{judge}
-use Rattle.ill_read.specs.Feeding.{body_apdu, InState, StandsBefore}
+use Rattle.ill_read.specs.DecoderCode.{body_apdu, InState, StandsBefore}
 use Rattle.ill_read.specs.Judged.{IsStep}
 use Rattle.ill_read.specs.Step.{moved}
 use Rattle.ill_read.proofs.Fed.{after_end}

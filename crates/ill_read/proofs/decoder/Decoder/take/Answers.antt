@@ -2,7 +2,7 @@ use Rattle.std.proofs.Common.{◌≡◌, ◌<◌, ◌-◌, ◌++◌, [], drop, t
 use Rattle.std.proofs.lemmas.List.{length-drop, nil_from_length, take_all}
 use Rattle.ber_core.specs.Octets.{are_octets}
 use Rattle.ber_leaf.proofs.Leaves.{octets_fit}
-use Rattle.ill_read.specs.Feeding.{HasStopped, InState, IsRunning, StandsBefore}
+use Rattle.ill_read.specs.DecoderCode.{HasStopped, InState, IsRunning, StandsBefore}
 use Rattle.ill_read.specs.declared.decoder.State.TheVariants.{Open}
 use Rattle.ill_read.proofs.Fed.{running_longer, ended_longer}
 use Rattle.ill_read.proofs.decoder.Decoder.take.Goals as goal
@@ -38,5 +38,17 @@ returns-in-Ok-clause-fed c fed h =
     let running = running_longer d.state d.path d.at fed d.pending.items piece ok h in
     let all : octets ≡ d.pending.items ++ piece = c.deref.ensures.value ∙ c.in-Ok.ensures.items ∙ ap (λ (v : Vec ℕ Global). v.items ++ piece) c.replace-octets.ensures.value in
     let from = subst (λ z. InState d.state (fed ++ piece) (StandsBefore d.path d.at (fed ++ piece) z)) (sym all) running in
-    c.keep_behind.ensures (fed ++ piece) (subst (λ z. HasStopped c.run-count-in-Ok.new.self (fed ++ piece) (drop c.run-count-in-Ok.result z)) c.deref.ensures.value
+    c.keep_after.ensures (fed ++ piece) (subst (λ z. HasStopped c.run-count-in-Ok.new.self (fed ++ piece) (drop c.run-count-in-Ok.result z)) c.deref.ensures.value
     (c.run-count-in-Ok.ensures.stopped (fed ++ piece) from))
+
+pub returns-then-not-matches-clause-octets : goal.returns-then-not-matches-clause-octets
+returns-then-not-matches-clause-octets c = octets_fit c.args.piece.now (λ k. let small : get_or c.args.piece.now k 0 < 256 = omega (arith, c.type_inv.piece k) in small)
+
+pub returns-then-is_empty-clause-octets : goal.returns-then-is_empty-clause-octets
+returns-then-is_empty-clause-octets c = octets_fit c.args.piece.now (λ k. let small : get_or c.args.piece.now k 0 < 256 = omega (arith, c.type_inv.piece k) in small)
+
+pub returns-in-Ok-clause-octets : goal.returns-in-Ok-clause-octets
+returns-in-Ok-clause-octets c = octets_fit c.args.piece.now (λ k. let small : get_or c.args.piece.now k 0 < 256 = omega (arith, c.type_inv.piece k) in small)
+
+pub returns-in-Err-clause-octets : goal.returns-in-Err-clause-octets
+returns-in-Err-clause-octets c = octets_fit c.args.piece.now (λ k. let small : get_or c.args.piece.now k 0 < 256 = omega (arith, c.type_inv.piece k) in small)

@@ -1,7 +1,7 @@
 use Rattle.std.proofs.Common.{◌≡◌, ◌-◌, drop, take, sym, subst, ap, ◌∙◌, arith}
-use Rattle.ill_read.specs.Feeding.{HasStopped}
+use Rattle.ill_read.specs.DecoderCode.{HasStopped}
 use Rattle.ill_read.proofs.Moving.{moved_front}
-use Rattle.ill_read.proofs.decoder.Decoder.keep_behind.Goals as goal
+use Rattle.ill_read.proofs.decoder.Decoder.keep_after.Goals as goal
 
 pub returns-then-count-eq0 : goal.returns-then-count-eq0
 returns-then-count-eq0 c fed h = subst (λ n. HasStopped c.args.self.now fed (drop n c.args.octets.items)) c.if-count-eq0.true h

@@ -1,0 +1,5 @@
+use Rattle.ill_read.proofs.Fed.{states_apart}
+use Rattle.ill_read.proofs.laws.decoders_are_apart.Goals as goal
+
+pub returns : goal.returns
+returns c = states_apart

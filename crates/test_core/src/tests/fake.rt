@@ -1,0 +1,133 @@
+//! A reader and a writer whose calls do what a script says, and a log of the calls that reached them.
+ghost use Rattle.std.specs.Prelude.{◌≤◌, IfOk};
+
+use std::alloc::Global;
+use std::cell::{Cell, RefCell};
+use std::io::{self, Error, ErrorKind, Read, Write};
+
+/// What one call does.
+#[derive(Clone, Copy)]
+pub enum Step {
+    /// It moves so many octets, or fewer where the buffer or the piece is shorter.
+    Moves(usize),
+    /// It returns an error of this kind.
+    Fails(ErrorKind),
+}
+
+/// The calls that reached a reader or a writer.
+#[derive(Drop)]
+pub struct Log {
+    /// How many octets each call's buffer or piece had.
+    sizes: RefCell<Vec<usize>>,
+    /// The octets that were moved.
+    moved: RefCell<Vec<u8>>,
+    /// Whether a call couldn't be logged.
+    is_lost: Cell<bool>,
+}
+
+impl Log {
+    pub fn new(alloc: Global) -> Log {
+        Log {
+            sizes: RefCell::new(Vec::new(alloc)),
+            moved: RefCell::new(Vec::new(alloc)),
+            is_lost: Cell::new(false),
+        }
+    }
+
+    /// Whether exactly the calls of these sizes were made, in this order.
+    pub fn has_calls(&self, sizes: &[usize]) -> bool {
+        match self.sizes.try_borrow() {
+            Ok(held) => !self.is_lost.get() && held.as_slice() == sizes,
+            Err(_) => false,
+        }
+    }
+
+    /// Whether exactly these octets were moved.
+    pub fn has_moved(&self, octets: &[u8]) -> bool {
+        match self.moved.try_borrow() {
+            Ok(held) => !self.is_lost.get() && held.as_slice() == octets,
+            Err(_) => false,
+        }
+    }
+
+    /// How many octets were moved.
+    fn moved_len(&self) -> usize {
+        match self.moved.try_borrow() {
+            Ok(held) => held.len(),
+            Err(_) => 0,
+        }
+    }
+
+    /// Logs a call, and returns its number, from 0.
+    fn call(&self, size: usize) -> usize {
+        let Ok(mut held) = self.sizes.try_borrow_mut() else {
+            self.is_lost.set(true);
+            return 0;
+        };
+        let number = held.len();
+        if held.push(size).is_err() {
+            self.is_lost.set(true);
+        }
+        number
+    }
+
+    /// Logs octets that a call moved.
+    fn moves(&self, octets: &[u8]) {
+        let Ok(mut held) = self.moved.try_borrow_mut() else {
+            return self.is_lost.set(true);
+        };
+        if held.extend_from_slice(octets).is_err() {
+            self.is_lost.set(true);
+        }
+    }
+}
+
+/// Reads and writes as a script says, a step a call; past the script a call moves nothing.
+#[derive(Drop)]
+pub struct Scripted<'a> {
+    pub script: &'a [Step],
+    pub log: &'a Log,
+}
+
+impl Scripted<'_> {
+    /// Logs a call, and returns how many octets it moves.
+    fn step(&self, size: usize) -> io::Result<usize>
+        ensures bound { IfOk result (λ count. count ≤ size) }
+    {
+        let number = self.log.call(size);
+        match self.script.get(number) {
+            Some(Step::Moves(count)) => Ok(size.min(*count)),
+            Some(Step::Fails(kind)) => Err(Error::from(*kind)),
+            None => Ok(0),
+        }
+    }
+}
+
+/// The octet at this place of what a scripted reader gives.
+pub fn octet_at(place: usize) -> u8 {
+    (place % 251) as u8
+}
+
+impl Read for Scripted<'_> {
+    fn read(&mut self, buf: &mut [u8]) -> io::Result<usize> {
+        let count = self.step(buf.len())?;
+        let start = self.log.moved_len();
+        for (i, octet) in buf[..count].iter_mut().enumerate() {
+            *octet = octet_at(start.saturating_add(i));
+        }
+        self.log.moves(&buf[..count]);
+        Ok(count)
+    }
+}
+
+impl Write for Scripted<'_> {
+    fn write(&mut self, buf: &[u8]) -> io::Result<usize> {
+        let count = self.step(buf.len())?;
+        self.log.moves(&buf[..count]);
+        Ok(count)
+    }
+
+    fn flush(&mut self) -> io::Result<()> {
+        Ok(())
+    }
+}

@@ -1,0 +1,58 @@
+//! Messages into octets and text, and to their normal forms. Nothing is written where there is no memory.
+use super::Row;
+use super::came::Came;
+use super::given::{EXPIRED, Given};
+use ber_core::{Pieces, Room};
+use ill_normal::{NormalFailure, StreamCause, StreamFailure, normalise, normalise_stream};
+use ill_schema::Message;
+use ill_text::show_text;
+use ill_write::{Sizes, WriteFailure, normal_bytes, write_normal};
+use std::alloc::Global;
+
+/// What came of each call of this file.
+pub fn calls(alloc: Global, given: &Given) -> [Row; 6] {
+    let message = &given.message;
+    [
+        ("Sizes::measure", Came::of(Sizes::measure(alloc, message))),
+        ("normal_bytes", Came::of(normal_bytes(alloc, message))),
+        ("write_normal", write(alloc, message)),
+        ("show_text", Came::of(show_text(alloc, 1, message))),
+        ("normalise", normalise_one(alloc)),
+        ("normalise_stream", normalise_all(alloc)),
+    ]
+}
+
+fn write(alloc: Global, message: &Message) -> Came {
+    let mut sink: Room<64> = Room::new(64, None);
+    match write_normal(alloc, message, &mut sink) {
+        Ok(_) => Came::done(sink.octets() == EXPIRED),
+        Err(failure) => Came::out_of_memory(
+            failure == WriteFailure::OutOfMemory && sink.octets().is_empty(),
+        ),
+    }
+}
+
+fn normalise_one(alloc: Global) -> Came {
+    let mut source = Pieces::new(EXPIRED, 64, None);
+    let mut sink: Room<64> = Room::new(64, None);
+    match normalise(alloc, &mut source, &mut sink) {
+        Ok(_) => Came::done(sink.octets() == EXPIRED),
+        Err(failure) => Came::out_of_memory(
+            failure == NormalFailure::OutOfMemory && sink.octets().is_empty(),
+        ),
+    }
+}
+
+fn normalise_all(alloc: Global) -> Came {
+    let mut source = Pieces::new(EXPIRED, 64, None);
+    let mut sink: Room<64> = Room::new(64, None);
+    let at_once = StreamFailure {
+        whole: 0,
+        before: 0,
+        why: StreamCause::Normal(NormalFailure::OutOfMemory),
+    };
+    match normalise_stream(alloc, &mut source, &mut sink) {
+        Ok(_) => Came::done(sink.octets() == EXPIRED),
+        Err(failure) => Came::out_of_memory(failure == at_once && sink.octets().is_empty()),
+    }
+}
