@@ -1,9 +1,10 @@
 #!/bin/sh
-# Refuses growth number 1, 2, .. of memory in each call that takes any, until a run meets no refusal. Each answer before that must be want
-# of memory, in the call's own words and with the state that is promised then, or the refusal of a row that is refused: the programs of
-# crates/growths and crates/growths_typed make the call and look. Takes seconds once the programs are built. Wants `cc`, since the refusals are made by a wrapper round malloc and realloc.
+# Refuses growth number 1, 2, .. of memory in each call that takes any, until a run meets no refusal. Each result before that must be
+# out of memory, in the call's own words and with the state that is promised then, or the refusal of an input that is refused: the
+# programs of crates/tool_growths and crates/tool_growths_typed make the call and look. Takes seconds once the programs are built. Needs
+# `cc`, since the refusals are made by a wrapper round malloc and realloc.
 cd "$(dirname "$0")/../crates" || exit 2
-for program in growths growths_typed; do
+for program in tool_growths tool_growths_typed; do
     (cd $program && rt run >/dev/null 2>&1) || exit 2
 done
 (cd illcanon && rt run -- --version >/dev/null 2>&1) || exit 2
@@ -50,7 +51,7 @@ growths_of() {
             return 1
         fi
         case $answer in
-            "want of memory") met=$((met + 1)) ;;
+            "out of memory") met=$((met + 1)) ;;
             "not begun") ;;
             *)
                 echo "$2: ${answer:-no answer}, with growth $number refused"
@@ -88,14 +89,14 @@ program_growths() {
 }
 
 failed=0
-for program in growths growths_typed; do
+for program in tool_growths tool_growths_typed; do
     for call in $("$program/out/$program" | cut -d : -f 1); do
         growths_of $program "$call" || failed=1
     done
 done
 # The writer takes no memory but that for the sizes.
-measured=$(growths_of growths sizes-measure-largest)
-written=$(growths_of growths write-normal-largest)
+measured=$(growths_of tool_growths sizes-measure-largest)
+written=$(growths_of tool_growths write-normal-largest)
 [ "${measured#*: }" = "${written#*: }" ] || failed=1
 program_growths || failed=1
 exit $failed

@@ -20,6 +20,3 @@ pub use laws::{
 };
 pub use segments::Segments;
 pub use text::{DateText, GeneralText, IllString, PrintableText, TimeText, VisibleText};
-
-#[cfg(test)]
-mod tests;

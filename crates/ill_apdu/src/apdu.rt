@@ -17,8 +17,8 @@ use crate::returned::{CheckedIn, Returned};
 use crate::shipped::Shipped;
 use crate::status_query::StatusQuery;
 use crate::text::MessageApdu;
+use ill_apdu_requests::{Cancel, CancelReply, ConditionalReply, Expired, IllAnswer, IllRequest};
 use ill_parts::Part;
-use ill_requests::{Cancel, CancelReply, ConditionalReply, Expired, IllAnswer, IllRequest};
 use ill_schema::{Message, Value};
 use std::alloc::{AllocError, Global};
 

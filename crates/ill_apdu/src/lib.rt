@@ -16,12 +16,14 @@ mod text;
 
 pub use apdu::Apdu;
 pub use fault::MessageFault;
-pub use ill_parts::Head;
-pub use ill_requests::{Cancel, CancelReply, ConditionalReply, Expired, IllAnswer, IllRequest};
-pub use ill_results::{
+pub use ill_apdu_requests::{
+    Cancel, CancelReply, ConditionalReply, Expired, IllAnswer, IllRequest,
+};
+pub use ill_apdu_results::{
     Conditional, Estimate, HoldPlaced, LocationInfo, Locations, Results, Retry, Unfilled,
     WillSupply,
 };
+pub use ill_parts::Head;
 pub use lost::{Damaged, Lost};
 pub use overdue::Overdue;
 pub use recall::Recall;

@@ -7,6 +7,3 @@ mod part;
 mod show;
 
 pub use show::show_text;
-
-#[cfg(test)]
-mod tests;

@@ -1,5 +1,5 @@
-//! Tests of `ber_core`'s sources over readers and sinks over writers. They stand in a crate of their own, so that `ber_core` is
-//! proved once and not a second time with them.
+//! Tests of `ber_core` and `ber_leaf`. They stand in a crate of their own, so that these are proved once, not a second time with
+//! their tests.
 #![tactic(auto)]
 
 #[cfg(test)]

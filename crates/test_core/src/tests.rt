@@ -1,4 +1,7 @@
-//! [`FromRead`](ber_core::FromRead) and [`ToWrite`](ber_core::ToWrite), call by call, over readers and writers that follow a script.
+//! Headers, leaves, sources and sinks.
+mod buffers;
 mod fake;
+mod headers;
+mod leaves;
 mod readers;
 mod writers;

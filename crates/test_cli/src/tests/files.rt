@@ -3,7 +3,7 @@ use super::fake::{Ended, Faults, Start, folder, run};
 use std::fs::{self, Permissions};
 use std::os::unix::fs::{MetadataExt, PermissionsExt, symlink};
 use std::test::Fail;
-use worked::octets_of;
+use test_support::octets_of;
 
 /// An EXPIRED in indefinite form, and its normal form.
 const INDEFINITE: &str =

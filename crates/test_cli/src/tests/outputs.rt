@@ -2,7 +2,7 @@
 use super::fake::{Ended, Faults, Start, folder, run};
 use std::fs;
 use std::test::Fail;
-use worked::octets_of;
+use test_support::octets_of;
 
 /// An EXPIRED in normal form; the same in indefinite lengths; with its first text as a VisibleString; cut short and then
 /// an octet that begins nothing that is due.

@@ -6,13 +6,13 @@ use ill_read::decode;
 use ill_schema::{Message, Value};
 use std::alloc::Global;
 use std::test::Fail;
-use worked::{date_text, general_string, general_text, message, value};
+use test_support::{date_text, general_string, general_text, message, value};
 
 /// An EXPIRED in its normal form: version 2, group "G", qualifier "Q", 29 February 2024.
 pub const EXPIRED: &[u8] =
     b"\x74\x1f\x30\x1d\x80\x01\x02\xa1\x0a\xa1\x03\x1b\x01\x47\xa2\x03\x1b\x01\x51\xa2\x0c\xa0\x0a\x80\x0820240229";
 
-/// A message of each APDU: its number, and the parts of its body, as [`worked::message`] reads them.
+/// A message of each APDU: its number, and the parts of its body, as [`test_support::message`] reads them.
 const EACH_APDU: &str = "\
 1 head 1 none:3 1 list:1 - false false 1 1 seq:4 none:2 3 - none:23 seq:23 none:4 false false none:3 seq:26
 3 head none:4 1 - 1 - none:9 seq:9 none:3 seq:17

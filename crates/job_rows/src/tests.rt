@@ -1,5 +1,0 @@
-//! The jobs, on rows of inputs and where sources and sinks break.
-mod breaks;
-mod runs;
-mod sames;
-mod shows;

@@ -1,0 +1,46 @@
+//! What came of a call.
+ghost use Rattle.std.specs.Prelude.{◌≡◌, if◌then◌else◌};
+
+/// Whether a call returned what its test vector says, or out of memory with the state that is promised then.
+#[derive(Clone, Copy)]
+pub enum Outcome {
+    Right,
+    OutOfMemory,
+    /// What the call needs couldn't be built.
+    NotBegun,
+    Wrong,
+}
+
+impl Outcome {
+    /// What the script reads.
+    pub fn words(self) -> &'static str {
+        match self {
+            Outcome::Right => "right",
+            Outcome::OutOfMemory => "out of memory",
+            Outcome::NotBegun => "not begun",
+            Outcome::Wrong => "wrong",
+        }
+    }
+
+    /// Right, if that holds.
+    pub fn right(holds: bool) -> Outcome
+        ensures { result ≡ (if holds then Outcome.Right else Outcome.Wrong) }
+    {
+        if holds {
+            Outcome::Right
+        } else {
+            Outcome::Wrong
+        }
+    }
+
+    /// Out of memory with the state that is promised then, if that holds.
+    pub fn out_of_memory(holds: bool) -> Outcome
+        ensures { result ≡ (if holds then Outcome.OutOfMemory else Outcome.Wrong) }
+    {
+        if holds {
+            Outcome::OutOfMemory
+        } else {
+            Outcome::Wrong
+        }
+    }
+}

@@ -1,0 +1,3 @@
+//! Typed parts and APDUs.
+mod parts;
+mod round_trips;
