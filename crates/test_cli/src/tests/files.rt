@@ -2,6 +2,7 @@
 use super::fake::{Ended, Faults, Start, folder, run};
 use std::fs::{self, Permissions};
 use std::os::unix::fs::{MetadataExt, PermissionsExt, symlink};
+use std::process::Abort;
 use std::test::Fail;
 use test_support::octets_of;
 
@@ -49,6 +50,31 @@ fn holds(rt: &HostRuntime, name: &str, octets: &[u8]) -> Result<bool, Fail> {
     Ok(fs::read(rt, name)?.as_slice() == octets)
 }
 
+/// Stops unless IN and OUT of these names are refused as one file, and the file is as it was. A standard stream is the file only where its
+/// word is `-`.
+fn refuses(
+    rt: &HostRuntime,
+    abort: &impl Abort,
+    input: &[u8],
+    (first, second): (&str, &str),
+) -> Result<(), Fail> {
+    let start = Start {
+        input,
+        input_file: (first == "-").then_some("in.ber"),
+        output_file: (second == "-").then_some("in.ber"),
+        ..Start::default()
+    };
+    let ended = canonicalise(rt, first, second, start);
+    assert!(abort; ended.status == 2, "{first} {second}");
+    assert!(abort; ended.output.is_empty(), "{first} {second}");
+    assert!(abort;
+        ended.has_reported("illcanon: IN and OUT are the same file\n"),
+        "{first} {second}"
+    );
+    assert!(abort; holds(rt, "in.ber", input)?, "{first} {second}");
+    Ok(())
+}
+
 #[test]
 fn one_file_under_two_names_is_refused(rt: HostRuntime) -> Result<(), Fail> {
     let folder = enter(&rt)?;
@@ -64,22 +90,8 @@ fn one_file_under_two_names_is_refused(rt: HostRuntime) -> Result<(), Fail> {
         ("in.ber", "-"),
         ("-", "-"),
     ];
-    for (first, second) in rows {
-        // A standard stream is the file only where its word is `-`.
-        let start = Start {
-            input: &input,
-            input_file: (first == "-").then_some("in.ber"),
-            output_file: (second == "-").then_some("in.ber"),
-            ..Start::default()
-        };
-        let ended = canonicalise(&rt, first, second, start);
-        assert!(rt; ended.status == 2, "{first} {second}");
-        assert!(rt; ended.output.is_empty(), "{first} {second}");
-        assert!(rt;
-            ended.has_reported("illcanon: IN and OUT are the same file\n"),
-            "{first} {second}"
-        );
-        assert!(rt; holds(&rt, "in.ber", &input)?, "{first} {second}");
+    for names in rows {
+        refuses(&rt, &rt, &input, names)?;
     }
     leave(&rt, folder.as_str())
 }
