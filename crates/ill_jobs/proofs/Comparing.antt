@@ -5,8 +5,7 @@ use Rattle.std.proofs.lemmas.Bool.{cases_lt}
 use Rattle.std.proofs.lemmas.List.{take_all, take_at}
 use Rattle.ber_leaf.specs.Profile.{profile_two}
 use Rattle.ill_schema.specs.Apdu.{Apdu, SpellsApdu}
-use Rattle.ill_read.specs.Fault.{Fault}
-use Rattle.ill_read.specs.Judged.{fault_is}
+use Rattle.ill_refusals.specs.Fault.{Fault, fault_of}
 use Rattle.ill_normal.specs.Compared.{RefusesSide}
 use Rattle.ill_normal.specs.declared.compare.Side.{Side}
 use Rattle.ill_normal.proofs.Answering.{front}
@@ -78,7 +77,7 @@ module _ (x y : List ℕ) where
       (λ g. e ∙ c.4.0 g ∙ sym f, λ same. c.4.1 (sym e ∙ same ∙ f))
 
   not_compared : (e : RunFault) → NotCompared x y e → (a b : Apdu) → SpellsApdu profile_two a x → SpellsApdu profile_two b y → IsFault e
-  not_compared (RunFault.RefusedSide side refusal) n a b h k = absurd (refused_apart side (fault_is refusal) a b h k n)
+  not_compared (RunFault.RefusedSide side refusal) n a b h k = absurd (refused_apart side (fault_of refusal) a b h k n)
   not_compared RunFault.OutOfMemory n a b h k = tt
   not_compared RunFault.ReadFault n a b h k = tt
   not_compared (RunFault.Refused message refusal) n a b h k = absurd n
@@ -89,7 +88,7 @@ module _ (x y : List ℕ) where
   not_compared (RunFault.WriteFault i) n a b h k = absurd n
 
   not_refused : (e : RunFault) → NotCompared x y e → (side : Side) (f : Fault) → RefusesSide x y side f → IsRefusedSide e side f
-  not_refused (RunFault.RefusedSide which refusal) n side f r = refused_once which side (fault_is refusal) f n r
+  not_refused (RunFault.RefusedSide which refusal) n side f r = refused_once which side (fault_of refusal) f n r
   not_refused RunFault.OutOfMemory n side f r = tt
   not_refused RunFault.ReadFault n side f r = tt
   not_refused (RunFault.Refused message refusal) n side f r = absurd n

@@ -6,9 +6,8 @@ use Rattle.std.specs.Io.KnownBytes.{Consumes, IsAtEnd}
 use Rattle.ber_leaf.specs.Profile.{profile_two}
 use Rattle.ill_schema.specs.Apdu.{Apdu, Accepts, IsStream}
 use Rattle.ill_schema.proofs.Streams.{parts_accept, accepts_once, accepts_some, take_front, tails}
-use Rattle.ill_read.specs.Fault.{Fault}
-use Rattle.ill_read.specs.Judged.{fault_is}
-use Rattle.ill_read.specs.Outcome.{OnlyRefuses}
+use Rattle.ill_refusals.specs.Fault.{Fault, fault_of}
+use Rattle.ill_refusals.specs.Outcome.{OnlyRefuses}
 use Rattle.ill_normal.proofs.Answering.{front}
 use Rattle.ill_normal.proofs.Longest.{nothing_over, no_longer, one_rest}
 use Rattle.ill_jobs.specs.declared.job.Job.{Job}
@@ -125,7 +124,7 @@ module _ (job : Job) (hex : Bool) (s : List ℕ) (left' held held' : Option (Lis
         let a = longest s t.0 r ms ns t.1 t.2.1.2 k in
         let b = longest s r t.0 ns ms k only.2 t.1 in
         let e : t.0 ≡ r = one_left s t.0 r ms ns t.1 k (omega (arith, a, b)) in
-        (omega (arith, a, b, h.0), only.1 (fault_is refusal) (subst (λ z. OnlyRefuses profile_two z (fault_is refusal)) e t.2.1).0)
+        (omega (arith, a, b, h.0), only.1 (fault_of refusal) (subst (λ z. OnlyRefuses profile_two z (fault_of refusal)) e t.2.1).0)
     stop_refuses RunFault.TooManyMessages h r ns f k lt some only =
         let t = left_then _ (some_left rest left' h.1.0 h.1.1) in
         let b = longest s r t.0 ns ms k only.2 t.1 in

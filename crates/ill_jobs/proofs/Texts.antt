@@ -4,7 +4,7 @@ use Rattle.std.specs.Prelude.{IfOk, IfErr, if◌then◌else◌}
 use Rattle.std.specs.Io.KnownBytes.{IsAtEnd}
 use Rattle.std.proofs.lemmas.Bool.{cases_lt, lt-ltb}
 use Rattle.hex.specs.Hex.{decode_of}
-use Rattle.ill_read.specs.Fault.{Fault}
+use Rattle.ill_refusals.specs.Fault.{Fault}
 use Rattle.ill_normal.proofs.Answering.{front}
 use Rattle.ill_jobs.specs.declared.job.Job.{Job}
 use Rattle.ill_jobs.specs.declared.job.Verdict.{Verdict}

@@ -15,7 +15,7 @@ use Rattle.ill_jobs.specs.Ran.{Writes, BrokeAt, StopsAfter, GoesOn, fault_at}
 use Rattle.ill_jobs.specs.declared.fault.RunFault.{RunFault}
 use Rattle.ill_read.specs.declared.failure.ReadFailure.{ReadFailure}
 use Rattle.ill_read.specs.Answers.{IfReadRefused, TakesFront, TakesNoMessage}
-use Rattle.ill_read.specs.Outcome.{OnlyRefuses}
+use Rattle.ill_refusals.specs.Outcome.{OnlyRefuses}
 use Rattle.std.specs.Prelude.{IsErrOf}
 
 pub spelled_front : (b t : List ℕ) (ms : List Spelling) → AreSpelled b ms [] → AreSpelled (b ++ t) ms t

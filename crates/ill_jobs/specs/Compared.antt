@@ -3,8 +3,7 @@ use Rattle.std.specs.Prelude.{◌≡◌, ◌⊎◌, ◌↔◌, ℕ, ◌<◌, ◌
 use Rattle.std.specs.Io.KnownBytes.{Consumes, Keeps, Appends, IsAtEnd}
 use Rattle.ber_leaf.specs.Profile.{profile_two}
 use Rattle.ill_schema.specs.Apdu.{Apdu, SpellsApdu}
-use Rattle.ill_read.specs.Fault.{Fault}
-use Rattle.ill_read.specs.Judged.{fault_is}
+use Rattle.ill_refusals.specs.Fault.{Fault, fault_of}
 use Rattle.ill_normal.specs.Compared.{RefusesSide}
 use Rattle.ill_normal.specs.declared.compare.Side.{Side}
 use Rattle.ill_jobs.specs.declared.job.Verdict.{Verdict}
@@ -32,7 +31,7 @@ Compares s t verdict = (a : Apdu) × (b : Apdu) × SpellsApdu profile_two a s ×
 
 -- the first side that isn't one message, or out of memory
 abbrev pub NotCompared : List ℕ → List ℕ → RunFault → Type 0
-NotCompared s t (RunFault.RefusedSide side refusal) = RefusesSide s t side (fault_is refusal)
+NotCompared s t (RunFault.RefusedSide side refusal) = RefusesSide s t side (fault_of refusal)
 NotCompared s t RunFault.OutOfMemory = Unit {0}
 NotCompared s t _ = ⊥
 
@@ -80,7 +79,7 @@ ComparesBoth hex s t result = (x y : List ℕ) (a b : Apdu) → side_octets hex 
     → SaysSame result (a ≡ b)
 
 abbrev pub IsRefusedSide : RunFault → Side → Fault → Type 0
-IsRefusedSide (RunFault.RefusedSide which refusal) side f = (which ≡ side) × (fault_is refusal ≡ f)
+IsRefusedSide (RunFault.RefusedSide which refusal) side f = (which ≡ side) × (fault_of refusal ≡ f)
 IsRefusedSide fault side f = IsFault fault
 
 abbrev pub AnswersSide : Result Verdict RunFault → Side → Fault → Type 0

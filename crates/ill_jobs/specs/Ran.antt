@@ -3,11 +3,10 @@ use Rattle.std.specs.Prelude.{◌≡◌, ◌⊎◌, ℕ, ◌+◌, ◌<◌, ◌�
 use Rattle.std.specs.Io.KnownBytes.{Consumes, Keeps, Appends, IsAtEnd}
 use Rattle.ber_leaf.specs.Profile.{profile_two}
 use Rattle.ill_schema.specs.Apdu.{SpellsApdu}
-use Rattle.ill_read.specs.Fault.{Fault}
+use Rattle.ill_refusals.specs.Fault.{Fault, fault_of}
 use Rattle.ill_read.specs.declared.failure.ReadFailure.{ReadFailure}
-use Rattle.ill_read.specs.Judged.{fault_is}
 use Rattle.ill_read.specs.Answers.{TakesFront, TakesNoMessage}
-use Rattle.ill_read.specs.Outcome.{OnlyRefuses}
+use Rattle.ill_refusals.specs.Outcome.{OnlyRefuses}
 use Rattle.ill_jobs.specs.declared.job.Job.{Job}
 use Rattle.ill_jobs.specs.declared.job.Verdict.{Verdict}
 use Rattle.ill_jobs.specs.declared.fault.RunFault.{RunFault}
@@ -36,7 +35,7 @@ abbrev pub Stops : Job → Bool → Option (List ℕ) → Option (List ℕ) → 
     → List Spelling → RunFault → Type 0
 Stops job hex left left' first held held' source_broken sink_broken ms (RunFault.Refused message refusal) =
     (message ≡ length ms + 1) × (length ms < 1_000_000)
-    × IfSome left (λ s. (0 < length s) × OnlyRefuses profile_two s (fault_is refusal)) × Keeps held held'
+    × IfSome left (λ s. (0 < length s) × OnlyRefuses profile_two s (fault_of refusal)) × Keeps held held'
 Stops job hex left left' first held held' source_broken sink_broken ms RunFault.TooManyMessages =
     (length ms ≡ 1_000_000) × ((octet : ℕ) × Consumes left left' (octet ∷ [])) × Keeps held held'
 Stops job hex left left' first held held' source_broken sink_broken ms RunFault.OutOfMemory = (length ms < 1_000_000) × Keeps held held'
@@ -123,7 +122,7 @@ AnswersVerdict (Ok v) w = v ≡ w
 AnswersVerdict (Err fault) w = IsFault fault
 
 abbrev pub IsRefused : RunFault → ℕ → Fault → Type 0
-IsRefused (RunFault.Refused message refusal) i f = (message ≡ i) × (fault_is refusal ≡ f)
+IsRefused (RunFault.Refused message refusal) i f = (message ≡ i) × (fault_of refusal ≡ f)
 IsRefused fault i f = IsFault fault
 
 abbrev pub AnswersRefused : Result Verdict RunFault → ℕ → Fault → Type 0

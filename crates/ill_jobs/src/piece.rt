@@ -4,7 +4,7 @@ ghost use Rattle.std.specs.Io.KnownBytes.{Consumes, IsAtEnd};
 ghost use Rattle.ber_leaf.specs.Profile.{profile_two};
 ghost use Rattle.hex.specs.Hex.{encode_lower};
 ghost use Rattle.ill_read.specs.Answers.{IfReadRefused, TakesFront, TakesNoMessage};
-ghost use Rattle.ill_read.specs.Outcome.{OnlyRefuses};
+ghost use Rattle.ill_refusals.specs.Outcome.{OnlyRefuses};
 ghost use Rattle.ill_read.specs.declared.failure.ReadFailure.{ReadFailure};
 ghost use Rattle.ill_jobs.specs.declared.job.Job.{Job};
 ghost use Rattle.ill_jobs.specs.Output.{line_of_check};

@@ -2,12 +2,11 @@
 use Rattle.std.proofs.Common.{◌≡◌, ◌<◌, ℕ, Bool, List, [], ◌++◌, length, Option, Some, None, Err, IfSome, refl, ap, ◌∙◌, arith}
 use Rattle.std.specs.Io.KnownBytes.{Consumes, IsAtEnd}
 use Rattle.ill_schema.specs.Apdu.{Apdu, Accepts, normal_form}
-use Rattle.ill_read.specs.Fault.{Fault}
-use Rattle.ill_read.specs.Outcome.{OnlyRefuses}
+use Rattle.ill_refusals.specs.Fault.{Fault, fault_of}
+use Rattle.ill_refusals.specs.Outcome.{OnlyRefuses}
 use Rattle.ber_leaf.specs.Profile.{profile_two}
 use Rattle.ill_schema.proofs.Streams.{parts_accept, accepts_once, accepts_some}
 use Rattle.ill_read.specs.declared.failure.ReadFailure.{ReadFailure}
-use Rattle.ill_read.specs.Judged.{fault_is}
 use Rattle.ill_read.specs.Answers.{IfReadRefused, IsReadFault}
 use Rattle.ill_normal.specs.declared.failure.NormalFailure.{NormalFailure}
 use Rattle.ill_normal.specs.Normalised.{Forwards, Fails, Answers, AnswersRefused}
@@ -67,7 +66,7 @@ fails_accepts left left' held held' x y (NormalFailure.WriteFault w) h = always 
 
 pub fails_refuses : (left left' held held' : Option (List ℕ)) (x y : Bool) (e : NormalFailure) → Fails left left' held held' x y e
     → IfSome left (λ s. (f : Fault) → 0 < length s → OnlyRefuses profile_two s f → AnswersRefused {T = Option ℕ} (Err e) f)
-fails_refuses left left' held held' x y (NormalFailure.Refused refusal) h = both left _ _ (λ s k f some only. only.1 (fault_is refusal) k.1.0) h.0
+fails_refuses left left' held held' x y (NormalFailure.Refused refusal) h = both left _ _ (λ s k f some only. only.1 (fault_of refusal) k.1.0) h.0
 fails_refuses left left' held held' x y NormalFailure.OutOfMemory h = always left _ (λ s f some only. tt)
 fails_refuses left left' held held' x y NormalFailure.ReadFault h = always left _ (λ s f some only. tt)
 fails_refuses left left' held held' x y (NormalFailure.WriteFault w) h = always left _ (λ s f some only. tt)

@@ -8,10 +8,9 @@ use Rattle.ill_schema.proofs.MeansFits.{means_apdu_fits}
 use Rattle.ill_schema.proofs.Encodings.{normal_spells, normal_unique}
 use Rattle.ill_schema.proofs.OneMeaning.{one_message}
 use Rattle.ill_schema.proofs.Streams.{accepts_once}
-use Rattle.ill_read.specs.Fault.{Fault, fault}
+use Rattle.ill_refusals.specs.Fault.{Fault, fault, fault_of}
 use Rattle.ill_read.specs.declared.failure.Failure.{Failure}
 use Rattle.ill_read.specs.Answers.{DecodeAnswers}
-use Rattle.ill_read.specs.Judged.{fault_is}
 use Rattle.ill_read.specs.Answers.{IfRefused, RefusesWhole}
 
 short : (n : ℕ) → n ≤ 1_048_576 → n < 256 ^ 126
@@ -56,7 +55,7 @@ decode_refuses s Failure.OutOfMemory h = tt
 
 -- a spelling is not refused, so there is no memory
 pub only_memory : (e : Failure) (s : List ℕ) (a : Apdu) → IfRefused e (RefusesWhole s) → SpellsApdu profile_two a s → e ≡ Failure.OutOfMemory
-only_memory (Failure.Refused refusal) s a h k = absurd (refuses_whole s (fault_is refusal) a h k)
+only_memory (Failure.Refused refusal) s a h k = absurd (refuses_whole s (fault_of refusal) a h k)
 only_memory Failure.OutOfMemory s a h k = refl
 
 -- what compares APDUs compares normal forms

@@ -3,10 +3,9 @@ use Rattle.std.proofs.Common.{◌≡◌, ℕ, ◌<◌, ◌≤◌, Bool, List, []
 use Rattle.std.specs.Io.KnownBytes.{Consumes, IsAtEnd, Keeps}
 use Rattle.std.proofs.KnownBytes.{Consumes-kept, Consumes-nil, Keeps-refl}
 use Rattle.ill_schema.specs.Apdu.{Apdu, IsStream}
-use Rattle.ill_read.specs.Fault.{Fault}
-use Rattle.ill_read.specs.Outcome.{OnlyRefuses}
+use Rattle.ill_refusals.specs.Fault.{Fault, fault_of}
+use Rattle.ill_refusals.specs.Outcome.{OnlyRefuses}
 use Rattle.ber_leaf.specs.Profile.{profile_two}
-use Rattle.ill_read.specs.Judged.{fault_is}
 use Rattle.ill_read.specs.Answers.{TakesFront}
 use Rattle.ill_normal.specs.declared.failure.NormalFailure.{NormalFailure}
 use Rattle.ill_normal.specs.declared.failure.StreamCause.{StreamCause}
@@ -87,7 +86,7 @@ module _ (s : List ℕ) (rest left' held grown held' : Option (List ℕ)) (x y :
 
   stop_accepts : (why : StreamCause) → Stops rest left' grown held' x y whole why → (xs : List Apdu) → IsStream profile_two s xs [] → length xs ≤ 1_000_000
       → elim why as (λ _. Type 0) [ StreamCause.Normal failure ↦ IsFault failure | StreamCause.TooManyMessages ↦ ⊥ ]
-  stop_accepts (StreamCause.Normal (NormalFailure.Refused refusal)) h xs k le = refused_whole (fault_is refusal) xs h.1.0 k
+  stop_accepts (StreamCause.Normal (NormalFailure.Refused refusal)) h xs k le = refused_whole (fault_of refusal) xs h.1.0 k
   stop_accepts (StreamCause.Normal NormalFailure.OutOfMemory) h xs k le = tt
   stop_accepts (StreamCause.Normal NormalFailure.ReadFault) h xs k le = tt
   stop_accepts (StreamCause.Normal (NormalFailure.WriteFault n)) h xs k le = tt
@@ -101,7 +100,7 @@ module _ (s : List ℕ) (rest left' held grown held' : Option (List ℕ)) (x y :
       let a = no_longer profile_two s t.0 r p.apdus xs t.1 t.2.1.2 k in
       let b = no_longer profile_two s r t.0 xs p.apdus k only.2 t.1 in
       let e : t.0 ≡ r = one_rest profile_two s t.0 r p.apdus xs t.1 k (omega (arith, a, b)) in
-      let same : fault_is refusal ≡ f = only.1 (fault_is refusal) (subst (λ z. OnlyRefuses profile_two z (fault_is refusal)) e t.2.1).0 in
+      let same : fault_of refusal ≡ f = only.1 (fault_of refusal) (subst (λ z. OnlyRefuses profile_two z (fault_of refusal)) e t.2.1).0 in
       (omega (arith, a, b, p.count), same)
   stop_refuses (StreamCause.Normal NormalFailure.OutOfMemory) h xs r f k lt some only = tt
   stop_refuses (StreamCause.Normal NormalFailure.ReadFault) h xs r f k lt some only = tt

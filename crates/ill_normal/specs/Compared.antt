@@ -1,7 +1,7 @@
 -- What refuses one of two messages.
 use Rattle.std.specs.Prelude.{ℕ, List}
 use Rattle.ill_schema.specs.Apdu.{Apdu, SpellsApdu}
-use Rattle.ill_read.specs.Fault.{Fault}
+use Rattle.ill_refusals.specs.Fault.{Fault}
 use Rattle.ber_leaf.specs.Profile.{profile_two}
 use Rattle.ill_read.specs.Answers.{RefusesWhole}
 use Rattle.ill_normal.specs.declared.compare.Side.{Side}

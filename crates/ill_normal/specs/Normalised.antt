@@ -3,10 +3,9 @@ use Rattle.std.specs.Prelude.{◌≡◌, ◌<◌, ℕ, Bool, List, length, take,
 use Rattle.std.specs.Io.KnownBytes.{Consumes, Keeps, Appends}
 use Rattle.ill_schema.specs.Apdu.{Apdu, SpellsApdu, normal_form}
 use Rattle.ill_read.specs.Answers.{TakesNoMessage}
-use Rattle.ill_read.specs.Fault.{Fault}
-use Rattle.ill_read.specs.Outcome.{OnlyRefuses}
+use Rattle.ill_refusals.specs.Fault.{Fault, fault_of}
+use Rattle.ill_refusals.specs.Outcome.{OnlyRefuses}
 use Rattle.ber_leaf.specs.Profile.{profile_two}
-use Rattle.ill_read.specs.Judged.{fault_is}
 use Rattle.ill_normal.specs.declared.failure.NormalFailure.{NormalFailure}
 
 -- the octets that were taken spell an APDU, and its normal form was written
@@ -22,7 +21,7 @@ pub record Forwards (left left' held held' : Option (List ℕ)) (read written : 
 -- why a message was not normalised: what was left in the source and held by the sink before and after, and whether they are broken
 abbrev pub Fails : Option (List ℕ) → Option (List ℕ) → Option (List ℕ) → Option (List ℕ) → Bool → Bool → NormalFailure → Type 0
 Fails left left' held held' source_broken sink_broken (NormalFailure.Refused refusal) =
-    IfSome left (λ s. (0 < length s) × OnlyRefuses profile_two s (fault_is refusal)) × Keeps held held'
+    IfSome left (λ s. (0 < length s) × OnlyRefuses profile_two s (fault_of refusal)) × Keeps held held'
 Fails left left' held held' source_broken sink_broken NormalFailure.OutOfMemory = Keeps held held'
 Fails left left' held held' source_broken sink_broken NormalFailure.ReadFault = IsTrue source_broken × TakesNoMessage left left' × Keeps held held'
 Fails left left' held held' source_broken sink_broken (NormalFailure.WriteFault n) =
@@ -42,5 +41,5 @@ Answers (Err failure) y = IsFault failure
 -- the answer is this refusal, or a fault
 abbrev pub AnswersRefused : {T : Type 0} → Result T NormalFailure → Fault → Type 0
 AnswersRefused (Ok x) f = ⊥
-AnswersRefused (Err (NormalFailure.Refused refusal)) f = fault_is refusal ≡ f
+AnswersRefused (Err (NormalFailure.Refused refusal)) f = fault_of refusal ≡ f
 AnswersRefused (Err _) f = Unit {0}

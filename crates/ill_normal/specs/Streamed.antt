@@ -2,9 +2,8 @@
 use Rattle.std.specs.Prelude.{◌≡◌, ◌<◌, ◌≤◌, ℕ, Bool, List, [], ◌∷◌, length, flat_map, Option, Result, Ok, Err}
 use Rattle.std.specs.Io.KnownBytes.{Consumes, Keeps, Appends}
 use Rattle.ill_schema.specs.Apdu.{Apdu, IsStream, normal_form}
-use Rattle.ill_read.specs.Fault.{Fault}
+use Rattle.ill_refusals.specs.Fault.{Fault, fault_of}
 use Rattle.ber_leaf.specs.Profile.{profile_two}
-use Rattle.ill_read.specs.Judged.{fault_is}
 use Rattle.ill_read.specs.Answers.{TakesFront}
 use Rattle.ill_normal.specs.declared.failure.NormalFailure.{NormalFailure}
 use Rattle.ill_normal.specs.declared.failure.StreamCause.{StreamCause}
@@ -45,7 +44,7 @@ AnswersCount (Err e) n = elim e.why as (λ _. Type 0) [ StreamCause.Normal failu
 
 -- after m messages this failure is the refusal f after n messages, or a fault
 abbrev pub IsRefusedAfter : ℕ → NormalFailure → ℕ → Fault → Type 0
-IsRefusedAfter m (NormalFailure.Refused refusal) n f = (m ≡ n) × (fault_is refusal ≡ f)
+IsRefusedAfter m (NormalFailure.Refused refusal) n f = (m ≡ n) × (fault_of refusal ≡ f)
 IsRefusedAfter m failure n f = IsFault failure
 
 -- a stream's answer is this refusal after so many messages, or a fault

@@ -4,7 +4,7 @@ ghost use Rattle.std.specs.Io.KnownBytes.{Consumes, IsAtEnd};
 ghost use Rattle.ber_leaf.specs.Profile.{profile_two};
 ghost use Rattle.ill_schema.specs.Apdu.{Apdu, SpellsApdu, Accepts, normal_form};
 ghost use Rattle.ill_read.specs.Answers.{TakesFront, TakesNoMessage, IfReadRefused, AnswersSome};
-ghost use Rattle.ill_read.specs.Outcome.{OnlyRefuses};
+ghost use Rattle.ill_refusals.specs.Outcome.{OnlyRefuses};
 
 use ber_core::Source;
 use ill_read::{ReadFailure, read_kept};

@@ -3,7 +3,7 @@ ghost use Rattle.std.specs.Prelude.{◌≡◌, ◌↔◌, ℕ, List, length};
 ghost use Rattle.ber_leaf.specs.Profile.{profile_two};
 ghost use Rattle.ill_schema.specs.Apdu.{Apdu, SpellsApdu, Accepts, normal_form};
 ghost use Rattle.ill_read.specs.Answers.{RefusesWhole};
-ghost use Rattle.ill_read.specs.Fault.{Fault};
+ghost use Rattle.ill_refusals.specs.Fault.{Fault};
 
 /// Two messages have equal normal forms, octet for octet, exactly if they spell the same APDU.
 pub fn normal_forms_are_equal_exactly_if_apdus_are()

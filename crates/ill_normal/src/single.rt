@@ -4,8 +4,8 @@ ghost use Rattle.std.specs.Io.KnownBytes.{Consumes, Appends, Keeps, IsAtEnd};
 ghost use Rattle.ber_leaf.specs.Profile.{profile_two};
 ghost use Rattle.ill_schema.specs.Apdu.{Apdu, SpellsApdu, Accepts, normal_form};
 ghost use Rattle.ill_read.specs.Answers.{TakesFront};
-ghost use Rattle.ill_read.specs.Fault.{Fault};
-ghost use Rattle.ill_read.specs.Outcome.{OnlyRefuses};
+ghost use Rattle.ill_refusals.specs.Fault.{Fault};
+ghost use Rattle.ill_refusals.specs.Outcome.{OnlyRefuses};
 ghost use Rattle.ill_normal.specs.Normalised.{Forwards, Fails, Answers, AnswersRefused};
 
 use crate::failure::NormalFailure;

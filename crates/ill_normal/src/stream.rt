@@ -3,8 +3,8 @@ ghost use Rattle.std.specs.Prelude.{◌≡◌, ◌<◌, ◌≤◌, ℕ, List, []
 ghost use Rattle.std.specs.Io.KnownBytes.{IsAtEnd};
 ghost use Rattle.ber_leaf.specs.Profile.{profile_two};
 ghost use Rattle.ill_schema.specs.Apdu.{Apdu, IsStream};
-ghost use Rattle.ill_read.specs.Fault.{Fault};
-ghost use Rattle.ill_read.specs.Outcome.{OnlyRefuses};
+ghost use Rattle.ill_refusals.specs.Fault.{Fault};
+ghost use Rattle.ill_refusals.specs.Outcome.{OnlyRefuses};
 ghost use Rattle.ill_normal.specs.Streamed.{Passes, StopsAfter, AnswersCount, AnswersRefusedAfter, AnswersTooMany};
 
 use crate::failure::{NormalFailure, StreamCause, StreamFailure};

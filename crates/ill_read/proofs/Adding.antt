@@ -13,7 +13,7 @@ use Rattle.ill_read.specs.Code.{component_of, component_at, element_is, found_is
 use Rattle.ill_read.specs.DueCode.{IsDueIn, IsRowDue, IsInnerDue, IsItemDue, behind}
 use Rattle.ill_read.specs.Held.{ArePassed, rows_before}
 use Rattle.ill_read.specs.Standing.{with_alternative, IsValueOf, HoldsPart, IsHeld}
-use Rattle.ill_read.specs.Step.{snoc}
+use Rattle.ill_refusals.specs.code.Step.{snoc}
 use Rattle.ill_read.specs.declared.due.Due.{Due}
 use Rattle.ill_read.specs.declared.due.Next.{Next}
 use Rattle.ill_read.specs.declared.due.Next.TheVariants.{Rows, Inner, Items, Either, Segments, Nothing}
@@ -25,7 +25,7 @@ use Rattle.ill_read.specs.declared.element.Found.{Found}
 use Rattle.ill_read.specs.declared.element.Wrapped.{Wrapped}
 use Rattle.ill_read.proofs.Entries.{row_added, item_added}
 use Rattle.ill_read.proofs.Meanings.{begun_means, row_means}
-use Rattle.ill_read.proofs.Openings.{inner_proper, row_proper}
+use Rattle.ill_refusals.proofs.OpenElements.{inner_proper, row_proper}
 
 passed_none : (passed : List (Option Value)) → ArePassed passed [] → passed ≡ []
 passed_none [] h = refl

@@ -16,9 +16,9 @@ use Rattle.ill_read.specs.Code.{component_of, element_is}
 use Rattle.ill_read.specs.DueCode.{IsDueIn, IsDueInRows, IsRowDue, behind}
 use Rattle.ill_read.specs.Held.{HasAdded, HasNext, rows_before}
 use Rattle.ill_read.specs.Judged.{IsStep}
-use Rattle.ill_read.specs.Place.{Open}
+use Rattle.ill_refusals.specs.Place.{Open}
 use Rattle.ill_read.specs.Standing.{next_at, text_so_far, top, with_alternative, IsValueOf, IsFrame, AreFrames, StandsAt}
-use Rattle.ill_read.specs.Step.{with_tree}
+use Rattle.ill_refusals.specs.code.Step.{with_tree}
 use Rattle.ill_read.specs.declared.due.Due.{Due}
 use Rattle.ill_read.specs.declared.due.Next.{Next}
 use Rattle.ill_read.specs.declared.due.Next.TheVariants.{Rows, Inner, Items, Either, Segments, Nothing}
@@ -32,7 +32,7 @@ use Rattle.ill_read.proofs.Adding.{due_with, held_added}
 use Rattle.ill_read.proofs.Frames.{last_open, next_behind, no_last, frames_open}
 use Rattle.ill_read.proofs.Growing.{with_one, frame_added}
 use Rattle.ill_read.proofs.Meanings.{begun_means}
-use Rattle.ill_read.proofs.Openings.{inner_proper}
+use Rattle.ill_refusals.proofs.OpenElements.{inner_proper}
 use Rattle.ill_read.proofs.Segments.{due_segment, value_apart, text_with, text_apart}
 
 few : (node : NodeId) → nat_le (length (rows_of node)) 255 ≡ true

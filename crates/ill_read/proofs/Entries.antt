@@ -16,12 +16,12 @@ use Rattle.ill_schema.specs.Tagging.{tagging}
 use Rattle.ill_schema.specs.Value.{content_of, entries_of, entries_content, items_of, items_content}
 use Rattle.ill_read.specs.Code.{component_at}
 use Rattle.ill_read.specs.DueCode.{MayAllLack}
-use Rattle.ill_read.specs.Element.{components, components_from}
-use Rattle.ill_read.specs.Next.{rows, missing, first_mandatory}
+use Rattle.ill_refusals.specs.Element.{components, components_from}
+use Rattle.ill_refusals.specs.Next.{rows, missing, first_mandatory}
 use Rattle.ill_read.specs.Standing.{absent_content}
-use Rattle.ill_read.specs.Step.{snoc}
-use Rattle.ill_read.proofs.Openings.{same_simple, first_none}
-use Rattle.ill_read.proofs.Running.{joined, joined-none}
+use Rattle.ill_refusals.specs.code.Step.{snoc}
+use Rattle.ill_refusals.proofs.OpenElements.{same_simple, first_none}
+use Rattle.ill_refusals.proofs.TreeRuns.{joined, joined-none}
 
 -- an entry of a part of a list
 between : {X : Type 0} (xs : List X) (n r k : ℕ) (x : X) → slice_get (drop n (take r xs)) k ≡ Some x → (n + k < r) × (slice_get xs (n + k) ≡ Some x)

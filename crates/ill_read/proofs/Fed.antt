@@ -8,23 +8,22 @@ use Rattle.ill_schema.specs.declared.refusal.Cause.{Cause}
 use Rattle.ill_schema.specs.declared.refusal.Refusal.{Refusal}
 use Rattle.ill_schema.specs.Apdu.{Apdu, Encodes, Accepts}
 use Rattle.ill_schema.specs.Message.{apdu_of, octets_of}
-use Rattle.ill_read.specs.Fault.{Fault, fault, faulty, judge, Refuses}
+use Rattle.ill_refusals.specs.Fault.{Fault, fault, faulty, judge, Refuses, fault_of}
 use Rattle.ill_read.specs.Answers.{IsRead, IsPart, IsRefused, DecodeAnswers}
 use Rattle.ill_read.specs.DecoderCode.{IsFed, IsMessageOf, FinishAnswers, StandsBefore, StandsLast, InState}
 use Rattle.ill_read.specs.Feeding.{ended, IsOpenAfter, StatesAreApart}
-use Rattle.ill_read.specs.Judged.{fault_is}
-use Rattle.ill_read.specs.Outcome.{OnlyAccepts, OnlyRefuses}
-use Rattle.ill_read.specs.Place.{Open, IsPlace, bound}
+use Rattle.ill_refusals.specs.Outcome.{OnlyAccepts, OnlyRefuses}
+use Rattle.ill_refusals.specs.Place.{Open, IsPlace, bound}
 use Rattle.ill_read.specs.declared.failure.Failure.{Failure}
 use Rattle.ill_read.specs.declared.decoder.Decoder.{Decoder}
 use Rattle.ill_read.specs.declared.decoder.State.{State}
 use Rattle.ill_read.specs.declared.decoder.State.TheVariants as state
 use Rattle.ill_read.specs.declared.path.Path.{Path}
-use Rattle.ill_read.proofs.Feeding.{refused_at}
-use Rattle.ill_read.proofs.Longer.{refusal_stays}
-use Rattle.ill_read.proofs.Readings.{octets_join}
-use Rattle.ill_read.proofs.Wanting.{truncated_at}
-use Rattle.ill_read.proofs.Outcomes.{accepted_alone, long_alone, refused_alone, fault_run}
+use Rattle.ill_refusals.proofs.Continuations.{refused_at}
+use Rattle.ill_refusals.proofs.Prefixes.{refusal_stays}
+use Rattle.ill_refusals.proofs.Headers.{octets_join}
+use Rattle.ill_refusals.proofs.Truncation.{truncated_at}
+use Rattle.ill_refusals.proofs.OneOutcome.{accepted_alone, long_alone, refused_alone, fault_run}
 
 pub read_message : (s : List ℕ) (a : Apdu) (n : ℕ) (m : Message) → n ≤ length s → Encodes profile_two a (take n s) → IsMessageOf a n (Some m) → IsRead s m
 read_message s a n m le h is =
@@ -47,7 +46,7 @@ accepts_longer s x a n h =
     accepted_alone profile_two (s ++ x) a n (omega (arith, length-append s x)) (subst (λ z. Encodes profile_two a z) (sym (take-append-le n s x h.0)) h.1.encodes) h.1.normal_short
 
 refused_longer : (s x : List ℕ) (failure : Failure) → IsRefused s failure → IsRefused (s ++ x) failure
-refused_longer s x (Failure.Refused r) h = (refuses_alone (s ++ x) (fault_is r) (refusal_stays profile_two s x (fault_is r) h.1 h.0.0), h.1)
+refused_longer s x (Failure.Refused r) h = (refuses_alone (s ++ x) (fault_of r) (refusal_stays profile_two s x (fault_of r) h.1 h.0.0), h.1)
 refused_longer s x Failure.OutOfMemory h = tt
 
 -- once nothing is open
@@ -87,19 +86,19 @@ after_end (state.Whole m) s A h = h
 after_end (state.Failed f) s A h = h
 
 -- the refusal of the place where a path stands
-pub stops_refused : (path : Path) (at : ℕ) (s rest : List ℕ) (r : Refusal) → (b : StandsBefore path at s rest) → judge profile_two b.place at rest ≡ faulty (fault_is r) → r.cause ≢ Cause.Truncated
+pub stops_refused : (path : Path) (at : ℕ) (s rest : List ℕ) (r : Refusal) → (b : StandsBefore path at s rest) → judge profile_two b.place at rest ≡ faulty (fault_of r) → r.cause ≢ Cause.Truncated
     → IsRefused s (Failure.Refused r)
 stops_refused path at s rest r b e n = (
-  subst (λ z. OnlyRefuses profile_two z (fault_is r)) (sym b.joined)
-      (refused_at profile_two b.place b.before rest (fault_is r) b.is_place (subst (λ k. judge profile_two b.place k rest ≡ faulty (fault_is r)) b.offset e)),
+  subst (λ z. OnlyRefuses profile_two z (fault_of r)) (sym b.joined)
+      (refused_at profile_two b.place b.before rest (fault_of r) b.is_place (subst (λ k. judge profile_two b.place k rest ≡ faulty (fault_of r)) b.offset e)),
   n,
 )
 
 -- or the octets end
-pub stops_open : (path : Path) (at : ℕ) (s rest : List ℕ) (r : Refusal) → (b : StandsBefore path at s rest) → judge profile_two b.place at rest ≡ faulty (fault_is r) → r.cause ≡ Cause.Truncated
+pub stops_open : (path : Path) (at : ℕ) (s rest : List ℕ) (r : Refusal) → (b : StandsBefore path at s rest) → judge profile_two b.place at rest ≡ faulty (fault_of r) → r.cause ≡ Cause.Truncated
     → StandsLast path at s rest
 stops_open path at s rest r b e c =
-    let q = truncated_at profile_two b.place at rest (fault_is r) e c in
+    let q = truncated_at profile_two b.place at rest (fault_of r) e c in
     let n : at + length rest ≡ length s = omega (arith, b.offset, ap length b.joined, length-append b.before rest) in
     (b, e ∙ ap faulty (q.1 ∙ ap (fault Cause.Truncated) n))
 

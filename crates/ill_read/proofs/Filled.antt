@@ -14,13 +14,13 @@ use Rattle.ill_read.specs.Failures.{read_failure}
 use Rattle.ill_read.specs.DecoderCode.{FinishAnswers, InState, IsFed, StandsLast}
 use Rattle.ill_read.specs.Feeding.{ended, HasFailedWith, IsOpenAfter, IsWholeWith}
 use Rattle.ill_read.specs.Filling.{NoneEndsWithin, HasFilled, HasKept}
-use Rattle.ill_read.specs.Outcome.{OnlyRefuses}
+use Rattle.ill_refusals.specs.Outcome.{OnlyRefuses}
 use Rattle.ill_read.specs.declared.decoder.Decoder.{Decoder}
 use Rattle.ill_read.specs.declared.decoder.State.{State}
 use Rattle.ill_read.specs.declared.decoder.State.TheVariants as state
 use Rattle.ill_read.specs.declared.failure.Failure.{Failure}
 use Rattle.ill_read.proofs.Fed.{ended_longer, failed_finish, ended_finish, is_open, last_size, stands_part}
-use Rattle.ill_read.proofs.Readings.{octets_join}
+use Rattle.ill_refusals.proofs.Headers.{octets_join}
 
 -- what finish returns, of the octets that were fed
 pub finished : (d : Decoder) (r : Result (Option Message) Failure) → ((fed : List ℕ) → IsOpenAfter d fed → r ≡ ended fed) → ((m : Message) → IsWholeWith d m → r ≡ Ok (Some m))

@@ -6,16 +6,16 @@ use Rattle.ber_core.specs.Tree.{Tree, Trees, none, more, tag_of}
 use Rattle.ber_leaf.specs.Profile.{profile_two}
 use Rattle.ill_schema.specs.declared.value.Value.{Value}
 use Rattle.ill_read.specs.DueCode.{IsDueIn, behind}
-use Rattle.ill_read.specs.Next.{due, next_of, next_after, opening}
-use Rattle.ill_read.specs.Next as following
-use Rattle.ill_read.specs.Place.{Open}
+use Rattle.ill_refusals.specs.Next.{due, next_of, next_after, opening}
+use Rattle.ill_refusals.specs.Next as following
+use Rattle.ill_refusals.specs.Place.{Open}
 use Rattle.ill_read.specs.Standing.{AreDue, IsHeld, IsFrame}
-use Rattle.ill_read.specs.Step.{snoc}
+use Rattle.ill_refusals.specs.code.Step.{snoc}
 use Rattle.ill_read.specs.declared.due.Due.{Due}
 use Rattle.ill_read.specs.declared.due.Next.{Next}
 use Rattle.ill_read.specs.declared.frame.Frame.{Frame}
 use Rattle.ill_read.proofs.DueElements.{due_element_is}
-use Rattle.ill_read.proofs.Sequences.{next_after-more}
+use Rattle.ill_refusals.proofs.Rows.{next_after-more}
 
 pub next-added : (n : following.Next) (ts : Trees) (T : Tree) (d : following.Due) → AreDue n ts → due profile_two (tag_of T) (next_after profile_two n ts) ≡ Some d
     → (next_after profile_two n (snoc ts T) ≡ next_of d) × AreDue n (snoc ts T)

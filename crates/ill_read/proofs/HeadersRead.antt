@@ -9,9 +9,9 @@ use Rattle.ber_core.specs.Header.{IsHeader, IsPartHeader, IsFault, HasWholeId, B
 use Rattle.ber_core.specs.Id.{tag_of_id, form_of_id, id_octets}
 use Rattle.ber_core.specs.Octets.{are_octets}
 use Rattle.ill_read.specs.HeaderCode.{IsWholeLength}
-use Rattle.ill_read.specs.Reading.{LengthRead, read_identifier, read_length, identified, no_identifier, part_identifier, definite, indefinite, no_length, part_length}
-use Rattle.ill_read.proofs.Heads.{bad_tag_read, bad_length_read, part_header_read}
-use Rattle.ill_read.proofs.Readings.{identifier_read, length_read, indefinite_read, identifier_longer, no_identifier_longer, no_length_longer, read_is_identifier}
+use Rattle.ill_refusals.specs.Reading.{LengthRead, read_identifier, read_length, identified, no_identifier, part_identifier, definite, indefinite, no_length, part_length}
+use Rattle.ill_refusals.proofs.HeaderFaults.{bad_tag_read, bad_length_read, part_header_read}
+use Rattle.ill_refusals.proofs.Headers.{identifier_read, length_read, indefinite_read, identifier_longer, no_identifier_longer, no_length_longer, read_is_identifier}
 
 -- octets that begin with an identifier
 abbrev Reads : Id → List ℕ → List ℕ → Type 0

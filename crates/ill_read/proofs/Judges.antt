@@ -13,14 +13,14 @@ use Rattle.ill_schema.specs.declared.refusal.Cause.{Cause}
 use Rattle.ill_schema.specs.declared.refusal.Refusal.{Refusal}
 use Rattle.ill_read.specs.Code.{element_is, found_is}
 use Rattle.ill_read.specs.DueCode.{IsDueIn, next_is}
-use Rattle.ill_read.specs.Element.{Element}
-use Rattle.ill_read.specs.Fault.{Fault, fault, Judgement, faulty, closes, reads, element_fault, or_faulty, ends_at, wanting, judge_end, judge_size, judge_length, judge_form, judge_tag, judge_element, judge_octets, judge}
+use Rattle.ill_refusals.specs.Element.{Element}
+use Rattle.ill_refusals.specs.Fault.{Fault, fault, Judgement, faulty, closes, reads, element_fault, or_faulty, ends_at, wanting, judge_end, judge_size, judge_length, judge_form, judge_tag, judge_element, judge_octets, judge}
 use Rattle.ill_read.specs.JudgeCode.{IsFormed, IsIdentified, judge_identified}
 use Rattle.ill_read.specs.Judged.{IsBegin, IsEnd, IsJudged, content_in}
-use Rattle.ill_read.specs.Next.{Due, due, element_of, missing}
-use Rattle.ill_read.specs.Place.{Open, next_in, bound, allows}
+use Rattle.ill_refusals.specs.Next.{Due, due, element_of, missing}
+use Rattle.ill_refusals.specs.Place.{Open, next_in, bound, allows}
 use Rattle.ill_read.specs.Progress.{IsProgress}
-use Rattle.ill_read.specs.Reading.{IdentifierRead, identified, part_identifier, no_identifier, read_identifier, definite, read_length}
+use Rattle.ill_refusals.specs.Reading.{IdentifierRead, identified, part_identifier, no_identifier, read_identifier, definite, read_length}
 use Rattle.ill_read.specs.Standing.{StandsAt, next_at}
 use Rattle.ill_read.specs.declared.due.Due.{Due as CodeDue}
 use Rattle.ill_read.specs.declared.due.Slot.{Slot}
@@ -32,8 +32,8 @@ use Rattle.ill_read.specs.declared.judge.Started.{Started}
 use Rattle.ill_read.specs.declared.path.Path.{Path}
 use Rattle.ill_read.proofs.DueElements.{due_element_is}
 use Rattle.ill_read.proofs.Frames.{next_open}
-use Rattle.ill_read.proofs.Judging.{form_judged, length_body}
-use Rattle.ill_read.proofs.Readings.{read_is_length}
+use Rattle.ill_refusals.proofs.Judgements.{form_judged, length_body}
+use Rattle.ill_refusals.proofs.Headers.{read_is_length}
 
 abbrev end_body : Open → List Open → ℕ → ℕ → Option PartId → Judgement
 end_body o path at marks x = elim x as (λ _. Judgement) [

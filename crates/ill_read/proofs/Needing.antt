@@ -16,27 +16,27 @@ use Rattle.ber_core.proofs.Identifiers.{IsEnd, identifier_no_end}
 use Rattle.ber_leaf.specs.Profile.{Profile, profile_two}
 use Rattle.ill_schema.specs.declared.refusal.Cause.{Cause}
 use Rattle.ill_schema.specs.Apdu.{Apdu, Accepts}
-use Rattle.ill_read.specs.Fault.{fault, Judgement, faulty, closes, opens, reads, is_indefinite, judge}
+use Rattle.ill_refusals.specs.Fault.{fault, Judgement, faulty, closes, opens, reads, is_indefinite, judge}
 use Rattle.ill_read.specs.DecoderCode.{StandsLast}
 use Rattle.ill_read.specs.HeaderCode.{Lacks, IsHeaderRead, IsLengthRead, IsWholeLength, need_read}
 use Rattle.ill_read.specs.JudgeCode.{outermost_end}
 use Rattle.ill_read.specs.Need.{NeedsAfter, outermost, begins_zero, in_mark, NeedsOfLength, NeedsOfElement, NeedsAfterMark, NeedsBefore, IsNeed}
-use Rattle.ill_read.specs.Place.{Open, bound, IsPlace, IsDue}
-use Rattle.ill_read.specs.Reading.{identified, part_identifier, no_identifier, read_identifier, definite, indefinite, part_length, no_length, read_length}
-use Rattle.ill_read.specs.Step.{close, moved}
+use Rattle.ill_refusals.specs.Place.{Open, bound, IsPlace, IsDue}
+use Rattle.ill_refusals.specs.Reading.{identified, part_identifier, no_identifier, read_identifier, definite, indefinite, part_length, no_length, read_length}
+use Rattle.ill_refusals.specs.code.Step.{close, moved}
 use Rattle.ill_read.specs.declared.header.HeaderRead.{HeaderRead}
 use Rattle.ill_read.specs.declared.header.HeaderRead.TheVariants.{NoIdentifier, PartIdentifier, Identified}
 use Rattle.ill_read.specs.declared.header.LengthRead.{LengthRead as Length}
 use Rattle.ill_read.specs.declared.header.LengthRead.TheVariants.{NoLength, PartLength, Whole}
 use Rattle.ill_read.specs.declared.path.Path.{Path}
-use Rattle.ill_read.proofs.Feeding.{HasEnd, Keeps, with_keeps, due_at, ends_before, reads_before}
+use Rattle.ill_refusals.proofs.Continuations.{HasEnd, Keeps, with_keeps, due_at, ends_before, reads_before}
 use Rattle.ill_read.proofs.Frames.{outermost_open}
 use Rattle.ill_read.proofs.HeadersRead.{whole_header_read}
-use Rattle.ill_read.proofs.Judging.{Judged, judged, bound_some}
-use Rattle.ill_read.proofs.Readings.{identifier_longer, length_longer, identifier_read, length_read, octets_right, take-all, drop-all}
-use Rattle.ill_read.proofs.Machine.{step}
-use Rattle.ill_read.proofs.Sequences.{two_cases}
-use Rattle.ill_read.proofs.Wanting.{Wants, in_mark as in_end_mark, in_identifier, in_element, LengthWants, truncated_at, truncated_in}
+use Rattle.ill_refusals.proofs.Judgements.{Judged, judged, bound_some}
+use Rattle.ill_refusals.proofs.Headers.{identifier_longer, length_longer, identifier_read, length_read, octets_right, take-all, drop-all}
+use Rattle.ill_refusals.proofs.Machine.{step}
+use Rattle.ill_refusals.proofs.Rows.{two_cases}
+use Rattle.ill_refusals.proofs.Truncation.{Wants, in_mark as in_end_mark, in_identifier, in_element, LengthWants, truncated_at, truncated_in}
 
 -- the ends of the open elements
 has_outermost : (place : List Open) (e : ℕ) → outermost place ≡ Some e → HasEnd e place

@@ -13,8 +13,8 @@ use Rattle.ill_schema.specs.Table.{kind_of}
 use Rattle.ill_schema.specs.Tagging.{Tagging, untagged, implicit, explicit, explicit_or_bare, same_tag}
 use Rattle.ill_read.specs.Code.{component_of, element_is, element_with, found_is}
 use Rattle.ill_read.specs.DueCode.{Begins, IsDueIn, IsDueInRows, IsRowDue}
-use Rattle.ill_read.specs.Element.{Component, Element, leaf, segment, Start, own_starts, retag, leave_out, tagged_starts, component_starts}
-use Rattle.ill_read.specs.Place.{Open}
+use Rattle.ill_refusals.specs.Element.{Component, Element, leaf, segment, Start, own_starts, retag, leave_out, tagged_starts, component_starts}
+use Rattle.ill_refusals.specs.Place.{Open}
 use Rattle.ill_read.specs.Standing.{next_at, text_so_far, IsValueOf, IsHeld, IsFrame, AreFrames}
 use Rattle.ill_read.specs.declared.due.Due.{Due}
 use Rattle.ill_read.specs.declared.due.Next.{Next}
@@ -25,7 +25,7 @@ use Rattle.ill_read.specs.declared.element.Element.{Element as CodeElement}
 use Rattle.ill_read.specs.declared.element.Element.TheVariants.{Leaf, Sequence, List as ListOf, Wrapper, LooseWrapper, Segment}
 use Rattle.ill_read.specs.declared.frame.Frame.{Frame}
 use Rattle.ill_read.proofs.Frames.{next_behind}
-use Rattle.ill_read.proofs.Sequences.{two_cases}
+use Rattle.ill_refusals.proofs.Rows.{two_cases}
 
 abbrev NoSegment : List Start → Type 0
 NoSegment [] = Unit {0}

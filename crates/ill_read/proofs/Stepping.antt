@@ -11,22 +11,22 @@ use Rattle.ill_schema.specs.Content.{alternative}
 use Rattle.ill_schema.specs.Meaning.{Means}
 use Rattle.ill_schema.specs.Tagging.{untagged}
 use Rattle.ill_schema.specs.Value.{content_of}
-use Rattle.ill_read.specs.Fault.{Fault, Judgement, closes, reads, judge, or_faulty}
+use Rattle.ill_refusals.specs.Fault.{Fault, Judgement, closes, reads, judge, or_faulty, fault_of}
 use Rattle.ill_read.specs.Answers.{IsRefused}
 use Rattle.ill_read.specs.DecoderCode.{StandsBefore, body_apdu}
-use Rattle.ill_read.specs.Judged.{fault_is, IsJudgement, IsBody, IsStep}
-use Rattle.ill_read.specs.Place.{Open}
+use Rattle.ill_read.specs.Judged.{IsJudgement, IsBody, IsStep}
+use Rattle.ill_refusals.specs.Place.{Open}
 use Rattle.ill_read.specs.Progress.{size_of, depth_of, IsProgress}
-use Rattle.ill_read.specs.Step.{Step, refused, goes, whole, stuck, with_tree, close, moved}
+use Rattle.ill_refusals.specs.code.Step.{Step, refused, goes, whole, stuck, with_tree, close, moved}
 use Rattle.ill_read.specs.declared.failure.Failure.{Failure}
 use Rattle.ill_read.specs.declared.judge.Judgement.{Judgement as CodeJudgement}
 use Rattle.ill_read.specs.declared.judge.Judgement.TheVariants as code
 use Rattle.ill_read.specs.declared.path.Body.{Body}
 use Rattle.ill_read.specs.declared.path.Path.{Path}
 use Rattle.ill_read.proofs.Fed.{refuses_alone}
-use Rattle.ill_read.proofs.Outcomes.{message_encodes}
-use Rattle.ill_read.proofs.Placing.{IsMessage, Placed, step_placed}
-use Rattle.ill_read.proofs.Wanting.{leaf_cause}
+use Rattle.ill_refusals.proofs.OneOutcome.{message_encodes}
+use Rattle.ill_refusals.proofs.DueSteps.{IsMessage, Placed, step_placed}
+use Rattle.ill_refusals.proofs.Truncation.{leaf_cause}
 
 -- the step ends at this offset, or with a fault that isn't that the octets end
 abbrev EndsAt : ℕ → List ℕ → Step → Type 0
@@ -120,7 +120,7 @@ is_refused path new at s rest judgement failure b p h is = go failure (moved (ju
   where
     go : (failure : Failure) (st : Step) → IsMade path new at s rest judgement st → IsStep new (Err failure) st → IsRefused s failure
     go (Failure.Refused r) (refused f) m i =
-        (refuses_alone s (fault_is r) (inl (subst (λ (g : Fault). Placed profile_two s (refused g)) i m.placed)), subst (λ (g : Fault). g.cause ≡ Cause.Truncated → ⊥) i m.ends)
+        (refuses_alone s (fault_of r) (inl (subst (λ (g : Fault). Placed profile_two s (refused g)) i m.placed)), subst (λ (g : Fault). g.cause ≡ Cause.Truncated → ⊥) i m.ends)
     go (Failure.Refused r) (goes place l after) m i = absurd i
     go (Failure.Refused r) (whole T n) m i = absurd i
     go (Failure.Refused r) stuck m i = absurd i

@@ -7,10 +7,10 @@ use Rattle.ill_schema.specs.declared.value.Value.{Value}
 use Rattle.ill_read.specs.Code.{element_is}
 use Rattle.ill_read.specs.DueCode.{IsDueIn, next_is, behind}
 use Rattle.ill_read.specs.Judged.{IsStep}
-use Rattle.ill_read.specs.Next.{due, next_after, opening}
-use Rattle.ill_read.specs.Place.{Open}
+use Rattle.ill_refusals.specs.Next.{due, next_after, opening}
+use Rattle.ill_refusals.specs.Place.{Open}
 use Rattle.ill_read.specs.Standing.{next_at, top, text_so_far, IsHeld, IsFrame, AreFrames}
-use Rattle.ill_read.specs.Step.{snoc, with_tree}
+use Rattle.ill_refusals.specs.code.Step.{snoc, with_tree}
 use Rattle.ill_read.specs.declared.due.Due.{Due}
 use Rattle.ill_read.specs.declared.due.Next.{Next}
 use Rattle.ill_read.specs.declared.due.Next.TheVariants.{Segments}
@@ -22,7 +22,7 @@ use Rattle.ill_read.proofs.DueElements.{due_element_is}
 use Rattle.ill_read.proofs.Frames.{next_behind}
 use Rattle.ill_read.proofs.Growing.{next-added, with_one}
 use Rattle.ill_read.proofs.Segments.{text_with}
-use Rattle.ill_read.proofs.Sequences.{same_tag-is}
+use Rattle.ill_refusals.proofs.Rows.{same_tag-is}
 
 segments_more : (ts : Trees) (T : Tree) → AreSegments ts → tag_of T ≡ octet_string → IsString T → AreSegments (snoc ts T)
 segments_more none T h e s = (e, s, tt)

@@ -6,9 +6,8 @@ use Rattle.ill_schema.specs.declared.message.Message.{Message}
 use Rattle.ill_schema.specs.declared.refusal.Cause.{Cause}
 use Rattle.ill_schema.specs.Apdu.{Apdu, SpellsApdu, Accepts}
 use Rattle.ill_schema.specs.Message.{apdu_of, octets_of}
-use Rattle.ill_read.specs.Fault.{Fault, fault}
-use Rattle.ill_read.specs.Judged.{fault_is}
-use Rattle.ill_read.specs.Outcome.{OnlyAccepts, OnlyRefuses}
+use Rattle.ill_refusals.specs.Fault.{Fault, fault, fault_of}
+use Rattle.ill_refusals.specs.Outcome.{OnlyAccepts, OnlyRefuses}
 use Rattle.ill_read.specs.declared.failure.Failure.{Failure}
 use Rattle.ill_read.specs.declared.failure.ReadFailure.{ReadFailure}
 
@@ -22,7 +21,7 @@ IsPart s = OnlyRefuses profile_two s (fault Cause.Truncated (length s))
 
 -- a refusal is the one fault of the octets, and more octets don't mend it; out of memory says nothing of them
 abbrev pub IsRefused : List ℕ → Failure → Type 0
-IsRefused s (Failure.Refused refusal) = OnlyRefuses profile_two s (fault_is refusal) × (refusal.cause ≢ Cause.Truncated)
+IsRefused s (Failure.Refused refusal) = OnlyRefuses profile_two s (fault_of refusal) × (refusal.cause ≢ Cause.Truncated)
 IsRefused s Failure.OutOfMemory = Unit {0}
 
 -- the octets spell the message's APDU, and the message says how many they are
@@ -44,11 +43,11 @@ TakesNoMessage old new = (b : List ℕ) × Consumes old new b × IsUnfinished b
 
 -- of a refusal this holds
 abbrev pub IfRefused : Failure → (Fault → Type 0) → Type 0
-IfRefused (Failure.Refused refusal) P = P (fault_is refusal)
+IfRefused (Failure.Refused refusal) P = P (fault_of refusal)
 IfRefused Failure.OutOfMemory P = Unit {0}
 
 abbrev pub IfReadRefused : ReadFailure → (Fault → Type 0) → Type 0
-IfReadRefused (ReadFailure.Refused refusal) P = P (fault_is refusal)
+IfReadRefused (ReadFailure.Refused refusal) P = P (fault_of refusal)
 IfReadRefused ReadFailure.OutOfMemory P = Unit {0}
 IfReadRefused ReadFailure.ReadFault P = Unit {0}
 
@@ -60,7 +59,7 @@ RefusesWhole s f = OnlyRefuses profile_two s f
 -- of octets that are to be one message
 abbrev pub DecodeAnswers : List ℕ → Result Message Failure → Type 0
 DecodeAnswers s (Ok m) = IsSpelled m s
-DecodeAnswers s (Err (Failure.Refused refusal)) = RefusesWhole s (fault_is refusal)
+DecodeAnswers s (Err (Failure.Refused refusal)) = RefusesWhole s (fault_of refusal)
 DecodeAnswers s (Err Failure.OutOfMemory) = Unit {0}
 
 -- memory or the source failed

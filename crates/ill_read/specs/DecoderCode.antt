@@ -9,10 +9,10 @@ use Rattle.ill_schema.specs.Apdu.{Apdu, normal_form}
 use Rattle.ill_schema.specs.Message.{apdu_of, octets_of}
 use Rattle.ill_schema.specs.Value.{apdu_with}
 use Rattle.ill_read.specs.Answers.{IsRead, IsPart, IsRefused}
-use Rattle.ill_read.specs.Fault.{fault, faulty, judge}
-use Rattle.ill_read.specs.Judged.{fault_is, IsJudgement}
-use Rattle.ill_read.specs.Outcome.{OnlyRefuses}
-use Rattle.ill_read.specs.Place.{Open, IsPlace}
+use Rattle.ill_refusals.specs.Fault.{fault, faulty, judge, fault_of}
+use Rattle.ill_read.specs.Judged.{IsJudgement}
+use Rattle.ill_refusals.specs.Outcome.{OnlyRefuses}
+use Rattle.ill_refusals.specs.Place.{Open, IsPlace}
 use Rattle.ill_read.specs.Standing.{StandsAt}
 use Rattle.ill_read.specs.declared.decoder.Decoder.{Decoder}
 use Rattle.ill_read.specs.declared.decoder.State.{State}
@@ -54,7 +54,7 @@ CanStep d s rest judgement = (b : StandsBefore d.path d.at s rest) × IsJudgemen
 
 -- the refusal is the definitions' judgement there
 abbrev pub CanRefuse : Decoder → List ℕ → List ℕ → Refusal → Type 0
-CanRefuse d s rest refusal = (b : StandsBefore d.path d.at s rest) × (judge profile_two b.place d.at rest ≡ faulty (fault_is refusal))
+CanRefuse d s rest refusal = (b : StandsBefore d.path d.at s rest) × (judge profile_two b.place d.at rest ≡ faulty (fault_of refusal))
 
 -- it went on after so many octets, or stopped
 abbrev pub HasAdvanced : Decoder → List ℕ → List ℕ → Option ℕ → Type 0
@@ -87,5 +87,5 @@ HasOutcome s (Err failure) = IsRefused s failure
 abbrev pub FinishAnswers : List ℕ → Result (Option Message) Failure → Type 0
 FinishAnswers s (Ok (Some m)) = IsRead s m
 FinishAnswers s (Ok None) = s ≡ []
-FinishAnswers s (Err (Failure.Refused refusal)) = OnlyRefuses profile_two s (fault_is refusal) × (0 < length s)
+FinishAnswers s (Err (Failure.Refused refusal)) = OnlyRefuses profile_two s (fault_of refusal) × (0 < length s)
 FinishAnswers s (Err Failure.OutOfMemory) = Unit {0}

@@ -5,7 +5,7 @@ use Rattle.ber_core.specs.declared.header.Len.{Len}
 use Rattle.ber_core.specs.declared.header.Len.TheVariants.{Definite, Indefinite}
 use Rattle.ber_core.specs.Header.{IsHeader}
 use Rattle.ber_core.specs.Id.{tag_of_id, form_of_id}
-use Rattle.ill_read.specs.Reading.{LengthRead, read_identifier, read_length, identified, no_identifier, part_identifier, definite, indefinite, no_length, part_length}
+use Rattle.ill_refusals.specs.Reading.{LengthRead, read_identifier, read_length, identified, no_identifier, part_identifier, definite, indefinite, no_length, part_length}
 use Rattle.ill_read.specs.declared.header.HeaderRead.{HeaderRead}
 use Rattle.ill_read.specs.declared.header.HeaderRead.TheVariants.{NoIdentifier, PartIdentifier, Identified}
 use Rattle.ill_read.specs.declared.header.LengthRead.{LengthRead as Length}

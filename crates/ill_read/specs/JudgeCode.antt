@@ -7,9 +7,9 @@ use Rattle.ber_leaf.specs.Profile.{Profile, profile_two}
 use Rattle.ill_schema.specs.declared.refusal.Cause.{Cause}
 use Rattle.ill_schema.specs.declared.refusal.Refusal.{Refusal}
 use Rattle.ill_read.specs.Code.{element_is, found_is}
-use Rattle.ill_read.specs.Fault.{Fault, fault, Judgement, faulty, judge_form, judge_tag}
-use Rattle.ill_read.specs.Judged.{fault_is, IsBegin, IsJudged}
-use Rattle.ill_read.specs.Place.{Open, bound, allows}
+use Rattle.ill_refusals.specs.Fault.{Fault, fault, Judgement, faulty, judge_form, judge_tag, fault_of}
+use Rattle.ill_read.specs.Judged.{IsBegin, IsJudged}
+use Rattle.ill_refusals.specs.Place.{Open, bound, allows}
 use Rattle.ill_read.specs.Standing.{StandsAt}
 use Rattle.ill_read.specs.declared.due.Due.{Due}
 use Rattle.ill_read.specs.declared.element.Found.TheVariants as found
@@ -46,7 +46,7 @@ IsFormed due at constructed (Ok started) =
     (due ≡ record { slot = started.slot; alternative = started.alternative; found = found.Element started.element })
     × (started.constructed ≡ constructed) × (allows (element_is started.element) constructed ≡ true)
 IsFormed due at constructed (Err refusal) =
-    (p : Profile) (place : List Open) (tag : Tag) (i : ℕ) (want : Fault) (w : List ℕ) → judge_form p place (found_is due.found) tag constructed at i want w ≡ faulty (fault_is refusal)
+    (p : Profile) (place : List Open) (tag : Tag) (i : ℕ) (want : Fault) (w : List ℕ) → judge_form p place (found_is due.found) tag constructed at i want w ≡ faulty (fault_of refusal)
 
 -- what is judged behind an identifier of i octets
 abbrev pub judge_identified : List Open → Tag → Bool → ℕ → ℕ → Fault → List ℕ → Judgement
@@ -58,7 +58,7 @@ abbrev pub IsIdentified : Path → List Open → ℕ → Id → Result Started R
 IsIdentified path place at id (Ok started) =
     IsBegin path place (tag_of_id id) started.slot started.alternative started.element started.constructed × (started.constructed ≡ form_of_id id)
 IsIdentified path place at id (Err refusal) =
-    (i : ℕ) (want : Fault) (w : List ℕ) → judge_identified place (tag_of_id id) (form_of_id id) at i want w ≡ faulty (fault_is refusal)
+    (i : ℕ) (want : Fault) (w : List ℕ) → judge_identified place (tag_of_id id) (form_of_id id) at i want w ≡ faulty (fault_of refusal)
 
 -- the judgement is the definitions', of an element that may begin there
 abbrev pub JudgesStarted : Path → Started → ℕ → List ℕ → Result CodeJudgement Refusal → (List Open → Tag → Judgement) → Type 0

@@ -9,14 +9,14 @@ use Rattle.ill_schema.specs.Content.{alternative}
 use Rattle.ill_schema.specs.Meaning.{Means}
 use Rattle.ill_schema.specs.Tagging.{untagged}
 use Rattle.ill_schema.specs.Value.{content_of}
-use Rattle.ill_read.specs.Next.{missing}
-use Rattle.ill_read.specs.Place.{Open, next_in, allows}
-use Rattle.ill_read.specs.Fault.{Fault, fault, Judgement, faulty, closes, opens, reads, element_fault, or_faulty, judge}
+use Rattle.ill_refusals.specs.Next.{missing}
+use Rattle.ill_refusals.specs.Place.{Open, next_in, allows}
+use Rattle.ill_refusals.specs.Fault.{fault_of, Judgement, faulty, closes, opens, reads, element_fault, or_faulty, judge}
 use Rattle.ill_read.specs.Code.{element_is}
 use Rattle.ill_read.specs.DueCode.{IsDueIn}
 use Rattle.ill_read.specs.Standing.{next_at, StandsAt}
 use Rattle.ill_read.specs.Progress.{size_of}
-use Rattle.ill_read.specs.Step.{Step, refused, goes, whole, moved}
+use Rattle.ill_refusals.specs.code.Step.{Step, refused, goes, whole, moved}
 use Rattle.ill_read.specs.declared.due.Slot.{Slot}
 use Rattle.ill_read.specs.declared.element.Element.{Element as CodeElement}
 use Rattle.ill_read.specs.declared.element.Found.TheVariants as found
@@ -25,9 +25,6 @@ use Rattle.ill_read.specs.declared.judge.Judgement.{Judgement as CodeJudgement}
 use Rattle.ill_read.specs.declared.judge.Judgement.TheVariants as code
 use Rattle.ill_read.specs.declared.path.Body.{Body}
 use Rattle.ill_read.specs.declared.path.Path.{Path}
-
-abbrev pub fault_is : Refusal → Fault
-fault_is r = fault r.cause r.at
 
 -- the innermost element ends, and no part of it is missing
 pub record IsEnd (place : List Open) (marks : ℕ) (j : Judgement) : Type 0 where
@@ -56,7 +53,7 @@ IsJudgement path place at rest (code.Reads r) j = (tag : Tag) × IsBegin path pl
 
 abbrev pub IsJudged : Path → List Open → ℕ → List ℕ → Result CodeJudgement Refusal → Judgement → Type 0
 IsJudged path place at rest (Ok judgement) j = IsJudgement path place at rest judgement j
-IsJudged path place at rest (Err refusal) j = j ≡ faulty (fault_is refusal)
+IsJudged path place at rest (Err refusal) j = j ≡ faulty (fault_of refusal)
 
 -- the value of a message is what the tree means
 abbrev pub IsBody : Body → Tree → Type 0
@@ -66,7 +63,7 @@ IsBody body T = Means profile_two (alternative body.row (content_of body.value))
 abbrev pub IsStep : Path → Result (Option Body) Failure → Step → Type 0
 IsStep path (Ok None) (goes place k rest) = StandsAt path place
 IsStep path (Ok (Some body)) (whole T n) = IsBody body T
-IsStep path (Err (Failure.Refused refusal)) (refused f) = f ≡ fault_is refusal
+IsStep path (Err (Failure.Refused refusal)) (refused f) = f ≡ fault_of refusal
 IsStep path (Err Failure.OutOfMemory) st = Unit {0}
 IsStep _ _ _ = ⊥
 

@@ -1,9 +1,3 @@
-pub mod Element
-pub mod Next
-pub mod Place
-pub mod Reading
-pub mod Fault
-pub mod Outcome
 pub mod LeafTypes
 pub mod Code
 pub mod DueCode
@@ -12,7 +6,6 @@ pub mod HeaderCode
 pub mod Progress
 pub mod Standing
 pub mod Held
-pub mod Step
 pub mod Judged
 pub mod Stepping
 pub mod DecoderCode
@@ -21,4 +14,3 @@ pub mod JudgeCode
 pub mod Need
 pub mod Answers
 pub mod Filling
-pub mod Bounds

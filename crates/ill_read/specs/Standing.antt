@@ -16,10 +16,10 @@ use Rattle.ill_schema.specs.Tagging.{untagged}
 use Rattle.ill_schema.specs.Value.{content_of, entries_content, items_content}
 use Rattle.ill_schema.specs.Content.{Content, simple, alternative, Entries, Items as Contents}
 use Rattle.ill_schema.specs.Content as content
-use Rattle.ill_read.specs.Element.{Element, leaf, sequence, list, wrapper, loose_wrapper, segment, left_out}
-use Rattle.ill_read.specs.Next.{due, next_of, opening}
-use Rattle.ill_read.specs.Next as following
-use Rattle.ill_read.specs.Place.{Open, next_in, bound}
+use Rattle.ill_refusals.specs.Element.{Element, leaf, sequence, list, wrapper, loose_wrapper, segment, left_out}
+use Rattle.ill_refusals.specs.Next.{due, next_of, opening}
+use Rattle.ill_refusals.specs.Next as following
+use Rattle.ill_refusals.specs.Place.{Open, next_in, bound}
 use Rattle.ill_read.specs.Code.{element_is}
 use Rattle.ill_read.specs.DueCode.{next_is, IsDueIn}
 use Rattle.ill_read.specs.LeafTypes.{leaf_is}

@@ -11,15 +11,15 @@ use Rattle.ill_schema.specs.Causes.{cause_of}
 use Rattle.ill_schema.specs.Content.{simple}
 use Rattle.ill_schema.specs.Value.{content_of}
 use Rattle.ill_schema.specs.declared.value.Value.{Value}
-use Rattle.ill_read.specs.Next.{missing}
-use Rattle.ill_read.specs.Place.{Open, next_in}
-use Rattle.ill_read.specs.Fault.{Judgement, fault, element_fault, or_faulty, reads}
+use Rattle.ill_refusals.specs.Next.{missing}
+use Rattle.ill_refusals.specs.Place.{Open, next_in}
+use Rattle.ill_refusals.specs.Fault.{Judgement, fault, element_fault, or_faulty, reads, fault_of}
 use Rattle.ill_read.specs.Code.{element_is}
 use Rattle.ill_read.specs.DueCode.{IsDueIn}
-use Rattle.ill_read.specs.Judged.{IsEnd, IsBegin, IsStep, fault_is}
+use Rattle.ill_read.specs.Judged.{IsEnd, IsBegin, IsStep}
 use Rattle.ill_read.specs.LeafTypes.{leaf_is}
 use Rattle.ill_read.specs.Standing.{next_at, text_so_far, IsValueOf, IsFrame, StandsAt}
-use Rattle.ill_read.specs.Step.{moved, opened, with_tree}
+use Rattle.ill_refusals.specs.code.Step.{moved, opened, with_tree}
 use Rattle.ill_read.specs.declared.due.Next.{Next}
 use Rattle.ill_read.specs.declared.due.Next.TheVariants.{Rows, Inner, Items, Either, Segments}
 use Rattle.ill_read.specs.declared.due.Slot.{Slot}
@@ -46,7 +46,7 @@ IsFirst Segment n = n ≡ Segments
 -- the leaf's value in the octets, or their fault
 abbrev pub IsLeafValue : LeafType → ℕ → List ℕ → Result Value Failure → Type 0
 IsLeafValue l start octets (Ok v) = IsTrue (are_octets octets) × (content_fault profile_two (leaf_is l) octets ≡ None) × (content_of v ≡ simple (value (leaf_is l) octets))
-IsLeafValue l start octets (Err (Failure.Refused r)) = (c : LeafFault) × (content_fault profile_two (leaf_is l) octets ≡ Some c) × (fault (cause_of c) start ≡ fault_is r)
+IsLeafValue l start octets (Err (Failure.Refused r)) = (c : LeafFault) × (content_fault profile_two (leaf_is l) octets ≡ Some c) × (fault (cause_of c) start ≡ fault_of r)
 IsLeafValue l start octets (Err Failure.OutOfMemory) = Unit {0}
 
 -- the value of an element that has ended, where the values below were held before it opened
@@ -54,7 +54,7 @@ abbrev pub IsEnded : Path → Open → List (Option Value) → Result (Option Va
 IsEnded path o below (Ok (Some v)) =
     (element_fault profile_two o.element (text_all o.trees) ≡ None) × IsValueOf o.element (content_of v) (constructed o.tag o.trees) × (path.values.held.items ≡ below) × (path.text.items ≡ [])
 IsEnded path o below (Ok None) = ⊥
-IsEnded path o below (Err (Failure.Refused r)) = (c : LeafFault) × (element_fault profile_two o.element (text_all o.trees) ≡ Some c) × (fault (cause_of c) o.start ≡ fault_is r)
+IsEnded path o below (Err (Failure.Refused r)) = (c : LeafFault) × (element_fault profile_two o.element (text_all o.trees) ≡ Some c) × (fault (cause_of c) o.start ≡ fault_of r)
 IsEnded path o below (Err Failure.OutOfMemory) = Unit {0}
 
 -- whatever element the frame was, that is no segment

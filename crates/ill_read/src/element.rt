@@ -6,7 +6,7 @@ ghost use Rattle.ber_core.specs.Id.{tag_of_id};
 ghost use Rattle.ber_leaf.specs.Profile.{profile_two};
 ghost use Rattle.ill_schema.specs.Table.{kind_of};
 ghost use Rattle.ill_schema.specs.Tagging.{same_tag, universal, leaf_tag, tagging};
-ghost use Rattle.ill_read.specs.Element.{leaf_start, own_starts, tagged_starts, component_starts};
+ghost use Rattle.ill_refusals.specs.Element.{leaf_start, own_starts, tagged_starts, component_starts};
 ghost use Rattle.ill_read.specs.Code.{element_is, found_is, tagging_is, element_with, first_element, component_at};
 ghost use Rattle.ill_read.specs.LeafTypes.{leaf_is};
 
@@ -29,7 +29,7 @@ pub enum Element {
 }
 
 impl Element {
-    ghost use Rattle.ill_read.specs.Place.{allows};
+    ghost use Rattle.ill_refusals.specs.Place.{allows};
 
     /// Whether it may have the form (X.690, 8.2 to 8.10, 8.14 and 8.23).
     pub fn allows(self, constructed: bool) -> bool

@@ -1,7 +1,7 @@
 //! The header at the front of the octets that are there.
 ghost use Rattle.std.specs.Prelude.{◌≡◌, ◌≤◌, length, IfSome};
 ghost use Rattle.ill_read.specs.HeaderCode.{IsHeaderRead};
-ghost use Rattle.ill_read.specs.Reading.{class_of};
+ghost use Rattle.ill_refusals.specs.Reading.{class_of};
 
 use ber_core::{Class, HeaderFault, HeaderState, Id, Len};
 

@@ -98,12 +98,12 @@ impl Started {
 impl Path {
     ghost use Rattle.std.specs.Prelude.{◌+◌, ◌<◌, ℕ, List, ◌++◌, min, drop};
     ghost use Rattle.ill_read.specs.Progress.{depth_of, size_of, IsProgress, HeaderIsIn};
-    ghost use Rattle.ill_read.specs.Judged.{JudgesExactly, fault_is};
+    ghost use Rattle.ill_refusals.specs.Fault.{fault_of, wanting, judge_end, judge_mark, judge_octets, judge_element, judge_length, judge_size};
+    ghost use Rattle.ill_read.specs.Judged.{JudgesExactly};
     ghost use Rattle.ill_read.specs.JudgeCode.{WhereItStands, Judges, JudgesWithin, JudgesStarted, IsIdentified};
     ghost use Rattle.ill_read.specs.Code.{element_is};
-    ghost use Rattle.ill_read.specs.Fault.{wanting, judge_end, judge_mark, judge_octets, judge_element, judge_length, judge_size};
     ghost use Rattle.ill_read.specs.HeaderCode.{IsLengthRead};
-    ghost use Rattle.ill_read.specs.Reading.{read_length};
+    ghost use Rattle.ill_refusals.specs.Reading.{read_length};
     ghost use Rattle.ber_leaf.specs.Profile.{profile_two};
 
     /// Judges the place at this offset, where the rest of the input follows.
@@ -128,7 +128,7 @@ impl Path {
     /// An end mark or an element, in the octets that may be read.
     fn judge_octets(&self, at: u32, window: &[u8], want: Refusal) -> Result<Judgement, Refusal>
         requires { at + length window.now ≤ 1_048_576 }
-        ensures exact { JudgesWithin self.now at window.now result (λ place. judge_octets profile_two place at (fault_is want) window.now) }
+        ensures exact { JudgesWithin self.now at window.now result (λ place. judge_octets profile_two place at (fault_of want) window.now) }
         ensures progress { IfOk result (λ judgement. IsProgress (depth_of self.now) (length window.now) judgement) }
         ensures small { IfOk result (λ judgement. at + size_of judgement ≤ 1_048_576) }
     {
@@ -141,7 +141,7 @@ impl Path {
 
     /// The fault where an octet is wanting: the bound comes first, or the input's end.
     fn wanting(&self, at: u32, rest: usize) -> Refusal
-        ensures { (octets : List ℕ) → length octets ≡ rest → WhereItStands self.now (λ place. fault_is result ≡ wanting profile_two place at octets) }
+        ensures { (octets : List ℕ) → length octets ≡ rest → WhereItStands self.now (λ place. fault_of result ≡ wanting profile_two place at octets) }
     {
         let room = self.bound().saturating_sub(at);
         if rest >= room as usize {
@@ -177,7 +177,7 @@ impl Path {
     fn judge_mark(&self, at: u32, window: &[u8], want: Refusal) -> Result<Judgement, Refusal>
         requires fits { at + length window.now ≤ 1_048_576 }
         requires open { 0 < depth_of self.now }
-        ensures exact { Judges self.now at window.now result (λ place. judge_mark profile_two place at (fault_is want) (drop 1 window.now)) }
+        ensures exact { Judges self.now at window.now result (λ place. judge_mark profile_two place at (fault_of want) (drop 1 window.now)) }
         ensures progress { IfOk result (λ judgement. IsProgress (depth_of self.now) (length window.now) judgement) }
         ensures small { IfOk result (λ judgement. at + size_of judgement ≤ 1_048_576) }
     {
@@ -194,7 +194,7 @@ impl Path {
     /// An element from its first octet on.
     fn judge_element(&self, at: u32, window: &[u8], want: Refusal) -> Result<Judgement, Refusal>
         requires { at + length window.now ≤ 1_048_576 }
-        ensures exact { JudgesWithin self.now at window.now result (λ place. judge_element profile_two place at (fault_is want) window.now) }
+        ensures exact { JudgesWithin self.now at window.now result (λ place. judge_element profile_two place at (fault_of want) window.now) }
         ensures progress { IfOk result (λ judgement. IsProgress (depth_of self.now) (length window.now) judgement) }
         ensures small { IfOk result (λ judgement. at + size_of judgement ≤ 1_048_576) }
     {
@@ -243,7 +243,7 @@ impl Path {
         requires header { HeaderIsIn length_read (length window.now) }
         ensures exact { (front behind : List ℕ) → window.now ≡ front ++ behind → IsLengthRead length_read (read_length started.constructed behind) window.now
             → JudgesStarted self.now started at window.now result
-            (λ place tag. judge_length profile_two place (element_is started.element) tag started.constructed at (length front) (fault_is want) behind) }
+            (λ place tag. judge_length profile_two place (element_is started.element) tag started.constructed at (length front) (fault_of want) behind) }
         ensures progress { IfOk result (λ judgement. IsProgress (depth_of self.now) (length window.now) judgement) }
         ensures small { IfOk result (λ judgement. at + size_of judgement ≤ 1_048_576) }
     {
@@ -279,7 +279,7 @@ impl Path {
         requires fits { at + length window.now ≤ 1_048_576 }
         requires header { (0 < header) × (header ≤ length window.now) }
         ensures exact { (n : ℕ) → size ≡ min n 4_294_967_295 → JudgesStarted self.now started at window.now result
-            (λ place tag. judge_size profile_two place (element_is started.element) tag started.constructed at header (fault_is want) n (drop header window.now)) }
+            (λ place tag. judge_size profile_two place (element_is started.element) tag started.constructed at header (fault_of want) n (drop header window.now)) }
         ensures progress { IfOk result (λ judgement. IsProgress (depth_of self.now) (length window.now) judgement) }
         ensures small { IfOk result (λ judgement. at + size_of judgement ≤ 1_048_576) }
     {

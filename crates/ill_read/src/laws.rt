@@ -1,38 +1,8 @@
-//! What holds of each input. Each law is the contract of a function that does nothing.
-ghost use Rattle.ber_leaf.specs.Profile.{Profile};
-ghost use Rattle.ill_read.specs.Bounds.{ValuesAreSmall};
+//! What holds of each decoder. A law is the contract of a function that does nothing.
 ghost use Rattle.ill_read.specs.Feeding.{StatesAreApart};
 ghost use Rattle.ill_read.specs.declared.decoder.Decoder.{Decoder};
-ghost use Rattle.ill_read.specs.Outcome.{HasOneOutcome, OutcomesAreExact, RefusalsStay, PrefixesAreTruncated, TruncatedIsAtTheEnd, PlacesAreApart, FaultsAreLast};
-
-/// Each input is accepted as one APDU of one size, or refused with one fault.
-pub fn one_outcome()
-    ensures { (p : Profile) → OutcomesAreExact p }
-{}
-
-/// A refusal stays, unless the input ended too early; and a message cut short is refused as Truncated at its size.
-pub fn refusals_stay()
-    ensures stay { (p : Profile) → RefusalsStay p }
-    ensures cut { (p : Profile) → PrefixesAreTruncated p }
-{}
-
-/// An input that is refused as Truncated is refused at its size.
-pub fn truncated_at_the_end()
-    ensures { (p : Profile) → TruncatedIsAtTheEnd p }
-{}
 
 /// A decoder is open, whole or failed, and no two of them at once; while it is open, what it was fed is part of a message.
 pub fn decoders_are_apart()
     ensures { (d : Decoder) → StatesAreApart d }
-{}
-
-/// An offset and a number of open elements say one place, and only the last place can have a fault.
-pub fn one_place()
-    ensures apart { (p : Profile) → PlacesAreApart p }
-    ensures last { (p : Profile) → FaultsAreLast p }
-{}
-
-/// The texts of an APDU have at most as many octets as its encoding, and its lists at most half as many items.
-pub fn values_are_small()
-    ensures { (p : Profile) → ValuesAreSmall p }
 {}

@@ -18,8 +18,8 @@ mod whole;
 
 pub use decoder::{Decoder, Progress};
 pub use failure::{Failure, ReadFailure};
-pub use laws::{
-    decoders_are_apart, one_outcome, one_place, refusals_stay, truncated_at_the_end,
-    values_are_small,
+pub use ill_refusals::{
+    one_outcome, one_place, refusals_stay, truncated_at_the_end, values_are_small,
 };
+pub use laws::decoders_are_apart;
 pub use read::{decode, read_kept, read_message};

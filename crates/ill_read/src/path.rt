@@ -4,7 +4,7 @@ ghost use Rattle.ber_leaf.specs.Profile.{profile_two};
 ghost use Rattle.ill_schema.specs.Value.{content_of};
 ghost use Rattle.ill_read.specs.Code.{element_is};
 ghost use Rattle.ill_read.specs.DueCode.{next_is};
-ghost use Rattle.ill_read.specs.Next.{opening};
+ghost use Rattle.ill_refusals.specs.Next.{opening};
 ghost use Rattle.ill_read.specs.Standing.{with_alternative};
 ghost use Rattle.ill_read.specs.Stepping.{IsFirst, IsLeafValue};
 ghost use Rattle.ill_read.specs.declared.frame.Frame.{Frame};
@@ -58,8 +58,8 @@ impl Path {
     ghost use Rattle.ill_read.specs.Stepping.{EndsExactly, DeliversExactly, ClosesExactly, OpensExactly, ReadsExactly, delivered};
     ghost use Rattle.std.specs.Prelude.{IsTrue};
     ghost use Rattle.ber_leaf.specs.Profile.{profile_two};
-    ghost use Rattle.ill_read.specs.Fault.{ends_at, is_indefinite, past_end};
-    ghost use Rattle.ill_read.specs.Place.{bound};
+    ghost use Rattle.ill_refusals.specs.Fault.{ends_at, is_indefinite, past_end};
+    ghost use Rattle.ill_refusals.specs.Place.{bound};
     ghost use Rattle.ill_read.specs.JudgeCode.{WhereItStands, outermost_end};
 
     pub fn new(alloc: Global) -> Path

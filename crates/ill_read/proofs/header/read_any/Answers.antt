@@ -7,7 +7,7 @@ use Rattle.ber_core.specs.HeaderState.{Fed}
 use Rattle.ber_core.specs.Octets.{are_octets}
 use Rattle.ber_leaf.proofs.Leaves.{octets_fit}
 use Rattle.ill_read.proofs.HeadersRead.{whole_header_read, no_identifier_read, no_length_read, part_identifier_read, part_length_read}
-use Rattle.ill_read.proofs.Readings.{octets_left}
+use Rattle.ill_refusals.proofs.Headers.{octets_left}
 use Rattle.ill_read.proofs.header.read_any.Goals as goal
 
 -- A push that answers nothing leaves a part of a header.

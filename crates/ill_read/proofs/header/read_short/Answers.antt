@@ -1,6 +1,6 @@
 use Rattle.std.proofs.Common.{◌%◌, slice_index_or, ap, ◌∙◌, arith}
 use Rattle.ber_core.specs.declared.id.Class.{Class}
-use Rattle.ill_read.proofs.ShortHeaders.{short_header}
+use Rattle.ill_refusals.proofs.ShortHeaders.{short_header}
 use Rattle.ill_read.proofs.header.read_short.Goals as goal
 
 pub returns : goal.returns

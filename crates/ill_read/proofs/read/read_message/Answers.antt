@@ -2,7 +2,7 @@ use Rattle.std.proofs.Common.{◌<◌, length, Ok, Err, sym, subst}
 use Rattle.std.specs.Prelude.{IfSome}
 use Rattle.ber_leaf.specs.Profile.{profile_two}
 use Rattle.ill_read.specs.Answers.{IfReadRefused}
-use Rattle.ill_read.specs.Outcome.{OnlyRefuses}
+use Rattle.ill_refusals.specs.Outcome.{OnlyRefuses}
 use Rattle.ill_read.proofs.Filled.{answers_message, answers_none, answers_refused, finished}
 use Rattle.ill_read.proofs.read.read_message.Goals as goal
 

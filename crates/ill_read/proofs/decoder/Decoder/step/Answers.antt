@@ -1,10 +1,10 @@
 use Rattle.std.proofs.Common.{◌+◌, ◌≤◌, Ok, drop, take, length, sym, subst, ap}
 use Rattle.ber_leaf.specs.Profile.{profile_two}
 use Rattle.ill_schema.specs.Apdu.{Encodes}
-use Rattle.ill_read.specs.Fault.{judge}
+use Rattle.ill_refusals.specs.Fault.{judge}
 use Rattle.ill_read.specs.DecoderCode.{body_apdu, InState, StandsBefore}
 use Rattle.ill_read.specs.Judged.{IsStep}
-use Rattle.ill_read.specs.Step.{moved}
+use Rattle.ill_refusals.specs.code.Step.{moved}
 use Rattle.ill_read.proofs.Fed.{after_end}
 use Rattle.ill_read.proofs.Stepping.{goes_on, is_whole, is_refused}
 use Rattle.ill_read.proofs.decoder.Decoder.step.Goals as goal

@@ -1,6 +1,6 @@
 use Rattle.std.proofs.Common.{refl, sym, ap, ◌∙◌}
 use Rattle.ber_leaf.specs.Profile.{profile_two}
-use Rattle.ill_read.specs.Place.{bound}
+use Rattle.ill_refusals.specs.Place.{bound}
 use Rattle.ill_read.proofs.Frames.{bound_last, none_open}
 use Rattle.ill_read.proofs.path.Path.bound.Goals as goal
 

@@ -1,7 +1,7 @@
 use Rattle.std.proofs.Common.{◌≡◌, ◌≤◌, ◌-◌, List, ℕ, Bor, length, take, refl, sym, ap, ◌∙◌, arith, length-take, take_all}
 use Rattle.ber_leaf.specs.Profile.{profile_two}
-use Rattle.ill_read.specs.Judged.{fault_is}
-use Rattle.ill_read.specs.Place.{bound}
+use Rattle.ill_refusals.specs.Fault.{fault_of}
+use Rattle.ill_refusals.specs.Place.{bound}
 use Rattle.ill_read.specs.Progress.{depth_of}
 use Rattle.ill_read.proofs.Judges.{octets_judged}
 use Rattle.ill_read.proofs.path.Path.judge.Goals.{then-rest-room, else-rest-room}
@@ -18,6 +18,6 @@ returns-clause-exact c place h =
     let window = front ∙ ap (λ m. take m c.args.rest.now) at in
     let within : length c.if-rest-room.window.now ≤ bound profile_two place - c.args.at =
     omega (arith, ap length window, length-take (bound profile_two place - c.args.at) c.args.rest.now) in
-    octets_judged c.args.self.now place c.args.at (depth_of c.args.self.now) c.args.rest.now c.if-rest-room.window.now (fault_is c.wanting.result) c.judge_octets.result
+    octets_judged c.args.self.now place c.args.at (depth_of c.args.self.now) c.args.rest.now c.if-rest-room.window.now (fault_of c.wanting.result) c.judge_octets.result
     (sym (c.ends_at.ensures.exact place h) ∙ c.if-ends_at.false) window (c.wanting.ensures c.args.rest.now refl place h) c.judge_octets.ensures.progress
     (c.judge_octets.ensures.exact place h within)

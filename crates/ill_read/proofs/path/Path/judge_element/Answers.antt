@@ -4,10 +4,11 @@ use Rattle.ber_core.specs.Identifier.{identifier}
 use Rattle.ber_core.specs.Octets.{are_octets}
 use Rattle.ber_leaf.proofs.Leaves.{octets_fit}
 use Rattle.ill_read.specs.HeaderCode.{IsLengthRead}
-use Rattle.ill_read.specs.Judged.{IsJudged, fault_is}
-use Rattle.ill_read.specs.Reading.{identified, read_length}
+use Rattle.ill_refusals.specs.Fault.{fault_of}
+use Rattle.ill_read.specs.Judged.{IsJudged}
+use Rattle.ill_refusals.specs.Reading.{identified, read_length}
 use Rattle.ill_read.proofs.Judges.{behind_identifier, begun_judged}
-use Rattle.ill_read.proofs.Readings.{read_is_identifier}
+use Rattle.ill_refusals.proofs.Headers.{read_is_identifier}
 use Rattle.ill_read.proofs.path.Path.judge_element.Goals as goal
 
 pub returns-in_ok-started-in-Identified-clause-exact : goal.returns-in_ok-started-in-Identified-clause-exact
@@ -22,6 +23,6 @@ returns-in_ok-started-in-Identified-clause-exact c place h within =
     let spelled : w ≡ front ++ read.0 = (read_is_identifier w (tag_of_id id) (form_of_id id) read.0 ok read.1).1 in
     let f : form_of_id id ≡ started.constructed = sym begun.1 in
     let judged = c.judge_length.ensures.exact front read.0 spelled (subst (λ b. IsLengthRead c.in-Identified.length (read_length b read.0) w) f read.2) place (tag_of_id id) h begun.0 within in
-    let same = behind_identifier place c.args.at (fault_is c.args.want) w front read.0 (tag_of_id id) started.constructed spelled (read.1 ∙ ap (λ b. identified (tag_of_id id) b read.0) f)
-    ∙ begun_judged c.args.self.now place (tag_of_id id) _ _ _ _ c.args.at _ (fault_is c.args.want) read.0 h begun.0 in
+    let same = behind_identifier place c.args.at (fault_of c.args.want) w front read.0 (tag_of_id id) started.constructed spelled (read.1 ∙ ap (λ b. identified (tag_of_id id) b read.0) f)
+    ∙ begun_judged c.args.self.now place (tag_of_id id) _ _ _ _ c.args.at _ (fault_of c.args.want) read.0 h begun.0 in
     subst (IsJudged c.args.self.now place c.args.at w c.judge_length.result) (sym same) judged

@@ -1,8 +1,8 @@
 use Rattle.std.proofs.Common.{◌≡◌, ◌<◌, ℕ, Some, None, sym, ap, subst, ◌∙◌}
 use Rattle.ber_leaf.specs.Profile.{profile_two}
 use Rattle.ill_read.specs.DueCode.{next_is}
-use Rattle.ill_read.specs.Next.{missing}
-use Rattle.ill_read.specs.Place.{next_in}
+use Rattle.ill_refusals.specs.Next.{missing}
+use Rattle.ill_refusals.specs.Place.{next_in}
 use Rattle.ill_read.proofs.Frames.{frames_open, next_open}
 use Rattle.ill_read.proofs.Judges.{end_missing, end_complete}
 use Rattle.ill_read.proofs.path.Path.judge_end.Goals as goal

@@ -4,11 +4,12 @@ use Rattle.ber_core.specs.declared.header.Len.TheVariants.{Definite}
 use Rattle.ber_leaf.proofs.Leaves.{octets_fit}
 use Rattle.ill_read.specs.Code.{element_is}
 use Rattle.ill_read.specs.HeaderCode.{IsLengthRead, IsWholeLength}
-use Rattle.ill_read.specs.Judged.{IsJudged, fault_is}
-use Rattle.ill_read.specs.Reading.{read_length}
+use Rattle.ill_refusals.specs.Fault.{fault_of}
+use Rattle.ill_read.specs.Judged.{IsJudged}
+use Rattle.ill_refusals.specs.Reading.{read_length}
 use Rattle.ill_read.specs.declared.header.LengthRead.TheVariants.{Whole}
 use Rattle.ill_read.proofs.Judges.{definite_judged}
-use Rattle.ill_read.proofs.Readings.{octets_right}
+use Rattle.ill_refusals.proofs.Headers.{octets_right}
 use Rattle.ill_read.proofs.path.Path.judge_length.Goals as goal
 
 pub returns-in-Whole-Definite-default-clause-exact : goal.returns-in-Whole-Definite-default-clause-exact
@@ -23,5 +24,5 @@ returns-in-Whole-Definite-default-clause-exact c front behind spelled read place
     let is : c.args.length_read ≡ Whole (Definite size) header = c.in-Whole-Definite-default.is ∙ ap (λ l. Whole l header) field in
     let whole = subst (λ l. IsLengthRead l (read_length started.constructed behind) w) is read in
     let length : IsWholeLength (read_length started.constructed behind) (Definite size) (drop header w) = whole.2 in
-    let same = definite_judged place (element_is started.element) tag started.constructed c.args.at (fault_is c.args.want) w front behind header length.0 right spelled whole.1 length.1 in
+    let same = definite_judged place (element_is started.element) tag started.constructed c.args.at (fault_of c.args.want) w front behind header length.0 right spelled whole.1 length.1 in
     subst (IsJudged c.args.self.now place c.args.at w c.judge_size.result) (sym same) (c.judge_size.ensures.exact length.0 length.2 place tag h begun within)

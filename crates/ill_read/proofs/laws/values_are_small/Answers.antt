@@ -1,5 +1,0 @@
-use Rattle.ill_read.proofs.Bounds.{values_small}
-use Rattle.ill_read.proofs.laws.values_are_small.Goals as goal
-
-pub returns : goal.returns
-returns c p = values_small p

@@ -1,0 +1,158 @@
+-- A value holds no more text than its encoding has octets, and no more list items than half of them.
+use Rattle.std.proofs.Common.{◌≡◌, ℕ, ℤ, ◌+◌, ◌*◌, ◌≤◌, true, false, List, [], ◌∷◌, ◌++◌, length, length-append, IsTrue, refl, sym, ap, subst, ◌∙◌, inl, inr, arith}
+use Rattle.ber_core.specs.Identifier.{Tag, identifier}
+use Rattle.ber_core.specs.Tree.{Tree, Trees, primitive, constructed, none, more, text, text_all, Spells, SpellsAll}
+use Rattle.ber_leaf.specs.Leaf.{Leaf, boolean, integer, enumerated, general_string, visible_string, printable_string, iso_date, iso_time, value}
+use Rattle.ber_leaf.specs.Profile.{Profile}
+use Rattle.ber_leaf.specs.Simple.{Simple, flag, whole, date, time, printable, general, visible}
+use Rattle.ill_schema.specs.declared.node.Kind.{Kind}
+use Rattle.ill_schema.specs.declared.node.NodeId.{NodeId}
+use Rattle.ill_schema.specs.declared.node.NodeId.TheVariants.{IllApdu}
+use Rattle.ill_schema.specs.declared.part.Presence.{Presence}
+use Rattle.ill_schema.specs.declared.part.Row.{Row}
+use Rattle.ill_schema.specs.Apdu.{choice_of}
+use Rattle.ill_schema.specs.Content.{Content, simple, sequence, list, alternative, Entries, no_entries, absent, present, Items, no_items, item}
+use Rattle.ill_schema.specs.Meaning.{Means, Matches, MatchItems}
+use Rattle.ill_schema.specs.Presence.{is_default_of, default_value, same_value}
+use Rattle.ill_schema.specs.Table.{kind_of}
+use Rattle.ill_schema.specs.Tagging.{Tagging, Tagged, untagged, implicit, explicit, explicit_or_bare}
+use Rattle.ill_refusals.specs.Bounds.{text_size, text_octets, entries_text, items_text, list_items, entries_items, items_items, ValuesAreSmall}
+use Rattle.ill_refusals.proofs.Judgements.{id_size, length_size}
+
+abbrev mutual
+  elements : Tree → ℕ
+  elements (primitive tag octets) = 1
+  elements (constructed tag ts) = 1 + elements_all ts
+
+  elements_all : Trees → ℕ
+  elements_all none = 0
+  elements_all (more T ts) = elements T + elements_all ts
+
+-- what is held is within what the tree has
+record IsWithin (c : Content) (T : Tree) : Type 0 where
+  texts : text_octets c ≤ length (text T)
+  items : list_items c + 1 ≤ elements T
+
+record AreWithin (octets count : ℕ) (ts : Trees) : Type 0 where
+  texts : octets ≤ length (text_all ts)
+  items : count ≤ elements_all ts
+
+mutual
+  spelled_text : (T : Tree) (b : List ℕ) → Spells T b → (length (text T) ≤ length b) × (2 * elements T ≤ length b)
+  spelled_text (primitive tag octets) b h =
+      let i = id_size tag false h.has_identifier in let l = length_size (length octets) h.octets h.spell_length in
+      let size : length b ≡ length (identifier tag false) + (length h.octets + length octets) =
+      omega (arith, ap length h.joined, length-append (identifier tag false) (h.octets ++ octets), length-append h.octets octets) in
+      (omega (arith, size), omega (arith, size, i, l))
+  spelled_text (constructed tag ts) b h =
+      let r = spelled_texts ts h.0 h.1 in let r0 = r.0 in let r1 = r.1 in
+      elim h.2 [
+        | inl i ↦
+            let k = id_size tag true i.has_identifier in let l = length_size (length h.0) i.octets i.spell_length in
+            let size : length b ≡ length (identifier tag true) + (length i.octets + length h.0) =
+            omega (arith, ap length i.joined, length-append (identifier tag true) (i.octets ++ h.0), length-append i.octets h.0) in
+            (omega (arith, size, r0), omega (arith, size, r1, k, l))
+        | inr i ↦
+            let size : length b ≡ length (identifier tag true) + (length h.0 + 3) =
+            omega (arith, ap length i.joined, length-append (identifier tag true) (128 ∷ h.0 ++ 0 ∷ 0 ∷ []), length-append h.0 (0 ∷ 0 ∷ [])) in
+            (omega (arith, size, r0), omega (arith, size, r1))
+      ]
+
+  spelled_texts : (ts : Trees) (b : List ℕ) → SpellsAll ts b → (length (text_all ts) ≤ length b) × (2 * elements_all ts ≤ length b)
+  spelled_texts none b h = (omega arith, omega arith)
+  spelled_texts (more T ts) b h =
+      let r = spelled_text T h.0 h.2 in let s = spelled_texts ts h.1 h.3 in
+      let r0 = r.0 in let r1 = r.1 in let s0 = s.0 in let s1 = s.1 in
+      let size : length b ≡ length h.0 + length h.1 = ap length h.4 ∙ length-append h.0 h.1 in
+      (omega (arith, size, r0, s0, length-append (text T) (text_all ts)), omega (arith, size, r1, s1))
+
+one_element : (T : Tree) → 1 ≤ elements T
+one_element (primitive tag octets) = omega arith
+one_element (constructed tag ts) = omega arith
+
+leaf_text : (l : Leaf) (octets : List ℕ) → text_size (value l octets) ≤ length octets
+leaf_text boolean octets = omega arith
+leaf_text integer octets = omega arith
+leaf_text enumerated octets = omega arith
+leaf_text general_string octets = omega arith
+leaf_text visible_string octets = omega arith
+leaf_text printable_string octets = omega arith
+leaf_text iso_date octets = omega arith
+leaf_text iso_time octets = omega arith
+
+wrapped : (c : Content) (t : Tag) (U T : Tree) → T ≡ constructed t (more U none) → IsWithin c U → IsWithin c T
+wrapped c t U T e h =
+    let x = h.texts in let y = h.items in
+    subst (IsWithin c) (sym e) (record { texts = omega (arith, x, length-append (text U) []); items = omega (arith, y) })
+
+tagged : (g : Tagging) (own : Tag) (E : Tag → Tree → Type 0) (c : Content) (T : Tree) → ((t : Tag) (U : Tree) → E t U → IsWithin c U) → Tagged g own E T → IsWithin c T
+tagged untagged own E c T f h = f own T h
+tagged (implicit t) own E c T f h = f t T h
+tagged (explicit t) own E c T f h = wrapped c t h.0 T h.1 (f own h.0 h.2)
+tagged (explicit_or_bare t) own E c T f (inl h) = wrapped c t h.0 T h.1 (f own h.0 h.2)
+tagged (explicit_or_bare t) own E c T f (inr h) = f t T h
+
+same_text : (k : Kind) (d : ℤ) (v : Simple) → IsTrue (same_value v (default_value k d)) → text_size v ≡ 0
+same_text k d (flag b) h = refl
+same_text k d (whole n) h = refl
+same_text k d (date o) h = absurd cc
+same_text k d (time o) h = absurd cc
+same_text k d (printable o) h = absurd cc
+same_text k d (general o) h = absurd cc
+same_text k d (visible o) h = absurd cc
+
+default_text : (pr : Presence) (k : Kind) (c : Content) → IsTrue (is_default_of pr k c) → (text_octets c ≡ 0) × (list_items c ≡ 0)
+default_text (Presence.Default d) k (simple v) h = (same_text k d v h, refl)
+default_text (Presence.Default d) k (sequence es) h = absurd cc
+default_text (Presence.Default d) k (list is) h = absurd cc
+default_text (Presence.Default d) k (alternative n c) h = absurd cc
+default_text Presence.Must k c h = absurd cc
+default_text Presence.May k c h = absurd cc
+default_text Presence.LeftOut k c h = absurd cc
+
+within_constructed : (c : Content) (t : Tag) (ts : Trees) (U : Tree) (texts items : ℕ) → U ≡ constructed t ts → text_octets c ≡ texts → list_items c ≡ items → AreWithin texts items ts → IsWithin c U
+within_constructed c t ts U texts items e x y h =
+    let p = h.texts in let q = h.items in
+    subst (IsWithin c) (sym e) (record { texts = omega (arith, x, p); items = omega (arith, y, q) })
+
+mutual
+  means_within : (p : Profile) (c : Content) (node : NodeId) (g : Tagging) (T : Tree) → Means p c node g T → IsWithin c T
+  means_within p (simple v) node g T h = tagged g _ _ (simple v) T (λ t U e. record {
+    texts = subst (λ w. text_size w ≤ length (text U)) (sym e.2.2) (leaf_text h.0 (text U));
+    items = one_element U;
+  }) h.2
+  means_within p (sequence es) node g T h = tagged g _ _ (sequence es) T (λ t U e. within_constructed (sequence es) t e.0 U _ _ e.1 refl refl (matches_within p es _ e.0 e.2)) h.1
+  means_within p (list is) node g T h = tagged g _ _ (list is) T (λ t U e. within_constructed (list is) t e.0 U _ _ e.1 refl refl (items_within p is _ e.0 e.2)) h.1
+  means_within p (alternative n c) node g T h = tagged g _ _ (alternative n c) T (λ t U e. let r = means_within p c _ _ U e in record { texts = r.texts; items = r.items }) h.2
+
+  matches_within : (p : Profile) (es : Entries) (rows : List Row) (ts : Trees) → Matches p es rows ts → AreWithin (entries_text es) (entries_items es) ts
+  matches_within p no_entries [] ts h = record { texts = omega arith; items = omega arith }
+  matches_within p no_entries (row ∷ rows) ts h = absurd h
+  matches_within p (absent es) [] ts h = absurd h
+  matches_within p (absent es) (row ∷ rows) ts h = let r = matches_within p es rows ts h.1 in record { texts = r.texts; items = r.items }
+  matches_within p (present c es) [] ts h = absurd h
+  matches_within p (present c es) (row ∷ rows) ts h = elim h.1 [
+    | inl x ↦
+        let a = means_within p c _ _ x.0 x.3 in let r = matches_within p es rows x.1 x.4 in
+        let a0 = a.texts in let a1 = a.items in let r0 = r.texts in let r1 = r.items in
+        subst (AreWithin _ _) (sym x.2) (record { texts = omega (arith, a0, r0, length-append (text x.0) (text_all x.1)); items = omega (arith, a1, r1) })
+    | inr x ↦
+        let z = default_text row.presence (kind_of row.node) c x.0 in let r = matches_within p es rows ts x.1 in
+        let z0 = z.0 in let z1 = z.1 in let r0 = r.texts in let r1 = r.items in
+        record { texts = omega (arith, z0, r0); items = omega (arith, z1, r1) }
+  ]
+
+  items_within : (p : Profile) (is : Items) (rows : List Row) (ts : Trees) → MatchItems p is rows ts → AreWithin (items_text is) (items_items is) ts
+  items_within p no_items rows ts h = record { texts = omega arith; items = omega arith }
+  items_within p (item c is) rows ts h =
+      let a = means_within p c _ _ h.1 h.5 in let r = items_within p is rows h.2 h.6 in
+      let a0 = a.texts in let a1 = a.items in let r0 = r.texts in let r1 = r.items in
+      subst (AreWithin _ _) (sym h.4) (record { texts = omega (arith, a0, r0, length-append (text h.1) (text_all h.2)); items = omega (arith, a1, r1) })
+
+pub values_small : (p : Profile) → ValuesAreSmall p
+values_small p a b h =
+    let w = means_within p (choice_of a) IllApdu untagged h.tree h.means.1 in
+    let s = spelled_text h.tree b h.spells in
+    let w0 : text_octets a.body ≤ length (text h.tree) = w.texts in let w1 : list_items a.body + 1 ≤ elements h.tree = w.items in
+    let s0 = s.0 in let s1 = s.1 in
+    (omega (arith, w0, s0), omega (arith, w1, s1))

@@ -1,0 +1,197 @@
+-- Only a wanting octet makes an input end too early.
+use Rattle.std.proofs.Common.{◌≡◌, ◌⊎◌, ℕ, ◌+◌, ◌-◌, ◌<◌, ◌≤◌, Bool, true, false, ◌&&◌, List, [], ◌∷◌, length, take, Option, Some, None, refl, sym, ap, subst, ◌∙◌, inl, inr, arith, if◌then◌else◌, ltb-true, ltb-false, ap₂}
+use Rattle.std.specs.Prelude.{nat_eq, nat_lt, nat_le, is_some}
+use Rattle.std.proofs.lemmas.Bool.{and_parts}
+use Rattle.std.proofs.lemmas.List.{take_all}
+use Rattle.ber_core.specs.Identifier.{Tag}
+use Rattle.ber_core.specs.Tree.{text_all}
+use Rattle.ber_leaf.specs.declared.fault.LeafFault.{LeafFault}
+use Rattle.ber_leaf.specs.Profile.{Profile}
+use Rattle.ill_schema.specs.declared.refusal.Cause.{Cause}
+use Rattle.ill_schema.specs.declared.part.PartId.{PartId}
+use Rattle.ill_schema.specs.Causes.{cause_of}
+use Rattle.ill_refusals.specs.Element.{Element, leaf, sequence, list, wrapper, loose_wrapper, segment, left_out}
+use Rattle.ill_refusals.specs.Fault.{Fault, fault, Judgement, faulty, closes, opens, reads, ends_at, is_indefinite, past_end, wanting, element_fault, or_faulty, judge_end, judge_content, judge_size, judge_length, judge_form, judge_tag, judge_element, judge_mark, judge_octets, judge}
+use Rattle.ill_refusals.specs.Next.{Due, element_of, due, missing}
+use Rattle.ill_refusals.specs.Place.{Open, next_in, innermost_end, bound, allows}
+use Rattle.ill_refusals.specs.Reading.{IdentifierRead, identified, part_identifier, no_identifier, read_identifier, LengthRead, definite, indefinite, part_length, no_length, read_length}
+
+-- the octets end in a length, or in a primitive content that fits
+abbrev pub LengthWants : Profile → List Open → Bool → List ℕ → Type 0
+LengthWants p path f w =
+    (read_length f w ≡ part_length)
+    ⊎ ((n : ℕ) × (b : List ℕ) × (f ≡ false) × (read_length f w ≡ definite n b) × (length b < n) × (n ≤ bound p path))
+
+-- where octets end that end too early
+pub data Wants (p : Profile) (path : List Open) (w : List ℕ) : Type 0 where
+  in_mark : is_indefinite path ≡ true → w ≡ 0 ∷ [] → Wants p path w
+  in_identifier : read_identifier w ≡ part_identifier → Wants p path w
+  in_element : (tag : Tag) (f : Bool) (r : List ℕ) → read_identifier w ≡ identified tag f r → LengthWants p path f r → Wants p path w
+
+-- the input doesn't end too early, or this is the fault, and then this holds
+abbrev IsWanting : Type 0 → Fault → Judgement → Type 0
+IsWanting W want (faulty f) = ((f ≡ want) × W) ⊎ (f.cause ≡ Cause.Truncated → ⊥)
+IsWanting W want _ = Unit {0}
+
+map_wanting : (V W : Type 0) (want : Fault) (j : Judgement) → (V → W) → IsWanting V want j → IsWanting W want j
+map_wanting V W want (faulty f) g (inl h) = inl (h.0, g h.1)
+map_wanting V W want (faulty f) g (inr h) = inr h
+map_wanting V W want (closes m) g h = tt
+map_wanting V W want (opens tag e n end) g h = tt
+map_wanting V W want (reads tag n content) g h = tt
+
+pub leaf_cause : (c : LeafFault) → cause_of c ≡ Cause.Truncated → ⊥
+leaf_cause LeafFault.BadBoolean e = cc
+leaf_cause LeafFault.BadInteger e = cc
+leaf_cause LeafFault.IntegerTooLong e = cc
+leaf_cause LeafFault.BadText e = cc
+leaf_cause LeafFault.BadDate e = cc
+leaf_cause LeafFault.BadTime e = cc
+
+or_wanting : (W : Type 0) (want : Fault) (c : Option LeafFault) (at : ℕ) (j : Judgement) → IsWanting W want j → IsWanting W want (or_faulty c at j)
+or_wanting W want None at j h = h
+or_wanting W want (Some c) at j h = inr (leaf_cause c)
+
+end_wanting : (W : Type 0) (want : Fault) (p : Profile) (path : List Open) (k m : ℕ) → IsWanting W want (judge_end p path k m)
+end_wanting W want p [] k m = tt
+end_wanting W want p (o ∷ path) k m = go (missing p (next_in p (o ∷ path)))
+  where
+    go : (x : Option PartId) → IsWanting W want (elim x as (λ _. Judgement) [
+      | Some part ↦ faulty (fault (Cause.Missing part) k)
+      | None ↦ or_faulty (element_fault p o.element (text_all o.trees)) o.start (closes m)
+    ])
+    go (Some part) = inr (λ e. cc)
+    go None = or_wanting W want (element_fault p o.element (text_all o.trees)) o.start (closes m) tt
+
+content_wanting : (want : Fault) (p : Profile) (e : Element) (tag : Tag) (k h n : ℕ) (w : List ℕ) → IsWanting (length w < n) want (judge_content p e tag k h want n w)
+content_wanting want p e tag k h n w = go (nat_lt (length w) n) refl
+  where
+    go : (b : Bool) → nat_lt (length w) n ≡ b → IsWanting (length w < n) want (if b then faulty want else or_faulty (element_fault p e (take n w)) k (reads tag h (take n w)))
+    go true q = inl (refl, ltb-true _ _ q)
+    go false q = or_wanting (length w < n) want (element_fault p e (take n w)) k (reads tag h (take n w)) tt
+
+past_cause : (path : List Open) → past_end path ≡ Cause.Truncated → ⊥
+past_cause path = go (is_some (innermost_end path))
+  where
+    go : (b : Bool) → (if b then Cause.Overrun else Cause.TooLong) ≡ Cause.Truncated → ⊥
+    go true e = cc
+    go false e = cc
+
+size_wanting : (want : Fault) (p : Profile) (path : List Open) (e : Element) (tag : Tag) (f : Bool) (k h n : ℕ) (w : List ℕ)
+    → IsWanting ((f ≡ false) × (length w < n) × (n ≤ bound p path)) want (judge_size p path e tag f k h want n w)
+size_wanting want p path e tag f k h n w = go (nat_lt (bound p path) (k + h + n)) refl f
+  where
+    go : (b : Bool) → nat_lt (bound p path) (k + h + n) ≡ b → (f : Bool) → IsWanting ((f ≡ false) × (length w < n) × (n ≤ bound p path)) want
+        (if b then faulty (fault (past_end path) k) else elim f as (λ _. Judgement) [ true ↦ opens tag e h (Some (k + h + n)) | false ↦ judge_content p e tag k h want n w ])
+    go true q f = inr (past_cause path)
+    go false q true = tt
+    go false q false = map_wanting (length w < n) _ want _ (λ l. (refl, l, let m = ltb-false _ _ q in omega arith)) (content_wanting want p e tag k h n w)
+
+length_wanting : (want : Fault) (p : Profile) (path : List Open) (e : Element) (tag : Tag) (f : Bool) (k i : ℕ) (w : List ℕ)
+    → IsWanting (LengthWants p path f w) want (judge_length p path e tag f k i want w)
+length_wanting want p path e tag f k i w = go (read_length f w) refl
+  where
+    go : (x : LengthRead) → read_length f w ≡ x → IsWanting (LengthWants p path f w) want (elim x as (λ _. Judgement) [
+      | part_length ↦ faulty want
+      | no_length ↦ faulty (fault Cause.BadLength k)
+      | indefinite rest ↦ opens tag e (i + (length w - length rest)) None
+      | definite n rest ↦ judge_size p path e tag f k (i + (length w - length rest)) want n rest
+    ])
+    go part_length q = inl (refl, inl q)
+    go no_length q = inr (λ e. cc)
+    go (indefinite rest) q = tt
+    go (definite n rest) q =
+        map_wanting ((f ≡ false) × (length rest < n) × (n ≤ bound p path)) _ want _ (λ h. inr (n, rest, h.0, q, h.1, h.2))
+        (size_wanting want p path e tag f k (i + (length w - length rest)) n rest)
+
+allowed_wanting : (want : Fault) (p : Profile) (path : List Open) (e : Element) (tag : Tag) (f : Bool) (k i : ℕ) (w : List ℕ) (b : Bool)
+    → IsWanting (LengthWants p path f w) want (elim b as (λ _. Judgement) [ true ↦ judge_length p path e tag f k i want w | false ↦ faulty (fault Cause.WrongForm k) ])
+allowed_wanting want p path e tag f k i w true = length_wanting want p path e tag f k i w
+allowed_wanting want p path e tag f k i w false = inr (λ e. cc)
+
+form_wanting : (want : Fault) (p : Profile) (path : List Open) (e : Element) (tag : Tag) (f : Bool) (k i : ℕ) (w : List ℕ) → IsWanting (LengthWants p path f w) want (judge_form p path e tag f k i want w)
+form_wanting want p path (leaf l) tag f k i w = allowed_wanting want p path (leaf l) tag f k i w (allows (leaf l) f)
+form_wanting want p path (sequence n) tag f k i w = allowed_wanting want p path (sequence n) tag f k i w (allows (sequence n) f)
+form_wanting want p path (list n) tag f k i w = allowed_wanting want p path (list n) tag f k i w (allows (list n) f)
+form_wanting want p path (wrapper c) tag f k i w = allowed_wanting want p path (wrapper c) tag f k i w (allows (wrapper c) f)
+form_wanting want p path (loose_wrapper c) tag f k i w = allowed_wanting want p path (loose_wrapper c) tag f k i w (allows (loose_wrapper c) f)
+form_wanting want p path segment tag f k i w = length_wanting want p path segment tag f k i w
+form_wanting want p path (left_out x) tag f k i w = inr (λ e. cc)
+
+tag_wanting : (want : Fault) (p : Profile) (path : List Open) (tag : Tag) (f : Bool) (k i : ℕ) (w : List ℕ)
+    → IsWanting (LengthWants p path f w) want (judge_tag p path tag f k i want w)
+tag_wanting want p path tag f k i w = go (due p tag (next_in p path))
+  where
+    go : (x : Option Due) → IsWanting (LengthWants p path f w) want (elim x as (λ _. Judgement) [ None ↦ faulty (fault Cause.UnexpectedTag k) | Some d ↦ judge_form p path (element_of d) tag f k i want w ])
+    go None = inr (λ e. cc)
+    go (Some d) = form_wanting want p path (element_of d) tag f k i w
+
+element_wanting : (want : Fault) (p : Profile) (path : List Open) (k : ℕ) (w : List ℕ) → IsWanting (Wants p path w) want (judge_element p path k want w)
+element_wanting want p path k w = go (read_identifier w) refl
+  where
+    deep : (b : Bool) (tag : Tag) (f : Bool) (r : List ℕ) → read_identifier w ≡ identified tag f r
+        → IsWanting (Wants p path w) want (if b then faulty (fault Cause.TooDeep k) else judge_tag p path tag f k (length w - length r) want r)
+    deep true tag f r q = inr (λ e. cc)
+    deep false tag f r q = map_wanting (LengthWants p path f r) _ want _ (in_element tag f r q) (tag_wanting want p path tag f k (length w - length r) r)
+
+    go : (x : IdentifierRead) → read_identifier w ≡ x → IsWanting (Wants p path w) want (elim x as (λ _. Judgement) [
+      | part_identifier ↦ faulty want
+      | no_identifier ↦ faulty (fault Cause.BadTag k)
+      | identified tag constructed r ↦
+          if nat_le 32 (length path) then faulty (fault Cause.TooDeep k)
+          else judge_tag p path tag constructed k (length w - length r) want r
+    ])
+    go part_identifier q = inl (refl, in_identifier q)
+    go no_identifier q = inr (λ e. cc)
+    go (identified tag f r) q = deep (nat_le 32 (length path)) tag f r q
+
+mark_wanting : (want : Fault) (p : Profile) (path : List Open) (k : ℕ) (w : List ℕ) → IsWanting (w ≡ []) want (judge_mark p path k want w)
+mark_wanting want p path k [] = inl (refl, refl)
+mark_wanting want p path k (a ∷ w) = go (nat_eq a 0)
+  where
+    go : (b : Bool) → IsWanting (a ∷ w ≡ []) want (elim b as (λ _. Judgement) [ true ↦ judge_end p path k 2 | false ↦ faulty (fault Cause.BadEnd k) ])
+    go true = end_wanting _ want p path k 2
+    go false = inr (λ e. cc)
+
+octets_wanting : (want : Fault) (p : Profile) (path : List Open) (k : ℕ) (w : List ℕ) → IsWanting (Wants p path w) want (judge_octets p path k want w)
+octets_wanting want p path k [] = inl (refl, in_identifier refl)
+octets_wanting want p path k (a ∷ w) = go (is_indefinite path && nat_eq a 0) refl
+  where
+    go : (b : Bool) → is_indefinite path && nat_eq a 0 ≡ b
+        → IsWanting (Wants p path (a ∷ w)) want (elim b as (λ _. Judgement) [ true ↦ judge_mark p path k want w | false ↦ judge_element p path k want (a ∷ w) ])
+    go true q =
+        let b = and_parts (is_indefinite path) (nat_eq a 0) q in
+        let n : nat_eq a 0 ≡ true = b.1 in
+        let z : a ≡ 0 = grind (arith, n) in
+        map_wanting (w ≡ []) _ want _ (λ e. in_mark b.0 (ap₂ ◌∷◌ z e)) (mark_wanting want p path k w)
+    go false q = element_wanting want p path k (a ∷ w)
+
+judge_wanting : (p : Profile) (path : List Open) (k : ℕ) (rest : List ℕ) → IsWanting (Wants p path (take (bound p path - k) rest)) (wanting p path k rest) (judge p path k rest)
+judge_wanting p path k rest = go (ends_at path k)
+  where
+    go : (b : Bool) → IsWanting (Wants p path (take (bound p path - k) rest)) (wanting p path k rest) (elim b as (λ _. Judgement) [
+      | true ↦ judge_end p path k 0
+      | false ↦ judge_octets p path k (wanting p path k rest) (take (bound p path - k) rest)
+    ])
+    go true = end_wanting _ (wanting p path k rest) p path k 0
+    go false = octets_wanting (wanting p path k rest) p path k (take (bound p path - k) rest)
+
+-- an input that ends too early ends before the bound, and the fault is there
+pub truncated_at : (p : Profile) (path : List Open) (k : ℕ) (rest : List ℕ) (f : Fault) → judge p path k rest ≡ faulty f → f.cause ≡ Cause.Truncated
+    → (k + length rest < bound p path) × (f ≡ fault Cause.Truncated (k + length rest))
+truncated_at p path k rest f e c = elim (subst (IsWanting (Wants p path (take (bound p path - k) rest)) (wanting p path k rest)) e (judge_wanting p path k rest)) [
+  | inr n ↦ absurd (n c)
+  | inl same ↦ go (nat_le (bound p path - k) (length rest)) refl same.0
+]
+  where
+    go : (b : Bool) → nat_le (bound p path - k) (length rest) ≡ b → f ≡ (if b then fault (past_end path) k else fault Cause.Truncated (k + length rest))
+        → (k + length rest < bound p path) × (f ≡ fault Cause.Truncated (k + length rest))
+    go true q s = absurd (past_cause path (ap (λ (x : Fault). x.cause) (sym s) ∙ c))
+    go false q s = (grind (arith, q), s)
+
+-- and in the midst of what is read there
+pub truncated_in : (p : Profile) (path : List Open) (k : ℕ) (rest : List ℕ) (f : Fault) → judge p path k rest ≡ faulty f → f.cause ≡ Cause.Truncated → Wants p path rest
+truncated_in p path k rest f e c = elim (subst (IsWanting (Wants p path (take (bound p path - k) rest)) (wanting p path k rest)) e (judge_wanting p path k rest)) [
+  | inr n ↦ absurd (n c)
+  | inl same ↦ let l = (truncated_at p path k rest f e c).0 in subst (Wants p path) (take_all (bound p path - k) rest (omega arith)) same.1
+]

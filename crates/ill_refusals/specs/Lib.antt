@@ -1,0 +1,8 @@
+pub mod Element
+pub mod Next
+pub mod Place
+pub mod Reading
+pub mod Fault
+pub mod Outcome
+pub mod code
+pub mod Bounds

@@ -1,0 +1,89 @@
+-- What may come next in an open element.
+use Rattle.std.specs.Prelude.{◌≡◌, true, false, List, [], ◌∷◌, Option, Some, None, if◌then◌else◌, find}
+use Rattle.ber_core.specs.Identifier.{Tag}
+use Rattle.ber_core.specs.Tree.{Tree, Trees, none, more, tag_of, octet_string, IsString}
+use Rattle.ill_schema.specs.declared.part.PartId.{PartId}
+use Rattle.ill_schema.specs.declared.part.Presence.{Presence}
+use Rattle.ill_schema.specs.Content.{Content}
+use Rattle.ber_leaf.specs.Profile.{Profile}
+use Rattle.ill_schema.specs.Tagging.{same_tag, sequence_tag}
+use Rattle.ill_schema.specs.Presence.{IsCarried}
+use Rattle.ill_schema.specs.Meaning.{Means}
+use Rattle.ill_refusals.specs.Element.{Component, components, Element, leaf, sequence, list, wrapper, loose_wrapper, segment, left_out, Start, starts}
+
+pub data Next : Type 0 where
+  -- the components from a position on
+  rows : List Component → Next
+  -- any number of items
+  items : Component → Next
+  -- in a loose wrapper without elements: the component that is wrapped, or the components of its node
+  either : Component → Next
+  -- OCTET STRINGs
+  segments : Next
+
+-- an element that is due: of which component, and what may come behind it
+pub data Due : Type 0 where
+  part : Component → Element → Next → Due
+  octets : Due
+
+abbrev pub element_of : Due → Element
+element_of (part c e n) = e
+element_of octets = segment
+
+abbrev pub next_of : Due → Next
+next_of (part c e n) = n
+next_of octets = segments
+
+abbrev pub start_of : Profile → Tag → Component → Option Start
+start_of p tag c = find (λ s. same_tag s.tag tag) (starts p c)
+
+-- a component is due if each before it may be absent
+abbrev pub due_in : Profile → Tag → List Component → Option Due
+due_in p tag [] = None
+due_in p tag (c ∷ cs) = elim (start_of p tag c) as (λ _. Option Due) [
+  | Some s ↦ Some (part c s.element (rows cs))
+  | None ↦ elim c.presence as (λ _. Option Due) [ Presence.Must ↦ None | _ ↦ due_in p tag cs ]
+]
+
+-- the element that is due with this tag
+abbrev pub due : Profile → Tag → Next → Option Due
+due p tag (rows cs) = due_in p tag cs
+due p tag (items c) = elim (start_of p tag c) as (λ _. Option Due) [ Some s ↦ Some (part c s.element (items c)) | None ↦ None ]
+due p tag (either c) = elim (same_tag tag sequence_tag) as (λ _. Option Due) [ true ↦ due_in p tag (c ∷ []) | false ↦ due_in p tag (components p c.node) ]
+due p tag segments = if same_tag tag octet_string then Some octets else None
+
+abbrev pub first_mandatory : List Component → Option PartId
+first_mandatory [] = None
+first_mandatory (c ∷ cs) = elim c.presence as (λ _. Option PartId) [ Presence.Must ↦ Some c.part | _ ↦ first_mandatory cs ]
+
+-- the first mandatory part that is still to come
+abbrev pub missing : Profile → Next → Option PartId
+missing p (rows cs) = first_mandatory cs
+missing p (items c) = None
+missing p (either c) = first_mandatory (components p c.node)
+missing p segments = None
+
+-- what may come in an element when it opens
+abbrev pub opening : Profile → Element → Next
+opening p (leaf l) = segments
+opening p (sequence node) = rows (components p node)
+opening p (list node) = elim (components p node) as (λ _. Next) [ [] ↦ rows [] | c ∷ _ ↦ items c ]
+opening p (wrapper c) = rows (c ∷ [])
+opening p (loose_wrapper c) = either c
+opening p segment = segments
+opening p (left_out _) = rows []
+
+-- what may come behind the trees
+abbrev pub next_after : Profile → Next → Trees → Next
+next_after p n none = n
+next_after p n (more T ts) = elim (due p (tag_of T) n) as (λ _. Next) [ Some d ↦ next_after p (next_of d) ts | None ↦ n ]
+
+-- a whole tree of the element that is due
+abbrev pub IsWhole : Profile → Due → Tree → Type 0
+IsWhole p (part c e n) T = IsCarried c.presence × ((v : Content) × Means p v c.node c.tagging T)
+IsWhole p octets T = IsString T
+
+-- the trees may stand there, one after another
+abbrev pub AreWhole : Profile → Next → Trees → Type 0
+AreWhole p n none = Unit {0}
+AreWhole p n (more T ts) = (d : Due) × (due p (tag_of T) n ≡ Some d) × IsWhole p d T × AreWhole p (next_of d) ts

@@ -1,0 +1,45 @@
+-- The one outcome of an input, and what stays of it as the input grows or is cut short.
+use Rattle.std.specs.Prelude.{◌≡◌, ◌≢◌, ◌⊎◌, ℕ, ◌<◌, ◌≤◌, List, ◌++◌, length, take, drop, IsTrue, Some}
+use Rattle.ill_schema.specs.declared.refusal.Cause.{Cause}
+use Rattle.ill_schema.specs.Apdu.{Apdu, Accepts}
+use Rattle.ill_refusals.specs.Fault.{Fault, fault, fault_at, Refuses}
+use Rattle.ber_core.specs.Octets.{are_octets}
+use Rattle.ill_refusals.specs.Place.{Open, IsDue}
+use Rattle.ber_leaf.specs.Profile.{Profile}
+
+-- one APDU is accepted, and nothing refused
+abbrev pub OnlyAccepts : Profile → List ℕ → Apdu → ℕ → Type 0
+OnlyAccepts p s a n = Accepts p s a n × ((b : Apdu) (m : ℕ) → Accepts p s b m → (b ≡ a) × (m ≡ n)) × ((f : Fault) → Refuses p s f → ⊥)
+
+-- one fault refuses the input, and nothing is accepted
+abbrev pub OnlyRefuses : Profile → List ℕ → Fault → Type 0
+OnlyRefuses p s f = Refuses p s f × ((g : Fault) → Refuses p s g → g ≡ f) × ((a : Apdu) (n : ℕ) → Accepts p s a n → ⊥)
+
+-- the input has one outcome
+abbrev pub HasOneOutcome : Profile → List ℕ → Type 0
+HasOneOutcome p s = ((a : Apdu) × (n : ℕ) × OnlyAccepts p s a n) ⊎ ((f : Fault) × OnlyRefuses p s f)
+
+-- each input of octets has one
+abbrev pub OutcomesAreExact : Profile → Type 0
+OutcomesAreExact p = (s : List ℕ) → IsTrue (are_octets s) → HasOneOutcome p s
+
+-- a refusal that says more than that the input ended stays where octets are appended
+abbrev pub RefusalsStay : Profile → Type 0
+RefusalsStay p = (s x : List ℕ) (f : Fault) → f.cause ≢ Cause.Truncated → Refuses p s f → Refuses p (s ++ x) f
+
+-- a message that is cut short is refused as ending there
+abbrev pub PrefixesAreTruncated : Profile → Type 0
+PrefixesAreTruncated p = (s : List ℕ) (a : Apdu) (m n : ℕ) → IsTrue (are_octets s) → Accepts p s a n → m < n → Refuses p (take m s) (fault Cause.Truncated m)
+
+-- an input that is refused as ending too early is refused at its end
+abbrev pub TruncatedIsAtTheEnd : Profile → Type 0
+TruncatedIsAtTheEnd p = (s : List ℕ) (f : Fault) → f.cause ≡ Cause.Truncated → Refuses p s f → f.at ≡ length s
+
+-- an offset and a number of open elements say one place
+abbrev pub PlacesAreApart : Profile → Type 0
+PlacesAreApart p = (s : List ℕ) (a b : List Open) (k : ℕ) → IsTrue (are_octets s) → IsDue p s k a → IsDue p s k b → length a ≡ length b → a ≡ b
+
+-- only the last place, which is the one with the fewest open elements at its offset, can have a fault
+abbrev pub FaultsAreLast : Profile → Type 0
+FaultsAreLast p = (s : List ℕ) (a b : List Open) (k l : ℕ) (f : Fault) → IsTrue (are_octets s) → IsDue p s k a → fault_at p a k (drop k s) ≡ Some f → IsDue p s l b
+    → (l < k) ⊎ ((l ≡ k) × (length a ≤ length b))
