@@ -1,4 +1,4 @@
--- What a decoder that stands at a place knows of all that it may still be fed.
+-- What may still follow a place that is due.
 use Rattle.std.proofs.Common.{◌≡◌, ◌⊎◌, ℕ, zero, suc, ◌+◌, ◌≤◌, List, [], ◌∷◌, ◌++◌, length, length-append, take, drop, Some, None, IsTrue, sym, ap, subst, ◌∙◌, inl, inr, arith}
 use Rattle.ber_core.specs.Tree.{Tree}
 use Rattle.ill_schema.specs.Apdu.{Apdu, Encodes, normal_form}

@@ -1,0 +1,264 @@
+"""What must be believed: follows contracts through specs/, and prints the files and definitions that they reach.
+
+With --check, fails where docs/TRUSTED.md is not what it prints. With --private, prints the files of specs/ that no public contract
+reaches, and those of specs/code/ that one does.
+"""
+import os
+import re
+import sys
+
+TOP = os.path.join(os.path.dirname(os.path.abspath(__file__)), "..")
+CRATES = os.path.join(TOP, "crates")
+LIST = os.path.join(TOP, "docs", "TRUSTED.md")
+WORD = re.compile(r"[^\s(){}\[\],.;:]+")
+KEYWORDS = ("pub", "abbrev", "opaque", "unfoldable", "record", "data", "mutual", "ghost")
+
+
+def without_comments(line):
+    return re.sub(r"(^|\s)--.*$", "", line).rstrip()
+
+
+def names_of(text, prefix=""):
+    """The name that each part of a use stands for in its file: {local: (module, name)}."""
+    text = text.strip()
+    found = {}
+    if "{" in text:
+        head, _, rest = text.partition("{")
+        depth, part, parts = 0, "", []
+        for c in rest[: rest.rindex("}")] + ",":
+            if c == "," and depth == 0:
+                parts.append(part)
+                part = ""
+                continue
+            depth += (c == "{") - (c == "}")
+            part += c
+        for part in parts:
+            if part.strip():
+                found.update(names_of(part, prefix + head))
+        return found
+    path, _, local = text.partition(" as ")
+    module, _, name = (prefix + path.strip()).rpartition(".")
+    found[(local or name).strip()] = (module, name)
+    return found
+
+
+def uses_of(lines, ghost):
+    found = {}
+    text = "\n".join(lines)
+    pattern = r"(?m)^\s*ghost use ([^;]*);" if ghost else r"(?m)^(?:pub )?use (.*(?:\n[ \t}].*)*)$"
+    for at in re.finditer(pattern, text):
+        found.update(names_of(" ".join(at[1].split())))
+    return found
+
+
+class File:
+    """A file of specs/: its uses, and its definitions with their lines."""
+
+    def __init__(self, module):
+        self.module = module
+        parts = module.split(".")
+        self.path = os.path.join(parts[1], *parts[2:]) + ".antt"
+        with open(os.path.join(CRATES, self.path), encoding="utf-8") as it:
+            lines = [without_comments(line) for line in it.read().split("\n")]
+        self.uses = uses_of(lines, ghost=False)
+        self.items = {}
+        self.inside = {}
+        self.read(lines)
+
+    def read(self, lines):
+        name, in_mutual = None, False
+        for line in lines:
+            if not line or re.match(r"(pub )?use |pub mod |\}", line):
+                continue
+            indent = len(line) - len(line.lstrip())
+            is_end = line.lstrip()[0] in "])}"
+            if indent == 0 and not is_end:
+                in_mutual = False
+            if not is_end and indent == (2 if in_mutual else 0):
+                words = line.split()
+                while words and words[0] in KEYWORDS:
+                    in_mutual |= words[0] == "mutual"
+                    words = words[1:]
+                if not words:
+                    continue
+                name = words[0]
+                self.items.setdefault(name, [])
+            if name is None:
+                continue
+            self.items[name].append(line)
+            member = re.match(r"\s+(?:pub )?(\S+) : ", line)
+            if member and indent > (2 if in_mutual else 0):
+                self.inside.setdefault(member[1], name)
+
+
+FILES = {}
+
+
+def file_of(module):
+    """The file of a module of ours, None of what is generated or of the toolchain."""
+    if module not in FILES:
+        parts = module.split(".")
+        is_ours = len(parts) > 2 and parts[0] == "Rattle" and parts[2] == "specs" and "declared" not in parts
+        path = os.path.join(CRATES, *parts[1:]) + ".antt"
+        FILES[module] = File(module) if is_ours and os.path.isfile(path) else None
+    return FILES[module]
+
+
+def resolved(module, name):
+    """The definition that a module has under a name, its own or one that it passes on."""
+    file = file_of(module)
+    if file is None:
+        return None
+    if name in file.items:
+        return module, name
+    if name in file.inside:
+        return module, file.inside[name]
+    if name in file.uses:
+        return resolved(*file.uses[name])
+    return None
+
+
+def words_in(text, uses, own=None):
+    """The definitions that a text cites."""
+    for word in WORD.findall(text):
+        if own and (word in own.items or word in own.inside):
+            yield own.module, own.inside.get(word, word) if word not in own.items else word
+        elif word in uses:
+            found = resolved(*uses[word])
+            if found:
+                yield found
+
+
+def reached(seeds):
+    """The definitions that the seeds reach, by file."""
+    todo, found = list(seeds), {}
+    while todo:
+        module, name = todo.pop()
+        names = found.setdefault(module, set())
+        if name in names:
+            continue
+        names.add(name)
+        file = file_of(module)
+        todo += words_in("\n".join(file.items[name]), file.uses, file)
+    return found
+
+
+def rust_of(crate):
+    for at, _, files in sorted(os.walk(os.path.join(CRATES, crate, "src"))):
+        for name in sorted(files):
+            if name.endswith(".rt"):
+                with open(os.path.join(at, name), encoding="utf-8") as it:
+                    yield os.path.join(at, name), [re.sub(r"//.*$", "", line) for line in it.read().split("\n")]
+
+
+def exported(crate):
+    """The names that a library passes on."""
+    with open(os.path.join(CRATES, crate, "src", "lib.rt"), encoding="utf-8") as it:
+        uses = re.findall(r"pub use ([^;]*);", it.read())
+    return {word for use in uses for word in re.findall(r"\w+", use)}
+
+
+def functions_of(lines):
+    """Each function with a contract: what it stands in (an `impl` or a trait, or nothing), whether it is `pub`, its name, its contract."""
+    block = ""
+    for i, line in enumerate(lines):
+        if re.match(r"(pub )?(impl|trait)\b", line):
+            block = line
+        elif line.startswith("}"):
+            block = ""
+        at = re.match(r"\s*(pub )?(?:const )?fn (\w+)", line)
+        if at:
+            yield block, bool(at[1]), at[2], contract_at(lines, i)
+
+
+def contract_at(lines, start):
+    """The clauses that follow a function's name, up to its body or its end."""
+    indent, text = len(lines[start]) - len(lines[start].lstrip()), []
+    for line in lines[start:]:
+        text.append(line)
+        is_clause = re.match(r"\s*(ensures|requires)\b", line)
+        if line.strip() in ("{", "{}") and len(line) - len(line.lstrip()) == indent or not is_clause and line.rstrip().endswith(("{", "{}", "};")):
+            break
+        if line.rstrip().endswith(";") and not is_clause:
+            break
+        if is_clause and line.rstrip().endswith("};"):
+            break
+    return " ".join(text)
+
+
+def contracts_of(crate, wanted=None):
+    """The definitions that contracts cite: of what a library passes on, or of the functions of these names."""
+    names = exported(crate)
+    for path, lines in rust_of(crate):
+        uses = uses_of(lines, ghost=True)
+        for block, is_public, name, contract in functions_of(lines):
+            is_ours = bool(names & {*re.findall(r"\w+", block.partition(" for ")[2] or block)})
+            is_wanted = name in wanted if wanted is not None else (is_ours and (is_public or " for " in block or "trait " in block) if block else name in names)
+            if is_wanted:
+                yield from words_in(contract, uses)
+        if wanted is None:
+            for at in re.finditer(r"(?m)^ *ghost (?!use)\w+: \{((?:[^{}]|\{[^{}]*\})*)\}", "\n".join(lines)):
+                yield from words_in(at[1], uses)
+
+
+def lines_of(module, names):
+    file = file_of(module)
+    return sum(len(file.items[name]) for name in names)
+
+
+def table(found):
+    rows, total = [], 0
+    for module in sorted(found):
+        lines = lines_of(module, found[module])
+        total += lines
+        names = ", ".join(f"`{name}`" for name in file_of(module).items if name in found[module])
+        rows.append(f"| `{file_of(module).path}` | {lines} | {names} |")
+    return rows, total
+
+
+def section(title, text, seeds):
+    found = reached(seeds)
+    rows, total = table(found)
+    head = [f"## {title}", "", text, "", f"{len(found)} files, {total} lines without comments and blank lines.", "", "| File in `crates/` | Lines | Definitions |", "|---|---|---|"]
+    return [*head, *rows, ""]
+
+
+APDU = "Rattle.ill_schema.specs.Apdu"
+HEADLINE = [(APDU, name) for name in ("SpellsApdu", "Accepts", "normal_form", "IsStream")]
+PRODUCT = "ber_core ber_leaf ill_schema ill_refusals ill_read ill_write ill_normal ill_text ill_jobs ill_cli ill_parts ill_apdu_results ill_apdu_requests ill_apdu".split()
+
+
+def document():
+    run = [*contracts_of("ill_jobs", ("run", "run_same"))]
+    text = ["# What must be believed", ""]
+    text += ["The definitions that stand between a theorem and its reader. `tests/trusted.py` prints this list, and `tests/all.sh` fails where it is out of date. Each definition is named with the words that it cites, and so on to the end. The types that Rust code declares, and the definitions of std, of `jiff` and of `hex`, are cited too, and not listed.", ""]
+    text += section("The theorem", "What the four claims of README.md say: which octets spell an APDU, what an input has at its front, what the normal form is, and what a stream is.", HEADLINE)
+    text += section("The program's jobs", "All that the contracts of `ill_jobs::run` and `ill_jobs::run_same` say, with causes and offsets, text and hexadecimal digits.", run)
+    return "\n".join(text)
+
+
+def private():
+    found = {}
+    for crate in PRODUCT:
+        for module, names in reached(contracts_of(crate)).items():
+            found.setdefault(module, set()).update(names)
+    for crate in PRODUCT:
+        specs = os.path.join(CRATES, crate, "specs")
+        for at, _, files in sorted(os.walk(specs)):
+            for name in sorted(files):
+                module = "Rattle." + os.path.relpath(os.path.join(at, name), CRATES)[:-5].replace(os.sep, ".")
+                if not name.endswith(".antt") or name == "Lib.antt" or not file_of(module).items:
+                    continue
+                is_code = ".specs.code." in module
+                if (module in found) == is_code:
+                    print(f"{file_of(module).path}: {'reached' if is_code else 'not reached'} by a public contract", *sorted(found.get(module, [])))
+
+
+if __name__ == "__main__":
+    if sys.argv[1:] == ["--private"]:
+        private()
+    elif sys.argv[1:] == ["--check"]:
+        with open(LIST, encoding="utf-8") as it:
+            sys.exit(0 if it.read() == document() else "docs/TRUSTED.md is out of date: python3 tests/trusted.py > docs/TRUSTED.md")
+    else:
+        sys.stdout.write(document())
