@@ -171,6 +171,18 @@ def functions_of(lines):
             yield block, bool(at[1]), at[2], contract_at(lines, i)
 
 
+def ghosts_of(lines):
+    """Each ghost member of an `impl` or a trait, with what it stands in."""
+    block = ""
+    for line in lines:
+        if re.match(r"(pub )?(impl|trait)\b", line):
+            block = line
+        elif line.startswith("}"):
+            block = ""
+        if block and re.match(r" *ghost (?!use)", line):
+            yield block, line
+
+
 def contract_at(lines, start):
     """The clauses that follow a function's name, up to its body or its end."""
     indent, text = len(lines[start]) - len(lines[start].lstrip()), []
@@ -197,8 +209,9 @@ def contracts_of(crate, wanted=None):
             if is_wanted:
                 yield from words_in(contract, uses)
         if wanted is None:
-            for at in re.finditer(r"(?m)^ *ghost (?!use)\w+: \{((?:[^{}]|\{[^{}]*\})*)\}", "\n".join(lines)):
-                yield from words_in(at[1], uses)
+            for block, text in ghosts_of(lines):
+                if names & {*re.findall(r"\w+", block.partition(" for ")[2] or block)}:
+                    yield from words_in(text, uses)
 
 
 def lines_of(module, names):

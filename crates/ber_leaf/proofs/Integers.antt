@@ -13,7 +13,7 @@ use Rattle.ber_leaf.specs.declared.fault.LeafFault.{LeafFault}
 use Rattle.ber_leaf.specs.Simple.{whole}
 use Rattle.ber_core.specs.Octets.{are_octets}
 use Rattle.ber_leaf.specs.Leaf.{integer, normal_content, Holds, integer_of, content_fault, big_endian, octet_count, is_padded}
-use Rattle.ber_leaf.specs.Sign.{reach, sign_octet}
+use Rattle.ber_leaf.specs.code.Sign.{reach, sign_octet}
 use Rattle.ber_leaf.specs.Profile.{Profile}
 
 pub and_parts : (a b : Bool) → IsTrue (a && b) → IsTrue a × IsTrue b

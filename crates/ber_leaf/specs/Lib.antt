@@ -3,4 +3,4 @@ pub mod Simple
 pub mod Leaf
 pub mod Content
 pub mod Strings
-pub mod Sign
+pub mod code

@@ -1,6 +1,6 @@
 ghost use Rattle.std.specs.Prelude.{◌≡◌, ◌<◌, ◌≤◌, ◌-◌, ◌++◌, length, replicate};
 ghost use Rattle.ber_leaf.specs.Leaf.{integer, integer_of, is_padded, octet_count};
-ghost use Rattle.ber_leaf.specs.Sign.{reach, sign_octet};
+ghost use Rattle.ber_leaf.specs.code.Sign.{reach, sign_octet};
 ghost use Rattle.ber_leaf.specs.Simple.{whole};
 
 use crate::{Leaf, LeafFault};

@@ -1,5 +1,5 @@
-pub mod Opened
 pub mod CommandLine
 pub mod Orders
 pub mod Refused
 pub mod Status
+pub mod Opened

@@ -11,7 +11,7 @@ use Rattle.ill_read.specs.Answers.{IsSpelled}
 use Rattle.ill_text.specs.Shown.{shown_text}
 use Rattle.ill_jobs.specs.declared.job.Job.{Job}
 use Rattle.ill_jobs.specs.Output.{line_of_check}
-use Rattle.ill_jobs.specs.Pieces.{Makes}
+use Rattle.ill_jobs.specs.code.Pieces.{Makes}
 use Rattle.ill_jobs.proofs.Checking.{tests_equality}
 
 module _ (left left' : Option (List ℕ)) (i : ℕ) (text : Vec ℕ Global) where

@@ -10,7 +10,7 @@ use Rattle.ill_schema.proofs.Streams.{accepts_some}
 use Rattle.ill_jobs.specs.declared.job.Job.{Job}
 use Rattle.ill_jobs.specs.declared.piece.Piece.{Piece}
 use Rattle.ill_jobs.specs.Output.{Spelling, AreSpelled, message_output, output_from, output, is_good}
-use Rattle.ill_jobs.specs.Pieces.{Makes}
+use Rattle.ill_jobs.specs.code.Pieces.{Makes}
 use Rattle.ill_jobs.specs.Ran.{Writes, BrokeAt, StopsAfter, GoesOn, fault_at}
 use Rattle.ill_jobs.specs.declared.fault.RunFault.{RunFault}
 use Rattle.ill_read.specs.declared.failure.ReadFailure.{ReadFailure}

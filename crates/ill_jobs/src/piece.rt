@@ -8,7 +8,7 @@ ghost use Rattle.ill_refusals.specs.Outcome.{OnlyRefuses};
 ghost use Rattle.ill_read.specs.declared.failure.ReadFailure.{ReadFailure};
 ghost use Rattle.ill_jobs.specs.declared.job.Job.{Job};
 ghost use Rattle.ill_jobs.specs.Output.{line_of_check};
-ghost use Rattle.ill_jobs.specs.Pieces.{Makes};
+ghost use Rattle.ill_jobs.specs.code.Pieces.{Makes};
 
 use crate::job::Job;
 use ber_core::Source;

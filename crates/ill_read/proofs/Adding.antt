@@ -9,9 +9,9 @@ use Rattle.ill_schema.specs.Meaning.{Means, Matches, MatchItems}
 use Rattle.ill_schema.specs.Table.{rows_of}
 use Rattle.ill_schema.specs.Tagging.{tagging, untagged}
 use Rattle.ill_schema.specs.Value.{content_of, entries_content, items_content}
-use Rattle.ill_read.specs.Code.{component_of, component_at, element_is, found_is}
+use Rattle.ill_read.specs.Elements.{component_of, component_at, element_is, found_is}
 use Rattle.ill_read.specs.DueCode.{IsDueIn, IsRowDue, IsInnerDue, IsItemDue, behind}
-use Rattle.ill_read.specs.Held.{ArePassed, rows_before}
+use Rattle.ill_read.specs.code.Held.{ArePassed, rows_before}
 use Rattle.ill_read.specs.Standing.{with_alternative, IsValueOf, HoldsPart, IsHeld}
 use Rattle.ill_refusals.specs.code.Step.{snoc}
 use Rattle.ill_read.specs.declared.due.Due.{Due}

@@ -9,16 +9,16 @@ use Rattle.ber_leaf.specs.declared.fault.LeafFault.{LeafFault}
 use Rattle.ill_schema.specs.declared.value.Value.{Value}
 use Rattle.ill_schema.specs.Causes.{cause_of}
 use Rattle.ill_schema.specs.Value.{content_of}
-use Rattle.ill_read.specs.Code.{element_is}
+use Rattle.ill_read.specs.Elements.{element_is}
 use Rattle.ill_read.specs.DueCode.{IsDueIn}
 use Rattle.ill_refusals.specs.Element.{segment}
 use Rattle.ill_refusals.specs.Next.{missing}
 use Rattle.ill_refusals.specs.Fault.{Judgement, closes, fault, element_fault, or_faulty}
-use Rattle.ill_read.specs.Judged.{IsEnd, IsStep, with_body}
+use Rattle.ill_read.specs.code.Judged.{IsEnd, IsStep, with_body}
 use Rattle.ill_refusals.specs.Place.{Open, next_in}
 use Rattle.ill_read.specs.Standing.{next_at, text_so_far, IsHeld, IsFrame, IsValueOf, AreFrames, StandsAt}
 use Rattle.ill_refusals.specs.code.Step.{moved, refused, with_tree}
-use Rattle.ill_read.specs.Stepping.{DeliversExactly, EndsExactly, IsEnded}
+use Rattle.ill_read.specs.code.Stepping.{DeliversExactly, EndsExactly, IsEnded}
 use Rattle.ill_read.specs.declared.due.Next.{Next}
 use Rattle.ill_read.specs.declared.due.Next.TheVariants.{Segments}
 use Rattle.ill_read.specs.declared.element.Element.TheVariants.{Segment}

@@ -6,7 +6,7 @@ use Rattle.ber_leaf.specs.Profile.{profile_two}
 use Rattle.ill_schema.specs.declared.node.NodeId.{NodeId}
 use Rattle.ill_schema.specs.declared.part.Row.{Row}
 use Rattle.ill_schema.specs.Table.{rows_of}
-use Rattle.ill_read.specs.Code.{component_at, element_with}
+use Rattle.ill_read.specs.Elements.{component_at, element_with}
 use Rattle.ill_refusals.specs.Element.{Element, Start, components, components_from, component_starts}
 use Rattle.ill_read.proofs.Starts.{element_with-front, element_with-back}
 

@@ -12,10 +12,10 @@ use Rattle.ill_schema.specs.Meaning.{Means}
 use Rattle.ill_schema.specs.Table.{rows_of}
 use Rattle.ill_schema.specs.Tagging.{untagged}
 use Rattle.ill_schema.specs.Value.{content_of}
-use Rattle.ill_read.specs.Code.{component_of, element_is}
+use Rattle.ill_read.specs.Elements.{component_of, element_is}
 use Rattle.ill_read.specs.DueCode.{IsDueIn, IsDueInRows, IsRowDue, behind}
-use Rattle.ill_read.specs.Held.{HasAdded, HasNext, rows_before}
-use Rattle.ill_read.specs.Judged.{IsStep}
+use Rattle.ill_read.specs.code.Held.{HasAdded, HasNext, rows_before}
+use Rattle.ill_read.specs.code.Judged.{IsStep}
 use Rattle.ill_refusals.specs.Place.{Open}
 use Rattle.ill_read.specs.Standing.{next_at, text_so_far, top, with_alternative, IsValueOf, IsFrame, AreFrames, StandsAt}
 use Rattle.ill_refusals.specs.code.Step.{with_tree}

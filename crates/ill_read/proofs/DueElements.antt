@@ -6,7 +6,7 @@ use Rattle.ill_schema.specs.declared.node.NodeId.{NodeId}
 use Rattle.ill_refusals.specs.Element.{Component, Element, Start, components, starts}
 use Rattle.ill_refusals.specs.Next as next
 use Rattle.ill_refusals.specs.Next.{part, octets, rows, items, element_of, next_of, due, due_in, opening, start_of}
-use Rattle.ill_read.specs.Code.{component_of, component_at, element_with, found_is}
+use Rattle.ill_read.specs.Elements.{component_of, component_at, element_with, found_is}
 use Rattle.ill_read.specs.DueCode.{IsDueIn, IsDueInRows, IsRowDue, IsInnerDue, next_is, behind}
 use Rattle.ill_read.specs.declared.due.Due.{Due}
 use Rattle.ill_read.specs.declared.due.Slot.{Slot}

@@ -7,7 +7,7 @@ use Rattle.ill_schema.specs.declared.part.PartId.{PartId}
 use Rattle.ill_schema.specs.declared.part.Presence.{Presence}
 use Rattle.ill_schema.specs.declared.part.Row.{Row}
 use Rattle.ill_schema.specs.Table.{rows_of}
-use Rattle.ill_read.specs.Code.{component_at, element_with}
+use Rattle.ill_read.specs.Elements.{component_at, element_with}
 use Rattle.ill_refusals.specs.Element.{Component, Element, Start, list, components, starts}
 use Rattle.ill_refusals.specs.Next.{Next, Due, part, rows, items, due, due_in, first_mandatory, opening, start_of}
 use Rattle.ill_read.proofs.Components.{components-at, components-end}

@@ -10,16 +10,16 @@ use Rattle.ill_schema.specs.Meaning.{Means, Matches, MatchItems}
 use Rattle.ill_schema.specs.Table.{rows_of}
 use Rattle.ill_schema.specs.Tagging.{untagged}
 use Rattle.ill_schema.specs.Value.{content_of, entries_content, items_content}
-use Rattle.ill_read.specs.Code.{component_of, element_is}
+use Rattle.ill_read.specs.Elements.{component_of, element_is}
 use Rattle.ill_read.specs.DueCode.{next_is}
 use Rattle.ill_refusals.specs.Element.{Element, leaf, sequence, list, wrapper, loose_wrapper}
 use Rattle.ill_refusals.specs.Fault.{fault, element_fault}
-use Rattle.ill_read.specs.Held.{ArePassed, IsSequence, IsList, IsLast, rows_left}
+use Rattle.ill_read.specs.code.Held.{ArePassed, IsSequence, IsList, IsLast, rows_left}
 use Rattle.ill_read.specs.LeafTypes.{leaf_is}
 use Rattle.ill_refusals.specs.Next.{missing}
 use Rattle.ill_refusals.specs.Place.{Open, next_in}
 use Rattle.ill_read.specs.Standing.{text_so_far, IsValueOf, HoldsPart, IsHeld, IsFrame}
-use Rattle.ill_read.specs.Stepping.{IsLeafValue, IsEnded}
+use Rattle.ill_read.specs.code.Stepping.{IsLeafValue, IsEnded}
 use Rattle.ill_read.specs.declared.due.Next.{Next}
 use Rattle.ill_read.specs.declared.due.Next.TheVariants.{Rows, Inner, Items, Either, Segments, Nothing}
 use Rattle.ill_read.specs.declared.element.Element.TheVariants.{Leaf, Sequence, List as ListOf, Wrapper, LooseWrapper}

@@ -14,7 +14,7 @@ use Rattle.ill_schema.specs.Presence.{IsCarried}
 use Rattle.ill_schema.specs.Table.{kind_of, rows_of}
 use Rattle.ill_schema.specs.Tagging.{tagging}
 use Rattle.ill_schema.specs.Value.{content_of, entries_of, entries_content, items_of, items_content}
-use Rattle.ill_read.specs.Code.{component_at}
+use Rattle.ill_read.specs.Elements.{component_at}
 use Rattle.ill_read.specs.DueCode.{MayAllLack}
 use Rattle.ill_refusals.specs.Element.{components, components_from}
 use Rattle.ill_refusals.specs.Next.{rows, missing, first_mandatory}

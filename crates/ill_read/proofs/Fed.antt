@@ -10,7 +10,8 @@ use Rattle.ill_schema.specs.Apdu.{Apdu, Encodes, Accepts}
 use Rattle.ill_schema.specs.Message.{apdu_of, octets_of}
 use Rattle.ill_refusals.specs.Fault.{Fault, fault, faulty, judge, Refuses, fault_of}
 use Rattle.ill_read.specs.Answers.{IsRead, IsPart, IsRefused, DecodeAnswers}
-use Rattle.ill_read.specs.DecoderCode.{IsFed, IsMessageOf, FinishAnswers, StandsBefore, StandsLast, InState}
+use Rattle.ill_read.specs.Standing.{StandsBefore, StandsLast}
+use Rattle.ill_read.specs.code.DecoderCode.{IsFed, IsMessageOf, FinishAnswers, InState}
 use Rattle.ill_read.specs.Feeding.{ended, IsOpenAfter, StatesAreApart}
 use Rattle.ill_refusals.specs.Outcome.{OnlyAccepts, OnlyRefuses}
 use Rattle.ill_refusals.specs.Place.{Open, IsPlace, bound}

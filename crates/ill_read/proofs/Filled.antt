@@ -11,9 +11,10 @@ use Rattle.ill_schema.specs.Apdu.{Apdu, Accepts, SpellsApdu}
 use Rattle.ill_schema.specs.Message.{apdu_of, octets_of}
 use Rattle.ill_read.specs.Answers.{IsRead, IsSpelled, IsUnfinished, IfReadRefused}
 use Rattle.ill_read.specs.Failures.{read_failure}
-use Rattle.ill_read.specs.DecoderCode.{FinishAnswers, InState, IsFed, StandsLast}
+use Rattle.ill_read.specs.Standing.{StandsLast}
+use Rattle.ill_read.specs.code.DecoderCode.{FinishAnswers, InState, IsFed}
 use Rattle.ill_read.specs.Feeding.{ended, HasFailedWith, IsOpenAfter, IsWholeWith}
-use Rattle.ill_read.specs.Filling.{NoneEndsWithin, HasFilled, HasKept}
+use Rattle.ill_read.specs.code.Filling.{NoneEndsWithin, HasFilled, HasKept}
 use Rattle.ill_refusals.specs.Outcome.{OnlyRefuses}
 use Rattle.ill_read.specs.declared.decoder.Decoder.{Decoder}
 use Rattle.ill_read.specs.declared.decoder.State.{State}

@@ -3,7 +3,7 @@ use Rattle.std.proofs.Common.{◌≡◌, ℕ, suc, ◌-◌, List, [], ◌∷◌,
 use Rattle.ill_schema.specs.declared.value.Value.{Value}
 use Rattle.ber_leaf.specs.Profile.{profile_two}
 use Rattle.ill_read.specs.DueCode.{next_is}
-use Rattle.ill_read.specs.JudgeCode.{outermost_end}
+use Rattle.ill_read.specs.code.JudgeCode.{outermost_end}
 use Rattle.ill_read.specs.Need.{outermost}
 use Rattle.ill_refusals.specs.Place.{Open, next_in, innermost_end, bound}
 use Rattle.ill_read.specs.Standing.{next_at, AreFrames}

@@ -8,7 +8,7 @@ use Rattle.ill_schema.specs.Content.{Content}
 use Rattle.ill_schema.specs.Value.{content_of}
 use Rattle.ill_schema.specs.declared.part.Row.{Row}
 use Rattle.ill_schema.specs.declared.value.Value.{Value}
-use Rattle.ill_read.specs.Held.{HasPassed}
+use Rattle.ill_read.specs.code.Held.{HasPassed}
 use Rattle.ill_read.specs.Standing.{absent_content}
 
 abbrev pub somes : List (Option Value) → List Value

@@ -11,15 +11,15 @@ use Rattle.ber_leaf.specs.Profile.{profile_two}
 use Rattle.ill_schema.specs.declared.part.PartId.{PartId}
 use Rattle.ill_schema.specs.declared.refusal.Cause.{Cause}
 use Rattle.ill_schema.specs.declared.refusal.Refusal.{Refusal}
-use Rattle.ill_read.specs.Code.{element_is, found_is}
+use Rattle.ill_read.specs.Elements.{element_is, found_is}
 use Rattle.ill_read.specs.DueCode.{IsDueIn, next_is}
 use Rattle.ill_refusals.specs.Element.{Element}
 use Rattle.ill_refusals.specs.Fault.{Fault, fault, Judgement, faulty, closes, reads, element_fault, or_faulty, ends_at, wanting, judge_end, judge_size, judge_length, judge_form, judge_tag, judge_element, judge_octets, judge}
-use Rattle.ill_read.specs.JudgeCode.{IsFormed, IsIdentified, judge_identified}
-use Rattle.ill_read.specs.Judged.{IsBegin, IsEnd, IsJudged, content_in}
+use Rattle.ill_read.specs.code.JudgeCode.{IsFormed, IsIdentified, judge_identified}
+use Rattle.ill_read.specs.code.Judged.{IsBegin, IsEnd, IsJudged, content_in}
 use Rattle.ill_refusals.specs.Next.{Due, due, element_of, missing}
 use Rattle.ill_refusals.specs.Place.{Open, next_in, bound, allows}
-use Rattle.ill_read.specs.Progress.{IsProgress}
+use Rattle.ill_read.specs.code.Progress.{IsProgress}
 use Rattle.ill_refusals.specs.Reading.{IdentifierRead, identified, part_identifier, no_identifier, read_identifier, definite, read_length}
 use Rattle.ill_read.specs.Standing.{StandsAt, next_at}
 use Rattle.ill_read.specs.declared.due.Due.{Due as CodeDue}

@@ -15,7 +15,7 @@ use Rattle.ill_schema.specs.Table.{kind_of, rows_of}
 use Rattle.ill_schema.specs.Tagging.{Tagging, Tagged, untagged, implicit, explicit, explicit_or_bare, tagging, leaf_of}
 use Rattle.ill_schema.proofs.Tags.{is_proper, is_proper_row, at_row, tables_proper}
 use Rattle.ill_schema.proofs.Unique.{leaf_at, no_leaf}
-use Rattle.ill_read.specs.Code.{component_at, element_with, found_is}
+use Rattle.ill_read.specs.Elements.{component_at, element_with, found_is}
 use Rattle.ill_read.specs.DueCode.{Begins, IsBegun, IsRowDue}
 use Rattle.ill_refusals.specs.Element.{Component, Element, Start, tagged_starts, component_starts}
 use Rattle.ill_read.specs.Standing.{IsValueOf, with_alternative}

@@ -17,9 +17,9 @@ use Rattle.ber_leaf.specs.Profile.{Profile, profile_two}
 use Rattle.ill_schema.specs.declared.refusal.Cause.{Cause}
 use Rattle.ill_schema.specs.Apdu.{Apdu, Accepts}
 use Rattle.ill_refusals.specs.Fault.{fault, Judgement, faulty, closes, opens, reads, is_indefinite, judge}
-use Rattle.ill_read.specs.DecoderCode.{StandsLast}
+use Rattle.ill_read.specs.Standing.{StandsLast}
 use Rattle.ill_read.specs.HeaderCode.{Lacks, IsHeaderRead, IsLengthRead, IsWholeLength, need_read}
-use Rattle.ill_read.specs.JudgeCode.{outermost_end}
+use Rattle.ill_read.specs.code.JudgeCode.{outermost_end}
 use Rattle.ill_read.specs.Need.{NeedsAfter, outermost, begins_zero, in_mark, NeedsOfLength, NeedsOfElement, NeedsAfterMark, NeedsBefore, IsNeed}
 use Rattle.ill_refusals.specs.Place.{Open, bound, IsPlace, IsDue}
 use Rattle.ill_refusals.specs.Reading.{identified, part_identifier, no_identifier, read_identifier, definite, indefinite, part_length, no_length, read_length}

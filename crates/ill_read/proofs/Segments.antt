@@ -11,7 +11,7 @@ use Rattle.ill_schema.specs.declared.value.Value.{Value}
 use Rattle.ill_schema.specs.Content.{Content}
 use Rattle.ill_schema.specs.Table.{kind_of}
 use Rattle.ill_schema.specs.Tagging.{Tagging, untagged, implicit, explicit, explicit_or_bare, same_tag}
-use Rattle.ill_read.specs.Code.{component_of, element_is, element_with, found_is}
+use Rattle.ill_read.specs.Elements.{component_of, element_is, element_with, found_is}
 use Rattle.ill_read.specs.DueCode.{Begins, IsDueIn, IsDueInRows, IsRowDue}
 use Rattle.ill_refusals.specs.Element.{Component, Element, leaf, segment, Start, own_starts, retag, leave_out, tagged_starts, component_starts}
 use Rattle.ill_refusals.specs.Place.{Open}

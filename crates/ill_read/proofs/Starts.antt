@@ -4,7 +4,7 @@ use Rattle.std.specs.Prelude.{if◌then◌else◌, find}
 use Rattle.ber_core.specs.Identifier.{Tag}
 use Rattle.ill_schema.specs.declared.part.PartId.{PartId}
 use Rattle.ill_schema.specs.Tagging.{same_tag}
-use Rattle.ill_read.specs.Code.{element_with, first_element}
+use Rattle.ill_read.specs.Elements.{element_with, first_element}
 use Rattle.ill_refusals.specs.Element.{Element, left_out, Start, start, retag, leave_out}
 
 pub map-if : {A B : Type 0} (f : A → B) (b : Bool) (x : A) → option_map f (if b then Some x else None) ≡ (if b then Some (f x) else None)

@@ -13,10 +13,11 @@ use Rattle.ill_schema.specs.Tagging.{untagged}
 use Rattle.ill_schema.specs.Value.{content_of}
 use Rattle.ill_refusals.specs.Fault.{Fault, Judgement, closes, reads, judge, or_faulty, fault_of}
 use Rattle.ill_read.specs.Answers.{IsRefused}
-use Rattle.ill_read.specs.DecoderCode.{StandsBefore, body_apdu}
-use Rattle.ill_read.specs.Judged.{IsJudgement, IsBody, IsStep}
+use Rattle.ill_read.specs.Standing.{StandsBefore}
+use Rattle.ill_read.specs.code.DecoderCode.{body_apdu}
+use Rattle.ill_read.specs.code.Judged.{IsJudgement, IsBody, IsStep}
 use Rattle.ill_refusals.specs.Place.{Open}
-use Rattle.ill_read.specs.Progress.{size_of, depth_of, IsProgress}
+use Rattle.ill_read.specs.code.Progress.{size_of, depth_of, IsProgress}
 use Rattle.ill_refusals.specs.code.Step.{Step, refused, goes, whole, stuck, with_tree, close, moved}
 use Rattle.ill_read.specs.declared.failure.Failure.{Failure}
 use Rattle.ill_read.specs.declared.judge.Judgement.{Judgement as CodeJudgement}

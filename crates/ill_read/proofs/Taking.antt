@@ -5,14 +5,14 @@ use Rattle.ber_core.specs.Identifier.{Tag}
 use Rattle.ber_core.specs.Tree.{primitive}
 use Rattle.ber_leaf.specs.Profile.{profile_two}
 use Rattle.ill_schema.specs.declared.value.Value.{Value}
-use Rattle.ill_read.specs.Code.{element_is}
+use Rattle.ill_read.specs.Elements.{element_is}
 use Rattle.ill_read.specs.DueCode.{IsDueIn}
 use Rattle.ill_refusals.specs.Fault.{Judgement, element_fault, or_faulty, reads}
-use Rattle.ill_read.specs.Judged.{IsBegin, IsJudgement, IsStep}
+use Rattle.ill_read.specs.code.Judged.{IsBegin, IsJudgement, IsStep}
 use Rattle.ill_refusals.specs.Place.{Open, allows}
 use Rattle.ill_read.specs.Standing.{next_at, AreFrames, StandsAt}
 use Rattle.ill_refusals.specs.code.Step.{Step, moved}
-use Rattle.ill_read.specs.Stepping.{IsLeafValue, DeliversExactly, ReadsExactly}
+use Rattle.ill_read.specs.code.Stepping.{IsLeafValue, DeliversExactly, ReadsExactly}
 use Rattle.ill_read.specs.declared.due.Next.TheVariants.{Segments}
 use Rattle.ill_read.specs.declared.due.Slot.{Slot}
 use Rattle.ill_read.specs.declared.element.Element.{Element as CodeElement}

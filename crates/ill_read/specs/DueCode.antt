@@ -10,7 +10,7 @@ use Rattle.ill_schema.specs.Table.{kind_of, rows_of}
 use Rattle.ill_schema.specs.Tagging.{untagged, same_tag, sequence_tag}
 use Rattle.ill_refusals.specs.Element.{Component, Element, list, segment, components, component_starts, starts}
 use Rattle.ill_refusals.specs.Next as next
-use Rattle.ill_read.specs.Code.{component_of, component_at, element_with, found_is, alternative_starts}
+use Rattle.ill_read.specs.Elements.{component_of, component_at, element_with, found_is, alternative_starts}
 use Rattle.ill_schema.specs.declared.part.Presence.{Presence}
 use Rattle.ill_read.specs.declared.due.Due.{Due}
 use Rattle.ill_read.specs.declared.due.Slot.TheVariants.{Row as AtRow, Item, Inner as Inside, Segment}

@@ -3,7 +3,7 @@ use Rattle.std.specs.Prelude.{◌≡◌, ℕ, List, [], ◌∷◌, length, Optio
 use Rattle.ill_schema.specs.declared.message.Message.{Message}
 use Rattle.ill_schema.specs.declared.refusal.Cause.{Cause}
 use Rattle.ill_read.specs.Answers.{IsPart, IsRead, IsRefused}
-use Rattle.ill_read.specs.DecoderCode.{StandsLast}
+use Rattle.ill_read.specs.Standing.{StandsLast}
 use Rattle.ill_read.specs.declared.decoder.Decoder.{Decoder}
 use Rattle.ill_read.specs.declared.decoder.Progress.{Progress}
 use Rattle.ill_read.specs.declared.decoder.State.TheVariants as state

@@ -19,8 +19,8 @@ use Rattle.ill_schema.specs.Content as content
 use Rattle.ill_refusals.specs.Element.{Element, leaf, sequence, list, wrapper, loose_wrapper, segment, left_out}
 use Rattle.ill_refusals.specs.Next.{due, next_of, opening}
 use Rattle.ill_refusals.specs.Next as following
-use Rattle.ill_refusals.specs.Place.{Open, next_in, bound}
-use Rattle.ill_read.specs.Code.{element_is}
+use Rattle.ill_refusals.specs.Place.{Open, next_in, bound, IsPlace}
+use Rattle.ill_read.specs.Elements.{element_is}
 use Rattle.ill_read.specs.DueCode.{next_is, IsDueIn}
 use Rattle.ill_read.specs.LeafTypes.{leaf_is}
 use Rattle.ill_read.specs.declared.due.Next.{Next}
@@ -31,6 +31,8 @@ use Rattle.ill_read.specs.declared.element.Found.TheVariants as found
 use Rattle.ill_read.specs.declared.element.Wrapped.{Wrapped}
 use Rattle.ill_read.specs.declared.frame.Frame.{Frame}
 use Rattle.ill_read.specs.declared.path.Path.{Path}
+use Rattle.ill_refusals.specs.Fault.{fault, faulty, judge}
+use Rattle.ill_schema.specs.declared.refusal.Cause.{Cause}
 
 -- the text of the string that is open, as far as it has been read
 abbrev pub text_so_far : List Open → List ℕ
@@ -115,3 +117,17 @@ AreFrames (o ∷ path) frames held = (outer : List Frame) × (f : Frame) × (bel
 -- the path stands at a place where these elements are open
 abbrev pub StandsAt : Path → List Open → Type 0
 StandsAt path opens = AreFrames opens path.frames.items path.values.held.items × (path.text.items ≡ text_so_far opens)
+
+-- a path that stands at a place of the octets, with the rest of them after it
+pub record StandsBefore (path : Path) (at : ℕ) (s rest : List ℕ) : Type 0 where
+  pub place : List Open
+  pub before : List ℕ
+  pub joined : s ≡ before ++ rest
+  pub octets : IsTrue (are_octets s)
+  pub offset : at ≡ length before
+  pub stands : StandsAt path place
+  pub is_place : IsPlace profile_two before place
+
+-- the rest doesn't reach the next place
+abbrev pub StandsLast : Path → ℕ → List ℕ → List ℕ → Type 0
+StandsLast path at s rest = (b : StandsBefore path at s rest) × (judge profile_two b.place at rest ≡ faulty (fault Cause.Truncated (length s)))

@@ -53,10 +53,10 @@ impl Decoder {
     ghost use Rattle.ill_schema.specs.Apdu.{Apdu, Accepts, Encodes};
     ghost use Rattle.ber_core.specs.Octets.{are_octets};
     ghost use Rattle.ill_schema.specs.declared.message.Message.{Message};
-    ghost use Rattle.ill_read.specs.DecoderCode.{body_apdu, CanRefuse, CanStep, HasAdvanced, HasEnded, HasOutcome, HasStopped, IsFed, IsRunning};
+    ghost use Rattle.ill_read.specs.code.DecoderCode.{body_apdu, CanRefuse, CanStep, HasAdvanced, HasEnded, HasOutcome, HasStopped, IsFed, IsRunning};
     ghost use Rattle.ill_read.specs.Feeding.{ended, FeedsTo, HasFailedWith, IsOpenAfter, IsWholeWith};
     ghost use Rattle.ill_read.specs.Need.{NeedsAfter};
-    ghost use Rattle.ill_read.specs.Progress.{depth_of, size_of, IsProgress, StepsTo};
+    ghost use Rattle.ill_read.specs.code.Progress.{depth_of, size_of, IsProgress, StepsTo};
 
     /// An open decoder that nothing was fed.
     pub fn new(alloc: Global) -> Decoder

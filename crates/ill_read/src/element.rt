@@ -7,7 +7,7 @@ ghost use Rattle.ber_leaf.specs.Profile.{profile_two};
 ghost use Rattle.ill_schema.specs.Table.{kind_of};
 ghost use Rattle.ill_schema.specs.Tagging.{same_tag, universal, leaf_tag, tagging};
 ghost use Rattle.ill_refusals.specs.Element.{leaf_start, own_starts, tagged_starts, component_starts};
-ghost use Rattle.ill_read.specs.Code.{element_is, found_is, tagging_is, element_with, first_element, component_at};
+ghost use Rattle.ill_read.specs.Elements.{element_is, found_is, tagging_is, element_with, first_element, component_at};
 ghost use Rattle.ill_read.specs.LeafTypes.{leaf_is};
 
 use crate::leaf_type::LeafType;

@@ -28,7 +28,7 @@ pub struct Frame {
 }
 
 impl Frame {
-    ghost use Rattle.ill_read.specs.JudgeCode.{end_at};
+    ghost use Rattle.ill_read.specs.code.JudgeCode.{end_at};
 
     /// Whether it is definite and ends there.
     pub fn ends_at(&self, at: u32) -> bool

@@ -19,7 +19,7 @@ pub enum Judgement {
 }
 
 impl Judgement {
-    ghost use Rattle.ill_read.specs.Progress.{size_of};
+    ghost use Rattle.ill_read.specs.code.Progress.{size_of};
 
     /// How many octets it takes.
     pub fn size(self) -> u32
@@ -66,7 +66,7 @@ struct Started {
 }
 
 impl Started {
-    ghost use Rattle.ill_read.specs.JudgeCode.{IsFormed};
+    ghost use Rattle.ill_read.specs.code.JudgeCode.{IsFormed};
 
     /// The form of an element that is due.
     fn judge_form(at: u32, due: Due, constructed: bool) -> Result<Started, Refusal>
@@ -97,11 +97,11 @@ impl Started {
 
 impl Path {
     ghost use Rattle.std.specs.Prelude.{◌+◌, ◌<◌, ℕ, List, ◌++◌, min, drop};
-    ghost use Rattle.ill_read.specs.Progress.{depth_of, size_of, IsProgress, HeaderIsIn};
+    ghost use Rattle.ill_read.specs.code.Progress.{depth_of, size_of, IsProgress, HeaderIsIn};
     ghost use Rattle.ill_refusals.specs.Fault.{fault_of, wanting, judge_end, judge_mark, judge_octets, judge_element, judge_length, judge_size};
-    ghost use Rattle.ill_read.specs.Judged.{JudgesExactly};
-    ghost use Rattle.ill_read.specs.JudgeCode.{WhereItStands, Judges, JudgesWithin, JudgesStarted, IsIdentified};
-    ghost use Rattle.ill_read.specs.Code.{element_is};
+    ghost use Rattle.ill_read.specs.code.Judged.{JudgesExactly};
+    ghost use Rattle.ill_read.specs.code.JudgeCode.{WhereItStands, Judges, JudgesWithin, JudgesStarted, IsIdentified};
+    ghost use Rattle.ill_read.specs.Elements.{element_is};
     ghost use Rattle.ill_read.specs.HeaderCode.{IsLengthRead};
     ghost use Rattle.ill_refusals.specs.Reading.{read_length};
     ghost use Rattle.ber_leaf.specs.Profile.{profile_two};

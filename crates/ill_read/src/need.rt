@@ -1,6 +1,6 @@
 //! How many octets at least still belong to a message.
 ghost use Rattle.std.specs.Prelude.{◌≡◌, ℕ, ◌≤◌, List, length};
-ghost use Rattle.ill_read.specs.DecoderCode.{StandsLast};
+ghost use Rattle.ill_read.specs.Standing.{StandsLast};
 ghost use Rattle.ill_read.specs.HeaderCode.{need_read};
 ghost use Rattle.ill_read.specs.Need.{IsNeed, begins_zero};
 

@@ -2,11 +2,11 @@
 ghost use Rattle.std.specs.Prelude.{◌≡◌, ◌≤◌, ◌++◌, List, [], ◌∷◌, IfOk, length};
 ghost use Rattle.ber_leaf.specs.Profile.{profile_two};
 ghost use Rattle.ill_schema.specs.Value.{content_of};
-ghost use Rattle.ill_read.specs.Code.{element_is};
+ghost use Rattle.ill_read.specs.Elements.{element_is};
 ghost use Rattle.ill_read.specs.DueCode.{next_is};
 ghost use Rattle.ill_refusals.specs.Next.{opening};
-ghost use Rattle.ill_read.specs.Standing.{with_alternative};
-ghost use Rattle.ill_read.specs.Stepping.{IsFirst, IsLeafValue};
+ghost use Rattle.ill_read.specs.Standing.{with_alternative, next_at, StandsAt};
+ghost use Rattle.ill_read.specs.code.Stepping.{IsFirst, IsLeafValue};
 ghost use Rattle.ill_read.specs.declared.frame.Frame.{Frame};
 
 use crate::due::{Next, Slot};
@@ -52,15 +52,14 @@ pub struct Body {
 
 impl Path {
     ghost use Rattle.std.specs.Prelude.{◌+◌, ◌-◌, ◌<◌, ◌↔◌, [], IsNone, slice_get};
-    ghost use Rattle.ill_read.specs.Progress.{depth_of, StepsTo, IsProgress};
-    ghost use Rattle.ill_read.specs.Judged.{StepsExactly, with_body};
-    ghost use Rattle.ill_read.specs.Standing.{next_at, StandsAt};
-    ghost use Rattle.ill_read.specs.Stepping.{EndsExactly, DeliversExactly, ClosesExactly, OpensExactly, ReadsExactly, delivered};
+    ghost use Rattle.ill_read.specs.code.Progress.{depth_of, StepsTo, IsProgress};
+    ghost use Rattle.ill_read.specs.code.Judged.{StepsExactly, with_body};
+    ghost use Rattle.ill_read.specs.code.Stepping.{EndsExactly, DeliversExactly, ClosesExactly, OpensExactly, ReadsExactly, delivered};
     ghost use Rattle.std.specs.Prelude.{IsTrue};
     ghost use Rattle.ber_leaf.specs.Profile.{profile_two};
     ghost use Rattle.ill_refusals.specs.Fault.{ends_at, is_indefinite, past_end};
     ghost use Rattle.ill_refusals.specs.Place.{bound};
-    ghost use Rattle.ill_read.specs.JudgeCode.{WhereItStands, outermost_end};
+    ghost use Rattle.ill_read.specs.code.JudgeCode.{WhereItStands, outermost_end};
 
     pub fn new(alloc: Global) -> Path
         ensures { StandsAt result [] }

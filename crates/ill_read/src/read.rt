@@ -3,9 +3,9 @@ ghost use Rattle.std.specs.Prelude.{◌≡◌, ℕ, ◌<◌, ◌≤◌, List, []
 ghost use Rattle.std.specs.Io.KnownBytes.{Consumes, IsAtEnd, Keeps};
 ghost use Rattle.ber_leaf.specs.Profile.{profile_two};
 ghost use Rattle.ill_read.specs.Answers.{DecodeAnswers, IfReadRefused, IsRead, IsSpelled, IsUnfinished, TakesFront, TakesNoMessage};
-ghost use Rattle.ill_read.specs.Filling.{HasFilled, HasKept, HasPulled, NoneEndsWithin};
+ghost use Rattle.ill_read.specs.code.Filling.{HasFilled, HasKept, HasPulled, NoneEndsWithin};
 ghost use Rattle.ill_refusals.specs.Outcome.{OnlyRefuses};
-ghost use Rattle.ill_read.specs.DecoderCode.{HasOutcome, IsFed};
+ghost use Rattle.ill_read.specs.code.DecoderCode.{HasOutcome, IsFed};
 ghost use Rattle.ill_read.specs.declared.failure.ReadFailure.{ReadFailure};
 
 use crate::decoder::Decoder;

@@ -4,7 +4,7 @@ ghost use Rattle.ill_schema.specs.Content.{simple};
 ghost use Rattle.ill_schema.specs.Presence.{default_value};
 ghost use Rattle.ill_schema.specs.Table.{kind_of, rows_of};
 ghost use Rattle.ill_schema.specs.Value.{content_of};
-ghost use Rattle.ill_read.specs.Held.{HasPassed, HasAdded, IsSequence, IsList, IsLast, rows_before, rows_left};
+ghost use Rattle.ill_read.specs.code.Held.{HasPassed, HasAdded, IsSequence, IsList, IsLast, rows_before, rows_left};
 ghost use Rattle.ill_read.specs.Standing.{absent_content};
 
 use crate::due::{Next, Slot};

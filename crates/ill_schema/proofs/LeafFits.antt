@@ -5,7 +5,7 @@ use Rattle.ber_leaf.specs.Content.{IsContent}
 use Rattle.ber_leaf.specs.declared.text.ill_string.IllString.{IllString}
 use Rattle.ber_leaf.specs.declared.text.ill_string.IllString.TheVariants.{General, Visible}
 use Rattle.ber_leaf.specs.Leaf.{Leaf, boolean, integer, enumerated, general_string, visible_string, printable_string, iso_date, iso_time, Holds, normal_content}
-use Rattle.ber_leaf.specs.Sign.{reach}
+use Rattle.ber_leaf.specs.code.Sign.{reach}
 use Rattle.ber_leaf.specs.Profile.{profile_two}
 use Rattle.ber_leaf.specs.Simple.{flag, whole, date, time, printable, general, visible}
 use Rattle.ber_leaf.proofs.Integers.{whole_held}
@@ -17,7 +17,7 @@ use Rattle.ill_schema.specs.declared.node.NodeId.{NodeId}
 use Rattle.ill_schema.specs.Fits.{FitsSimple}
 use Rattle.ill_schema.specs.Table.{kind_of}
 use Rattle.ill_schema.specs.Tagging.{leaf_of}
-use Rattle.ill_schema.specs.ValueFits.{IsNumeric}
+use Rattle.ill_schema.specs.code.ValueFits.{IsNumeric}
 
 pub through : {A B C : Type 0} → (A ↔ B) → (B ↔ C) → (A ↔ C)
 through f g = (λ a. g.0 (f.0 a), λ c. f.1 (g.1 c))

@@ -2,7 +2,7 @@
 use Rattle.std.proofs.Common.{◌≡◌, suc, List, [], ◌∷◌, length, Option, Some, None, refl, ap}
 use Rattle.ill_schema.specs.declared.part.Row.{Row}
 use Rattle.ill_schema.specs.declared.value.Value.{Value}
-use Rattle.ill_schema.specs.ValueFits.{EntriesFit}
+use Rattle.ill_schema.specs.code.ValueFits.{EntriesFit}
 
 pub entries_fit-length : (es : List (Option Value)) (rows : List Row) → EntriesFit es rows → length es ≡ length rows
 entries_fit-length [] [] h = refl

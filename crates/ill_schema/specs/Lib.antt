@@ -10,9 +10,9 @@ pub mod Apdu
 pub mod Fits
 pub mod Names
 pub mod Value
-pub mod ValueFits
 pub mod Elements
 pub mod Sizes
 pub mod Message
 pub mod Unfit
 pub mod Worked
+pub mod code

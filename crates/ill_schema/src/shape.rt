@@ -7,7 +7,7 @@ ghost use Rattle.ill_schema.specs.Fits.{FitsSimple, Fits};
 ghost use Rattle.ill_schema.specs.Meaning.{IsAlternative};
 ghost use Rattle.ill_schema.specs.Table.{kind_of};
 ghost use Rattle.ill_schema.specs.Value.{content_of};
-ghost use Rattle.ill_schema.specs.ValueFits.{IsNumeric, EntriesFit, ItemFits, ItemsFit};
+ghost use Rattle.ill_schema.specs.code.ValueFits.{IsNumeric, EntriesFit, ItemFits, ItemsFit};
 ghost use Rattle.ill_schema.specs.declared.part.Row.{Row};
 
 use crate::entry::{is_carried, may_lack};

@@ -1,3 +1,3 @@
 pub mod Numbers
 pub mod Shown
-pub mod Pages
+pub mod code

@@ -17,7 +17,7 @@ const DIGITS: &[u8; 16] = b"0123456789abcdef";
 impl Page {
     ghost use Rattle.std.specs.Prelude.{◌≡◌, ◌++◌, ◌≤◌, [], OnOk, Some, take, length, decimal, codes};
     ghost use Rattle.std.specs.Fmt.{signed_decimal};
-    ghost use Rattle.ill_text.specs.Pages.{Adds};
+    ghost use Rattle.ill_text.specs.code.Pages.{Adds};
     ghost use Rattle.ill_text.specs.Numbers.{number_name};
     ghost use Rattle.ill_text.specs.Shown.{escaped, quoted, line, within, in_brackets};
 

@@ -3,7 +3,7 @@ ghost use Rattle.std.specs.Prelude.{◌≡◌, [], not, IfOk};
 ghost use Rattle.ill_schema.specs.Message.{apdu_of};
 ghost use Rattle.ill_schema.specs.Value.{content_of, entries_content, items_content};
 ghost use Rattle.ill_schema.specs.Content.{sequence, list};
-ghost use Rattle.ill_text.specs.Pages.{Adds, place_at};
+ghost use Rattle.ill_text.specs.code.Pages.{Adds, place_at};
 ghost use Rattle.ill_text.specs.Shown.{lines_of, is_empty, shown_text, part, item_of};
 
 use crate::page::Page;

@@ -13,7 +13,7 @@ use Rattle.ill_schema.specs.Elements.{tag_at, joined, element_tag, element_tree}
 use Rattle.ill_schema.specs.Table.{kind_of}
 use Rattle.ill_schema.proofs.Trees.{sizes-joined, simple_tree}
 use Rattle.ill_write.specs.ContentSizes.{content_sizes, all_content_sizes}
-use Rattle.ill_write.specs.Measured.{Measures, MeasuresOne}
+use Rattle.ill_write.specs.code.Measured.{Measures, MeasuresOne}
 use Rattle.ill_write.proofs.Joined.{content_sizes-joined, filled}
 
 pub leaf_tree : (r : Option (Class × ℕ)) (node : NodeId) (c : Content) (v : Simple) (tag : Class × ℕ) → c ≡ simple v → tag_at tag ≡ element_tag r (kind_of node) c

@@ -14,7 +14,7 @@ use Rattle.ill_schema.specs.Content.{Content, simple, sequence, list, alternativ
 use Rattle.ill_schema.specs.Elements.{element_tag, own_number}
 use Rattle.ill_schema.specs.Table.{kind_of, rows_of}
 use Rattle.ill_schema.specs.Tagging.{leaf_of, leaf_tag, universal}
-use Rattle.ill_write.specs.Valid.{is_universal, is_valid, is_valid_tag, is_valid_place}
+use Rattle.ill_write.specs.code.Valid.{is_universal, is_valid, is_valid_tag, is_valid_place}
 
 universal_id : (n : ℕ) (f : Bool) → n ≤ 268_435_455 → (n ≡ 0 → ⊥) → HasIdentifier (universal n) f
 universal_id n f le ne = record { number = le; not_end = λ _ e. absurd (ne e) }

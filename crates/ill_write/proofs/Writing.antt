@@ -1,13 +1,13 @@
 -- Elements as they are written.
 use Rattle.std.proofs.Common.{◌≡◌, ℕ, ◌+◌, ◌≤◌, true, List, [], ◌∷◌, ◌++◌, length, get_or, Option, Some, refl, sym, ap, ap₂, subst, ◌∙◌, arith, append_assoc, append-nil, length-append, Result, Ok, Err}
 use Rattle.ber_core.proofs.Encodings.{length-encodings}
-use Rattle.ill_write.specs.Puts.{Puts}
+use Rattle.ill_write.specs.code.Puts.{Puts}
 use Rattle.ill_write.proofs.Putting.{puts_then, puts_failed, puts_nothing, as_failed}
 use Rattle.ber_core.specs.Identifier.{Tag, identifier}
 use Rattle.ber_core.specs.Length.{shortest_length}
 use Rattle.ber_core.specs.Tree.{Tree, Trees, constructed, none, more}
 use Rattle.ber_core.specs.Der.{encoding, encodings, sizes}
-use Rattle.ill_write.specs.Ahead.{Ahead}
+use Rattle.ill_write.specs.code.Ahead.{Ahead}
 use Rattle.ill_schema.specs.Elements.{joined, place_trees, trees_unless, row_tree}
 use Rattle.ill_write.specs.ContentSizes.{all_content_sizes}
 use Rattle.ill_schema.specs.Value.{content_of}

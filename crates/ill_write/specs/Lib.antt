@@ -1,7 +1,4 @@
 pub mod ContentSizes
 pub mod Sizes
-pub mod Measured
 pub mod Written
-pub mod Puts
-pub mod Ahead
-pub mod Valid
+pub mod code

@@ -9,8 +9,8 @@ ghost use Rattle.ill_schema.specs.Elements.{tag_at, row_tree, element_tree, plac
 ghost use Rattle.ill_schema.specs.Normal.{normal_trees, normal_items};
 ghost use Rattle.ill_schema.specs.Table.{rows_of};
 ghost use Rattle.ill_schema.specs.Value.{content_of, entries_content, items_content};
-ghost use Rattle.ill_write.specs.Measured.{Measures, MeasuresOne};
-ghost use Rattle.ill_write.specs.Valid.{is_valid, is_valid_tag, is_valid_place};
+ghost use Rattle.ill_write.specs.code.Measured.{Measures, MeasuresOne};
+ghost use Rattle.ill_write.specs.code.Valid.{is_valid, is_valid_tag, is_valid_place};
 
 use crate::element::{element_size, element_tag, row_at};
 use ber_core::Class;

@@ -3,10 +3,10 @@ ghost use Rattle.std.specs.Prelude.{◌≡◌, ◌<◌, IfOk, IfErr, IsErr, IsEr
 ghost use Rattle.std.specs.Io.KnownBytes.{Appends, Keeps};
 ghost use Rattle.ill_schema.specs.Apdu.{normal_form};
 ghost use Rattle.ill_schema.specs.Message.{apdu_of};
-ghost use Rattle.ill_write.specs.Ahead.{Ahead};
+ghost use Rattle.ill_write.specs.code.Ahead.{Ahead};
 ghost use Rattle.ill_write.specs.ContentSizes.{content_sizes, tree_of};
 ghost use Rattle.ill_write.specs.Sizes.{contents_of, total_of};
-ghost use Rattle.ill_write.specs.Puts.{Puts};
+ghost use Rattle.ill_write.specs.code.Puts.{Puts};
 ghost use Rattle.ill_write.specs.Written.{IfPartWritten};
 
 use crate::bytes::Bytes;

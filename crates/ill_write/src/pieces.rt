@@ -7,7 +7,7 @@ ghost use Rattle.ber_core.specs.Tree.{primitive};
 ghost use Rattle.ber_leaf.specs.Leaf.{normal_content};
 ghost use Rattle.ber_leaf.specs.Profile.{profile_two};
 ghost use Rattle.ill_schema.specs.Elements.{tag_at};
-ghost use Rattle.ill_write.specs.Puts.{Puts};
+ghost use Rattle.ill_write.specs.code.Puts.{Puts};
 
 use crate::element::identifier_of;
 use crate::progress::Progress;

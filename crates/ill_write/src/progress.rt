@@ -20,7 +20,7 @@ pub struct Progress {
 
 impl Progress {
     ghost use Rattle.std.specs.Prelude.{◌≡◌, ◌+◌, ◌-◌, ◌^◌, List, [], Option, IfOk, IsErr, IsTrue};
-    ghost use Rattle.ill_write.specs.Puts.{Puts, Stands};
+    ghost use Rattle.ill_write.specs.code.Puts.{Puts, Stands};
 
     /// Nothing is given yet.
     pub fn new() -> Progress

@@ -1,6 +1,6 @@
 //! The loop over `put`.
 ghost use Rattle.std.specs.Prelude.{IsErr, IsTrue};
-ghost use Rattle.ill_write.specs.Puts.{Sends};
+ghost use Rattle.ill_write.specs.code.Puts.{Sends};
 
 use ber_core::{Broken, Sink};
 

@@ -6,10 +6,10 @@ ghost use Rattle.ill_schema.specs.Elements.{row_tree, element_tree, place_trees,
 ghost use Rattle.ill_schema.specs.Normal.{normal_trees, normal_items};
 ghost use Rattle.ill_schema.specs.Table.{rows_of};
 ghost use Rattle.ill_schema.specs.Value.{content_of, entries_content, items_content};
-ghost use Rattle.ill_write.specs.Ahead.{Ahead};
+ghost use Rattle.ill_write.specs.code.Ahead.{Ahead};
 ghost use Rattle.ill_write.specs.ContentSizes.{content_sizes, all_content_sizes};
-ghost use Rattle.ill_write.specs.Puts.{Puts};
-ghost use Rattle.ill_write.specs.Valid.{is_valid, is_valid_tag, is_valid_place};
+ghost use Rattle.ill_write.specs.code.Puts.{Puts};
+ghost use Rattle.ill_write.specs.code.Valid.{is_valid, is_valid_tag, is_valid_place};
 
 use crate::element::{element_tag, row_at};
 use crate::pieces::{open_element, write_primitive, write_short};

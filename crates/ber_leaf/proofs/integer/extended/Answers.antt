@@ -1,6 +1,6 @@
 use Rattle.std.proofs.Common.{◌≡◌, ℕ, ◌-◌, ◌<◌, ◌≤◌, length, List, [], ◌∷◌, ◌++◌, refl, replicate, ap, sym, get_or, ◌∙◌, arith, length-take, length-drop}
 use borrow.Rule.Slice.PartMut.{put_mid}
-use Rattle.ber_leaf.specs.Sign.{sign_octet}
+use Rattle.ber_leaf.specs.code.Sign.{sign_octet}
 use Rattle.ber_leaf.proofs.integer.extended.Goals as goal
 use Rattle.ber_leaf.proofs.integer.extended.Goals.{then-octets-lt128, else-octets-lt128}
 

@@ -2,7 +2,7 @@ use Rattle.std.proofs.Common.{◌≡◌, Some, sym, ap, ◌∙◌, option_map}
 use Rattle.std.specs.Prelude.{slice_get}
 use Rattle.ber_core.specs.Id.{tag_of_id}
 use Rattle.ill_schema.specs.Table.{rows_of}
-use Rattle.ill_read.specs.Code.{found_is}
+use Rattle.ill_read.specs.Elements.{found_is}
 use Rattle.ill_read.proofs.Components.{starts-found, starts-skip}
 use Rattle.ill_read.proofs.due.alternative.Goals as goal
 

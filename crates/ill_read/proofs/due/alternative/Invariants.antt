@@ -2,7 +2,7 @@ use Rattle.std.proofs.Common.{◌≡◌, drop}
 use Rattle.std.specs.Prelude.{flat_map}
 use Rattle.ber_core.specs.Id.{tag_of_id}
 use Rattle.ber_leaf.specs.Profile.{profile_two}
-use Rattle.ill_read.specs.Code.{element_with, alternative_starts}
+use Rattle.ill_read.specs.Elements.{element_with, alternative_starts}
 use Rattle.ill_refusals.specs.Element.{components, component_starts}
 use Rattle.ill_read.proofs.due.alternative.Given as goal
 

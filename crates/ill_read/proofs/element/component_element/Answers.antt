@@ -3,7 +3,7 @@ use Rattle.ber_core.specs.Id.{tag_of_id}
 use Rattle.ber_leaf.specs.Profile.{profile_two}
 use Rattle.ill_schema.specs.declared.part.Presence.{Presence}
 use Rattle.ill_schema.specs.Tagging.{tagging}
-use Rattle.ill_read.specs.Code.{element_is, element_with, component_at}
+use Rattle.ill_read.specs.Elements.{element_is, element_with, component_at}
 use Rattle.ill_refusals.specs.Element.{Element, Start, left_out, leave_out, tagged_starts}
 use Rattle.ill_read.proofs.Starts.{element_with-leave_out}
 use Rattle.ill_read.proofs.element.component_element.Goals as goal

@@ -2,7 +2,7 @@ use Rattle.std.proofs.Common.{◌≡◌, sym, subst}
 use Rattle.std.specs.Prelude.{option_map}
 use Rattle.ber_core.specs.Id.{tag_of_id}
 use Rattle.ill_schema.specs.declared.node.Kind.{Kind}
-use Rattle.ill_read.specs.Code.{element_is, element_with}
+use Rattle.ill_read.specs.Elements.{element_is, element_with}
 use Rattle.ill_refusals.specs.Element.{own_starts}
 use Rattle.ill_read.proofs.element.element_of_kind.Goals as goal
 

@@ -3,7 +3,7 @@ use Rattle.std.specs.Prelude.{if◌then◌else◌, option_map, Some, None}
 use Rattle.ber_core.specs.Identifier.{Tag}
 use Rattle.ber_core.specs.Id.{tag_of_id}
 use Rattle.ill_schema.specs.Tagging.{same_tag}
-use Rattle.ill_read.specs.Code.{element_is, element_with}
+use Rattle.ill_read.specs.Elements.{element_is, element_with}
 use Rattle.ill_refusals.specs.Element.{leaf, leaf_start}
 use Rattle.ill_read.specs.LeafTypes.{leaf_is}
 use Rattle.ill_read.specs.declared.element.Element.TheVariants.{Leaf}

@@ -1,6 +1,6 @@
 use Rattle.std.proofs.Common.{sym, ap, ◌∙◌}
 use Rattle.ill_schema.specs.declared.node.Kind.{Kind}
-use Rattle.ill_read.specs.Code.{first_element}
+use Rattle.ill_read.specs.Elements.{first_element}
 use Rattle.ill_refusals.specs.Element.{own_starts}
 use Rattle.ill_read.proofs.element.retagged_element.Goals as goal
 

@@ -4,7 +4,7 @@ use Rattle.ber_core.specs.Identifier.{Tag}
 use Rattle.ber_core.specs.Id.{tag_of_id}
 use Rattle.ill_schema.specs.Tagging.{Tagging, same_tag}
 use Rattle.ill_schema.specs.Table.{kind_of}
-use Rattle.ill_read.specs.Code.{element_with, component_at, tagging_is, first_element}
+use Rattle.ill_read.specs.Elements.{element_with, component_at, tagging_is, first_element}
 use Rattle.ill_refusals.specs.Element.{own_starts, tagged_starts}
 use Rattle.ill_read.proofs.Starts.{element_with-retag}
 use Rattle.ill_read.proofs.element.tagged_element.Goals as goal

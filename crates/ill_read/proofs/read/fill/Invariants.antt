@@ -1,7 +1,7 @@
 use Rattle.std.proofs.Common.{◌≡◌, ℕ, ◌+◌, List, length, IsTrue}
 use Rattle.std.specs.Io.KnownBytes.{Consumes}
-use Rattle.ill_read.specs.DecoderCode.{IsFed}
-use Rattle.ill_read.specs.Filling.{NoneEndsWithin}
+use Rattle.ill_read.specs.code.DecoderCode.{IsFed}
+use Rattle.ill_read.specs.code.Filling.{NoneEndsWithin}
 use Rattle.ill_read.proofs.read.fill.Given as goal
 
 -- What was taken is what the decoder was fed.

@@ -1,7 +1,7 @@
 use Rattle.std.proofs.Common.{rules, ◌≡◌, ◌≤◌, [], ◌++◌, length, append-nil, take, drop, refl, sym, subst, ap, ◌∙◌, arith}
 use Rattle.std.proofs.lemmas.List.{length-take-le, take-append-le}
-use Rattle.ill_read.specs.DecoderCode.{IsFed}
-use Rattle.ill_read.specs.Filling.{NoneEndsWithin}
+use Rattle.ill_read.specs.code.DecoderCode.{IsFed}
+use Rattle.ill_read.specs.code.Filling.{NoneEndsWithin}
 use Rattle.ill_read.proofs.Filled.{none_yet, pulled_exact, pulled_ended}
 use Rattle.ill_read.proofs.read.pull.Goals as goal
 

@@ -1,5 +1,5 @@
 use Rattle.std.proofs.Common.{◌↔◌, drop}
-use Rattle.ill_schema.specs.ValueFits.{EntriesFit, ItemsFit}
+use Rattle.ill_schema.specs.code.ValueFits.{EntriesFit, ItemsFit}
 use Rattle.ill_schema.proofs.shape.+fits.Given as goal
 
 -- the whole fits exactly if what is left does

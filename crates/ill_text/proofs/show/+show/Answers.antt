@@ -1,6 +1,6 @@
 use Rattle.std.proofs.Common.{◌≡◌, ◌<◌, ◌∙◌, length, sym, ap, rules, arith}
 use Rattle.ill_schema.proofs.Contents.{content_of-Seq}
-use Rattle.ill_text.specs.Pages.{place_at}
+use Rattle.ill_text.specs.code.Pages.{place_at}
 use Rattle.ill_text.proofs.Lines.{take-within, list_lines, some_if_not_empty, lines_end}
 use Rattle.ill_text.proofs.show.+show.Goals as goal
 

@@ -1,6 +1,6 @@
 use Rattle.std.proofs.Common.{◌≡◌, ◌++◌, drop}
 use Rattle.ill_schema.specs.Value.{entries_content, items_content}
-use Rattle.ill_text.specs.Pages.{place_at}
+use Rattle.ill_text.specs.code.Pages.{place_at}
 use Rattle.ill_text.specs.Shown.{entry_lines, item_lines}
 use Rattle.ill_text.proofs.show.+show.Given as goal
 

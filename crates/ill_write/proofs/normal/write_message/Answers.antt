@@ -3,7 +3,7 @@ use Rattle.ber_core.specs.Der.{encoding}
 use Rattle.ill_schema.specs.declared.node.NodeId.TheVariants.{IllApdu}
 use Rattle.ill_schema.specs.Apdu.{normal_form}
 use Rattle.ill_schema.specs.Message.{apdu_of}
-use Rattle.ill_write.specs.Puts.{Puts}
+use Rattle.ill_write.specs.code.Puts.{Puts}
 use Rattle.ill_write.proofs.Messages.{message_tree, message_small}
 use Rattle.ill_write.proofs.Putting.{puts_then}
 use Rattle.ill_write.proofs.Tags.{row_valid}

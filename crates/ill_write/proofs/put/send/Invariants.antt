@@ -1,6 +1,6 @@
 use Rattle.std.proofs.Common.{◌≡◌, ◌+◌, ◌-◌, ◌≤◌, IsTrue, length, take}
 use Rattle.std.specs.Io.KnownBytes.{Appends}
-use Rattle.ill_write.specs.Puts.{counted}
+use Rattle.ill_write.specs.code.Puts.{counted}
 use Rattle.ill_write.proofs.put.send.Given as goal
 
 abbrev pub invariant-loop-at : goal.invariant-loop-at

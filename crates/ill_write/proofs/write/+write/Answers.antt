@@ -8,8 +8,8 @@ use Rattle.ill_schema.specs.Table.{kind_of, rows_of}
 use Rattle.ill_schema.proofs.Contents.{content_of-Flag, content_of-Whole, content_of-Seq, content_of-List, content_of-Alt}
 use Rattle.ill_schema.specs.Elements.{tag_at, row_tree, element_tree, element_tag, place_trees, item_trees}
 use Rattle.ill_write.specs.ContentSizes.{content_sizes, all_content_sizes}
-use Rattle.ill_write.specs.Puts.{Puts}
-use Rattle.ill_write.specs.Ahead.{Ahead}
+use Rattle.ill_write.specs.code.Puts.{Puts}
+use Rattle.ill_write.specs.code.Ahead.{Ahead}
 use Rattle.ill_schema.proofs.Trees.{wrapped, sequence_tree, list_tree, chosen_tree, no_row_tree, entry_step, absent_step, item_step}
 use Rattle.ill_write.proofs.Tags.{place_valid, row_valid}
 use Rattle.ill_write.proofs.Measured.{leaf_tree, inside_small}

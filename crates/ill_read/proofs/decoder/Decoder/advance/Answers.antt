@@ -1,5 +1,6 @@
 use Rattle.std.proofs.Common.{◌≡◌, true, false, sym, subst, ◌∙◌}
-use Rattle.ill_read.specs.DecoderCode.{InState, StandsBefore}
+use Rattle.ill_read.specs.Standing.{StandsBefore}
+use Rattle.ill_read.specs.code.DecoderCode.{InState}
 use Rattle.ill_read.specs.declared.decoder.State.TheVariants.{Open}
 use Rattle.ill_read.proofs.decoder.Decoder.advance.Goals as goal
 use Rattle.ill_read.proofs.decoder.Decoder.advance.Goals.{in-Open, in_default}

@@ -2,7 +2,8 @@ use Rattle.std.proofs.Common.{◌≡◌, ℕ, [], true, Vec, Global, sym, subst,
 use Rattle.std.specs.Bool.{◌==◌}
 use Rattle.std.specs.Vec.{vec_len}
 use Rattle.std.proofs.lemmas.List.{nil_from_length}
-use Rattle.ill_read.specs.DecoderCode.{InState, StandsLast}
+use Rattle.ill_read.specs.Standing.{StandsLast}
+use Rattle.ill_read.specs.code.DecoderCode.{InState}
 use Rattle.ill_read.proofs.Fed.{is_open}
 use Rattle.ill_read.proofs.Needing.{two_at_least}
 use Rattle.ill_read.proofs.decoder.Decoder.ask.Goals as goal

@@ -1,5 +1,6 @@
 use Rattle.std.proofs.Common.{◌≡◌, ◌++◌, sym, subst, ap, ◌∙◌}
-use Rattle.ill_read.specs.DecoderCode.{InState, StandsLast}
+use Rattle.ill_read.specs.Standing.{StandsLast}
+use Rattle.ill_read.specs.code.DecoderCode.{InState}
 use Rattle.ill_read.proofs.decoder.Decoder.keep.Goals as goal
 
 pub returns-in_default-extend_from_slice : goal.returns-in_default-extend_from_slice

@@ -1,5 +1,5 @@
 use Rattle.std.proofs.Common.{◌≡◌, ◌-◌, drop, take, sym, subst, ap, ◌∙◌, arith}
-use Rattle.ill_read.specs.DecoderCode.{HasStopped}
+use Rattle.ill_read.specs.code.DecoderCode.{HasStopped}
 use Rattle.ill_read.proofs.Moving.{moved_front}
 use Rattle.ill_read.proofs.decoder.Decoder.keep_after.Goals as goal
 

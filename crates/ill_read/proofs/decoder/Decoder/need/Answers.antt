@@ -1,6 +1,6 @@
 use Rattle.std.proofs.Common.{◌≡◌, ◌≤◌, ℕ, List, length, take, ap, subst, ◌∙◌, arith}
 use Rattle.std.proofs.lemmas.List.{take_all}
-use Rattle.ill_read.specs.DecoderCode.{StandsLast}
+use Rattle.ill_read.specs.Standing.{StandsLast}
 use Rattle.ill_read.specs.Need.{IsNeed}
 use Rattle.ill_read.proofs.Needing.{few, needs_after, need_open, need_at_least}
 use Rattle.ill_read.proofs.decoder.Decoder.need.Goals as goal

@@ -1,5 +1,5 @@
 use Rattle.std.proofs.Common.{[], refl, sym, subst}
-use Rattle.ill_read.specs.DecoderCode.{StandsLast}
+use Rattle.ill_read.specs.Standing.{StandsLast}
 use Rattle.ill_read.proofs.decoder.Decoder.new.Goals as goal
 
 pub returns : goal.returns

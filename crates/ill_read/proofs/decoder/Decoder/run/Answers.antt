@@ -1,5 +1,5 @@
 use Rattle.std.proofs.Common.{subst}
-use Rattle.ill_read.specs.DecoderCode.{HasStopped}
+use Rattle.ill_read.specs.code.DecoderCode.{HasStopped}
 use Rattle.ill_read.proofs.decoder.Decoder.run.Goals as goal
 
 pub returns-clause-stopped : goal.returns-clause-stopped

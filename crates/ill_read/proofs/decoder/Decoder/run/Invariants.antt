@@ -1,6 +1,6 @@
 use Rattle.std.proofs.Common.{◌≡◌, ℕ, ◌+◌, ◌-◌, ◌*◌, ◌≤◌, List, length, drop}
-use Rattle.ill_read.specs.DecoderCode.{IsRunning}
-use Rattle.ill_read.specs.Progress.{depth_of}
+use Rattle.ill_read.specs.code.DecoderCode.{IsRunning}
+use Rattle.ill_read.specs.code.Progress.{depth_of}
 use Rattle.ill_read.proofs.decoder.Decoder.run.Given as goal
 
 abbrev pub invariant-loop-size : goal.invariant-loop-size

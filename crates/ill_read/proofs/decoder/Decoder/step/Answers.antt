@@ -2,8 +2,9 @@ use Rattle.std.proofs.Common.{◌+◌, ◌≤◌, Ok, drop, take, length, sym, s
 use Rattle.ber_leaf.specs.Profile.{profile_two}
 use Rattle.ill_schema.specs.Apdu.{Encodes}
 use Rattle.ill_refusals.specs.Fault.{judge}
-use Rattle.ill_read.specs.DecoderCode.{body_apdu, InState, StandsBefore}
-use Rattle.ill_read.specs.Judged.{IsStep}
+use Rattle.ill_read.specs.Standing.{StandsBefore}
+use Rattle.ill_read.specs.code.DecoderCode.{body_apdu, InState}
+use Rattle.ill_read.specs.code.Judged.{IsStep}
 use Rattle.ill_refusals.specs.code.Step.{moved}
 use Rattle.ill_read.proofs.Fed.{after_end}
 use Rattle.ill_read.proofs.Stepping.{goes_on, is_whole, is_refused}

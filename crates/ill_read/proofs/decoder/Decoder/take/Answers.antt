@@ -2,7 +2,8 @@ use Rattle.std.proofs.Common.{◌≡◌, ◌<◌, ◌-◌, ◌++◌, [], drop, t
 use Rattle.std.proofs.lemmas.List.{length-drop, nil_from_length, take_all}
 use Rattle.ber_core.specs.Octets.{are_octets}
 use Rattle.ber_leaf.proofs.Leaves.{octets_fit}
-use Rattle.ill_read.specs.DecoderCode.{HasStopped, InState, IsRunning, StandsBefore}
+use Rattle.ill_read.specs.Standing.{StandsBefore}
+use Rattle.ill_read.specs.code.DecoderCode.{HasStopped, InState, IsRunning}
 use Rattle.ill_read.specs.declared.decoder.State.TheVariants.{Open}
 use Rattle.ill_read.proofs.Fed.{running_longer, ended_longer}
 use Rattle.ill_read.proofs.decoder.Decoder.take.Goals as goal

@@ -1,8 +1,8 @@
 use Rattle.std.proofs.Common.{◌∙◌, Option, Some, None, Ok, refl, sym, subst}
 use Rattle.ill_schema.specs.declared.value.Value.{Value}
-use Rattle.ill_read.specs.Judged.{IsStep}
+use Rattle.ill_read.specs.code.Judged.{IsStep}
 use Rattle.ill_refusals.specs.code.Step.{moved}
-use Rattle.ill_read.specs.Stepping.{EndsExactly}
+use Rattle.ill_read.specs.code.Stepping.{EndsExactly}
 use Rattle.ill_read.specs.declared.path.Body.{Body}
 use Rattle.ill_read.specs.declared.path.Path.{Path}
 use Rattle.ill_read.proofs.Closing.{IsShorter, segment_closed, value_closed, value_refused, value_there, handed_on}

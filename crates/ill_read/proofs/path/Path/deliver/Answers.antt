@@ -1,6 +1,6 @@
 use Rattle.std.proofs.Common.{◌∙◌, ℕ, Vec, Global, Option, Ok, refl, sym, ap, subst}
-use Rattle.ill_read.specs.Held.{HasAdded, rows_before}
-use Rattle.ill_read.specs.Judged.{IsStep}
+use Rattle.ill_read.specs.code.Held.{HasAdded, rows_before}
+use Rattle.ill_read.specs.code.Judged.{IsStep}
 use Rattle.ill_refusals.specs.code.Step.{with_tree}
 use Rattle.ill_read.specs.declared.path.Body.{Body}
 use Rattle.ill_read.specs.declared.values.Values.{Values}

@@ -5,7 +5,7 @@ use Rattle.ber_core.specs.Octets.{are_octets}
 use Rattle.ber_leaf.proofs.Leaves.{octets_fit}
 use Rattle.ill_read.specs.HeaderCode.{IsLengthRead}
 use Rattle.ill_refusals.specs.Fault.{fault_of}
-use Rattle.ill_read.specs.Judged.{IsJudged}
+use Rattle.ill_read.specs.code.Judged.{IsJudged}
 use Rattle.ill_refusals.specs.Reading.{identified, read_length}
 use Rattle.ill_read.proofs.Judges.{behind_identifier, begun_judged}
 use Rattle.ill_refusals.proofs.Headers.{read_is_identifier}

@@ -2,10 +2,10 @@ use Rattle.std.proofs.Common.{◌≡◌, ◌<◌, get_or, drop, IsTrue, sym, ap,
 use Rattle.ber_core.specs.Octets.{are_octets}
 use Rattle.ber_core.specs.declared.header.Len.TheVariants.{Definite}
 use Rattle.ber_leaf.proofs.Leaves.{octets_fit}
-use Rattle.ill_read.specs.Code.{element_is}
+use Rattle.ill_read.specs.Elements.{element_is}
 use Rattle.ill_read.specs.HeaderCode.{IsLengthRead, IsWholeLength}
 use Rattle.ill_refusals.specs.Fault.{fault_of}
-use Rattle.ill_read.specs.Judged.{IsJudged}
+use Rattle.ill_read.specs.code.Judged.{IsJudged}
 use Rattle.ill_refusals.specs.Reading.{read_length}
 use Rattle.ill_read.specs.declared.header.LengthRead.TheVariants.{Whole}
 use Rattle.ill_read.proofs.Judges.{definite_judged}

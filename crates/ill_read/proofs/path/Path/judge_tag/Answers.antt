@@ -3,7 +3,7 @@ use Rattle.ber_core.specs.Id.{tag_of_id}
 use Rattle.ber_leaf.specs.Profile.{profile_two}
 use Rattle.ill_read.specs.DueCode.{IsDueIn, next_is}
 use Rattle.ill_refusals.specs.Next.{due}
-use Rattle.ill_read.specs.JudgeCode.{IsFormed}
+use Rattle.ill_read.specs.code.JudgeCode.{IsFormed}
 use Rattle.ill_read.proofs.Frames.{frames_open}
 use Rattle.ill_read.proofs.Judges.{deep_judged, unexpected_judged, identified_judged}
 use Rattle.ill_read.proofs.path.Path.judge_tag.Goals as goal

@@ -1,5 +1,5 @@
 use Rattle.std.proofs.Common.{◌≡◌, drop}
-use Rattle.ill_read.specs.JudgeCode.{outermost_end}
+use Rattle.ill_read.specs.code.JudgeCode.{outermost_end}
 use Rattle.ill_read.proofs.path.Path.outermost_end.Given as goal
 
 abbrev pub invariant-loop-frame : goal.invariant-loop-frame

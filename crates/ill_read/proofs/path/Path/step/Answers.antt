@@ -1,6 +1,6 @@
 use Rattle.std.proofs.Common.{◌∙◌, length, take, ap, subst}
-use Rattle.ill_read.specs.Judged.{IsJudgement, with_body}
-use Rattle.ill_read.specs.Progress.{depth_of, size_of, IsProgress}
+use Rattle.ill_read.specs.code.Judged.{IsJudgement, with_body}
+use Rattle.ill_read.specs.code.Progress.{depth_of, size_of, IsProgress}
 use Rattle.ill_read.specs.declared.judge.Judgement.{Judgement}
 use Rattle.ill_read.specs.declared.judge.Judgement.TheVariants.{Reads}
 use Rattle.ill_read.proofs.Taking.{reads_judged}

@@ -1,5 +1,5 @@
 use Rattle.std.proofs.Common.{Option, Ok, refl, sym, subst}
-use Rattle.ill_read.specs.Judged.{IsStep}
+use Rattle.ill_read.specs.code.Judged.{IsStep}
 use Rattle.ill_read.specs.declared.path.Body.{Body}
 use Rattle.ill_read.specs.declared.path.Path.{Path}
 use Rattle.ill_read.proofs.Taking.{content_read, leaf_read, segment_read}

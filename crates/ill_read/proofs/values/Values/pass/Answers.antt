@@ -1,6 +1,6 @@
 use Rattle.std.proofs.Common.{take, drop, arith, sym, ap, ◌∙◌, subst}
 use Rattle.ill_schema.specs.Table.{rows_of}
-use Rattle.ill_read.specs.Held.{HasPassed}
+use Rattle.ill_read.specs.code.Held.{HasPassed}
 use Rattle.ill_read.specs.declared.values.Values.{Values}
 use Rattle.ill_read.proofs.Holding.{passed-more, passed-past}
 use Rattle.ill_read.proofs.values.Values.pass.Goals as goal

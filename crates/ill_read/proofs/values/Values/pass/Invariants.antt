@@ -1,6 +1,6 @@
 use Rattle.std.proofs.Common.{◌<◌, ◌≤◌, drop, take}
 use Rattle.ill_schema.specs.Table.{rows_of}
-use Rattle.ill_read.specs.Held.{HasPassed}
+use Rattle.ill_read.specs.code.Held.{HasPassed}
 use Rattle.ill_read.proofs.values.Values.pass.Given as goal
 
 abbrev pub invariant-loop-number : goal.invariant-loop-number

@@ -1,5 +1,5 @@
 use Rattle.std.proofs.Common.{rules, ◌≡◌, ◌+◌, ◌++◌, ◌≤◌, [], Ok, refl, take, length, ◌-◌, ap, sym, subst, ◌∙◌}
-use Rattle.ill_write.specs.Puts.{Puts}
+use Rattle.ill_write.specs.code.Puts.{Puts}
 use Rattle.ill_write.proofs.Putting.{puts_nothing, puts_then, puts_failed, sent_on, kept, as_failed}
 use Rattle.std.proofs.lemmas.Slice.{take-put_mid}
 use Rattle.ill_write.proofs.progress.Progress.put.Goals as goal

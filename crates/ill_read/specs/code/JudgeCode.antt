@@ -6,9 +6,9 @@ use Rattle.ber_core.specs.declared.id.Id.{Id}
 use Rattle.ber_leaf.specs.Profile.{Profile, profile_two}
 use Rattle.ill_schema.specs.declared.refusal.Cause.{Cause}
 use Rattle.ill_schema.specs.declared.refusal.Refusal.{Refusal}
-use Rattle.ill_read.specs.Code.{element_is, found_is}
+use Rattle.ill_read.specs.Elements.{element_is, found_is}
 use Rattle.ill_refusals.specs.Fault.{Fault, fault, Judgement, faulty, judge_form, judge_tag, fault_of}
-use Rattle.ill_read.specs.Judged.{IsBegin, IsJudged}
+use Rattle.ill_read.specs.code.Judged.{IsBegin, IsJudged}
 use Rattle.ill_refusals.specs.Place.{Open, bound, allows}
 use Rattle.ill_read.specs.Standing.{StandsAt}
 use Rattle.ill_read.specs.declared.due.Due.{Due}

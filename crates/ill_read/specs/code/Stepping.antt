@@ -14,9 +14,9 @@ use Rattle.ill_schema.specs.declared.value.Value.{Value}
 use Rattle.ill_refusals.specs.Next.{missing}
 use Rattle.ill_refusals.specs.Place.{Open, next_in}
 use Rattle.ill_refusals.specs.Fault.{Judgement, fault, element_fault, or_faulty, reads, fault_of}
-use Rattle.ill_read.specs.Code.{element_is}
+use Rattle.ill_read.specs.Elements.{element_is}
 use Rattle.ill_read.specs.DueCode.{IsDueIn}
-use Rattle.ill_read.specs.Judged.{IsEnd, IsBegin, IsStep}
+use Rattle.ill_read.specs.code.Judged.{IsEnd, IsBegin, IsStep}
 use Rattle.ill_read.specs.LeafTypes.{leaf_is}
 use Rattle.ill_read.specs.Standing.{next_at, text_so_far, IsValueOf, IsFrame, StandsAt}
 use Rattle.ill_refusals.specs.code.Step.{moved, opened, with_tree}

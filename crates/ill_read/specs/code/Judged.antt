@@ -12,10 +12,10 @@ use Rattle.ill_schema.specs.Value.{content_of}
 use Rattle.ill_refusals.specs.Next.{missing}
 use Rattle.ill_refusals.specs.Place.{Open, next_in, allows}
 use Rattle.ill_refusals.specs.Fault.{fault_of, Judgement, faulty, closes, opens, reads, element_fault, or_faulty, judge}
-use Rattle.ill_read.specs.Code.{element_is}
+use Rattle.ill_read.specs.Elements.{element_is}
 use Rattle.ill_read.specs.DueCode.{IsDueIn}
 use Rattle.ill_read.specs.Standing.{next_at, StandsAt}
-use Rattle.ill_read.specs.Progress.{size_of}
+use Rattle.ill_read.specs.code.Progress.{size_of}
 use Rattle.ill_refusals.specs.code.Step.{Step, refused, goes, whole, moved}
 use Rattle.ill_read.specs.declared.due.Slot.{Slot}
 use Rattle.ill_read.specs.declared.element.Element.{Element as CodeElement}

@@ -1,40 +1,22 @@
 -- What the decoder's private functions say: how it stands for the octets that it has been fed.
-use Rattle.std.specs.Prelude.{◌≡◌, ℕ, ◌+◌, ◌<◌, ◌≤◌, List, [], ◌++◌, length, drop, Option, Some, None, Result, Ok, Err, IsTrue}
-use Rattle.ber_core.specs.Octets.{are_octets}
+use Rattle.std.specs.Prelude.{◌≡◌, ℕ, ◌+◌, ◌<◌, ◌≤◌, List, [], length, drop, Option, Some, None, Result, Ok, Err}
 use Rattle.ber_leaf.specs.Profile.{profile_two}
 use Rattle.ill_schema.specs.declared.message.Message.{Message}
-use Rattle.ill_schema.specs.declared.refusal.Cause.{Cause}
 use Rattle.ill_schema.specs.declared.refusal.Refusal.{Refusal}
 use Rattle.ill_schema.specs.Apdu.{Apdu, normal_form}
 use Rattle.ill_schema.specs.Message.{apdu_of, octets_of}
 use Rattle.ill_schema.specs.Value.{apdu_with}
 use Rattle.ill_read.specs.Answers.{IsRead, IsPart, IsRefused}
-use Rattle.ill_refusals.specs.Fault.{fault, faulty, judge, fault_of}
-use Rattle.ill_read.specs.Judged.{IsJudgement}
+use Rattle.ill_refusals.specs.Fault.{faulty, judge, fault_of}
+use Rattle.ill_read.specs.code.Judged.{IsJudgement}
 use Rattle.ill_refusals.specs.Outcome.{OnlyRefuses}
-use Rattle.ill_refusals.specs.Place.{Open, IsPlace}
-use Rattle.ill_read.specs.Standing.{StandsAt}
+use Rattle.ill_read.specs.Standing.{StandsBefore, StandsLast}
 use Rattle.ill_read.specs.declared.decoder.Decoder.{Decoder}
 use Rattle.ill_read.specs.declared.decoder.State.{State}
 use Rattle.ill_read.specs.declared.decoder.State.TheVariants as state
 use Rattle.ill_read.specs.declared.failure.Failure.{Failure}
 use Rattle.ill_read.specs.declared.judge.Judgement.{Judgement}
 use Rattle.ill_read.specs.declared.path.Body.{Body}
-use Rattle.ill_read.specs.declared.path.Path.{Path}
-
--- a path that stands at a place of the octets, with the rest of them after it
-pub record StandsBefore (path : Path) (at : ℕ) (s rest : List ℕ) : Type 0 where
-  pub place : List Open
-  pub before : List ℕ
-  pub joined : s ≡ before ++ rest
-  pub octets : IsTrue (are_octets s)
-  pub offset : at ≡ length before
-  pub stands : StandsAt path place
-  pub is_place : IsPlace profile_two before place
-
--- the rest doesn't reach the next place
-abbrev pub StandsLast : Path → ℕ → List ℕ → List ℕ → Type 0
-StandsLast path at s rest = (b : StandsBefore path at s rest) × (judge profile_two b.place at rest ≡ faulty (fault Cause.Truncated (length s)))
 
 -- a message was read of the octets, or they are refused, or else this holds
 abbrev pub InState : State → List ℕ → Type 0 → Type 0

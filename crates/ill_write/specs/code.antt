@@ -1,0 +1,4 @@
+pub mod Measured
+pub mod Puts
+pub mod Ahead
+pub mod Valid
