@@ -5,7 +5,7 @@ use Rattle.ber_core.specs.Length.{shortest_length}
 use Rattle.ber_core.specs.Tree.{Tree, Trees, primitive, constructed, none, more}
 
 abbrev mutual
-  -- identifier, shortest length and contents
+  -- identifier, shortest length and contents (10.1)
   pub encoding : Tree → List ℕ
   encoding (primitive tag octets) = identifier tag false ++ (shortest_length (length octets) ++ octets)
   encoding (constructed tag trees) = identifier tag true ++ (shortest_length (length (encodings trees)) ++ encodings trees)

@@ -1,4 +1,4 @@
--- The elements that may stand in an open element, by their tags.
+-- The elements that may stand in an open element, by their tags (X.690, 8.9, 8.10, 8.13 and 8.14).
 use Rattle.std.specs.Prelude.{ℕ, ◌+◌, List, [], ◌∷◌, ◌++◌, flat_map}
 use Rattle.ber_core.specs.Identifier.{Tag}
 use Rattle.ill_schema.specs.declared.node.Kind.{Kind}
@@ -12,7 +12,7 @@ use Rattle.ber_leaf.specs.Profile.{Profile}
 use Rattle.ill_schema.specs.Tagging.{Tagging, untagged, implicit, explicit, explicit_or_bare, tagging, sequence_tag, leaf_tag}
 use Rattle.ill_schema.specs.Table.{kind_of, rows_of}
 
--- a component of a sequence: a row with its place in the tables
+-- a component of a SEQUENCE (8.9): a row with its place in the tables
 pub record Component : Type 0 where
   pub part : PartId
   pub presence : Presence
@@ -28,10 +28,11 @@ components_from p node n (row ∷ rows) =
 abbrev pub components : Profile → NodeId → List Component
 components p node = components_from p node 0 (rows_of node)
 
--- what an explicit tag stands round: the component without its tag
+-- what an explicit tag stands round (8.14.2): the component without its tag
 abbrev pub inner : Component → Component
 inner c = record c { presence = Presence.Must; tagging = untagged }
 
+-- what an element is, by what was due where it stands
 pub data Element : Type 0 where
   leaf : Leaf → Element
   sequence : NodeId → Element
@@ -40,10 +41,11 @@ pub data Element : Type 0 where
   wrapper : Component → Element
   -- the same, which may also stand round the components of its node
   loose_wrapper : Component → Element
-  -- an OCTET STRING in a string
+  -- an OCTET STRING in a string (8.7.3.2, 8.23.6)
   segment : Element
   left_out : PartId → Element
 
+-- a tag, and what an element with this tag is
 pub record Start : Type 0 where
   pub tag : Tag
   pub element : Element
@@ -54,7 +56,7 @@ start tag element = record { tag = tag; element = element }
 abbrev pub leaf_start : Leaf → Start
 leaf_start l = start (leaf_tag l) (leaf l)
 
--- the elements of a node that is no choice, each with its own tag
+-- the elements of a node that is not a choice, each with its type's tag
 abbrev pub own_starts : Kind → NodeId → List Start
 own_starts Kind.Seq node = start sequence_tag (sequence node) ∷ []
 own_starts Kind.SeqOf node = start sequence_tag (list node) ∷ []
@@ -67,16 +69,19 @@ own_starts (Kind.Leaf LeafKind.Time) node = leaf_start iso_time ∷ []
 own_starts (Kind.Leaf LeafKind.Printable) node = leaf_start printable_string ∷ []
 own_starts Kind.IllString node = leaf_start general_string ∷ leaf_start visible_string ∷ []
 
+-- with an implicit tag in place of their own (8.14.3)
 abbrev pub retag : Tag → List Start → List Start
 retag tag [] = []
 retag tag (s ∷ ss) = start tag s.element ∷ retag tag ss
 
+-- the elements of a component under a tagging
 abbrev pub tagged_starts : Tagging → Component → List Start
 tagged_starts untagged c = own_starts (kind_of c.node) c.node
 tagged_starts (implicit tag) c = retag tag (own_starts (kind_of c.node) c.node)
 tagged_starts (explicit tag) c = start tag (wrapper (inner c)) ∷ []
 tagged_starts (explicit_or_bare tag) c = start tag (loose_wrapper (inner c)) ∷ []
 
+-- the same tags, of a row that is not read
 abbrev pub leave_out : PartId → List Start → List Start
 leave_out part [] = []
 leave_out part (s ∷ ss) = start s.tag (left_out part) ∷ leave_out part ss
@@ -88,7 +93,7 @@ component_starts c = elim c.presence as (λ _. List Start) [
   | _ ↦ tagged_starts c.tagging c
 ]
 
--- the elements by which the component may begin: an untagged choice goes by its alternatives
+-- the elements by which the component may begin: an untagged choice goes by its alternatives (8.13)
 abbrev pub starts : Profile → Component → List Start
 starts p c = elim c.tagging as (λ _. List Start) [
   | untagged ↦ component_starts c ++ elim (kind_of c.node) as (λ _. List Start) [ Kind.Choice ↦ flat_map component_starts (components p c.node) | _ ↦ [] ]

@@ -1,4 +1,4 @@
--- What may come next in an open element.
+-- What may come next in an open element (X.690, 8.7.3, 8.9 and 8.10).
 use Rattle.std.specs.Prelude.{◌≡◌, true, false, List, [], ◌∷◌, Option, Some, None, if◌then◌else◌, find}
 use Rattle.ber_core.specs.Identifier.{Tag}
 use Rattle.ber_core.specs.Tree.{Tree, Trees, none, more, tag_of, octet_string, IsString}
@@ -11,6 +11,7 @@ use Rattle.ill_schema.specs.Presence.{IsCarried}
 use Rattle.ill_schema.specs.Meaning.{Means}
 use Rattle.ill_refusals.specs.Element.{Component, components, Element, leaf, sequence, list, wrapper, loose_wrapper, segment, left_out, Start, starts}
 
+-- what may come next
 pub data Next : Type 0 where
   -- the components from a position on
   rows : List Component → Next
@@ -21,7 +22,7 @@ pub data Next : Type 0 where
   -- OCTET STRINGs
   segments : Next
 
--- an element that is due: of which component, and what may come behind it
+-- an element that is due: of which component, and what may come after it
 pub data Due : Type 0 where
   part : Component → Element → Next → Due
   octets : Due
@@ -34,10 +35,11 @@ abbrev pub next_of : Due → Next
 next_of (part c e n) = n
 next_of octets = segments
 
+-- the start of a component that has the tag
 abbrev pub start_of : Profile → Tag → Component → Option Start
 start_of p tag c = find (λ s. same_tag s.tag tag) (starts p c)
 
--- a component is due if each before it may be absent
+-- a component is due if each before it may be absent (8.9.2, 8.9.3)
 abbrev pub due_in : Profile → Tag → List Component → Option Due
 due_in p tag [] = None
 due_in p tag (c ∷ cs) = elim (start_of p tag c) as (λ _. Option Due) [
@@ -52,6 +54,7 @@ due p tag (items c) = elim (start_of p tag c) as (λ _. Option Due) [ Some s ↦
 due p tag (either c) = elim (same_tag tag sequence_tag) as (λ _. Option Due) [ true ↦ due_in p tag (c ∷ []) | false ↦ due_in p tag (components p c.node) ]
 due p tag segments = if same_tag tag octet_string then Some octets else None
 
+-- the first component that may not be absent
 abbrev pub first_mandatory : List Component → Option PartId
 first_mandatory [] = None
 first_mandatory (c ∷ cs) = elim c.presence as (λ _. Option PartId) [ Presence.Must ↦ Some c.part | _ ↦ first_mandatory cs ]
@@ -73,7 +76,7 @@ opening p (loose_wrapper c) = either c
 opening p segment = segments
 opening p (left_out _) = rows []
 
--- what may come behind the trees
+-- what may come after the trees
 abbrev pub next_after : Profile → Next → Trees → Next
 next_after p n none = n
 next_after p n (more T ts) = elim (due p (tag_of T) n) as (λ _. Next) [ Some d ↦ next_after p (next_of d) ts | None ↦ n ]

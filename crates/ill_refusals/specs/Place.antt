@@ -33,7 +33,7 @@ innermost_end (o ∷ path) = elim o.end as (λ _. Option ℕ) [ Some e ↦ Some 
 abbrev pub bound : Profile → List Open → ℕ
 bound p path = unwrap_or (innermost_end path) p.limit
 
--- whether the element may have the form
+-- whether the element may have the form: a string both (8.7.1, 8.23), another leaf only primitive (8.2.1, 8.3.1, 8.4), all else only constructed (8.9.1, 8.10.1, 8.14.2)
 abbrev pub allows : Element → Bool → Bool
 allows (leaf l) true = is_string l
 allows (leaf l) false = true
@@ -41,7 +41,7 @@ allows segment constructed = true
 allows (left_out part) constructed = false
 allows _ constructed = constructed
 
--- the octets of a constructed header, and the end that they give
+-- the octets of a constructed header (X.690, 8.1.2 and 8.1.3), and the end that they give
 abbrev pub IsOpening : Open → List ℕ → Type 0
 IsOpening o header = (octets : List ℕ) × HasIdentifier o.tag true × (header ≡ identifier o.tag true ++ octets)
     × (((o.end ≡ None) × (octets ≡ 128 ∷ [])) ⊎ ((n : ℕ) × IsLength n octets × (o.end ≡ Some (o.start + length header + n))))

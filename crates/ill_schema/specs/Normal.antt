@@ -9,12 +9,13 @@ use Rattle.ill_schema.specs.Tagging.{Tagging, tagging, tag_tree, leaf_tag, leaf_
 use Rattle.ill_schema.specs.Presence.{is_default}
 use Rattle.ill_schema.specs.Table.{kind_of, rows_of}
 
+-- a leaf is primitive (10.2), with its normal content
 abbrev normal_simple : Simple → NodeId → Tagging → Tree
 normal_simple v node g =
     tag_tree g (elim (leaf_of (kind_of node) v) as (λ _. Tag) [ Some leaf ↦ leaf_tag leaf | None ↦ sequence_tag ]) (λ tag. primitive tag (normal_content v))
 
 abbrev mutual
-  -- strings are primitive, TRUE is FF, defaults have no tree, and each explicit tag holds one tree
+  -- strings are primitive (10.2), TRUE is FF (11.1), defaults have no tree (11.5), and each explicit tag holds one tree (8.14.2)
   pub normal_tree : Content → NodeId → Tagging → Tree
   normal_tree (simple v) node g = normal_simple v node g
   normal_tree (sequence es) node g = tag_tree g sequence_tag (λ tag. constructed tag (normal_trees es (rows_of node)))

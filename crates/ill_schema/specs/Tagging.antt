@@ -8,17 +8,18 @@ use Rattle.ber_leaf.specs.Profile.{Profile}
 use Rattle.ber_leaf.specs.Simple.{Simple, flag, whole, date, time, printable, general, visible}
 use Rattle.ill_schema.specs.declared.{node.Kind.Kind, node.LeafKind.LeafKind, part.Mode.Mode, part.Row.Row}
 
+-- a tag of class universal (X.680, 8.4)
 abbrev pub universal : ℕ → Tag
 universal number = record { class = Class.Universal; number = number }
 
 abbrev pub same_tag : Tag → Tag → Bool
 same_tag s t = nat_eq (class_bits s.class) (class_bits t.class) && nat_eq s.number t.number
 
--- SEQUENCE, and SEQUENCE OF (X.690, 8.9 and 8.10)
+-- SEQUENCE, and SEQUENCE OF (X.680, 25 and 26)
 abbrev pub sequence_tag : Tag
 sequence_tag = universal 16
 
--- the tag of a leaf where no other stands in its place; ISO-Date and ISO-Time are VisibleStrings
+-- the tag of a leaf where no other stands in its place (X.680, 18 to 20 and 41); ISO-Date and ISO-Time of ISO 10161-1 are VisibleStrings
 abbrev pub leaf_tag : Leaf → Tag
 leaf_tag boolean = universal 1
 leaf_tag integer = universal 2
@@ -44,13 +45,14 @@ leaf_of _ _ = None
 pub data Tagging : Type 0 where
   -- the type's own tag
   untagged : Tagging
-  -- in place of the type's tag
+  -- IMPLICIT: in place of the type's tag (X.690, 8.14.3)
   implicit : Tag → Tagging
-  -- round the whole element
+  -- EXPLICIT: round the whole element (X.690, 8.14.2)
   explicit : Tag → Tagging
-  -- round the SEQUENCE, or directly round its components
+  -- of the rows that the profile lets stand bare: round the SEQUENCE, or directly round its components
   explicit_or_bare : Tag → Tagging
 
+-- the tagging that a row's mode and tag say
 abbrev tagged_by : Profile → Mode → Tag → Tagging
 tagged_by p Mode.Implicit tag = implicit tag
 tagged_by p Mode.Explicit tag = explicit tag
