@@ -13,7 +13,8 @@ use Rattle.ill_read.specs.Elements.{element_is}
 use Rattle.ill_read.specs.DueCode.{IsDueIn}
 use Rattle.ill_refusals.specs.Element.{segment}
 use Rattle.ill_refusals.specs.Next.{missing}
-use Rattle.ill_refusals.specs.Fault.{Judgement, closes, fault, element_fault, or_faulty}
+use Rattle.ill_refusals.specs.Fault.{fault, element_fault}
+use Rattle.ill_refusals.specs.code.Judge.{Judgement, closes, or_faulty}
 use Rattle.ill_read.specs.code.Judged.{IsEnd, IsStep, with_body}
 use Rattle.ill_refusals.specs.Place.{Open, next_in}
 use Rattle.ill_read.specs.Standing.{next_at, text_so_far, IsHeld, IsFrame, IsValueOf, AreFrames, StandsAt}

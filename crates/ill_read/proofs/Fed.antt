@@ -8,7 +8,8 @@ use Rattle.ill_schema.specs.declared.refusal.Cause.{Cause}
 use Rattle.ill_schema.specs.declared.refusal.Refusal.{Refusal}
 use Rattle.ill_schema.specs.Apdu.{Apdu, Encodes, Accepts}
 use Rattle.ill_schema.specs.Message.{apdu_of, octets_of}
-use Rattle.ill_refusals.specs.Fault.{Fault, fault, faulty, judge, Refuses, fault_of}
+use Rattle.ill_refusals.specs.Fault.{Fault, fault, Refuses, fault_of}
+use Rattle.ill_refusals.specs.code.Judge.{faulty, judge}
 use Rattle.ill_read.specs.Answers.{IsRead, IsPart, IsRefused, DecodeAnswers}
 use Rattle.ill_read.specs.Standing.{StandsBefore, StandsLast}
 use Rattle.ill_read.specs.code.DecoderCode.{IsFed, IsMessageOf, FinishAnswers, InState}

@@ -14,7 +14,8 @@ use Rattle.ill_schema.specs.declared.refusal.Refusal.{Refusal}
 use Rattle.ill_read.specs.Elements.{element_is, found_is}
 use Rattle.ill_read.specs.DueCode.{IsDueIn, next_is}
 use Rattle.ill_refusals.specs.Element.{Element}
-use Rattle.ill_refusals.specs.Fault.{Fault, fault, Judgement, faulty, closes, reads, element_fault, or_faulty, ends_at, wanting, judge_end, judge_size, judge_length, judge_form, judge_tag, judge_element, judge_octets, judge}
+use Rattle.ill_refusals.specs.Fault.{Fault, fault, element_fault, ends_at, wanting}
+use Rattle.ill_refusals.specs.code.Judge.{Judgement, faulty, closes, reads, or_faulty, judge_end, judge_size, judge_length, judge_form, judge_tag, judge_element, judge_octets, judge}
 use Rattle.ill_read.specs.code.JudgeCode.{IsFormed, IsIdentified, judge_identified}
 use Rattle.ill_read.specs.code.Judged.{IsBegin, IsEnd, IsJudged, content_in}
 use Rattle.ill_refusals.specs.Next.{Due, due, element_of, missing}

@@ -16,7 +16,8 @@ use Rattle.ber_core.proofs.Identifiers.{IsEnd, identifier_no_end}
 use Rattle.ber_leaf.specs.Profile.{Profile, profile_two}
 use Rattle.ill_schema.specs.declared.refusal.Cause.{Cause}
 use Rattle.ill_schema.specs.Apdu.{Apdu, Accepts}
-use Rattle.ill_refusals.specs.Fault.{fault, Judgement, faulty, closes, opens, reads, is_indefinite, judge}
+use Rattle.ill_refusals.specs.Fault.{fault, is_indefinite}
+use Rattle.ill_refusals.specs.code.Judge.{Judgement, faulty, closes, opens, reads, judge}
 use Rattle.ill_read.specs.Standing.{StandsLast}
 use Rattle.ill_read.specs.HeaderCode.{Lacks, IsHeaderRead, IsLengthRead, IsWholeLength, need_read}
 use Rattle.ill_read.specs.code.JudgeCode.{outermost_end}

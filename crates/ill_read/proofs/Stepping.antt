@@ -11,7 +11,8 @@ use Rattle.ill_schema.specs.Content.{alternative}
 use Rattle.ill_schema.specs.Meaning.{Means}
 use Rattle.ill_schema.specs.Tagging.{untagged}
 use Rattle.ill_schema.specs.Value.{content_of}
-use Rattle.ill_refusals.specs.Fault.{Fault, Judgement, closes, reads, judge, or_faulty, fault_of}
+use Rattle.ill_refusals.specs.Fault.{Fault, fault_of}
+use Rattle.ill_refusals.specs.code.Judge.{Judgement, closes, reads, judge, or_faulty}
 use Rattle.ill_read.specs.Answers.{IsRefused}
 use Rattle.ill_read.specs.Standing.{StandsBefore}
 use Rattle.ill_read.specs.code.DecoderCode.{body_apdu}

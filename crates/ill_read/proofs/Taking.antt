@@ -7,7 +7,8 @@ use Rattle.ber_leaf.specs.Profile.{profile_two}
 use Rattle.ill_schema.specs.declared.value.Value.{Value}
 use Rattle.ill_read.specs.Elements.{element_is}
 use Rattle.ill_read.specs.DueCode.{IsDueIn}
-use Rattle.ill_refusals.specs.Fault.{Judgement, element_fault, or_faulty, reads}
+use Rattle.ill_refusals.specs.Fault.{element_fault}
+use Rattle.ill_refusals.specs.code.Judge.{Judgement, or_faulty, reads}
 use Rattle.ill_read.specs.code.Judged.{IsBegin, IsJudgement, IsStep}
 use Rattle.ill_refusals.specs.Place.{Open, allows}
 use Rattle.ill_read.specs.Standing.{next_at, AreFrames, StandsAt}

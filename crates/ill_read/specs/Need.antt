@@ -2,7 +2,8 @@
 use Rattle.std.specs.Prelude.{◌≡◌, ℕ, ◌+◌, Bool, true, false, ◌&&◌, nat_eq, List, [], ◌∷◌, ◌++◌, length, Option, Some, None}
 use Rattle.ber_leaf.specs.Profile.{profile_two}
 use Rattle.ill_schema.specs.declared.refusal.Cause.{Cause}
-use Rattle.ill_refusals.specs.Fault.{fault, faulty, is_indefinite, judge}
+use Rattle.ill_refusals.specs.Fault.{fault, is_indefinite}
+use Rattle.ill_refusals.specs.code.Judge.{faulty, judge}
 use Rattle.ill_read.specs.HeaderCode.{Lacks}
 use Rattle.ill_refusals.specs.Place.{Open, IsPlace}
 use Rattle.ill_refusals.specs.Reading.{IdentifierRead, identified, part_identifier, no_identifier, read_identifier, LengthRead, definite, indefinite, part_length, no_length, read_length}

@@ -31,7 +31,8 @@ use Rattle.ill_read.specs.declared.element.Found.TheVariants as found
 use Rattle.ill_read.specs.declared.element.Wrapped.{Wrapped}
 use Rattle.ill_read.specs.declared.frame.Frame.{Frame}
 use Rattle.ill_read.specs.declared.path.Path.{Path}
-use Rattle.ill_refusals.specs.Fault.{fault, faulty, judge}
+use Rattle.ill_refusals.specs.Fault.{fault}
+use Rattle.ill_refusals.specs.code.Judge.{faulty, judge}
 use Rattle.ill_schema.specs.declared.refusal.Cause.{Cause}
 
 -- the text of the string that is open, as far as it has been read

@@ -98,7 +98,8 @@ impl Started {
 impl Path {
     ghost use Rattle.std.specs.Prelude.{◌+◌, ◌<◌, ℕ, List, ◌++◌, min, drop};
     ghost use Rattle.ill_read.specs.code.Progress.{depth_of, size_of, IsProgress, HeaderIsIn};
-    ghost use Rattle.ill_refusals.specs.Fault.{fault_of, wanting, judge_end, judge_mark, judge_octets, judge_element, judge_length, judge_size};
+    ghost use Rattle.ill_refusals.specs.Fault.{fault_of, wanting};
+    ghost use Rattle.ill_refusals.specs.code.Judge.{judge_end, judge_mark, judge_octets, judge_element, judge_length, judge_size};
     ghost use Rattle.ill_read.specs.code.Judged.{JudgesExactly};
     ghost use Rattle.ill_read.specs.code.JudgeCode.{WhereItStands, Judges, JudgesWithin, JudgesStarted, IsIdentified};
     ghost use Rattle.ill_read.specs.Elements.{element_is};

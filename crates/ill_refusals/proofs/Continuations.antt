@@ -2,7 +2,9 @@
 use Rattle.std.proofs.Common.{◌≡◌, ◌⊎◌, ℕ, zero, suc, ◌+◌, ◌≤◌, List, [], ◌∷◌, ◌++◌, length, length-append, take, drop, Some, None, IsTrue, sym, ap, subst, ◌∙◌, inl, inr, arith}
 use Rattle.ber_core.specs.Tree.{Tree}
 use Rattle.ill_schema.specs.Apdu.{Apdu, Encodes, normal_form}
-use Rattle.ill_refusals.specs.Fault.{Fault, Judgement, faulty, closes, opens, reads, judge, fault_in}
+use Rattle.ill_refusals.proofs.FirstFault.{has_fault}
+use Rattle.ill_refusals.specs.Fault.{Fault}
+use Rattle.ill_refusals.specs.code.Judge.{Judgement, faulty, closes, opens, reads, judge}
 use Rattle.ber_core.specs.Octets.{are_octets}
 use Rattle.ill_refusals.specs.Outcome.{OnlyAccepts, OnlyRefuses}
 use Rattle.ill_refusals.specs.Place.{Open, IsPlace, IsDue}
@@ -28,7 +30,7 @@ refused_at p path u rest f h e =
     let st : step p path (length u) rest ≡ refused f = step_is p path (length u) rest (faulty f) e in
     let r : Runs p (begin (u ++ rest)) (goes path (length u) rest) = subst (λ w. Runs p (begin (u ++ rest)) (goes path (length u) w)) z (due_run p (u ++ rest) path (length u) d) in
     refused_alone p (u ++ rest) f
-    (inl (path, length u, d, ap (λ w. fault_in (judge p path (length u) w)) z ∙ ap fault_in e))
+    (inl (path, length u, d, has_fault p path (length u) (drop (length u) (u ++ rest)) f (ap (judge p path (length u)) z ∙ e)))
     (runs-trans p _ _ _ r (runs-step p path (length u) rest (refused f) st))
 
 -- a whole message is the one outcome

@@ -9,8 +9,10 @@ use Rattle.ill_schema.specs.declared.node.NodeId.TheVariants.{IllApdu}
 use Rattle.ill_schema.specs.Apdu.{Apdu, MeansApdu}
 use Rattle.ill_schema.specs.Content.{Content, simple, alternative}
 use Rattle.ill_schema.specs.Content as content
+use Rattle.ill_refusals.proofs.FirstFault.{has_fault}
 use Rattle.ill_refusals.specs.Element.{Element, Start}
-use Rattle.ill_refusals.specs.Fault.{Judgement, faulty, closes, opens, reads, judge, fault_at, fault_in}
+use Rattle.ill_refusals.specs.Fault.{fault_at}
+use Rattle.ill_refusals.specs.code.Judge.{Judgement, faulty, closes, opens, reads, judge}
 use Rattle.ber_core.specs.Octets.{are_octets}
 use Rattle.ill_schema.specs.Meaning.{Means}
 use Rattle.ill_refusals.specs.Next.{rows, Due, part, element_of, due, start_of, opening, IsWhole}
@@ -294,7 +296,7 @@ moved_placed p s path k rest (faulty f) ok h e r =
       path,
       k,
       (omega (arith, ap length h.1, length-append u rest), subst (λ z. IsPlace p z path) (sym t) h.3),
-      ap (λ z. fault_in (judge p path k z)) g ∙ ap fault_in e,
+      has_fault p path k (drop k s) f (ap (judge p path k) g ∙ e),
     )
 moved_placed p s path k rest (closes m) ok h e r = closes_placed p s path k rest m ok h r
 moved_placed p s path k rest (opens tag x n end) ok h e r = opens_placed p s path k rest tag x n end h r

@@ -1,3 +1,4 @@
+pub mod FirstFault
 pub mod Machine
 pub mod Rows
 pub mod WholeElements

@@ -2,7 +2,7 @@
 use Rattle.std.proofs.Common.{◌≡◌, ℕ, zero, suc, ◌+◌, ◌*◌, List, [], length, refl, sym, ap, ◌∙◌, arith}
 use Rattle.ber_leaf.specs.Profile.{Profile}
 use Rattle.ill_refusals.specs.Place.{Open}
-use Rattle.ill_refusals.specs.Fault.{judge}
+use Rattle.ill_refusals.specs.code.Judge.{judge}
 use Rattle.ill_refusals.specs.code.Step.{Step, refused, goes, whole, stuck, moved}
 
 abbrev pub step : Profile → List Open → ℕ → List ℕ → Step

@@ -5,7 +5,9 @@ use Rattle.std.proofs.lemmas.List.{length-drop, length-take-le, take-append-drop
 use Rattle.ber_core.specs.Tree.{Tree, Spells}
 use Rattle.ill_schema.specs.declared.refusal.Cause.{Cause}
 use Rattle.ill_schema.specs.Apdu.{Apdu, MeansApdu, Encodes, normal_form}
-use Rattle.ill_refusals.specs.Fault.{Fault, fault, Judgement, faulty, closes, opens, reads, fault_at, fault_in, Refuses}
+use Rattle.ill_refusals.proofs.FirstFault.{is_judged}
+use Rattle.ill_refusals.specs.Fault.{Fault, fault, fault_at, Refuses}
+use Rattle.ill_refusals.specs.code.Judge.{faulty}
 use Rattle.ber_core.specs.Octets.{are_octets}
 use Rattle.ill_refusals.specs.Outcome.{OnlyAccepts, OnlyRefuses, HasOneOutcome}
 use Rattle.ill_refusals.specs.Place.{Open, IsDue}
@@ -29,12 +31,6 @@ encodes_run p s a n le h =
     let r = message_run p a (take n s) (drop n s) h in
     subst (λ z. Runs p (begin z) (whole h.tree n)) (take-append-drop n s) (subst (λ m. Runs p (begin (take n s ++ drop n s)) (whole h.tree m)) (length-take-le n s le) r)
 
-pub is_faulty : (j : Judgement) (f : Fault) → fault_in j ≡ Some f → j ≡ faulty f
-is_faulty (faulty g) f e = let q : g ≡ f = cc in ap faulty q
-is_faulty (closes m) f e = absurd cc
-is_faulty (opens tag x n end) f e = absurd cc
-is_faulty (reads tag n octets) f e = absurd cc
-
 -- it reaches each place that is due
 pub due_run : (p : Profile) (s : List ℕ) (path : List Open) (k : ℕ) → IsDue p s k path → Runs p (begin s) (goes path k (drop k s))
 due_run p s path k h =
@@ -44,13 +40,13 @@ due_run p s path k h =
 -- and ends at each fault of a place that is due
 pub fault_run : (p : Profile) (s : List ℕ) (path : List Open) (k : ℕ) (f : Fault) → IsDue p s k path → fault_at p path k (drop k s) ≡ Some f → Runs p (begin s) (refused f)
 fault_run p s path k f h e =
-    let st : step p path k (drop k s) ≡ refused f = step_is p path k (drop k s) (faulty f) (is_faulty _ f e) in
+    let st : step p path k (drop k s) ≡ refused f = step_is p path k (drop k s) (faulty f) (is_judged p path k (drop k s) f e) in
     runs-trans p _ _ _ (due_run p s path k h) (runs-step p path k (drop k s) (refused f) st)
 
 -- the fault of octets that end too early is at their end
 pub truncated_size : (p : Profile) (s : List ℕ) (f : Fault) → f.cause ≡ Cause.Truncated → Refuses p s f → f.at ≡ length s
 truncated_size p s f c (inl h) =
-    let at : f ≡ fault Cause.Truncated (h.1 + length (drop h.1 s)) = (truncated_at p h.0 h.1 (drop h.1 s) f (is_faulty _ f h.3) c).1 in
+    let at : f ≡ fault Cause.Truncated (h.1 + length (drop h.1 s)) = (truncated_at p h.0 h.1 (drop h.1 s) f (is_judged p h.0 h.1 (drop h.1 s) f h.3) c).1 in
     let le = h.2.0 in
     ap (λ (x : Fault). x.at) at ∙ omega (arith, length-drop h.1 s, le)
 truncated_size p s f c (inr h) = absurd (let q : Cause.NormalTooLong ≡ Cause.Truncated = sym (ap (λ (x : Fault). x.cause) h.0) ∙ c in cc)

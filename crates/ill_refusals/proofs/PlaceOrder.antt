@@ -1,7 +1,8 @@
 -- The places of one input stand in one order, and only the last can have a fault.
 use Rattle.std.proofs.Common.{◌≡◌, ◌⊎◌, ℕ, zero, suc, ◌+◌, ◌-◌, ◌<◌, ◌≤◌, true, false, List, [], ◌∷◌, length, take, drop, Some, IsTrue, refl, sym, ap, subst, ◌∙◌, inl, inr, arith}
 use Rattle.ber_core.specs.Tree.{Tree}
-use Rattle.ill_refusals.specs.Fault.{Fault, Judgement, faulty, closes, opens, reads, judge, fault_at}
+use Rattle.ill_refusals.specs.Fault.{Fault, fault_at}
+use Rattle.ill_refusals.specs.code.Judge.{Judgement, faulty, closes, opens, reads, judge}
 use Rattle.ber_core.specs.Octets.{are_octets}
 use Rattle.ill_refusals.specs.Place.{Open, IsDue}
 use Rattle.ber_leaf.specs.Profile.{Profile}
@@ -11,7 +12,8 @@ use Rattle.ill_refusals.proofs.Machine.{step, after, after-sum, IsFinal, Runs}
 use Rattle.std.proofs.lemmas.List.{take-append-drop, length-take-le}
 use Rattle.ill_refusals.proofs.DueSteps.{Placed, step_placed}
 use Rattle.ill_refusals.proofs.Headers.{octets_right}
-use Rattle.ill_refusals.proofs.OneOutcome.{begin, due_run, is_faulty}
+use Rattle.ill_refusals.proofs.FirstFault.{is_judged}
+use Rattle.ill_refusals.proofs.OneOutcome.{begin, due_run}
 
 -- a later place: further on, or at the same offset with fewer elements open
 abbrev Later : List Open → ℕ → Step → Type 0
@@ -117,7 +119,7 @@ last_place p s a b k l f ok h e g = elim (either_leads p (begin s) (goes a k (dr
       let m : l ≡ k = cc in let n : length a ≡ length b = ap length (same_path a b k l (drop k s) (drop l s) q) in inr (m, omega arith)
   | inr x ↦ elim x [
     | inl r ↦
-        let st : step p a k (drop k s) ≡ refused f = ap (λ j. moved j a k (drop k s)) (is_faulty _ f e) in
+        let st : step p a k (drop k s) ≡ refused f = ap (λ j. moved j a k (drop k s)) (is_judged p a k (drop k s) f e) in
         let q : refused f ≡ goes b l (drop l s) = sym (ap (after p r.0) st ∙ final_stays p r.0 (refused f) tt) ∙ r.1 in
         absurd cc
     | inr r ↦ elim (leads_later p s b a l k ok g r) [ inl y ↦ inl y | inr y ↦ let z = y.1 in inr (y.0, omega arith) ]

@@ -6,8 +6,10 @@ use Rattle.std.proofs.lemmas.List.{take-append-drop, take-append-le, drop-append
 use Rattle.ber_core.specs.Identifier.{Tag}
 use Rattle.ill_schema.specs.declared.refusal.Cause.{Cause}
 use Rattle.ill_schema.specs.Apdu.{Apdu, Encodes, Accepts}
+use Rattle.ill_refusals.proofs.FirstFault.{has_fault, is_judged}
 use Rattle.ill_refusals.specs.Element.{Element, leaf, sequence, list, wrapper, loose_wrapper, segment, left_out}
-use Rattle.ill_refusals.specs.Fault.{Fault, fault, Judgement, faulty, opens, ends_at, is_indefinite, past_end, wanting, judge_end, judge_content, judge_size, judge_length, judge_form, judge_tag, judge_element, judge_mark, judge_octets, judge, fault_at, fault_in, Refuses}
+use Rattle.ill_refusals.specs.Fault.{Fault, fault, ends_at, is_indefinite, past_end, wanting, fault_at, Refuses}
+use Rattle.ill_refusals.specs.code.Judge.{Judgement, faulty, opens, judge_end, judge_content, judge_size, judge_length, judge_form, judge_tag, judge_element, judge_mark, judge_octets, judge}
 use Rattle.ber_core.specs.Octets.{are_octets}
 use Rattle.ill_refusals.specs.Next.{Due, element_of, due}
 use Rattle.ill_refusals.specs.Outcome.{HasOneOutcome}
@@ -180,7 +182,7 @@ fault_longer : (p : Profile) (s x : List ℕ) (path : List Open) (k : ℕ) (f : 
     → (f ≡ truncated (length s)) ⊎ (IsDue p (s ++ x) k path × (fault_at p path k (drop k (s ++ x)) ≡ Some f))
 fault_longer p s x path k f h e = elim (longer p path k (drop k s) x) [
   | inl i ↦
-      let q : Some f ≡ Some (truncated (k + length (drop k s))) = sym e ∙ ap fault_in i in
+      let q : Some f ≡ Some (truncated (k + length (drop k s))) = sym e ∙ has_fault p path k (drop k s) _ i in
       let r : f ≡ truncated (k + length (drop k s)) = cc in
       let le = h.0 in
       inl (r ∙ ap truncated (omega (arith, ap length (take-append-drop k s), length-append (take k s) (drop k s), length-take-le k s le)))
@@ -188,7 +190,7 @@ fault_longer p s x path k f h e = elim (longer p path k (drop k s) x) [
       let le = h.0 in
       inr (
         (omega (arith, length-append s x), subst (λ z. IsPlace p z path) (sym (take-append-le k s x le)) h.1),
-        ap (λ z. fault_at p path k z) (drop-append-le k s x le) ∙ ap fault_in i ∙ e,
+        ap (λ z. fault_at p path k z) (drop-append-le k s x le) ∙ has_fault p path k (drop k s ++ x) f (i ∙ is_judged p path k (drop k s) f e),
       )
 ]
 

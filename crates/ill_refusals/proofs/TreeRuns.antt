@@ -4,7 +4,7 @@ use Rattle.std.proofs.lemmas.List.{drop_at}
 use Rattle.ber_core.specs.Identifier.{Tag, identifier}
 use Rattle.ber_core.specs.Tree.{Tree, Trees, primitive, constructed, none, more, tag_of, IsDefinite, IsIndefinite, Spells, SpellsAll, depth, depth_all}
 use Rattle.ill_refusals.specs.Element.{Element}
-use Rattle.ill_refusals.specs.Fault.{Judgement, closes, judge}
+use Rattle.ill_refusals.specs.code.Judge.{Judgement, closes, judge}
 use Rattle.ill_refusals.specs.Next.{Next, Due, element_of, due, next_of, next_after, opening, IsWhole, AreWhole}
 use Rattle.ill_refusals.specs.Place.{Open, next_in, bound}
 use Rattle.ber_leaf.specs.Profile.{Profile}

@@ -1,18 +1,18 @@
--- What is to be done at a place: the conditions in their order, of which the first that holds gives the fault.
+-- The fault at a place: the conditions in their order, of which the first that holds counts.
 use Rattle.std.specs.Prelude.{◌≡◌, ◌⊎◌, ℕ, ◌+◌, ◌-◌, ◌<◌, ◌≤◌, Bool, true, false, ◌&&◌, nat_eq, nat_lt, nat_le, List, [], ◌∷◌, length, take, drop, Option, Some, None, is_some, if◌then◌else◌}
-use Rattle.ber_core.specs.Identifier.{Tag}
 use Rattle.ber_core.specs.Tree.{text_all}
 use Rattle.ill_schema.specs.declared.refusal.Cause.{Cause}
 use Rattle.ill_schema.specs.declared.refusal.Refusal.{Refusal}
 use Rattle.ber_leaf.specs.declared.fault.LeafFault.{LeafFault}
 use Rattle.ber_leaf.specs.Leaf.{content_fault}
+use Rattle.ill_schema.specs.declared.part.PartId.{PartId}
 use Rattle.ill_schema.specs.Causes.{cause_of}
 use Rattle.ber_leaf.specs.Profile.{Profile}
 use Rattle.ill_refusals.specs.Element.{Element, leaf, left_out}
-use Rattle.ill_refusals.specs.Next.{element_of, due, missing}
+use Rattle.ill_refusals.specs.Next.{Due, element_of, due, missing}
 use Rattle.ill_refusals.specs.Place.{Open, next_in, innermost_end, bound, allows, IsDue}
 use Rattle.ill_schema.specs.Apdu.{Apdu, Encodes, normal_form}
-use Rattle.ill_refusals.specs.Reading.{read_identifier, identified, part_identifier, no_identifier, read_length, definite, indefinite, part_length, no_length}
+use Rattle.ill_refusals.specs.Reading.{IdentifierRead, read_identifier, identified, part_identifier, no_identifier, LengthRead, read_length, definite, part_length, no_length}
 
 -- a cause and an offset
 pub record Fault : Type 0 where
@@ -25,16 +25,6 @@ fault cause at = record { cause = cause; at = at }
 -- the fault that a refusal names
 abbrev pub fault_of : Refusal → Fault
 fault_of r = fault r.cause r.at
-
--- what is done at a place
-pub data Judgement : Type 0 where
-  faulty : Fault → Judgement
-  -- the innermost element ends, behind so many octets
-  closes : ℕ → Judgement
-  -- a constructed element opens: its header's size, and its end
-  opens : Tag → Element → ℕ → Option ℕ → Judgement
-  -- a primitive element is read: its header's size, and its content
-  reads : Tag → ℕ → List ℕ → Judgement
 
 -- whether the innermost element is definite and ends there
 abbrev pub ends_at : List Open → ℕ → Bool
@@ -49,7 +39,7 @@ is_indefinite (o ∷ path) = elim o.end as (λ _. Bool) [ Some e ↦ false | Non
 abbrev pub past_end : List Open → Cause
 past_end path = if is_some (innermost_end path) then Cause.Overrun else Cause.TooLong
 
--- the fault where an octet is wanting: that end or the limit comes first, or the input's end
+-- the fault where an octet is missing: that end or the limit comes first, or the input's end
 abbrev pub wanting : Profile → List Open → ℕ → List ℕ → Fault
 wanting p path k rest =
     if nat_le (bound p path - k) (length rest) then fault (past_end path) k
@@ -59,84 +49,113 @@ wanting p path k rest =
 abbrev pub element_fault : Profile → Element → List ℕ → Option LeafFault
 element_fault p e octets = elim e as (λ _. Option LeafFault) [ leaf l ↦ content_fault p l octets | _ ↦ None ]
 
-abbrev pub or_faulty : Option LeafFault → ℕ → Judgement → Judgement
-or_faulty f at j = elim f as (λ _. Judgement) [ Some c ↦ faulty (fault (cause_of c) at) | None ↦ j ]
+-- what a condition finds at a place
+pub data Finding : Type 0 where
+  -- it does not hold
+  passes : Finding
+  -- it holds, and this is the fault
+  finds : Fault → Finding
+  -- it holds, and the place has no fault
+  sound : Finding
 
--- the innermost element ends: a part is missing, or a string's text is at fault
-abbrev pub judge_end : Profile → List Open → ℕ → ℕ → Judgement
-judge_end p [] k marks = closes marks
-judge_end p (o ∷ path) k marks = elim (missing p (next_in p (o ∷ path))) as (λ _. Judgement) [
-  | Some part ↦ faulty (fault (Cause.Missing part) k)
-  | None ↦ or_faulty (element_fault p o.element (text_all o.trees)) o.start (closes marks)
-]
+-- the first condition that holds gives the fault
+abbrev pub first_fault : List Finding → Option Fault
+first_fault [] = None
+first_fault (passes ∷ findings) = first_fault findings
+first_fault (finds f ∷ findings) = Some f
+first_fault (sound ∷ findings) = None
 
--- the contents of a primitive element
-abbrev pub judge_content : Profile → Element → Tag → ℕ → ℕ → Fault → ℕ → List ℕ → Judgement
-judge_content p e tag k h want n w =
-    if nat_lt (length w) n then faulty want
-    else or_faulty (element_fault p e (take n w)) k (reads tag h (take n w))
+-- an element ends at offset k: a mandatory part is missing, or the text of a string is at fault, at the string's first octet
+abbrev pub ended : Option PartId → ℕ → Option LeafFault → ℕ → Finding
+ended (Some part) k text start = finds (fault (Cause.Missing part) k)
+ended None k (Some c) start = finds (fault (cause_of c) start)
+ended None k None start = sound
 
-abbrev pub judge_size : Profile → List Open → Element → Tag → Bool → ℕ → ℕ → Fault → ℕ → List ℕ → Judgement
-judge_size p path e tag constructed k h want n w =
-    if nat_lt (bound p path) (k + h + n) then faulty (fault (past_end path) k)
-    else elim constructed as (λ _. Judgement) [ true ↦ opens tag e h (Some (k + h + n)) | false ↦ judge_content p e tag k h want n w ]
+-- the innermost element ends at offset k
+abbrev pub innermost_ends : Profile → List Open → ℕ → Finding
+innermost_ends p [] k = sound
+innermost_ends p (o ∷ path) k = ended (missing p (next_in p (o ∷ path))) k (element_fault p o.element (text_all o.trees)) o.start
 
--- the length, behind an identifier of i octets
-abbrev pub judge_length : Profile → List Open → Element → Tag → Bool → ℕ → ℕ → Fault → List ℕ → Judgement
-judge_length p path e tag constructed k i want w = elim (read_length constructed w) as (λ _. Judgement) [
-  | part_length ↦ faulty want
-  | no_length ↦ faulty (fault Cause.BadLength k)
-  | indefinite rest ↦ opens tag e (i + (length w - length rest)) None
-  | definite n rest ↦ judge_size p path e tag constructed k (i + (length w - length rest)) want n rest
-]
+-- 1. the innermost element is definite, and its end is here
+abbrev pub definite_end : Profile → List Open → ℕ → Finding
+definite_end p path k = if ends_at path k then innermost_ends p path k else passes
 
-abbrev pub judge_form : Profile → List Open → Element → Tag → Bool → ℕ → ℕ → Fault → List ℕ → Judgement
-judge_form p path e tag constructed k i want w = elim e as (λ _. Judgement) [
-  | left_out part ↦ faulty (fault (Cause.LeftOut part) k)
-  | _ ↦ elim (allows e constructed) as (λ _. Judgement) [ true ↦ judge_length p path e tag constructed k i want w | false ↦ faulty (fault Cause.WrongForm k) ]
-]
+-- 2. no octet is here
+abbrev pub no_octet : Fault → List ℕ → Finding
+no_octet want [] = finds want
+no_octet want (octet ∷ w) = passes
 
--- the tag and the form of an element
-abbrev pub judge_tag : Profile → List Open → Tag → Bool → ℕ → ℕ → Fault → List ℕ → Judgement
-judge_tag p path tag constructed k i want w = elim (due p tag (next_in p path)) as (λ _. Judgement) [
-  | None ↦ faulty (fault Cause.UnexpectedTag k)
-  | Some d ↦ judge_form p path (element_of d) tag constructed k i want w
-]
+-- the second octet of an end mark
+abbrev pub second_zero : Profile → List Open → ℕ → Fault → List ℕ → Finding
+second_zero p path k want [] = finds want
+second_zero p path k want (octet ∷ w) = if nat_eq octet 0 then innermost_ends p path k else finds (fault Cause.BadEnd k)
 
--- an element from its first octet on
-abbrev pub judge_element : Profile → List Open → ℕ → Fault → List ℕ → Judgement
-judge_element p path k want w = elim (read_identifier w) as (λ _. Judgement) [
-  | part_identifier ↦ faulty want
-  | no_identifier ↦ faulty (fault Cause.BadTag k)
-  | identified tag constructed rest ↦
-      if nat_le 32 (length path) then faulty (fault Cause.TooDeep k)
-      else judge_tag p path tag constructed k (length w - length rest) want rest
-]
+-- 3. the innermost element is indefinite, and 00 is here (X.690, 8.1.5)
+abbrev pub end_mark : Profile → List Open → ℕ → Fault → List ℕ → Finding
+end_mark p path k want [] = passes
+end_mark p path k want (octet ∷ w) = if is_indefinite path && nat_eq octet 0 then second_zero p path k want w else passes
 
--- behind the first octet of an end mark
-abbrev pub judge_mark : Profile → List Open → ℕ → Fault → List ℕ → Judgement
-judge_mark p path k want [] = faulty want
-judge_mark p path k want (octet ∷ w) = elim (nat_eq octet 0) as (λ _. Judgement) [ true ↦ judge_end p path k 2 | false ↦ faulty (fault Cause.BadEnd k) ]
+-- 4. the identifier ends too early, or none begins so (8.1.2)
+abbrev pub bad_identifier : ℕ → Fault → IdentifierRead → Finding
+bad_identifier k want part_identifier = finds want
+bad_identifier k want no_identifier = finds (fault Cause.BadTag k)
+bad_identifier k want (identified tag form w) = passes
 
--- an end mark or an element, in the octets that may be read
-abbrev pub judge_octets : Profile → List Open → ℕ → Fault → List ℕ → Judgement
-judge_octets p path k want [] = faulty want
-judge_octets p path k want (octet ∷ w) =
-    elim (is_indefinite path && nat_eq octet 0) as (λ _. Judgement) [ true ↦ judge_mark p path k want w | false ↦ judge_element p path k want (octet ∷ w) ]
+-- 5. 32 elements are open
+abbrev pub too_deep : List Open → ℕ → Finding
+too_deep path k = if nat_le 32 (length path) then finds (fault Cause.TooDeep k) else passes
 
--- what is done at offset k, where these elements are open and the rest of the input follows
-abbrev pub judge : Profile → List Open → ℕ → List ℕ → Judgement
-judge p path k rest = elim (ends_at path k) as (λ _. Judgement) [
-  | true ↦ judge_end p path k 0
-  | false ↦ judge_octets p path k (wanting p path k rest) (take (bound p path - k) rest)
-]
+-- 6. the tag is that of a row that is left out, or is not due; or the element may not have the form
+abbrev pub bad_form : ℕ → Bool → Element → Finding
+bad_form k form (left_out part) = finds (fault (Cause.LeftOut part) k)
+bad_form k form e = if allows e form then passes else finds (fault Cause.WrongForm k)
 
-abbrev pub fault_in : Judgement → Option Fault
-fault_in (faulty f) = Some f
-fault_in _ = None
+abbrev pub bad_tag : ℕ → Bool → Option Due → Finding
+bad_tag k form None = finds (fault Cause.UnexpectedTag k)
+bad_tag k form (Some d) = bad_form k form (element_of d)
 
+-- 7. the length ends too early, or none begins so (8.1.3)
+abbrev pub bad_length : ℕ → Fault → LengthRead → Finding
+bad_length k want part_length = finds want
+bad_length k want no_length = finds (fault Cause.BadLength k)
+bad_length k want l = passes
+
+-- 8. a definite length reaches past the innermost definite end, or past the limit; the identifier has i octets, and `size` follow it
+abbrev pub too_long : Profile → List Open → ℕ → ℕ → ℕ → LengthRead → Finding
+too_long p path k i size (definite n w) = if nat_lt (bound p path) (k + (i + (size - length w)) + n) then finds (fault (past_end path) k) else passes
+too_long p path k i size l = passes
+
+-- 9. the content of a primitive element ends too early, or is at fault
+abbrev pub at_fault : Option LeafFault → ℕ → Finding
+at_fault (Some c) k = finds (fault (cause_of c) k)
+at_fault None k = passes
+
+abbrev pub bad_content : Profile → ℕ → Fault → Bool → Option Due → LengthRead → Finding
+bad_content p k want false (Some d) (definite n w) = if nat_lt (length w) n then finds want else at_fault (element_fault p (element_of d) (take n w)) k
+bad_content p k want form d l = passes
+
+-- the conditions after an identifier of i octets, of the element that is due and the length that is read
+abbrev pub after_identifier : Profile → List Open → ℕ → Fault → Bool → ℕ → ℕ → Option Due → LengthRead → List Finding
+after_identifier p path k want form i size d l = bad_tag k form d ∷ bad_length k want l ∷ too_long p path k i size l ∷ bad_content p k want form d l ∷ []
+
+abbrev pub of_element : Profile → List Open → ℕ → Fault → ℕ → IdentifierRead → List Finding
+of_element p path k want size (identified tag form w) =
+    after_identifier p path k want form (size - length w) (length w) (due p tag (next_in p path)) (read_length form w)
+of_element p path k want size i = []
+
+-- the conditions in their order, of the octets that may be read at offset k
+abbrev pub conditions : Profile → List Open → ℕ → Fault → List ℕ → List Finding
+conditions p path k want w =
+    definite_end p path k
+    ∷ no_octet want w
+    ∷ end_mark p path k want w
+    ∷ bad_identifier k want (read_identifier w)
+    ∷ too_deep path k
+    ∷ of_element p path k want (length w) (read_identifier w)
+
+-- the fault at offset k, where these elements are open and the rest of the input follows
 abbrev pub fault_at : Profile → List Open → ℕ → List ℕ → Option Fault
-fault_at p path k rest = fault_in (judge p path k rest)
+fault_at p path k rest = first_fault (conditions p path k (wanting p path k rest) (take (bound p path - k) rest))
 
 -- the normal form of what is encoded passes the limit
 abbrev pub HasLongNormal : Profile → List ℕ → Type 0

@@ -7,7 +7,8 @@ use Rattle.ill_schema.specs.Apdu.{Apdu, normal_form}
 use Rattle.ill_schema.specs.Message.{apdu_of, octets_of}
 use Rattle.ill_schema.specs.Value.{apdu_with}
 use Rattle.ill_read.specs.Answers.{IsRead, IsPart, IsRefused}
-use Rattle.ill_refusals.specs.Fault.{faulty, judge, fault_of}
+use Rattle.ill_refusals.specs.Fault.{fault_of}
+use Rattle.ill_refusals.specs.code.Judge.{faulty, judge}
 use Rattle.ill_read.specs.code.Judged.{IsJudgement}
 use Rattle.ill_refusals.specs.Outcome.{OnlyRefuses}
 use Rattle.ill_read.specs.Standing.{StandsBefore, StandsLast}

@@ -7,7 +7,8 @@ use Rattle.ber_leaf.specs.Profile.{Profile, profile_two}
 use Rattle.ill_schema.specs.declared.refusal.Cause.{Cause}
 use Rattle.ill_schema.specs.declared.refusal.Refusal.{Refusal}
 use Rattle.ill_read.specs.Elements.{element_is, found_is}
-use Rattle.ill_refusals.specs.Fault.{Fault, fault, Judgement, faulty, judge_form, judge_tag, fault_of}
+use Rattle.ill_refusals.specs.Fault.{Fault, fault, fault_of}
+use Rattle.ill_refusals.specs.code.Judge.{Judgement, faulty, judge_form, judge_tag}
 use Rattle.ill_read.specs.code.Judged.{IsBegin, IsJudged}
 use Rattle.ill_refusals.specs.Place.{Open, bound, allows}
 use Rattle.ill_read.specs.Standing.{StandsAt}

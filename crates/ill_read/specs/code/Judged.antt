@@ -11,7 +11,8 @@ use Rattle.ill_schema.specs.Tagging.{untagged}
 use Rattle.ill_schema.specs.Value.{content_of}
 use Rattle.ill_refusals.specs.Next.{missing}
 use Rattle.ill_refusals.specs.Place.{Open, next_in, allows}
-use Rattle.ill_refusals.specs.Fault.{fault_of, Judgement, faulty, closes, opens, reads, element_fault, or_faulty, judge}
+use Rattle.ill_refusals.specs.Fault.{fault_of, element_fault}
+use Rattle.ill_refusals.specs.code.Judge.{Judgement, faulty, closes, opens, reads, or_faulty, judge}
 use Rattle.ill_read.specs.Elements.{element_is}
 use Rattle.ill_read.specs.DueCode.{IsDueIn}
 use Rattle.ill_read.specs.Standing.{next_at, StandsAt}

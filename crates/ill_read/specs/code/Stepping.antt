@@ -13,7 +13,8 @@ use Rattle.ill_schema.specs.Value.{content_of}
 use Rattle.ill_schema.specs.declared.value.Value.{Value}
 use Rattle.ill_refusals.specs.Next.{missing}
 use Rattle.ill_refusals.specs.Place.{Open, next_in}
-use Rattle.ill_refusals.specs.Fault.{Judgement, fault, element_fault, or_faulty, reads, fault_of}
+use Rattle.ill_refusals.specs.Fault.{fault, element_fault, fault_of}
+use Rattle.ill_refusals.specs.code.Judge.{Judgement, or_faulty, reads}
 use Rattle.ill_read.specs.Elements.{element_is}
 use Rattle.ill_read.specs.DueCode.{IsDueIn}
 use Rattle.ill_read.specs.code.Judged.{IsEnd, IsBegin, IsStep}

@@ -4,7 +4,8 @@ use Rattle.ber_core.specs.Identifier.{Tag}
 use Rattle.ber_core.specs.Tree.{Tree, Trees, primitive, constructed, none, more}
 use Rattle.ill_refusals.specs.Element.{Element}
 use Rattle.ill_refusals.specs.Place.{Open}
-use Rattle.ill_refusals.specs.Fault.{Fault, Judgement, faulty, closes, opens, reads}
+use Rattle.ill_refusals.specs.Fault.{Fault}
+use Rattle.ill_refusals.specs.code.Judge.{Judgement, faulty, closes, opens, reads}
 
 pub data Step : Type 0 where
   refused : Fault → Step

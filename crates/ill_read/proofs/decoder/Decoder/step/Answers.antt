@@ -1,7 +1,7 @@
 use Rattle.std.proofs.Common.{◌+◌, ◌≤◌, Ok, drop, take, length, sym, subst, ap}
 use Rattle.ber_leaf.specs.Profile.{profile_two}
 use Rattle.ill_schema.specs.Apdu.{Encodes}
-use Rattle.ill_refusals.specs.Fault.{judge}
+use Rattle.ill_refusals.specs.code.Judge.{judge}
 use Rattle.ill_read.specs.Standing.{StandsBefore}
 use Rattle.ill_read.specs.code.DecoderCode.{body_apdu, InState}
 use Rattle.ill_read.specs.code.Judged.{IsStep}

@@ -1,0 +1,99 @@
+-- What is done at a place: a machine that the decoder follows, and that proofs run through.
+use Rattle.std.specs.Prelude.{ℕ, ◌+◌, ◌-◌, Bool, true, false, ◌&&◌, nat_eq, nat_lt, nat_le, List, [], ◌∷◌, length, take, Option, Some, None, if◌then◌else◌}
+use Rattle.ber_core.specs.Identifier.{Tag}
+use Rattle.ber_core.specs.Tree.{text_all}
+use Rattle.ill_schema.specs.declared.refusal.Cause.{Cause}
+use Rattle.ber_leaf.specs.declared.fault.LeafFault.{LeafFault}
+use Rattle.ill_schema.specs.Causes.{cause_of}
+use Rattle.ber_leaf.specs.Profile.{Profile}
+use Rattle.ill_refusals.specs.Element.{Element, left_out}
+use Rattle.ill_refusals.specs.Next.{element_of, due, missing}
+use Rattle.ill_refusals.specs.Place.{Open, next_in, bound, allows}
+use Rattle.ill_refusals.specs.Fault.{Fault, fault, ends_at, is_indefinite, past_end, wanting, element_fault}
+use Rattle.ill_refusals.specs.Reading.{read_identifier, identified, part_identifier, no_identifier, read_length, definite, indefinite, part_length, no_length}
+
+-- what is done at a place
+pub data Judgement : Type 0 where
+  faulty : Fault → Judgement
+  -- the innermost element ends, after this many octets
+  closes : ℕ → Judgement
+  -- a constructed element opens: its header's size, and its end
+  opens : Tag → Element → ℕ → Option ℕ → Judgement
+  -- a primitive element is read: its header's size, and its content
+  reads : Tag → ℕ → List ℕ → Judgement
+
+abbrev pub or_faulty : Option LeafFault → ℕ → Judgement → Judgement
+or_faulty f at j = elim f as (λ _. Judgement) [ Some c ↦ faulty (fault (cause_of c) at) | None ↦ j ]
+
+-- the innermost element ends: a part is missing, or a string's text is at fault
+abbrev pub judge_end : Profile → List Open → ℕ → ℕ → Judgement
+judge_end p [] k marks = closes marks
+judge_end p (o ∷ path) k marks = elim (missing p (next_in p (o ∷ path))) as (λ _. Judgement) [
+  | Some part ↦ faulty (fault (Cause.Missing part) k)
+  | None ↦ or_faulty (element_fault p o.element (text_all o.trees)) o.start (closes marks)
+]
+
+-- the contents of a primitive element
+abbrev pub judge_content : Profile → Element → Tag → ℕ → ℕ → Fault → ℕ → List ℕ → Judgement
+judge_content p e tag k h want n w =
+    if nat_lt (length w) n then faulty want
+    else or_faulty (element_fault p e (take n w)) k (reads tag h (take n w))
+
+abbrev pub judge_size : Profile → List Open → Element → Tag → Bool → ℕ → ℕ → Fault → ℕ → List ℕ → Judgement
+judge_size p path e tag constructed k h want n w =
+    if nat_lt (bound p path) (k + h + n) then faulty (fault (past_end path) k)
+    else elim constructed as (λ _. Judgement) [ true ↦ opens tag e h (Some (k + h + n)) | false ↦ judge_content p e tag k h want n w ]
+
+-- the length, after an identifier of i octets
+abbrev pub judge_length : Profile → List Open → Element → Tag → Bool → ℕ → ℕ → Fault → List ℕ → Judgement
+judge_length p path e tag constructed k i want w = elim (read_length constructed w) as (λ _. Judgement) [
+  | part_length ↦ faulty want
+  | no_length ↦ faulty (fault Cause.BadLength k)
+  | indefinite rest ↦ opens tag e (i + (length w - length rest)) None
+  | definite n rest ↦ judge_size p path e tag constructed k (i + (length w - length rest)) want n rest
+]
+
+abbrev pub judge_form : Profile → List Open → Element → Tag → Bool → ℕ → ℕ → Fault → List ℕ → Judgement
+judge_form p path e tag constructed k i want w = elim e as (λ _. Judgement) [
+  | left_out part ↦ faulty (fault (Cause.LeftOut part) k)
+  | _ ↦ elim (allows e constructed) as (λ _. Judgement) [ true ↦ judge_length p path e tag constructed k i want w | false ↦ faulty (fault Cause.WrongForm k) ]
+]
+
+-- the tag and the form of an element
+abbrev pub judge_tag : Profile → List Open → Tag → Bool → ℕ → ℕ → Fault → List ℕ → Judgement
+judge_tag p path tag constructed k i want w = elim (due p tag (next_in p path)) as (λ _. Judgement) [
+  | None ↦ faulty (fault Cause.UnexpectedTag k)
+  | Some d ↦ judge_form p path (element_of d) tag constructed k i want w
+]
+
+-- an element from its first octet on
+abbrev pub judge_element : Profile → List Open → ℕ → Fault → List ℕ → Judgement
+judge_element p path k want w = elim (read_identifier w) as (λ _. Judgement) [
+  | part_identifier ↦ faulty want
+  | no_identifier ↦ faulty (fault Cause.BadTag k)
+  | identified tag constructed rest ↦
+      if nat_le 32 (length path) then faulty (fault Cause.TooDeep k)
+      else judge_tag p path tag constructed k (length w - length rest) want rest
+]
+
+-- after the first octet of an end mark
+abbrev pub judge_mark : Profile → List Open → ℕ → Fault → List ℕ → Judgement
+judge_mark p path k want [] = faulty want
+judge_mark p path k want (octet ∷ w) = elim (nat_eq octet 0) as (λ _. Judgement) [ true ↦ judge_end p path k 2 | false ↦ faulty (fault Cause.BadEnd k) ]
+
+-- an end mark or an element, in the octets that may be read
+abbrev pub judge_octets : Profile → List Open → ℕ → Fault → List ℕ → Judgement
+judge_octets p path k want [] = faulty want
+judge_octets p path k want (octet ∷ w) =
+    elim (is_indefinite path && nat_eq octet 0) as (λ _. Judgement) [ true ↦ judge_mark p path k want w | false ↦ judge_element p path k want (octet ∷ w) ]
+
+-- what is done at offset k, where these elements are open and the rest of the input follows
+abbrev pub judge : Profile → List Open → ℕ → List ℕ → Judgement
+judge p path k rest = elim (ends_at path k) as (λ _. Judgement) [
+  | true ↦ judge_end p path k 0
+  | false ↦ judge_octets p path k (wanting p path k rest) (take (bound p path - k) rest)
+]
+
+abbrev pub fault_in : Judgement → Option Fault
+fault_in (faulty f) = Some f
+fault_in _ = None
