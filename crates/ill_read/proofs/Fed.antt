@@ -8,6 +8,7 @@ use Rattle.ill_schema.specs.declared.refusal.Cause.{Cause}
 use Rattle.ill_schema.specs.declared.refusal.Refusal.{Refusal}
 use Rattle.ill_schema.specs.Apdu.{Apdu, Encodes, Accepts}
 use Rattle.ill_schema.specs.Message.{apdu_of, octets_of}
+use Rattle.ill_refusals.proofs.FirstFault.{has_fault, is_judged}
 use Rattle.ill_refusals.specs.Fault.{Fault, fault, Refuses, fault_of}
 use Rattle.ill_refusals.specs.code.Judge.{faulty, judge}
 use Rattle.ill_read.specs.Answers.{IsRead, IsPart, IsRefused, DecodeAnswers}
@@ -79,7 +80,7 @@ stands_part path at s rest h =
     let b = h.0 in
     subst (λ z. OnlyRefuses profile_two z (fault Cause.Truncated (length s))) (sym b.joined)
     (refused_at profile_two b.place b.before rest (fault Cause.Truncated (length s)) b.is_place
-    (subst (λ k. judge profile_two b.place k rest ≡ faulty (fault Cause.Truncated (length s))) b.offset h.1))
+    (subst (λ k. judge profile_two b.place k rest ≡ faulty (fault Cause.Truncated (length s))) b.offset (is_judged profile_two b.place at rest _ h.1)))
 
 -- nothing is open after the end
 pub after_end : (st : State) (s : List ℕ) (A : Type 0) → InState st s ⊥ → InState st s A
@@ -102,7 +103,7 @@ pub stops_open : (path : Path) (at : ℕ) (s rest : List ℕ) (r : Refusal) → 
 stops_open path at s rest r b e c =
     let q = truncated_at profile_two b.place at rest (fault_of r) e c in
     let n : at + length rest ≡ length s = omega (arith, b.offset, ap length b.joined, length-append b.before rest) in
-    (b, e ∙ ap faulty (q.1 ∙ ap (fault Cause.Truncated) n))
+    (b, has_fault profile_two b.place at rest _ (e ∙ ap faulty (q.1 ∙ ap (fault Cause.Truncated) n)))
 
 -- no place reaches past the limit
 pub place_bound : (path : List Open) (u : List ℕ) → IsPlace profile_two u path → bound profile_two path ≤ 1_048_576
@@ -114,7 +115,7 @@ pub last_size : (path : Path) (at : ℕ) (s rest : List ℕ) → StandsLast path
 last_size path at s rest h =
     let b = h.0 in
     let n : at + length rest ≡ length s = omega (arith, b.offset, ap length b.joined, length-append b.before rest) in
-    let within = (truncated_at profile_two b.place at rest (fault Cause.Truncated (length s)) h.1 refl).0 in
+    let within = (truncated_at profile_two b.place at rest (fault Cause.Truncated (length s)) (is_judged profile_two b.place at rest _ h.1) refl).0 in
     let limit = place_bound b.place b.before b.is_place in
     (n, omega arith)
 

@@ -16,7 +16,8 @@ use Rattle.ber_core.proofs.Identifiers.{IsEnd, identifier_no_end}
 use Rattle.ber_leaf.specs.Profile.{Profile, profile_two}
 use Rattle.ill_schema.specs.declared.refusal.Cause.{Cause}
 use Rattle.ill_schema.specs.Apdu.{Apdu, Accepts}
-use Rattle.ill_refusals.specs.Fault.{fault, is_indefinite}
+use Rattle.ill_refusals.proofs.FirstFault.{is_judged}
+use Rattle.ill_refusals.specs.Fault.{fault, is_indefinite, fault_at}
 use Rattle.ill_refusals.specs.code.Judge.{Judgement, faulty, closes, opens, reads, judge}
 use Rattle.ill_read.specs.Standing.{StandsLast}
 use Rattle.ill_read.specs.HeaderCode.{Lacks, IsHeaderRead, IsLengthRead, IsWholeLength, need_read}
@@ -59,7 +60,9 @@ bound_small p (o ∷ path) u h = let i = h.4.inside in let r = bound_small p pat
 
 -- the octets end before the bound, in the midst of something
 short : (path : Path) (at : ℕ) (s octets : List ℕ) → (l : StandsLast path at s octets) → (at + length octets < bound profile_two l.0.place) × Wants profile_two l.0.place octets
-short path at s octets l = ((truncated_at profile_two l.0.place at octets _ l.1 refl).0, truncated_in profile_two l.0.place at octets _ l.1 refl)
+short path at s octets l =
+    let judged = is_judged profile_two l.0.place at octets _ l.1 in
+    ((truncated_at profile_two l.0.place at octets _ judged refl).0, truncated_in profile_two l.0.place at octets _ judged refl)
 
 -- and they are no more than a message may have
 pub few : (path : Path) (at : ℕ) (s octets : List ℕ) → StandsLast path at s octets → length octets ≤ 1_048_576
@@ -416,7 +419,7 @@ needs_after path at fed octets l n need =
       rest = octets;
       joined = b.joined;
       is_place = b.is_place;
-      ends = subst (λ k. judge profile_two b.place k octets ≡ faulty (fault Cause.Truncated (length fed))) b.offset l.1;
+      ends = subst (λ k. fault_at profile_two b.place k octets ≡ Some (fault Cause.Truncated (length fed))) b.offset l.1;
       needed = subst (λ k. IsNeed b.place k octets n) b.offset need;
     }
 

@@ -2,8 +2,7 @@
 use Rattle.std.specs.Prelude.{◌≡◌, ℕ, ◌+◌, Bool, true, false, ◌&&◌, nat_eq, List, [], ◌∷◌, ◌++◌, length, Option, Some, None}
 use Rattle.ber_leaf.specs.Profile.{profile_two}
 use Rattle.ill_schema.specs.declared.refusal.Cause.{Cause}
-use Rattle.ill_refusals.specs.Fault.{fault, is_indefinite}
-use Rattle.ill_refusals.specs.code.Judge.{faulty, judge}
+use Rattle.ill_refusals.specs.Fault.{fault, is_indefinite, fault_at}
 use Rattle.ill_read.specs.HeaderCode.{Lacks}
 use Rattle.ill_refusals.specs.Place.{Open, IsPlace}
 use Rattle.ill_refusals.specs.Reading.{IdentifierRead, identified, part_identifier, no_identifier, read_identifier, LengthRead, definite, indefinite, part_length, no_length, read_length}
@@ -55,5 +54,5 @@ pub record NeedsAfter (fed : List ℕ) (n : ℕ) : Type 0 where
   pub rest : List ℕ
   pub joined : fed ≡ before ++ rest
   pub is_place : IsPlace profile_two before place
-  pub ends : judge profile_two place (length before) rest ≡ faulty (fault Cause.Truncated (length fed))
+  pub ends : fault_at profile_two place (length before) rest ≡ Some (fault Cause.Truncated (length fed))
   pub needed : IsNeed place (length before) rest n

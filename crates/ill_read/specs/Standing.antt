@@ -31,8 +31,7 @@ use Rattle.ill_read.specs.declared.element.Found.TheVariants as found
 use Rattle.ill_read.specs.declared.element.Wrapped.{Wrapped}
 use Rattle.ill_read.specs.declared.frame.Frame.{Frame}
 use Rattle.ill_read.specs.declared.path.Path.{Path}
-use Rattle.ill_refusals.specs.Fault.{fault}
-use Rattle.ill_refusals.specs.code.Judge.{faulty, judge}
+use Rattle.ill_refusals.specs.Fault.{fault, fault_at}
 use Rattle.ill_schema.specs.declared.refusal.Cause.{Cause}
 
 -- the text of the string that is open, as far as it has been read
@@ -131,4 +130,4 @@ pub record StandsBefore (path : Path) (at : ℕ) (s rest : List ℕ) : Type 0 wh
 
 -- the rest doesn't reach the next place
 abbrev pub StandsLast : Path → ℕ → List ℕ → List ℕ → Type 0
-StandsLast path at s rest = (b : StandsBefore path at s rest) × (judge profile_two b.place at rest ≡ faulty (fault Cause.Truncated (length s)))
+StandsLast path at s rest = (b : StandsBefore path at s rest) × (fault_at profile_two b.place at rest ≡ Some (fault Cause.Truncated (length s)))

@@ -39,27 +39,27 @@ content_judged p e tag k h want n w = go (nat_lt (length w) n) (element_fault p 
 
 size_judged : (p : Profile) (path : List Open) (d : Due) (tag : Tag) (form : Bool) (k h : ℕ) (want : Fault) (n : ℕ) (w : List ℕ)
     → first_fault ((if nat_lt (bound p path) (k + h + n) then finds (fault (past_end path) k) else passes) ∷ bad_content p k want form (Some d) (definite n w) ∷ [])
-      ≡ fault_in (judge_size p path (element_of d) tag form k h want n w)
+    ≡ fault_in (judge_size p path (element_of d) tag form k h want n w)
 size_judged p path d tag form k h want n w = go (nat_lt (bound p path) (k + h + n)) form
   where
     go : (b : Bool) (form : Bool) → first_fault ((if b then finds (fault (past_end path) k) else passes) ∷ bad_content p k want form (Some d) (definite n w) ∷ [])
-      ≡ fault_in (if b then faulty (fault (past_end path) k) else elim form as (λ _. Judgement) [ true ↦ opens tag (element_of d) h (Some (k + h + n)) | false ↦ judge_content p (element_of d) tag k h want n w ])
+        ≡ fault_in (if b then faulty (fault (past_end path) k) else elim form as (λ _. Judgement) [ true ↦ opens tag (element_of d) h (Some (k + h + n)) | false ↦ judge_content p (element_of d) tag k h want n w ])
     go true form = refl
     go false true = refl
     go false false = content_judged p (element_of d) tag k h want n w
 
 length_judged : (p : Profile) (path : List Open) (d : Due) (tag : Tag) (form : Bool) (k i : ℕ) (want : Fault) (w : List ℕ)
     → first_fault (bad_length k want (read_length form w) ∷ too_long p path k i (length w) (read_length form w) ∷ bad_content p k want form (Some d) (read_length form w) ∷ [])
-      ≡ fault_in (judge_length p path (element_of d) tag form k i want w)
+    ≡ fault_in (judge_length p path (element_of d) tag form k i want w)
 length_judged p path d tag form k i want w = go (read_length form w) form
   where
     go : (l : LengthRead) (f : Bool)
         → first_fault (bad_length k want l ∷ too_long p path k i (length w) l ∷ bad_content p k want f (Some d) l ∷ []) ≡ fault_in (elim l as (λ _. Judgement) [
-      | part_length ↦ faulty want
-      | no_length ↦ faulty (fault Cause.BadLength k)
-      | indefinite rest ↦ opens tag (element_of d) (i + (length w - length rest)) None
-      | definite n rest ↦ judge_size p path (element_of d) tag f k (i + (length w - length rest)) want n rest
-    ])
+          | part_length ↦ faulty want
+          | no_length ↦ faulty (fault Cause.BadLength k)
+          | indefinite rest ↦ opens tag (element_of d) (i + (length w - length rest)) None
+          | definite n rest ↦ judge_size p path (element_of d) tag f k (i + (length w - length rest)) want n rest
+        ])
     go part_length f = refl
     go no_length f = refl
     go (indefinite rest) true = refl
@@ -105,7 +105,7 @@ element_judged p path k want w = go (read_identifier w)
   where
     deep : (b : Bool) (tag : Tag) (form : Bool) (rest : List ℕ)
         → first_fault ((if b then finds (fault Cause.TooDeep k) else passes) ∷ of_element p path k want (length w) (identified tag form rest))
-          ≡ fault_in (if b then faulty (fault Cause.TooDeep k) else judge_tag p path tag form k (length w - length rest) want rest)
+        ≡ fault_in (if b then faulty (fault Cause.TooDeep k) else judge_tag p path tag form k (length w - length rest) want rest)
     deep true tag form rest = refl
     deep false tag form rest = tag_judged p path tag form k (length w - length rest) want rest
 
@@ -132,8 +132,8 @@ mark_judged p path k want (a ∷ w) more = go (nat_eq a 0)
 
 octets_judged : (p : Profile) (path : List Open) (k : ℕ) (want : Fault) (a : ℕ) (w : List ℕ)
     → first_fault (end_mark p path k want (a ∷ w) ∷ bad_identifier k want (read_identifier (a ∷ w)) ∷ too_deep path k
-        ∷ of_element p path k want (length (a ∷ w)) (read_identifier (a ∷ w)))
-      ≡ fault_in (judge_octets p path k want (a ∷ w))
+    ∷ of_element p path k want (length (a ∷ w)) (read_identifier (a ∷ w)))
+    ≡ fault_in (judge_octets p path k want (a ∷ w))
 octets_judged p path k want a w = go (is_indefinite path && nat_eq a 0)
   where
     more : List Finding
