@@ -1,12 +1,12 @@
 #!/bin/sh
 # Refuses growth number 1, 2, .. of memory in each call that takes any, until a run meets no refusal. Each result before that must be
-# out of memory, in the call's own words and with the state that is promised then, or the refusal of an input that is refused: the
-# programs of crates/tool_growths and crates/tool_growths_typed make the call and look. Takes seconds once the programs are built. Needs
-# `cc`, since the refusals are made by a wrapper round malloc and realloc.
+# out of memory, in the call's own words and with the state that is promised then, or the refusal of an input that is refused: a program
+# makes the call and looks. The calls on typed parts and APDUs are those of tests/growths_typed, a program that isn't a crate of this
+# repository, since its proof takes minutes: it is made in a copy. Needs `cc`, since the refusals are made by a wrapper round malloc and
+# realloc.
 cd "$(dirname "$0")/../crates" || exit 2
-for program in tool_growths tool_growths_typed; do
-    (cd $program && rt run >/dev/null 2>&1) || exit 2
-done
+(cd tool_growths && rt run >/dev/null 2>&1) || exit 2
+(cd ill_apdu_requests && rt lib >/dev/null 2>&1) || exit 2
 (cd illcanon && rt run -- --version >/dev/null 2>&1) || exit 2
 folder=$(mktemp -d) || exit 2
 trap 'rm -rf "$folder"' EXIT
@@ -39,12 +39,22 @@ void *realloc(void *old, size_t size) {
 }
 C
 
-# Prints how many growths a program's call met; fails where an answer is wrong.
+# The program of the typed calls, in a copy of the crates.
+mkdir "$folder/copy" && cp -r . "$folder/copy/crates" && cp ../crates.txt "$folder/copy" || exit 2
+echo "tool_growths_typed: ber_leaf ill_schema ill_parts ill_apdu_requests test_support" >>"$folder/copy/crates.txt"
+typed=$folder/copy/crates/tool_growths_typed
+mkdir -p "$typed/src" || exit 2
+for file in ../tests/growths_typed/*.rt.in; do
+    cp "$file" "$typed/src/$(basename "$file" .in)" || exit 2
+done
+(cd "$typed" && rt run >/dev/null 2>&1) || exit 2
+
+# Prints how many growths a program's call met; fails where a result is wrong.
 growths_of() {
     number=1
     met=0
     while :; do
-        answer=$(REFUSE=$number LD_PRELOAD="$folder/refuse.so" "$1/out/$1" "$2" 2>"$folder/refusals")
+        answer=$(REFUSE=$number LD_PRELOAD="$folder/refuse.so" "$1" "$2" 2>"$folder/refusals")
         if ! [ -s "$folder/refusals" ]; then
             [ "$answer" = right ] && break
             echo "$2: $answer, with no growth refused"
@@ -89,14 +99,14 @@ program_growths() {
 }
 
 failed=0
-for program in tool_growths tool_growths_typed; do
-    for call in $("$program/out/$program" | cut -d : -f 1); do
-        growths_of $program "$call" || failed=1
+for program in tool_growths/out/tool_growths "$typed/out/tool_growths_typed"; do
+    for call in $("$program" | cut -d : -f 1); do
+        growths_of "$program" "$call" || failed=1
     done
 done
 # The writer takes no memory but that for the sizes.
-measured=$(growths_of tool_growths sizes-measure-largest)
-written=$(growths_of tool_growths write-normal-largest)
+measured=$(growths_of tool_growths/out/tool_growths sizes-measure-largest)
+written=$(growths_of tool_growths/out/tool_growths write-normal-largest)
 [ "${measured#*: }" = "${written#*: }" ] || failed=1
 program_growths || failed=1
 exit $failed
