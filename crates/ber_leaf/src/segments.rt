@@ -27,7 +27,7 @@ impl Segments {
         }
     }
 
-    /// Adds a piece at the end, or leaves the pieces as they were for want of memory.
+    /// Adds a piece at the end, or leaves the pieces as they were when out of memory.
     pub fn push(&mut self, piece: &[u8]) -> Result<(), AllocError>
         ensures ok { OnOk result (self.new ≡ self.old ++ piece.now) }
         ensures err { OnErr result (self.new ≡ self.old) }

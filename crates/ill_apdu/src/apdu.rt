@@ -120,7 +120,7 @@ impl Apdu {
     }
 
     /// The message of the APDU, whose octets are those of its normal form. The value is built first, so
-    /// want of memory comes before [`MessageFault::TooLong`].
+    /// out of memory comes before [`MessageFault::TooLong`].
     ///
     /// # Errors
     ///

@@ -53,7 +53,7 @@ pub fn open<R: Input + Files + AllocGlobal>(rt: &R, name: &str) -> Result<InputS
     Ok(source)
 }
 
-/// Opens an input as [`open`] does, and returns which regular file it is, None where it is none.
+/// Opens an input as [`open`] does, and returns which regular file it is, None where it is not one.
 pub fn open_and_identify<R: Input + Files + AllocGlobal>(
     rt: &R,
     name: &str,

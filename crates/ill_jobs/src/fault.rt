@@ -22,6 +22,6 @@ pub enum RunFault {
     OutOfMemory,
     /// The source is broken. The output of the messages before was written.
     ReadFault,
-    /// The sink is broken: exactly so many octets of the output were written, the first ones.
+    /// The sink is broken: exactly the first n octets of the output were written.
     WriteFault(u128),
 }

@@ -15,7 +15,7 @@ pub enum NormalFailure {
     OutOfMemory,
     /// The source is broken. Nothing was written.
     ReadFault,
-    /// The sink is broken: exactly so many octets of the normal form were written, the first ones.
+    /// The sink is broken: exactly the first n octets of the normal form were written.
     WriteFault(u32),
 }
 

@@ -28,12 +28,12 @@ pub fn normalise_stream<R: Source, W: Sink>(
     source: &mut R,
     sink: &mut W,
 ) -> Result<u32, StreamFailure>
-    // The input was so many messages and nothing else, and their normal forms were written.
+    // The input was this number of messages and nothing else, and their normal forms were written.
     ensures streamed { IfOk result (λ whole. (before : ℕ) × Passes (R.left source.old) (R.left source.new)
         (W.contents sink.old) (W.contents sink.new) whole before × IsAtEnd (R.left source.new) × (whole ≤ 1_000_000)) }
     ensures stops { IfErr result (StopsAfter (R.left source.old) (R.left source.new) (W.contents sink.old) (W.contents sink.new)
         (R.is_broken source.new) (W.is_broken sink.new)) }
-    // A stream of so many messages is normalised, unless they are too many or what follows is refused.
+    // A stream of messages is normalised, unless they are too many or what follows is refused.
     ensures accepts { IfSome (R.left source.old) (λ s. (as' : List Apdu) → IsStream profile_two s as' [] → length as' ≤ 1_000_000
         → AnswersCount result (length as')) }
     ensures refuses { IfSome (R.left source.old) (λ s. (as' : List Apdu) (rest : List ℕ) (f : Fault) → IsStream profile_two s as' rest

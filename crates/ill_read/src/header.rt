@@ -18,7 +18,7 @@ pub enum HeaderRead {
 #[derive(Clone, Copy)]
 pub enum LengthRead {
     NoLength,
-    /// How many octets surely still belong to the header.
+    /// How many octets at least still belong to the header.
     PartLength(u32),
     /// The length, and how many octets the header has.
     Whole(Len, u32),

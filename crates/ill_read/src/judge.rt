@@ -12,7 +12,7 @@ use ill_schema::{Cause, Refusal};
 /// What is done at a place where nothing is at fault but, perhaps, the text or content of a leaf.
 #[derive(Clone, Copy)]
 pub enum Judgement {
-    /// The innermost element ends, behind so many octets of an end mark.
+    /// The innermost element ends, after this number of octets of an end mark.
     Closes(u32),
     Opens(Opening),
     Reads(Reading),

@@ -21,7 +21,7 @@ const CHUNK: usize = 1024;
 ///
 /// # Errors
 ///
-/// The one fault of what is left, want of memory, or a broken source. At most [`LIMIT`] octets are taken, whatever the answer.
+/// The one fault of what is left, out of memory, or a broken source. At most [`LIMIT`] octets are taken, whatever the answer.
 pub fn read_message<R: Source>(
     alloc: Global,
     source: &mut R,
@@ -161,7 +161,7 @@ fn pull<R: Source>(
 ///
 /// # Errors
 ///
-/// The one fault of the octets, TrailingBytes at the end of a message that they only begin with, or want of memory.
+/// The one fault of the octets, TrailingBytes at the end of a message that they only begin with, or out of memory.
 pub fn decode(alloc: Global, octets: &[u8]) -> Result<Message, Failure>
     ensures { DecodeAnswers octets.now result }
 {

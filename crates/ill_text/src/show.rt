@@ -18,7 +18,7 @@ use std::alloc::{AllocError, Global};
 ///
 /// # Errors
 ///
-/// Only want of memory.
+/// Only out of memory.
 pub fn show_text(alloc: Global, number: u32, message: &Message) -> Result<Vec<u8>, AllocError>
     ensures { IfOk result (λ text. text.items ≡ shown_text number (apdu_of message.now)) }
 {

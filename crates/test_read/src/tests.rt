@@ -48,7 +48,7 @@ fn at_end(octets: usize, message: Option<Message>) -> Result<Message, Failure> {
     }
 }
 
-/// The message in pieces of at most so many octets, and never more than it needs.
+/// The message in pieces of at most this number of octets, and never more than it needs.
 fn in_pieces(alloc: Global, octets: &[u8], most: usize) -> Result<Message, Failure> {
     let mut decoder = Decoder::new(alloc);
     let mut rest = octets;
@@ -103,7 +103,7 @@ fn answers_each_row_octet_by_octet(rt: HostRuntime) -> Result<(), Fail> {
     Ok(())
 }
 
-/// What the decoder needs before each piece of so many octets, and at the end.
+/// What the decoder needs before each piece of this size, and at the end.
 fn needs(alloc: Global, octets: &[u8]) -> Result<Vec<u32>, Fail> {
     let mut decoder = Decoder::new(alloc);
     let mut needs = Vec::new(alloc);

@@ -127,7 +127,7 @@ fn sizes_in_header_order(rt: HostRuntime) -> Result<(), Fail> {
     Ok(())
 }
 
-/// What comes of an Expired in a sink that takes so many octets in a call, and breaks after so many.
+/// What comes of an Expired in a sink that takes a number of octets in a call, and breaks after a number.
 fn written(
     alloc: Global,
     message: &Message,

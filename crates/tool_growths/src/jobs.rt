@@ -29,7 +29,7 @@ pub fn show_text_row(alloc: Global) -> Outcome {
     }
 }
 
-/// Whether just the output of some whole messages was written, each of which has so many octets.
+/// Whether just the output of some whole messages was written, each of which has this number of octets.
 fn whole(written: &[u8], output: &[u8], size: usize) -> bool {
     match written.len().checked_rem(size) {
         Some(0) => output.get(..written.len()) == Some(written),

@@ -1,6 +1,6 @@
 //! Makes one call on its worked row: `growths CALL`, run by `tests/growths.sh` with each growth of memory refused in turn. It says `right`,
 //! `out of memory`, `not begun` where what the row needs couldn't be built, or `wrong`. Without a word it makes each call and says what came of
-//! it, which has to be `right`: a call that always answered that memory is wanting would be found so.
+//! it, which has to be `right`: a call that always returned out of memory would be found so.
 #![tactic(auto)]
 
 mod calls;

@@ -8,7 +8,7 @@ use ill_normal::{
 use std::alloc::Global;
 use test_support::Outcome;
 
-/// `sink-of-seven-octets-per-call`: nothing is written where memory was wanting.
+/// `sink-of-seven-octets-per-call`: nothing is written after out of memory.
 pub fn normalise_row(alloc: Global) -> Outcome {
     let mut source = Pieces::new(INDEFINITE, 64, None);
     let mut sink: Room<64> = Room::new(7, None);
@@ -19,7 +19,7 @@ pub fn normalise_row(alloc: Global) -> Outcome {
     }
 }
 
-/// Whether just those messages were written that were whole before memory was wanting.
+/// Whether just those messages were written that were whole before memory ran out.
 fn stopped_between(failure: StreamFailure, written: &[u8]) -> bool {
     failure.why == StreamCause::Normal(NormalFailure::OutOfMemory)
         && u64::from(failure.whole).saturating_mul(33) == failure.before

@@ -22,7 +22,7 @@ fn largest(alloc: Global) -> Option<Message> {
     decode(alloc, &octets).ok()
 }
 
-/// Whether the sizes of a message make so many octets.
+/// Whether the sizes of a message make this number of octets.
 fn measure(alloc: Global, message: Option<Message>, total: u32) -> Outcome {
     let Some(message) = message else {
         return Outcome::NotBegun;
@@ -67,7 +67,7 @@ pub fn write_normal_largest(alloc: Global) -> Outcome {
     }
 }
 
-/// `normal-bytes-of-expired` into a sink, which has nothing where memory was wanting.
+/// `normal-bytes-of-expired` into a sink, which has nothing after out of memory.
 pub fn write_normal_row(alloc: Global) -> Outcome {
     let Some(message) = message(alloc) else {
         return Outcome::NotBegun;

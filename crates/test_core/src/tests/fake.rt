@@ -8,7 +8,7 @@ use std::io::{self, Error, ErrorKind, Read, Write};
 /// What one call does.
 #[derive(Clone, Copy)]
 pub enum Step {
-    /// It moves so many octets, or fewer where the buffer or the piece is shorter.
+    /// It moves this number of octets, or fewer where the buffer or the piece is shorter.
     Moves(usize),
     /// It returns an error of this kind.
     Fails(ErrorKind),

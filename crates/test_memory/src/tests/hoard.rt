@@ -43,7 +43,7 @@ impl Hoard {
         Ok(hoard)
     }
 
-    /// Takes blocks of so many octets until none is left, or no more can be held.
+    /// Takes blocks of this size until none is left, or no more can be held.
     fn take_all(&mut self, size: usize) {
         let room = self.blocks.capacity().saturating_sub(self.blocks.len());
         for _ in 0..room {

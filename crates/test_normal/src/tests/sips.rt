@@ -1,7 +1,7 @@
 //! A sink that takes a few octets of each slice.
 use ill_normal::{Broken, Sink};
 
-/// It keeps what it took, and breaks where memory is wanting.
+/// It keeps what it took, and breaks when out of memory.
 #[derive(Drop)]
 pub struct Sips {
     pub octets: Vec<u8>,
