@@ -1,5 +1,6 @@
 //! Headers, leaves, sources and sinks.
 mod buffers;
+mod contracts;
 mod fake;
 mod headers;
 mod leaves;

@@ -1,0 +1,229 @@
+//! Contracts that leave one result. Each function here makes calls on any arguments, and what they return is proved of their
+//! contracts alone. So a body that returns anything else doesn't meet its contract.
+ghost use Rattle.std.specs.Prelude.{◌≡◌, ℕ, List, ◌++◌, IfOk, length, take};
+ghost use Rattle.ber_core.specs.HeaderState.{Fed, IsOpen};
+ghost use Rattle.ber_leaf.specs.Content.{IsContent};
+ghost use Rattle.ber_leaf.specs.Leaf.{normal_content};
+
+use ber_core::{
+    Broken, Class, FromRead, Header, HeaderFault, HeaderState, Id, Pieces, Room, Sink, Source,
+    ToWrite, header_size, put_header,
+};
+use ber_leaf::{
+    DateText, GeneralText, IllString, Leaf, PrintableText, Segments, TimeText, VisibleText,
+};
+use std::alloc::{AllocError, Global};
+use std::io::{Read, Write};
+
+/// An identifier is of the class, form and number that it was made of. There is none past the greatest number, and none of
+/// universal 0 primitive.
+fn identifiers_keep_their_parts(class: Class, constructed: bool, number: u32) {
+    match Id::new(class, constructed, number) {
+        Some(id) => {
+            prove!(id.class() == class);
+            prove!(id.constructed() == constructed);
+            prove!(id.number() == number);
+        }
+        None => {
+            let is_end = number == 0 && !constructed && class == Class::Universal;
+            prove!(number > Id::MAX_NUMBER || is_end);
+        }
+    }
+}
+
+/// One header is written for an identifier and a length, of the size that is said of it.
+fn headers_are_written_in_one_way(id: Id, len: u32) {
+    let mut one = [0; 10];
+    let mut other = [0; 10];
+    let first = put_header(id, len, &mut one);
+    let second = put_header(id, len, &mut other);
+    let size = header_size(id, len);
+    prove!(first == size);
+    prove!(second == size);
+    prove!(one == other);
+}
+
+/// States that were fed the same octets return the same for the next one.
+fn states_return_what_their_octets_are(
+    one: &mut HeaderState,
+    other: &mut HeaderState,
+    octet: u8,
+) -> (
+    Result<Option<Header>, HeaderFault>,
+    Result<Option<Header>, HeaderFault>,
+)
+    requires open { IsOpen one.old × IsOpen other.old }
+    requires fed { (b : List ℕ) × Fed one.old b × Fed other.old b }
+    ensures { result.0 ≡ result.1 }
+{
+    (one.push(octet), other.push(octet))
+}
+
+/// States that were fed the same octets say the same of them.
+fn states_say_what_their_octets_are(
+    one: &HeaderState,
+    other: &HeaderState,
+) -> ((Option<Id>, u32), (Option<Id>, u32))
+    requires fed { (b : List ℕ) × Fed one.now b × Fed other.now b }
+    ensures id { result.0.0 ≡ result.1.0 }
+    ensures due { result.0.1 ≡ result.1.1 }
+{
+    ((one.id(), one.due()), (other.id(), other.due()))
+}
+
+/// Equal pieces move as many octets into equal buffers, and have as many left.
+fn pieces_move_in_one_way(
+    one: &mut Pieces,
+    other: &mut Pieces,
+    a: &mut [u8],
+    b: &mut [u8],
+) -> (Result<usize, Broken>, Result<usize, Broken>)
+    requires pieces { one.old ≡ other.old }
+    requires buffers { a.old ≡ b.old }
+    ensures result { result.0 ≡ result.1 }
+    ensures left { one.new ≡ other.new }
+{
+    (one.take(a), other.take(b))
+}
+
+/// Pieces break after as many octets as they are told, and a room too.
+fn slices_break_where_they_are_told(octets: &[u8], buffer: &mut [u8]) {
+    let mut pieces = Pieces::new(octets, 1, Some(0));
+    let taken = pieces.take(buffer);
+    prove!(taken.is_err());
+    let mut room: Room<4> = Room::new(1, Some(0));
+    let given = room.put(&[1]);
+    prove!(given.is_err());
+}
+
+/// A room shows the octets that it took.
+fn rooms_show_what_they_took(octets: &[u8]) {
+    let mut room: Room<4> = Room::new(1, None);
+    if let Ok(n) = room.put(octets) {
+        prove!(room.octets() == &octets[..n]);
+    }
+}
+
+/// The octets of a reader are taken each once, in their order.
+fn readers_lose_nothing(
+    octets: &[u8],
+    one: &mut [u8],
+    other: &mut [u8],
+) -> Result<(usize, usize), Broken>
+    ensures { IfOk result (λ n. (rest : List ℕ) × (octets.now ≡ take n.0 one.new ++ (take n.1 other.new ++ rest))) }
+{
+    let mut source = FromRead::new(octets);
+    Ok((source.take(one)?, source.take(other)?))
+}
+
+/// A source over a reader is broken exactly after an error.
+fn sources_say_that_they_broke<R: Read + Drop>(reader: R, buffer: &mut [u8]) {
+    let mut source = FromRead::new(reader);
+    prove!(!source.broken());
+    let taken = source.take(buffer);
+    prove!(taken.is_err() == source.broken());
+}
+
+/// A sink over a writer is broken exactly after an error, and takes at least one octet else.
+fn sinks_say_that_they_broke<W: Write + Drop>(writer: W, octets: &[u8]) {
+    let mut sink = ToWrite::new(writer);
+    prove!(!sink.broken());
+    let put = sink.put(octets);
+    prove!(put.is_err() == sink.broken());
+    if let Ok(n) = put {
+        prove!(n > 0 || octets.is_empty());
+    }
+}
+
+/// Octets have one fault as a leaf, or none.
+fn octets_have_one_fault<L: Leaf>(octets: &[u8]) {
+    prove!(L::check(octets) == L::check(octets));
+}
+
+/// Octets hold one value of a leaf.
+fn octets_hold_one_value<L: Leaf>(one: Vec<u8>, other: Vec<u8>) -> (L::Out, L::Out)
+    requires same { one.items ≡ other.items }
+    requires one { IsContent L.kind one.items }
+    requires other { IsContent L.kind other.items }
+    ensures { result.0 ≡ result.1 }
+{
+    (L::of(one), L::of(other))
+}
+
+/// A value has one normal content.
+fn values_have_one_content<L: Leaf>(value: &L::Out, one: &mut [u8], other: &mut [u8])
+    requires one { length one.old ≡ length (normal_content (L.simple value.now)) }
+    requires other { length other.old ≡ length (normal_content (L.simple value.now)) }
+    ensures { one.new ≡ other.new }
+{
+    prove!(L::normal_size(value) == one.len());
+    L::put_normal(value, one);
+    L::put_normal(value, other);
+}
+
+/// A date shows the octets that it is made of, and so does its copy.
+fn dates_keep_their_octets(octets: &[u8], alloc: Global) -> Result<(), AllocError> {
+    if let Ok(text) = DateText::new(Vec::from_slice(alloc, octets)?) {
+        prove!(text.octets() == octets);
+        let copy = text.copy(alloc)?;
+        prove!(copy.octets() == octets);
+    }
+    Ok(())
+}
+
+/// A time shows the octets that it is made of, and so does its copy.
+fn times_keep_their_octets(octets: &[u8], alloc: Global) -> Result<(), AllocError> {
+    if let Ok(text) = TimeText::new(Vec::from_slice(alloc, octets)?) {
+        prove!(text.octets() == octets);
+        let copy = text.copy(alloc)?;
+        prove!(copy.octets() == octets);
+    }
+    Ok(())
+}
+
+/// A general text shows the octets that it is made of, and so does its copy.
+fn general_texts_keep_their_octets(octets: &[u8], alloc: Global) -> Result<(), AllocError> {
+    if let Ok(text) = GeneralText::new(Vec::from_slice(alloc, octets)?) {
+        prove!(text.octets() == octets);
+        let copy = text.copy(alloc)?;
+        prove!(copy.octets() == octets);
+    }
+    Ok(())
+}
+
+/// A visible text shows the octets that it is made of, and so does its copy.
+fn visible_texts_keep_their_octets(octets: &[u8], alloc: Global) -> Result<(), AllocError> {
+    if let Ok(text) = VisibleText::new(Vec::from_slice(alloc, octets)?) {
+        prove!(text.octets() == octets);
+        let copy = text.copy(alloc)?;
+        prove!(copy.octets() == octets);
+    }
+    Ok(())
+}
+
+/// A printable text shows the octets that it is made of, and so does its copy.
+fn printable_texts_keep_their_octets(octets: &[u8], alloc: Global) -> Result<(), AllocError> {
+    if let Ok(text) = PrintableText::new(Vec::from_slice(alloc, octets)?) {
+        prove!(text.octets() == octets);
+        let copy = text.copy(alloc)?;
+        prove!(copy.octets() == octets);
+    }
+    Ok(())
+}
+
+/// The copy of a string is of the same alternative and octets.
+fn strings_are_copied_whole(string: &IllString, alloc: Global) {
+    if let Ok(copy) = string.copy(alloc) {
+        prove!(copy == *string);
+    }
+}
+
+/// Segments are joined in their order.
+fn segments_are_joined(first: &[u8], second: &[u8], alloc: Global) -> Result<Vec<u8>, AllocError>
+    ensures { IfOk result (λ octets. octets.items ≡ first.now ++ second.now) }
+{
+    let mut segments = Segments::new(alloc);
+    segments.push(first)?;
+    segments.push(second)?;
+    Ok(segments.into_octets())
+}
