@@ -1,4 +1,5 @@
 //! Command lines and fault lines; and the whole program over a runtime of ours, with files of the host.
+mod contracts;
 mod fake;
 mod files;
 mod lines;

@@ -1,5 +1,6 @@
 //! The jobs, on rows of inputs and where sources and sinks break.
 mod breaks;
+mod contracts;
 mod runs;
 mod sames;
 mod shows;

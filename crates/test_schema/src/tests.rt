@@ -1,5 +1,7 @@
 //! Worked messages, with their sizes from outside.
 
+mod contracts;
+
 use ber_core::Class;
 use ill_schema::{
     Kind, LIMIT, LeafKind, Message, Mode, NodeId, PartId, Presence, Unfit, Value, apdu_name,

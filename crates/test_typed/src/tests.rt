@@ -1,3 +1,4 @@
 //! Typed parts and APDUs.
+mod contracts;
 mod parts;
 mod round_trips;
