@@ -1,6 +1,7 @@
 //! Normal forms, of rows of inputs and where sources and sinks break.
 mod check;
 mod compare;
+mod contracts;
 mod hostile;
 mod one;
 mod rows;

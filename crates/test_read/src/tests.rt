@@ -1,4 +1,5 @@
 //! Worked inputs through the decoder and the reader.
+mod contracts;
 mod rows;
 
 use ber_core::{Broken, Pieces, Source};

@@ -1,4 +1,6 @@
 //! Worked messages, built by hand, with their normal forms from outside.
+mod contracts;
+
 ghost use Rattle.std.specs.Prelude.{None, false};
 
 use ber_core::{Broken, Room, Sink};

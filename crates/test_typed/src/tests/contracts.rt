@@ -15,7 +15,11 @@ fn parts_have_one_value<P: Part>(part: &P, alloc: Global) -> Result<(), AllocErr
 }
 
 /// Two parts are equal exactly where their values are.
-fn parts_are_equal_where_their_values_are<T: Typed>(one: &T, other: &T, alloc: Global) -> Result<(), AllocError> {
+fn parts_are_equal_where_their_values_are<T: Typed>(
+    one: &T,
+    other: &T,
+    alloc: Global,
+) -> Result<(), AllocError> {
     let value = one.to_value(alloc)?;
     let other_value = other.to_value(alloc)?;
     one.one_view(other);
