@@ -17,5 +17,8 @@ fn apdus_are_shown_in_one_way(
     requires { apdu_of message.now ≡ apdu_of other.now }
     ensures { IfOk result (λ texts. texts.0.items ≡ texts.1.items) }
 {
-    Ok((show_text(alloc, number, message)?, show_text(alloc, number, other)?))
+    Ok((
+        show_text(alloc, number, message)?,
+        show_text(alloc, number, other)?,
+    ))
 }

@@ -1,9 +1,9 @@
 //! Contracts that leave one result, for a decoder: what the calls return is proved of their contracts and the laws alone. So a body
 //! that returns anything else doesn't meet its contract. That memory was refused is the one result that may come besides.
-ghost use Rattle.std.specs.Prelude.{◌≡◌, ℕ, List, []};
+ghost use Rattle.std.specs.Prelude.{◌≡◌, ◌≢◌, ◌<◌, ℕ, List, [], Err};
 ghost use Rattle.ill_read.specs.Feeding.{HasFailedWith, IsOpenAfter, IsWholeWith};
 
-use ill_read::{Decoder, Failure, Progress, decoders_are_apart};
+use ill_read::{Decoder, Failure, Progress, decoders_are_apart, one_place};
 use ill_schema::Message;
 use std::alloc::Global;
 
@@ -17,20 +17,16 @@ fn new_decoders_are_open(alloc: Global) -> Decoder
     Decoder::new(alloc)
 }
 
-/// Open decoders that were fed the same octets return the same for the next piece.
-fn decoders_return_what_they_were_fed(one: &mut Decoder, other: &mut Decoder, piece: &[u8])
+/// Open decoders that were fed the same octets return the same for the next piece, where memory holds.
+fn decoders_return_what_they_were_fed(
+    one: &mut Decoder,
+    other: &mut Decoder,
+    piece: &[u8],
+) -> (Result<Progress, Failure>, Result<Progress, Failure>)
     requires { (fed : List ℕ) × IsOpenAfter one.old fed × IsOpenAfter other.old fed }
+    ensures { result.0 ≢ Err Failure.OutOfMemory → result.1 ≢ Err Failure.OutOfMemory → result.0 ≡ result.1 }
 {
-    match (one.feed(piece), other.feed(piece)) {
-        (Ok(progress), Ok(other_progress)) => {
-            prove!(progress == other_progress);
-        }
-        (Err(Failure::Refused(refusal)), Err(Failure::Refused(other_refusal))) => {
-            prove!(refusal == other_refusal);
-        }
-        (Err(Failure::OutOfMemory), _) | (_, Err(Failure::OutOfMemory)) => {}
-        _ => unreachable!(),
-    }
+    (one.feed(piece), other.feed(piece))
 }
 
 /// Open decoders that were fed the same octets end alike.
@@ -72,9 +68,12 @@ fn messages_stay(mut decoder: Decoder, piece: &[u8])
     prove!(matches!(&ended, Ok(Some(_))));
 }
 
-/// An open decoder needs at least one octet.
-fn open_decoders_need_some(decoder: &Decoder)
-    requires { (fed : List ℕ) × IsOpenAfter decoder.now fed }
+/// Open decoders that were fed the same octets need as many more, at least one.
+fn open_decoders_need_one_number(one: &Decoder, other: &Decoder) -> (u32, u32)
+    requires { (fed : List ℕ) × IsOpenAfter one.now fed × IsOpenAfter other.now fed }
+    ensures same { result.0 ≡ result.1 }
+    ensures some { 0 < result.0 }
 {
-    prove!(decoder.need() > 0);
+    one_place();
+    (one.need(), other.need())
 }
