@@ -1,6 +1,6 @@
 //! Contracts that leave one result, for a decoder: what the calls return is proved of their contracts and the laws alone. So a body
 //! that returns anything else doesn't meet its contract. That memory was refused is the one result that may come besides.
-ghost use Rattle.std.specs.Prelude.{◌≡◌, ◌≢◌, ◌<◌, ℕ, List, [], Err};
+ghost use Rattle.std.specs.Prelude.{◌≡◌, ◌≢◌, ◌<◌, ℕ, List, [], Err, IfErr};
 ghost use Rattle.ill_read.specs.Feeding.{HasFailedWith, IsOpenAfter, IsWholeWith};
 
 use ill_read::{Decoder, Failure, Progress, decoders_are_apart, one_place};
@@ -48,8 +48,8 @@ fn failures_stay(mut decoder: Decoder, piece: &[u8], failure: Failure)
     requires { HasFailedWith decoder failure }
 {
     prove!(decoder.need() == 0);
-    prove!(decoder.feed(piece) == Err(failure));
-    prove!(decoder.feed(piece) == Err(failure));
+    let again = decoder.feed(piece);
+    prove!(again == Err(failure));
     let ended = decoder.finish();
     prove!(ended.is_err());
     if let Err(last) = ended {
@@ -57,13 +57,25 @@ fn failures_stay(mut decoder: Decoder, piece: &[u8], failure: Failure)
     }
 }
 
+/// The failure that a piece leads to is kept, out of memory among them: nothing is needed then, and the next piece returns it.
+fn failures_are_kept(
+    decoder: &mut Decoder,
+    piece: &[u8],
+    more: &[u8],
+) -> (Result<Progress, Failure>, u32, Result<Progress, Failure>)
+    requires { (fed : List ℕ) × IsOpenAfter decoder.old fed }
+    ensures { IfErr result.0 (λ failure. (result.1 ≡ 0) × (result.2 ≡ Err failure)) }
+{
+    (decoder.feed(piece), decoder.need(), decoder.feed(more))
+}
+
 /// A message stays: each piece is answered by Done, and the end by the message.
 fn messages_stay(mut decoder: Decoder, piece: &[u8])
     requires { (message : Message) × IsWholeWith decoder message }
 {
     prove!(decoder.need() == 0);
-    prove!(decoder.feed(piece) == Ok(Progress::Done));
-    prove!(decoder.feed(piece) == Ok(Progress::Done));
+    let again = decoder.feed(piece);
+    prove!(again == Ok(Progress::Done));
     let ended = decoder.finish();
     prove!(matches!(&ended, Ok(Some(_))));
 }

@@ -1,9 +1,10 @@
 //! Contracts that leave one result. The calls are made on any arguments, often twice, and what they return is proved of their
 //! contracts alone. So a body that returns anything else doesn't meet its contract.
-ghost use Rattle.std.specs.Prelude.{◌≡◌, length, slice_get};
+ghost use Rattle.std.specs.Prelude.{◌≡◌, ◌≤◌, length, slice_get};
 ghost use Rattle.ber_leaf.specs.Profile.{profile_two};
-ghost use Rattle.ill_schema.specs.Fits.{Fits};
-ghost use Rattle.ill_schema.specs.Value.{content_of};
+ghost use Rattle.ill_schema.specs.Apdu.{normal_form};
+ghost use Rattle.ill_schema.specs.Fits.{Fits, FitsApdu};
+ghost use Rattle.ill_schema.specs.Value.{apdu_with, content_of};
 
 use ill_schema::{
     Message, NodeId, PartId, Presence, Row, Unfit, Value, apdu_name, apdu_node, equal, fits,
@@ -90,6 +91,16 @@ fn messages_are_made_in_one_way(apdu: u8, body: Value, same: Value)
             unreachable!()
         }
     }
+}
+
+/// A message of parts that are known to fit has these parts.
+fn messages_have_their_parts(apdu: u8, body: Value, octets: u32)
+    requires fits { FitsApdu profile_two (apdu_with apdu body) }
+    requires within { length (normal_form (apdu_with apdu body)) ≤ profile_two.limit }
+{
+    let message = Message::of(apdu, body, octets);
+    prove!(message.apdu() == apdu);
+    prove!(message.octets() == octets);
 }
 
 /// A message keeps its number, body and size.
