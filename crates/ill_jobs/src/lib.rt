@@ -7,7 +7,6 @@ mod hexadecimal;
 mod job;
 mod messages;
 mod piece;
-mod put;
 mod same;
 mod text;
 

@@ -9,9 +9,9 @@ use crate::fault::RunFault;
 use crate::hexadecimal::read_hex;
 use crate::job::{Job, Verdict};
 use crate::piece::next_piece;
-use crate::put::put_all;
 use ber_core::{Sink, Source};
 use ill_normal::ReadFailure;
+use ill_write::put_all;
 use std::alloc::Global;
 
 /// How many messages an input may have.

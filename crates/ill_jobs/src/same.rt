@@ -5,10 +5,10 @@ ghost use Rattle.ill_jobs.specs.Compared.{verdict_line, ReadsSide, SideFails, Co
 use crate::fault::RunFault;
 use crate::hexadecimal::read_hex;
 use crate::job::Verdict;
-use crate::put::put_all;
 use crate::text::read_most;
 use ber_core::{Sink, Source};
 use ill_normal::{Failure, LIMIT, same_message};
+use ill_write::put_all;
 use std::alloc::Global;
 
 /// Writes `same` or `different`, and a line end, for two inputs of one message each. The first

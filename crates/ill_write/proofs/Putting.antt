@@ -1,11 +1,11 @@
 -- What is put one after another.
 use Rattle.std.proofs.Common.{◌≡◌, ℕ, ◌+◌, ◌-◌, ◌^◌, ◌<◌, ◌≤◌, List, [], ◌++◌, length, take, Option, Some, None, Result, Ok, Err, refl, sym, ap, subst, ◌∙◌, arith, append_assoc, append-nil, length-append, drop, IsOk, length-take}
-use Rattle.ill_write.specs.code.Puts.{Puts, Sends, Stands, Stopped, counted}
+use Rattle.ill_write.specs.code.Puts.{Puts, Sends, Stands, Stopped, TakesPart, counted}
 use lib.Seq.{take-add, take-take}
 use Rattle.std.proofs.lemmas.List.{take-append-drop, take_at}
 use Rattle.std.specs.Prelude.{IsErr}
 use Rattle.std.specs.Prelude.{MatchResult}
-use Rattle.std.specs.Io.KnownBytes.{Appends, Keeps}
+use Rattle.std.specs.Io.KnownBytes.{Appends}
 use Rattle.ber_core.specs.declared.source.Broken.{Broken}
 use Rattle.ill_write.specs.declared.progress.Progress.{Progress}
 
@@ -18,12 +18,6 @@ appends_then None b c xs ys h k = tt
 appends_then (Some as') None c xs ys h k = absurd h
 appends_then (Some as') (Some bs) None xs ys h k = absurd k
 appends_then (Some as') (Some bs) (Some cs) xs ys h k = k ∙ ap (λ z. z ++ ys) h ∙ append_assoc as' xs ys
-
-pub appends_keeps : (a b c : Option (List ℕ)) (xs : List ℕ) → Appends a b xs → Keeps b c → Appends a c xs
-appends_keeps None b c xs h k = tt
-appends_keeps (Some as') None c xs h k = absurd h
-appends_keeps (Some as') (Some bs) None xs h k = absurd k
-appends_keeps (Some as') (Some bs) (Some cs) xs h k = k ∙ h
 
 counted_then : (m n k : ℕ) → k ≡ counted m → counted (k + n) ≡ counted (m + n)
 counted_then m n k e = omega arith
@@ -123,14 +117,14 @@ pub sends_step : (told now after : Option (List ℕ)) (xs : List ℕ) (at n : �
 sends_step told now after xs at n le h k = sends_more told now after xs at n h (subst (λ z. Appends now after z) (take-take n (length xs - at) (drop at xs) (omega (arith, le, length-take (length xs - at) (drop at xs)))) k)
 
 -- where the sink broke after so many octets
-pub broke_after : (r : Result (Unit {0}) Broken) (told now after : Option (List ℕ)) (xs : List ℕ) (at old new : ℕ) → IsErr r → at < length xs → Appends told now (take at xs) → Keeps now after → new ≡ counted (old + at) → Sends r xs told old after new
-broke_after (Ok x) told now after xs at old new f le h k e = absurd cc
-broke_after (Err x) told now after xs at old new f le h k e =
+pub takes_part : (before after : Option (List ℕ)) (xs : List ℕ) (at old new : ℕ) → at < length xs → Appends before after (take at xs) → new ≡ counted (old + at)
+    → TakesPart xs before old after new
+takes_part before after xs at old new le h e =
     let l : length (take at xs) ≡ at = omega (arith, length-take at xs, le) in
     record {
       sent = take at xs;
       rest = drop at xs;
-      in_sink = appends_keeps told now after (take at xs) h k;
+      in_sink = h;
       begins = sym (take-append-drop at xs);
       not_all = omega (arith, l, le);
       count = e ∙ ap (λ (n : ℕ). counted (old + n)) (sym l);

@@ -16,4 +16,5 @@ mod write;
 pub use failure::WriteFailure;
 pub use laws::normal_size_counts_normal_forms;
 pub use normal::{normal_bytes, write_normal};
+pub use put::put_all;
 pub use sizes::Sizes;

@@ -1,22 +1,53 @@
 //! The loop over `put`.
-ghost use Rattle.std.specs.Prelude.{IsErr, IsTrue};
-ghost use Rattle.ill_write.specs.code.Puts.{Sends};
+ghost use Rattle.std.specs.Prelude.{◌≡◌, ◌+◌, ◌<◌, length, take, IfErr, OnOk, IsErr, IsTrue};
+ghost use Rattle.std.specs.Io.KnownBytes.{Appends};
+ghost use Rattle.ill_write.specs.code.Puts.{Sends, counted};
 
 use ber_core::{Broken, Sink};
 
+/// Puts all the octets into the sink.
+///
+/// # Errors
+///
+/// Where the sink breaks: the number of octets that it took, the first ones. They are not all.
+pub fn put_all<W: Sink>(sink: &mut W, octets: &[u8]) -> Result<(), usize>
+    ensures all { OnOk result (Appends (W.contents sink.old) (W.contents sink.new) octets.now) }
+    ensures some { IfErr result (λ n. Appends (W.contents sink.old) (W.contents sink.new) (take n octets.now)) }
+    ensures fewer { IfErr result (λ n. n < length octets.now) }
+    ensures breaks { IsErr result → IsTrue (W.is_broken sink.new) }
+    ensures stays { IsTrue (W.is_broken sink.old) → IsTrue (W.is_broken sink.new) }
+{
+    let mut at = 0;
+    while at < octets.len() {
+        match sink.put(&octets[at..]) {
+            Ok(count) => at += count,
+            Err(Broken) => return Err(at),
+        }
+    }
+    Ok(())
+}
+
 /// Puts all the octets, and counts those that were put.
-pub fn send<W: Sink>(sink: &mut W, octets: &[u8], written: &mut u32) -> Result<(), Broken>
+pub(crate) fn send<W: Sink>(sink: &mut W, octets: &[u8], written: &mut u32) -> Result<(), Broken>
     ensures sends { Sends result octets.now (W.contents sink.old) written.old (W.contents sink.new) written.new }
     ensures breaks { IsErr result → IsTrue (W.is_broken sink.new) }
     ensures stays { IsTrue (W.is_broken sink.old) → IsTrue (W.is_broken sink.new) }
 {
-    // A read tells the proof that the count fits.
-    let _counted = *written;
-    let mut at = 0;
-    while at < octets.len() {
-        let count = sink.put(&octets[at..])?;
-        at += count;
-        *written = written.saturating_add(count.min(u32::MAX as usize) as u32);
+    match put_all(sink, octets) {
+        Ok(()) => {
+            *written = counted(*written, octets.len());
+            Ok(())
+        }
+        Err(count) => {
+            *written = counted(*written, count);
+            Err(Broken)
+        }
     }
-    Ok(())
+}
+
+/// So many octets more, as far as 32 bits hold them.
+fn counted(written: u32, more: usize) -> u32
+    ensures { result ≡ counted (written + more) }
+{
+    written.saturating_add(more.min(u32::MAX as usize) as u32)
 }

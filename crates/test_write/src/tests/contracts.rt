@@ -5,7 +5,7 @@ ghost use Rattle.ill_write.specs.Sizes.{contents_of};
 
 use ber_core::{Room, Sink};
 use ill_schema::Message;
-use ill_write::{Sizes, WriteFailure, normal_bytes, write_normal};
+use ill_write::{Sizes, WriteFailure, normal_bytes, put_all, write_normal};
 use std::alloc::{AllocError, Global};
 
 /// Messages of one APDU have one normal form.
@@ -58,4 +58,19 @@ fn sinks_get_the_normal_form(
         }
     }
     Ok(())
+}
+
+/// A sink takes all the octets, or it breaks and the first ones are told.
+fn sinks_take_all_or_tell_how_many(octets: &[u8], breaks_at: Option<usize>) {
+    let mut sink: Room<64> = Room::new(1, breaks_at);
+    match put_all(&mut sink, octets) {
+        Ok(()) => {
+            prove!(sink.octets() == octets);
+        }
+        Err(n) => {
+            prove!(n < octets.len());
+            prove!(sink.octets() == &octets[..n]);
+            prove!(sink.broken());
+        }
+    }
 }

@@ -1,6 +1,6 @@
 use Rattle.std.proofs.Common.{◌-◌, ◌≤◌, IsTrue, length, take}
 use Rattle.std.specs.Io.KnownBytes.{Appends}
-use Rattle.ill_jobs.proofs.put.put_all.Given as goal
+use Rattle.ill_write.proofs.put.put_all.Given as goal
 
 abbrev pub invariant-loop-at : goal.invariant-loop-at
 invariant-loop-at g l = record {

@@ -1,5 +1,5 @@
 use Rattle.ill_write.proofs.Putting.{left_over, sends_step}
-use Rattle.ill_jobs.proofs.put.put_all.Goals as goal
+use Rattle.ill_write.proofs.put.put_all.Goals as goal
 
 pub loop-at-preserved : goal.loop-at-preserved
 loop-at-preserved g c =
