@@ -18,7 +18,7 @@ use Rattle.ill_jobs.specs.Compared.{ReadsSide, SideFails, Compares, NotCompared,
 use Rattle.ill_jobs.proofs.Texts.{same_octets, same_ok, same_err, not_both, is_fault}
 
 -- what was read of a side is what is compared of it
-side_is : (hex : Bool) (s : List ℕ) (left' : Option (List ℕ)) (o : List ℕ) → ReadsSide hex (Some s) left' o → side_octets hex s ≡ Ok o
+pub side_is : (hex : Bool) (s : List ℕ) (left' : Option (List ℕ)) (o : List ℕ) → ReadsSide hex (Some s) left' o → side_octets hex s ≡ Ok o
 side_is true s left' o h = same_octets s left' h.text h.taken ∙ h.stands
 side_is false s left' o h =
     let t = front s left' o h.0 in
@@ -32,7 +32,7 @@ side_is false s left' o h =
     ]
 
 -- what was no text is none
-no_text : (s : List ℕ) (left' : Option (List ℕ)) (e : RunFault) → NoHex (Some s) left' e → hex_octets s ≡ Err e
+pub no_text : (s : List ℕ) (left' : Option (List ℕ)) (e : RunFault) → NoHex (Some s) left' e → hex_octets s ≡ Err e
 no_text s left' e h = same_octets s left' h.text h.taken ∙ h.stands
 
 -- the answer where a side was not read

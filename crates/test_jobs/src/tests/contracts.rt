@@ -1,8 +1,13 @@
 //! Contracts that leave one result: what two calls on the same arguments return is proved equal of their contracts alone. So a body
-//! that returns anything else doesn't meet its contract.
-ghost use Rattle.std.specs.Prelude.{◌≡◌, IfOk};
+//! that returns anything else doesn't meet its contract. That memory was refused, and that a source or the sink broke, are the results
+//! that may come besides.
+ghost use Rattle.std.specs.Prelude.{◌≡◌, ◌≤◌, ◌+◌, ℕ, [], Ok, Err, IfOk, length};
+ghost use Rattle.ill_jobs.specs.Ran.{IsFault};
 ghost use Rattle.ill_schema.specs.Message.{apdu_of};
 
+use ber_core::{Pieces, Room};
+use ill_jobs::{Job, RunFault, Verdict, run, run_same};
+use ill_normal::{Refusal, Side};
 use ill_schema::Message;
 use ill_text::show_text;
 use std::alloc::{AllocError, Global};
@@ -21,4 +26,113 @@ fn apdus_are_shown_in_one_way(
         show_text(alloc, number, message)?,
         show_text(alloc, number, other)?,
     ))
+}
+
+/// Equal inputs have one verdict. Where one has a verdict, the other is not refused.
+fn inputs_have_one_verdict(
+    job: Job,
+    hex: bool,
+    source: &mut Pieces,
+    sink: &mut Room<64>,
+    other: &mut Pieces,
+    other_sink: &mut Room<64>,
+    alloc: Global,
+) -> (Result<Verdict, RunFault>, Result<Verdict, RunFault>)
+    requires { source.old.octets ≡ other.old.octets }
+    ensures verdict { (v w : Verdict) → result.0 ≡ Ok v → result.1 ≡ Ok w → v ≡ w }
+    ensures fault { (v : Verdict) (e : RunFault) → result.0 ≡ Ok v → result.1 ≡ Err e → IsFault e }
+{
+    (
+        run(alloc, job, hex, source, sink),
+        run(alloc, job, hex, other, other_sink),
+    )
+}
+
+/// A write fault of a job counts the octets that the sink took of the whole output.
+fn write_faults_count_what_the_sink_took(
+    job: Job,
+    source: &mut Pieces,
+    sink: &mut Room<64>,
+    alloc: Global,
+) -> Result<Verdict, RunFault>
+    requires { sink.old.octets ≡ [] }
+    ensures { (n : ℕ) → result ≡ Err (RunFault.WriteFault n) → length sink.new.octets ≡ n }
+{
+    run(alloc, job, false, source, sink)
+}
+
+/// Of a text at most 4,194,305 octets are taken, whatever the result.
+fn texts_are_taken_to_their_bound(
+    job: Job,
+    source: &mut Pieces,
+    sink: &mut Room<64>,
+    alloc: Global,
+) -> Result<Verdict, RunFault>
+    ensures { length source.old.octets ≤ 4_194_305 + length source.new.octets }
+{
+    run(alloc, job, true, source, sink)
+}
+
+/// Equal pairs of inputs have one verdict. Where one pair has a verdict, the other is not refused.
+fn pairs_have_one_verdict(
+    hex: bool,
+    first: &mut Pieces,
+    second: &mut Pieces,
+    other_first: &mut Pieces,
+    other_second: &mut Pieces,
+    sink: &mut Room<64>,
+    other_sink: &mut Room<64>,
+    alloc: Global,
+) -> (Result<Verdict, RunFault>, Result<Verdict, RunFault>)
+    requires first { first.old.octets ≡ other_first.old.octets }
+    requires second { second.old.octets ≡ other_second.old.octets }
+    ensures verdict { (v w : Verdict) → result.0 ≡ Ok v → result.1 ≡ Ok w → v ≡ w }
+    ensures fault { (v : Verdict) (e : RunFault) → result.0 ≡ Ok v → result.1 ≡ Err e → IsFault e }
+{
+    (
+        run_same(alloc, hex, first, second, sink),
+        run_same(alloc, hex, other_first, other_second, other_sink),
+    )
+}
+
+/// Of equal pairs one side is refused, with one refusal. At most 1,048,577 octets are taken of the first.
+fn pairs_are_refused_in_one_way(
+    first: &mut Pieces,
+    second: &mut Pieces,
+    other_first: &mut Pieces,
+    other_second: &mut Pieces,
+    sink: &mut Room<64>,
+    other_sink: &mut Room<64>,
+    alloc: Global,
+) -> (Result<Verdict, RunFault>, Result<Verdict, RunFault>)
+    requires first { first.old.octets ≡ other_first.old.octets }
+    requires second { second.old.octets ≡ other_second.old.octets }
+    ensures refusal { (s t : Side) (x y : Refusal) → result.0 ≡ Err (RunFault.RefusedSide s x)
+        → result.1 ≡ Err (RunFault.RefusedSide t y) → (s ≡ t) × (x ≡ y) }
+    ensures taken { length first.old.octets ≤ 1_048_577 + length first.new.octets }
+{
+    (
+        run_same(alloc, false, first, second, sink),
+        run_same(alloc, false, other_first, other_second, other_sink),
+    )
+}
+
+/// Of two texts the first that is invalid is told.
+fn texts_are_refused_in_order(
+    first: &mut Pieces,
+    second: &mut Pieces,
+    other_first: &mut Pieces,
+    other_second: &mut Pieces,
+    sink: &mut Room<64>,
+    other_sink: &mut Room<64>,
+    alloc: Global,
+) -> (Result<Verdict, RunFault>, Result<Verdict, RunFault>)
+    requires first { first.old.octets ≡ other_first.old.octets }
+    requires second { second.old.octets ≡ other_second.old.octets }
+    ensures { (i : ℕ) → result.0 ≡ Err RunFault.OddHex → result.1 ≡ Err (RunFault.BadHex i) → ⊥ }
+{
+    (
+        run_same(alloc, true, first, second, sink),
+        run_same(alloc, true, other_first, other_second, other_sink),
+    )
 }
