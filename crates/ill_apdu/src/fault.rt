@@ -1,7 +1,7 @@
 /// Why an APDU has no message.
 #[derive(Clone, Copy, Debug, PartialEq, Eq)]
 pub enum MessageFault {
-    /// Memory was wanting.
+    /// Memory was refused.
     OutOfMemory,
     /// The normal form passes the limit.
     TooLong,

@@ -4,7 +4,7 @@ ghost use Rattle.ill_text.specs.Shown.{row_name, row_node};
 
 use ill_schema::{NodeId, PartId, part_name, rows, rows_of};
 
-/// The name of a row; empty where there is none.
+/// The name of a row; empty where the node has no such row.
 pub fn row_name(node: NodeId, i: usize) -> &'static str
     ensures { result.now ≡ row_name node i }
 {

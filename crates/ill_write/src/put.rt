@@ -45,7 +45,7 @@ pub(crate) fn send<W: Sink>(sink: &mut W, octets: &[u8], written: &mut u32) -> R
     }
 }
 
-/// So many octets more, as far as 32 bits hold them.
+/// The sum of the two counts, or 4,294,967,295 where it is more.
 fn counted(written: u32, more: usize) -> u32
     ensures { result ≡ counted (written + more) }
 {

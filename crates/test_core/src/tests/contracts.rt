@@ -15,7 +15,7 @@ use ber_leaf::{
 use std::alloc::{AllocError, Global};
 use std::io::{Read, Write};
 
-/// An identifier is of the class, form and number that it was made of. There is none past the greatest number, and none of
+/// An identifier is of the class, form and number that it was made of. No identifier is past the greatest number, and none is of
 /// universal 0 primitive.
 fn identifiers_keep_their_parts(class: Class, constructed: bool, number: u32) {
     match Id::new(class, constructed, number) {
