@@ -1,4 +1,4 @@
--- How many octets surely still belong to a message, at a place that the octets don't pass.
+-- How many octets at least still belong to a message, at a place that the octets don't pass.
 use Rattle.std.proofs.Common.{◌≡◌, ◌⊎◌, ℕ, ◌+◌, ◌-◌, ◌<◌, ◌≤◌, min, Bool, true, false, ◌&&◌, List, [], ◌∷◌, ◌++◌, length, length-append, take, drop, Option, Some, None, IsTrue, refl, sym, ap, subst, ◌∙◌, inl, inr, arith, append_assoc, append-nil, nat_eq}
 use Rattle.std.specs.Prelude.{nat_le}
 use Rattle.std.proofs.lemmas.List.{take-append-drop, take-append-le, length-drop, nil_from_length}
@@ -335,7 +335,7 @@ reaches_at_least path at s octets l n more reaches a m ok h =
     (subst (λ z. Keeps (length u + length octets + n) (step profile_two b.place (length u) z)) (sym rest) keeps) h.0 h.1.encodes in
     omega (arith, ap length b.joined, length-append u octets)
 
--- so many octets surely still belong to the message
+-- so many octets at least still belong to the message
 pub need_at_least : (path : Path) (at : ℕ) (s octets : List ℕ) (l : StandsLast path at s octets) (n : ℕ) → IsNeed l.0.place at octets n
     → (more : List ℕ) (a : Apdu) (m : ℕ) → IsTrue (are_octets (s ++ more)) → Accepts profile_two (s ++ more) a m → length s + n ≤ m
 need_at_least path at s octets l n need more a m ok h =
@@ -384,7 +384,7 @@ two_reach p path k rest (reads tag h content) lt r =
     let size = r.size in
     omega (arith, length-append (identifier tag false) r.octets)
 
--- so two octets surely belong to the message where no definite element is open
+-- so two octets at least belong to the message where no definite element is open
 pub two_at_least : (path : Path) (at : ℕ) (s : List ℕ) (l : StandsLast path at s []) → (more : List ℕ) (a : Apdu) (m : ℕ) → IsTrue (are_octets (s ++ more)) → Accepts profile_two (s ++ more) a m → length s + 2 ≤ m
 two_at_least path at s l more a m ok h =
     let lt : length l.0.before < bound profile_two l.0.place = omega (arith, l.0.offset, (short path at s [] l).0) in

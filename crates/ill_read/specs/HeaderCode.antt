@@ -33,7 +33,7 @@ IsHeaderRead PartIdentifier octets = read_identifier octets ≡ part_identifier
 IsHeaderRead (Identified id length) octets =
     (rest : List ℕ) × (read_identifier octets ≡ identified (tag_of_id id) (form_of_id id) rest) × IsLengthRead length (read_length (form_of_id id) rest) octets
 
--- how many octets surely still belong to an element, where its header was read in so many
+-- how many octets at least still belong to an element, where its header was read in so many
 abbrev pub need_read : HeaderRead → ℕ → ℕ
 need_read PartIdentifier count = 1
 need_read (Identified id (PartLength due)) count = due

@@ -131,7 +131,7 @@ fn needs(alloc: Global, octets: &[u8]) -> Result<Vec<u32>, Fail> {
 }
 
 #[test]
-fn needs_what_surely_belongs(rt: HostRuntime) -> Result<(), Fail> {
+fn needs_what_certainly_belongs(rt: HostRuntime) -> Result<(), Fail> {
     let alloc = rt.alloc();
     let rows: [(&str, &str, &[u32]); 3] = [
         (

@@ -14,7 +14,7 @@ use std::alloc::Global;
 use std::test::Fail;
 use test_support::value;
 
-/// A row a line: its name, the APDU's number, the size of the normal form or why there is none, and the parts of the body,
+/// A row a line: its name, the APDU's number, the size of the normal form or why there is no message, and the parts of the body,
 /// as [`test_support::message`] reads them.
 const ROWS: &str = "\
 message-new-of-expired 20 33 head - seq:6
@@ -46,7 +46,7 @@ fn expectation(word: &str) -> Result<Result<u32, Unfit>, Fail> {
     }
 }
 
-/// The octets of the message's normal form, or why there is none.
+/// The octets of the normal form, or why there is no message.
 fn new_size(apdu: u8, body: Value) -> Result<u32, Unfit> {
     match Message::new(apdu, body) {
         Ok(message) => Ok(message.octets()),

@@ -6,7 +6,7 @@ use test_support::Outcome;
 pub const NAMES: &str =
     "segments-push read-message decode decode-empty decode-trailing decoder-feed sizes-measure sizes-measure-largest normal-bytes write-normal write-normal-largest normalise normalise-stream normalise-stream-refused same-message is-normal is-normal-refused check-one show-text run-show run-check run-canonicalise run-same";
 
-/// Makes the call of this name, None where there is none.
+/// Makes the call of this name, or returns None where no call has it.
 pub fn call(alloc: Global, name: &str) -> Option<Outcome> {
     match name {
         "segments-push" => Some(reading::segments_push(alloc)),

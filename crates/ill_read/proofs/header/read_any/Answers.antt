@@ -69,4 +69,4 @@ returns-in-Some-id c =
     let fed : Fed c.loop-i.state w = subst (Fed c.loop-i.state) all c.loop-i.invariant.1 in
     let begins : BeginsWithId c.in-Some-id.id w = subst (BeginsWithId c.in-Some-id.id) all (c.in-Some-id.ensures (take c.loop-i.i w) c.loop-i.invariant.1) in
     let read = part_length_read w c.in-Some-id.id ok part begins in
-    (read.0, read.1, (read.2, (λ header rest is. c.due.ensures.surely w rest header fed is, c.due.ensures.reached w fed (c.in-Some-id.id, begins) part)))
+    (read.0, read.1, (read.2, (λ header rest is. c.due.ensures.at_least w rest header fed is, c.due.ensures.reached w fed (c.in-Some-id.id, begins) part)))

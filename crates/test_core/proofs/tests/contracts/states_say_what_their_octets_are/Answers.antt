@@ -44,13 +44,13 @@ pub returns-clause-due : goal.returns-clause-due
 returns-clause-due c =
     let b = c.requires.fed in
     let p : Due b.0 c.due.result = record {
-      least = λ rest h i. c.due.ensures.surely b.0 rest h b.1 i;
+      least = λ rest h i. c.due.ensures.at_least b.0 rest h b.1 i;
       zero = c.due.ensures.zero b.0 b.1;
       reached = c.due.ensures.reached b.0 b.1;
       one = c.due.ensures.one b.0 b.1;
     } in
     let q : Due b.0 c.due-2.result = record {
-      least = λ rest h i. c.due-2.ensures.surely b.0 rest h b.2 i;
+      least = λ rest h i. c.due-2.ensures.at_least b.0 rest h b.2 i;
       zero = c.due-2.ensures.zero b.0 b.2;
       reached = c.due-2.ensures.reached b.0 b.2;
       one = c.due-2.ensures.one b.0 b.2;
