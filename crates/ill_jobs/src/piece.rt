@@ -1,11 +1,7 @@
 //! The whole output of one message.
-ghost use Rattle.std.specs.Prelude.{◌≡◌, ℕ, Bool, ◌++◌, ◌<◌, [], length, codes, IfOk, IfErr, IfSome, IfNone, IsErrOf, IsTrue};
-ghost use Rattle.std.specs.Io.KnownBytes.{Consumes, IsAtEnd};
-ghost use Rattle.ber_leaf.specs.Profile.{profile_two};
+ghost use Rattle.std.specs.Prelude.{◌≡◌, ℕ, Bool, ◌++◌, codes, IfOk};
 ghost use Rattle.hex.specs.Hex.{encode_lower};
-ghost use Rattle.ill_read.specs.Answers.{IfReadRefused, TakesFront, TakesNoMessage};
-ghost use Rattle.ill_refusals.specs.Outcome.{OnlyRefuses};
-ghost use Rattle.ill_read.specs.declared.failure.ReadFailure.{ReadFailure};
+ghost use Rattle.ill_read.specs.Answers.{ReadsNext};
 ghost use Rattle.ill_jobs.specs.declared.job.Job.{Job};
 ghost use Rattle.ill_jobs.specs.Output.{line_of_check};
 ghost use Rattle.ill_jobs.specs.code.Pieces.{Makes};
@@ -33,13 +29,8 @@ pub fn next_piece<R: Source>(
     number: u32,
     source: &mut R,
 ) -> Result<Option<Piece>, ReadFailure>
-    ensures piece { IfOk result (λ found. IfSome found (Makes job hex number (R.left source.old) (R.left source.new))) }
-    ensures none { IfOk result (λ found. IfNone found (Consumes (R.left source.old) (R.left source.new) [] × IsAtEnd (R.left source.new))) }
-    ensures refused { IfErr result (λ e. IfReadRefused e (λ f. IfSome (R.left source.old) (λ s. (0 < length s) × OnlyRefuses profile_two s f))) }
-    ensures taken { TakesFront (R.left source.old) (R.left source.new) }
-    ensures broken { IsErrOf result ReadFailure.ReadFault → IsTrue (R.is_broken source.new) }
-    ensures unfinished { IsErrOf result ReadFailure.ReadFault → TakesNoMessage (R.left source.old) (R.left source.new) }
-    ensures stays { IsTrue (R.is_broken source.old) → IsTrue (R.is_broken source.new) }
+    ensures { ReadsNext (R.left source.old) (R.left source.new) (R.is_broken source.old) (R.is_broken source.new)
+        (Makes job hex number) result }
 {
     match job {
         Job::Show => shown(alloc, number, source),
@@ -53,13 +44,8 @@ fn shown<R: Source>(
     number: u32,
     source: &mut R,
 ) -> Result<Option<Piece>, ReadFailure>
-    ensures piece { IfOk result (λ found. IfSome found (λ p. (hex : Bool) → Makes Job.Show hex number (R.left source.old) (R.left source.new) p)) }
-    ensures none { IfOk result (λ found. IfNone found (Consumes (R.left source.old) (R.left source.new) [] × IsAtEnd (R.left source.new))) }
-    ensures refused { IfErr result (λ e. IfReadRefused e (λ f. IfSome (R.left source.old) (λ s. (0 < length s) × OnlyRefuses profile_two s f))) }
-    ensures taken { TakesFront (R.left source.old) (R.left source.new) }
-    ensures broken { IsErrOf result ReadFailure.ReadFault → IsTrue (R.is_broken source.new) }
-    ensures unfinished { IsErrOf result ReadFailure.ReadFault → TakesNoMessage (R.left source.old) (R.left source.new) }
-    ensures stays { IsTrue (R.is_broken source.old) → IsTrue (R.is_broken source.new) }
+    ensures { ReadsNext (R.left source.old) (R.left source.new) (R.is_broken source.old) (R.is_broken source.new)
+        (λ p octets. (hex : Bool) → Makes Job.Show hex number p octets) result }
 {
     let Some(message) = read_message(alloc, source)? else {
         return Ok(None);
@@ -78,13 +64,8 @@ fn checked<R: Source>(
     number: u32,
     source: &mut R,
 ) -> Result<Option<Piece>, ReadFailure>
-    ensures piece { IfOk result (λ found. IfSome found (λ p. (hex : Bool) → Makes Job.Check hex number (R.left source.old) (R.left source.new) p)) }
-    ensures none { IfOk result (λ found. IfNone found (Consumes (R.left source.old) (R.left source.new) [] × IsAtEnd (R.left source.new))) }
-    ensures refused { IfErr result (λ e. IfReadRefused e (λ f. IfSome (R.left source.old) (λ s. (0 < length s) × OnlyRefuses profile_two s f))) }
-    ensures taken { TakesFront (R.left source.old) (R.left source.new) }
-    ensures broken { IsErrOf result ReadFailure.ReadFault → IsTrue (R.is_broken source.new) }
-    ensures unfinished { IsErrOf result ReadFailure.ReadFault → TakesNoMessage (R.left source.old) (R.left source.new) }
-    ensures stays { IsTrue (R.is_broken source.old) → IsTrue (R.is_broken source.new) }
+    ensures { ReadsNext (R.left source.old) (R.left source.new) (R.is_broken source.old) (R.is_broken source.new)
+        (λ p octets. (hex : Bool) → Makes Job.Check hex number p octets) result }
 {
     let Some(found) = check_one(alloc, source)? else {
         return Ok(None);
@@ -128,13 +109,8 @@ fn canonical<R: Source>(
     hex: bool,
     source: &mut R,
 ) -> Result<Option<Piece>, ReadFailure>
-    ensures piece { IfOk result (λ found. IfSome found (λ p. (number : ℕ) → Makes Job.Canonicalise hex number (R.left source.old) (R.left source.new) p)) }
-    ensures none { IfOk result (λ found. IfNone found (Consumes (R.left source.old) (R.left source.new) [] × IsAtEnd (R.left source.new))) }
-    ensures refused { IfErr result (λ e. IfReadRefused e (λ f. IfSome (R.left source.old) (λ s. (0 < length s) × OnlyRefuses profile_two s f))) }
-    ensures taken { TakesFront (R.left source.old) (R.left source.new) }
-    ensures broken { IsErrOf result ReadFailure.ReadFault → IsTrue (R.is_broken source.new) }
-    ensures unfinished { IsErrOf result ReadFailure.ReadFault → TakesNoMessage (R.left source.old) (R.left source.new) }
-    ensures stays { IsTrue (R.is_broken source.old) → IsTrue (R.is_broken source.new) }
+    ensures { ReadsNext (R.left source.old) (R.left source.new) (R.is_broken source.old) (R.is_broken source.new)
+        (λ p octets. (number : ℕ) → Makes Job.Canonicalise hex number p octets) result }
 {
     let Some(message) = read_message(alloc, source)? else {
         return Ok(None);

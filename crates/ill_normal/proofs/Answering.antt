@@ -9,6 +9,7 @@ use Rattle.ill_schema.proofs.Streams.{parts_accept, accepts_once, accepts_some}
 use Rattle.ill_read.specs.declared.failure.ReadFailure.{ReadFailure}
 use Rattle.ill_read.specs.Answers.{IfReadRefused, IsReadFault}
 use Rattle.ill_normal.specs.declared.failure.NormalFailure.{NormalFailure}
+use Rattle.ill_normal.specs.Calls.{taking, putting}
 use Rattle.ill_normal.specs.Normalised.{Forwards, Fails, Answers, AnswersRefused}
 
 -- what stands in front of what is left now
@@ -57,14 +58,14 @@ pub both : (old : Option (List ℕ)) (P Q : List ℕ → Type 0) → ((s : List 
 both None P Q h k = tt
 both (Some s) P Q h k = h s k
 
-pub fails_accepts : (left left' held held' : Option (List ℕ)) (x y : Bool) (e : NormalFailure) → Fails left left' held held' x y e
+pub fails_accepts : (left left' held held' : Option (List ℕ)) (x y : Bool) (e : NormalFailure) → Fails (taking left left' x) (putting held held' y) e
     → IfSome left (λ s. (a : Apdu) (n : ℕ) → Accepts profile_two s a n → Answers {T = Option ℕ} (Err e) (Some (length (normal_form a))))
 fails_accepts left left' held held' x y (NormalFailure.Refused refusal) h = both left _ _ (λ s k a n accepts. k.1.2 a n accepts) h.0
 fails_accepts left left' held held' x y NormalFailure.OutOfMemory h = always left _ (λ s a n accepts. tt)
 fails_accepts left left' held held' x y NormalFailure.ReadFault h = always left _ (λ s a n accepts. tt)
 fails_accepts left left' held held' x y (NormalFailure.WriteFault w) h = always left _ (λ s a n accepts. tt)
 
-pub fails_refuses : (left left' held held' : Option (List ℕ)) (x y : Bool) (e : NormalFailure) → Fails left left' held held' x y e
+pub fails_refuses : (left left' held held' : Option (List ℕ)) (x y : Bool) (e : NormalFailure) → Fails (taking left left' x) (putting held held' y) e
     → IfSome left (λ s. (f : Fault) → 0 < length s → OnlyRefuses profile_two s f → AnswersRefused {T = Option ℕ} (Err e) f)
 fails_refuses left left' held held' x y (NormalFailure.Refused refusal) h = both left _ _ (λ s k f some only. only.1 (fault_of refusal) k.1.0) h.0
 fails_refuses left left' held held' x y NormalFailure.OutOfMemory h = always left _ (λ s f some only. tt)

@@ -10,6 +10,7 @@ use Rattle.ill_read.specs.Answers.{TakesFront}
 use Rattle.ill_normal.specs.declared.failure.NormalFailure.{NormalFailure}
 use Rattle.ill_normal.specs.declared.failure.StreamCause.{StreamCause}
 use Rattle.ill_normal.specs.declared.failure.StreamFailure.{StreamFailure}
+use Rattle.ill_normal.specs.Calls.{taking, putting}
 use Rattle.ill_normal.specs.Normalised.{Fails, IsFault}
 use Rattle.ill_normal.specs.Streamed.{Passes, Stops, StopsAfter, IsRefusedAfter, AnswersCount, AnswersRefusedAfter, AnswersTooMany}
 use Rattle.ill_schema.proofs.Streams.{accepts_some}
@@ -84,7 +85,7 @@ module _ (s : List ℕ) (rest left' held grown held' : Option (List ℕ)) (x y :
       let b = no_longer profile_two s [] t.0 xs p.apdus k (nothing_over profile_two [] refl) t.1 in
       not_none t.0 t.2 (one_rest profile_two s t.0 [] p.apdus xs t.1 k (omega (arith, b, p.count)))
 
-  stop_accepts : (why : StreamCause) → Stops rest left' grown held' x y whole why → (xs : List Apdu) → IsStream profile_two s xs [] → length xs ≤ 1_000_000
+  stop_accepts : (why : StreamCause) → Stops (taking rest left' x) (putting grown held' y) whole why → (xs : List Apdu) → IsStream profile_two s xs [] → length xs ≤ 1_000_000
       → elim why as (λ _. Type 0) [ StreamCause.Normal failure ↦ IsFault failure | StreamCause.TooManyMessages ↦ ⊥ ]
   stop_accepts (StreamCause.Normal (NormalFailure.Refused refusal)) h xs k le = refused_whole (fault_of refusal) xs h.1.0 k
   stop_accepts (StreamCause.Normal NormalFailure.OutOfMemory) h xs k le = tt
@@ -92,7 +93,7 @@ module _ (s : List ℕ) (rest left' held grown held' : Option (List ℕ)) (x y :
   stop_accepts (StreamCause.Normal (NormalFailure.WriteFault n)) h xs k le = tt
   stop_accepts StreamCause.TooManyMessages h xs k le = many_whole h.1.0 xs h.0 h.1.1 k le
 
-  stop_refuses : (why : StreamCause) → Stops rest left' grown held' x y whole why → (xs : List Apdu) (r : List ℕ) (f : Fault)
+  stop_refuses : (why : StreamCause) → Stops (taking rest left' x) (putting grown held' y) whole why → (xs : List Apdu) (r : List ℕ) (f : Fault)
       → IsStream profile_two s xs r → length xs < 1_000_000 → 0 < length r → OnlyRefuses profile_two r f
       → elim why as (λ _. Type 0) [ StreamCause.Normal failure ↦ IsRefusedAfter whole failure (length xs) f | StreamCause.TooManyMessages ↦ ⊥ ]
   stop_refuses (StreamCause.Normal (NormalFailure.Refused refusal)) h xs r f k lt some only =
@@ -110,7 +111,7 @@ module _ (s : List ℕ) (rest left' held grown held' : Option (List ℕ)) (x y :
       let b = no_longer profile_two s r t.0 xs p.apdus k only.2 t.1 in
       absurd (omega (arith, b, p.count, h.0, lt))
 
-  stop_too_many : (why : StreamCause) → Stops rest left' grown held' x y whole why → (xs : List Apdu) (r : List ℕ)
+  stop_too_many : (why : StreamCause) → Stops (taking rest left' x) (putting grown held' y) whole why → (xs : List Apdu) (r : List ℕ)
       → IsStream profile_two s xs r → length xs ≡ 1_000_000 → 0 < length r
       → elim why as (λ _. Type 0) [ StreamCause.Normal failure ↦ IsFault failure | StreamCause.TooManyMessages ↦ Unit {0} ]
   stop_too_many (StreamCause.Normal (NormalFailure.Refused refusal)) h xs r k many some =
@@ -122,32 +123,32 @@ module _ (s : List ℕ) (rest left' held grown held' : Option (List ℕ)) (x y :
   stop_too_many (StreamCause.Normal (NormalFailure.WriteFault n)) h xs r k many some = tt
   stop_too_many StreamCause.TooManyMessages h xs r k many some = tt
 
-pub stops_accepts : (left left' held held' : Option (List ℕ)) (x y : Bool) (e : StreamFailure) → StopsAfter left left' held held' x y e
+pub stops_accepts : (left left' held held' : Option (List ℕ)) (x y : Bool) (e : StreamFailure) → StopsAfter (taking left left' x) (putting held held' y) e
     → IfSome left (λ s. (xs : List Apdu) → IsStream profile_two s xs [] → length xs ≤ 1_000_000 → AnswersCount (Err e) (length xs))
 stops_accepts None left' held held' x y e h = tt
 stops_accepts (Some s) left' held held' x y e h = stop_accepts s h.rest left' held h.grown held' x y e.whole e.before h.passes e.why h.stops
 
-pub stops_refuses : (left left' held held' : Option (List ℕ)) (x y : Bool) (e : StreamFailure) → StopsAfter left left' held held' x y e
+pub stops_refuses : (left left' held held' : Option (List ℕ)) (x y : Bool) (e : StreamFailure) → StopsAfter (taking left left' x) (putting held held' y) e
     → IfSome left (λ s. (xs : List Apdu) (r : List ℕ) (f : Fault) → IsStream profile_two s xs r → length xs < 1_000_000 → 0 < length r → OnlyRefuses profile_two r f
     → AnswersRefusedAfter (Err e) (length xs) f)
 stops_refuses None left' held held' x y e h = tt
 stops_refuses (Some s) left' held held' x y e h = stop_refuses s h.rest left' held h.grown held' x y e.whole e.before h.passes e.why h.stops
 
-pub stops_too_many : (left left' held held' : Option (List ℕ)) (x y : Bool) (e : StreamFailure) → StopsAfter left left' held held' x y e
+pub stops_too_many : (left left' held held' : Option (List ℕ)) (x y : Bool) (e : StreamFailure) → StopsAfter (taking left left' x) (putting held held' y) e
     → IfSome left (λ s. (xs : List Apdu) (r : List ℕ) → IsStream profile_two s xs r → length xs ≡ 1_000_000 → 0 < length r → AnswersTooMany (Err e))
 stops_too_many None left' held held' x y e h = tt
 stops_too_many (Some s) left' held held' x y e h = stop_too_many s h.rest left' held h.grown held' x y e.whole e.before h.passes e.why h.stops
 
-stops_normal : (rest left' grown held' : Option (List ℕ)) (x y : Bool) (whole : ℕ) (e : NormalFailure) → whole < 1_000_000 → Fails rest left' grown held' x y e
-    → Stops rest left' grown held' x y whole (StreamCause.Normal e)
+stops_normal : (rest left' grown held' : Option (List ℕ)) (x y : Bool) (whole : ℕ) (e : NormalFailure) → whole < 1_000_000 → Fails (taking rest left' x) (putting grown held' y) e
+    → Stops (taking rest left' x) (putting grown held' y) whole (StreamCause.Normal e)
 stops_normal rest left' grown held' x y whole (NormalFailure.Refused refusal) lt h = (lt, h)
 stops_normal rest left' grown held' x y whole NormalFailure.OutOfMemory lt h = (omega arith, h)
 stops_normal rest left' grown held' x y whole NormalFailure.ReadFault lt h = (omega arith, h)
 stops_normal rest left' grown held' x y whole (NormalFailure.WriteFault n) lt h = (omega arith, h)
 
 pub stops_here : (left rest left' held grown held' : Option (List ℕ)) (x y : Bool) (whole before : ℕ) (e : NormalFailure) → Passes left rest held grown whole before
-    → whole < 1_000_000 → TakesFront rest left' → Fails rest left' grown held' x y e
-    → StopsAfter left left' held held' x y (record { whole = whole; before = before; why = StreamCause.Normal e })
+    → whole < 1_000_000 → TakesFront rest left' → Fails (taking rest left' x) (putting grown held' y) e
+    → StopsAfter (taking left left' x) (putting held held' y) (record { whole = whole; before = before; why = StreamCause.Normal e })
 stops_here left rest left' held grown held' x y whole before e p lt t h = record {
   rest = rest;
   grown = grown;
@@ -158,7 +159,7 @@ stops_here left rest left' held grown held' x y whole before e p lt t h = record
 
 pub stops_full : (left rest left' held held' : Option (List ℕ)) (x y : Bool) (before : ℕ) → Passes left rest held held' 1_000_000 before
     → (octet : ℕ) × Consumes rest left' (octet ∷ [])
-    → StopsAfter left left' held held' x y (record { whole = 1_000_000; before = before; why = StreamCause.TooManyMessages })
+    → StopsAfter (taking left left' x) (putting held held' y) (record { whole = 1_000_000; before = before; why = StreamCause.TooManyMessages })
 stops_full left rest left' held held' x y before p h = record {
   rest = rest;
   grown = held';
@@ -169,7 +170,7 @@ stops_full left rest left' held held' x y before p h = record {
 
 -- the source broke after a million messages
 pub stops_broken : (left rest left' held held' : Option (List ℕ)) (x y : Bool) (before : ℕ) → Passes left rest held held' 1_000_000 before → IsTrue x → Keeps rest left'
-    → StopsAfter left left' held held' x y (record { whole = 1_000_000; before = before; why = StreamCause.Normal NormalFailure.ReadFault })
+    → StopsAfter (taking left left' x) (putting held held' y) (record { whole = 1_000_000; before = before; why = StreamCause.Normal NormalFailure.ReadFault })
 stops_broken left rest left' held held' x y before p broken kept =
     let none = Consumes-kept rest rest left' [] (Consumes-nil rest) kept in
     record {

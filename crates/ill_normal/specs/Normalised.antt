@@ -1,5 +1,5 @@
 -- What a call that normalises one message does to its source and its sink.
-use Rattle.std.specs.Prelude.{◌≡◌, ◌<◌, ℕ, Bool, List, length, take, Option, Result, Ok, Err, IfSome, IsTrue}
+use Rattle.std.specs.Prelude.{◌≡◌, ◌<◌, ℕ, List, length, take, Option, Result, Ok, Err, IfSome, IsTrue}
 use Rattle.std.specs.Io.KnownBytes.{Consumes, Keeps, Appends}
 use Rattle.ill_schema.specs.Apdu.{Apdu, SpellsApdu, normal_form}
 use Rattle.ill_read.specs.Answers.{TakesNoMessage}
@@ -7,6 +7,7 @@ use Rattle.ill_refusals.specs.Fault.{Fault, fault_of}
 use Rattle.ill_refusals.specs.Outcome.{OnlyRefuses}
 use Rattle.ber_leaf.specs.Profile.{profile_two}
 use Rattle.ill_normal.specs.declared.failure.NormalFailure.{NormalFailure}
+use Rattle.ill_normal.specs.Calls.{Taking, Putting}
 
 -- the octets that were taken spell an APDU, and its normal form was written
 pub record Forwards (left left' held held' : Option (List ℕ)) (read written : ℕ) : Type 0 where
@@ -18,15 +19,15 @@ pub record Forwards (left left' held held' : Option (List ℕ)) (read written : 
   pub read_size : read ≡ length octets
   pub written_size : written ≡ length (normal_form apdu)
 
--- why a message was not normalised: what was left in the source and held by the sink before and after, and whether they are broken
-abbrev pub Fails : Option (List ℕ) → Option (List ℕ) → Option (List ℕ) → Option (List ℕ) → Bool → Bool → NormalFailure → Type 0
-Fails left left' held held' source_broken sink_broken (NormalFailure.Refused refusal) =
-    IfSome left (λ s. (0 < length s) × OnlyRefuses profile_two s (fault_of refusal)) × Keeps held held'
-Fails left left' held held' source_broken sink_broken NormalFailure.OutOfMemory = Keeps held held'
-Fails left left' held held' source_broken sink_broken NormalFailure.ReadFault = IsTrue source_broken × TakesNoMessage left left' × Keeps held held'
-Fails left left' held held' source_broken sink_broken (NormalFailure.WriteFault n) =
-    IsTrue sink_broken × ((a : Apdu) × (b : List ℕ) × SpellsApdu profile_two a b × Consumes left left' b
-    × Appends held held' (take n (normal_form a)) × (n < length (normal_form a)))
+-- why a message was not normalised, and what the call did to the source and the sink
+abbrev pub Fails : Taking → Putting → NormalFailure → Type 0
+Fails source sink (NormalFailure.Refused refusal) =
+    IfSome source.left (λ s. (0 < length s) × OnlyRefuses profile_two s (fault_of refusal)) × Keeps sink.held sink.held'
+Fails source sink NormalFailure.OutOfMemory = Keeps sink.held sink.held'
+Fails source sink NormalFailure.ReadFault = IsTrue source.broken × TakesNoMessage source.left source.left' × Keeps sink.held sink.held'
+Fails source sink (NormalFailure.WriteFault n) =
+    IsTrue sink.broken × ((a : Apdu) × (b : List ℕ) × SpellsApdu profile_two a b × Consumes source.left source.left' b
+    × Appends sink.held sink.held' (take n (normal_form a)) × (n < length (normal_form a)))
 
 -- memory, the source or the sink failed
 abbrev pub IsFault : NormalFailure → Type 0

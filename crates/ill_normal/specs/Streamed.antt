@@ -1,5 +1,5 @@
 -- What a call that normalises a stream does to its source and its sink.
-use Rattle.std.specs.Prelude.{◌≡◌, ◌<◌, ◌≤◌, ℕ, Bool, List, [], ◌∷◌, length, flat_map, Option, Result, Ok, Err}
+use Rattle.std.specs.Prelude.{◌≡◌, ◌<◌, ◌≤◌, ℕ, List, [], ◌∷◌, length, flat_map, Option, Result, Ok, Err}
 use Rattle.std.specs.Io.KnownBytes.{Consumes, Keeps, Appends}
 use Rattle.ill_schema.specs.Apdu.{Apdu, IsStream, normal_form}
 use Rattle.ill_refusals.specs.Fault.{Fault, fault_of}
@@ -8,9 +8,10 @@ use Rattle.ill_read.specs.Answers.{TakesFront}
 use Rattle.ill_normal.specs.declared.failure.NormalFailure.{NormalFailure}
 use Rattle.ill_normal.specs.declared.failure.StreamCause.{StreamCause}
 use Rattle.ill_normal.specs.declared.failure.StreamFailure.{StreamFailure}
+use Rattle.ill_normal.specs.Calls.{Taking, taking, Putting, putting}
 use Rattle.ill_normal.specs.Normalised.{Fails, IsFault}
 
--- so many messages were taken, whose octets were so many, and their normal forms were written, in order
+-- `whole` messages of `before` octets were taken, and their normal forms were written, in order
 pub record Passes (left left' held held' : Option (List ℕ)) (whole before : ℕ) : Type 0 where
   pub apdus : List Apdu
   pub octets : List ℕ
@@ -20,22 +21,20 @@ pub record Passes (left left' held held' : Option (List ℕ)) (whole before : �
   pub count : length apdus ≡ whole
   pub size : length octets ≡ before
 
--- why no further message was normalised, after so many
-abbrev pub Stops : Option (List ℕ) → Option (List ℕ) → Option (List ℕ) → Option (List ℕ) → Bool → Bool → ℕ → StreamCause → Type 0
-Stops left left' held held' source_broken sink_broken whole (StreamCause.Normal (NormalFailure.Refused refusal)) =
-    (whole < 1_000_000) × Fails left left' held held' source_broken sink_broken (NormalFailure.Refused refusal)
-Stops left left' held held' source_broken sink_broken whole (StreamCause.Normal failure) =
-    (whole ≤ 1_000_000) × Fails left left' held held' source_broken sink_broken failure
-Stops left left' held held' source_broken sink_broken whole StreamCause.TooManyMessages =
-    (whole ≡ 1_000_000) × ((octet : ℕ) × Consumes left left' (octet ∷ [])) × Keeps held held'
+-- why no further message was normalised, after this many
+abbrev pub Stops : Taking → Putting → ℕ → StreamCause → Type 0
+Stops source sink whole (StreamCause.Normal (NormalFailure.Refused refusal)) = (whole < 1_000_000) × Fails source sink (NormalFailure.Refused refusal)
+Stops source sink whole (StreamCause.Normal failure) = (whole ≤ 1_000_000) × Fails source sink failure
+Stops source sink whole StreamCause.TooManyMessages =
+    (whole ≡ 1_000_000) × ((octet : ℕ) × Consumes source.left source.left' (octet ∷ [])) × Keeps sink.held sink.held'
 
 -- the messages that were whole before the failure, and why no further one was normalised; of what follows them at most 1,048,576 octets were taken, whatever the failure
-pub record StopsAfter (left left' held held' : Option (List ℕ)) (source_broken sink_broken : Bool) (failure : StreamFailure) : Type 0 where
+pub record StopsAfter (source : Taking) (sink : Putting) (failure : StreamFailure) : Type 0 where
   pub rest : Option (List ℕ)
   pub grown : Option (List ℕ)
-  pub passes : Passes left rest held grown failure.whole failure.before
-  pub taken : TakesFront rest left'
-  pub stops : Stops rest left' grown held' source_broken sink_broken failure.whole failure.why
+  pub passes : Passes source.left rest sink.held grown failure.whole failure.before
+  pub taken : TakesFront rest source.left'
+  pub stops : Stops (taking rest source.left' source.broken) (putting grown sink.held' sink.broken) failure.whole failure.why
 
 -- a stream's answer is this number, or a fault
 abbrev pub AnswersCount : Result ℕ StreamFailure → ℕ → Type 0
@@ -47,7 +46,7 @@ abbrev pub IsRefusedAfter : ℕ → NormalFailure → ℕ → Fault → Type 0
 IsRefusedAfter m (NormalFailure.Refused refusal) n f = (m ≡ n) × (fault_of refusal ≡ f)
 IsRefusedAfter m failure n f = IsFault failure
 
--- a stream's answer is this refusal after so many messages, or a fault
+-- a stream's result is this refusal after n messages, or a fault
 abbrev pub AnswersRefusedAfter : Result ℕ StreamFailure → ℕ → Fault → Type 0
 AnswersRefusedAfter (Ok m) n f = ⊥
 AnswersRefusedAfter (Err e) n f = elim e.why as (λ _. Type 0) [

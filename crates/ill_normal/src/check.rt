@@ -1,10 +1,9 @@
 //! What there is to say of a message.
-ghost use Rattle.std.specs.Prelude.{◌≡◌, ◌↔◌, ◌<◌, ◌≤◌, ℕ, List, [], length, IfOk, IfErr, IfSome, IfNone, IsTrue, IsErrOf};
-ghost use Rattle.std.specs.Io.KnownBytes.{Consumes, IsAtEnd};
+ghost use Rattle.std.specs.Prelude.{ℕ, IfSome};
 ghost use Rattle.ber_leaf.specs.Profile.{profile_two};
-ghost use Rattle.ill_schema.specs.Apdu.{Apdu, SpellsApdu, Accepts, normal_form};
-ghost use Rattle.ill_read.specs.Answers.{TakesFront, TakesNoMessage, IfReadRefused, AnswersSome};
-ghost use Rattle.ill_refusals.specs.Outcome.{OnlyRefuses};
+ghost use Rattle.ill_schema.specs.Apdu.{Apdu, Accepts};
+ghost use Rattle.ill_read.specs.Answers.{AnswersSome, ReadsNext};
+ghost use Rattle.ill_normal.specs.Checking.{Describes};
 
 use ber_core::Source;
 use ill_read::{ReadFailure, read_kept};
@@ -31,16 +30,7 @@ pub struct Checked {
 ///
 /// The one refusal of an input that begins with no message, out of memory, or the source's fault.
 pub fn check_one<R: Source>(alloc: Global, source: &mut R) -> Result<Option<Checked>, ReadFailure>
-    // The octets that were taken spell an APDU, which the result describes.
-    ensures checked { IfOk result (λ found. IfSome found (λ x. (a : Apdu) × (b : List ℕ) × SpellsApdu profile_two a b
-        × Consumes (R.left source.old) (R.left source.new) b × (x.apdu ≡ a.number) × (x.octets ≡ length b)
-        × (x.normal ≡ length (normal_form a)) × (IsTrue x.is_normal ↔ (b ≡ normal_form a)))) }
-    ensures none { IfOk result (λ found. IfNone found (Consumes (R.left source.old) (R.left source.new) [] × IsAtEnd (R.left source.new))) }
-    ensures refused { IfErr result (λ e. IfReadRefused e (λ f. IfSome (R.left source.old) (λ s. (0 < length s) × OnlyRefuses profile_two s f))) }
-    ensures taken { TakesFront (R.left source.old) (R.left source.new) }
-    ensures broken { IsErrOf result ReadFailure.ReadFault → IsTrue (R.is_broken source.new) }
-    ensures unfinished { IsErrOf result ReadFailure.ReadFault → TakesNoMessage (R.left source.old) (R.left source.new) }
-    ensures stays { IsTrue (R.is_broken source.old) → IsTrue (R.is_broken source.new) }
+    ensures next { ReadsNext (R.left source.old) (R.left source.new) (R.is_broken source.old) (R.is_broken source.new) Describes result }
     // A spelling at the front is checked, unless memory or the source failed.
     ensures accepts { IfSome (R.left source.old) (λ s. (a : Apdu) (n : ℕ) → Accepts profile_two s a n → AnswersSome result) }
 {

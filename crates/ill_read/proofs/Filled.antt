@@ -1,7 +1,7 @@
 -- A decoder that is fed from a source has what the source gave up, and no octet after a message.
 use Rattle.std.proofs.Common.{◌≡◌, ◌≢◌, ◌⊎◌, ℕ, ◌+◌, ◌<◌, ◌≤◌, List, [], ◌∷◌, ◌++◌, length, length-append, Option, Some, None, Result, Ok, Err, IsTrue, refl, sym, ap, subst, ◌∙◌, inl, inr, arith, append-nil}
-use Rattle.std.specs.Prelude.{IfNone, IfSome}
-use Rattle.std.specs.Io.KnownBytes.{Consumes, IsAtEnd}
+use Rattle.std.specs.Prelude.{Bool, IfErr, IfNone, IfOk, IfSome}
+use Rattle.std.specs.Io.KnownBytes.{Appends, Consumes, IsAtEnd}
 use Rattle.std.proofs.lemmas.Bool.{cases_lt}
 use Rattle.std.proofs.lemmas.List.{nil_from_length, take_all}
 use Rattle.ber_core.specs.Octets.{are_octets}
@@ -9,8 +9,9 @@ use Rattle.ber_leaf.specs.Profile.{profile_two}
 use Rattle.ill_schema.specs.declared.message.Message.{Message}
 use Rattle.ill_schema.specs.Apdu.{Apdu, Accepts, SpellsApdu}
 use Rattle.ill_schema.specs.Message.{apdu_of, octets_of}
-use Rattle.ill_read.specs.Answers.{IsRead, IsSpelled, IsUnfinished, IfReadRefused}
+use Rattle.ill_read.specs.Answers.{IsRead, IsSpelled, IsUnfinished, IfReadFault, IfReadRefused, ReadsNext, TakesFront, TakesNoMessage}
 use Rattle.ill_read.specs.Failures.{read_failure}
+use Rattle.ill_read.specs.code.Filling.{read_result}
 use Rattle.ill_read.specs.Standing.{StandsLast}
 use Rattle.ill_read.specs.code.DecoderCode.{FinishAnswers, InState, IsFed}
 use Rattle.ill_read.specs.Feeding.{ended, HasFailedWith, IsOpenAfter, IsWholeWith}
@@ -101,33 +102,42 @@ fed_all left after d s e h = go left after e h.taken h.ended
         let same : xs ≡ s = cc in
         subst (IsFed d) (sym (t ∙ ap (λ z. h.octets ++ z) none ∙ append-nil h.octets) ∙ same) h.fed
 
--- what is answered then
-pub answers_message : (left after : Option (List ℕ)) (d : Decoder) (found : Option Message) → HasFilled left after d → ((s : List ℕ) → IsFed d s → FinishAnswers s (Ok found))
-    → IfSome found (λ m. (b : List ℕ) × Consumes left after b × IsSpelled m b)
-answers_message left after d None h f = tt
-answers_message left after d (Some m) h f = (h.octets, h.taken, spelled_by m h.octets (f h.octets h.fed) h.exact)
-
-pub answers_none : (left after : Option (List ℕ)) (d : Decoder) (found : Option Message) → HasFilled left after d → ((s : List ℕ) → IsFed d s → FinishAnswers s (Ok found))
-    → IfNone found (Consumes left after [] × IsAtEnd after)
-answers_none left after d (Some m) h f = tt
-answers_none left after d None h f = (
-  subst (Consumes left after) (f h.octets h.fed) h.taken,
-  elim h.ended [
-    | inr none ↦ none
-    | inl closed ↦ absurd (let e = ap length (f (h.octets ++ 0 ∷ []) (ended_longer d.state h.octets (0 ∷ []) _ _ closed h.fed)) in omega (arith, e, length-append h.octets (0 ∷ [])))
-  ],
-)
-
-pub answers_refused : (left after : Option (List ℕ)) (d : Decoder) (failure : Failure) → HasFilled left after d → ((s : List ℕ) → IsFed d s → FinishAnswers s (Err failure))
-    → IfReadRefused (read_failure failure) (λ f. IfSome left (λ s. (0 < length s) × OnlyRefuses profile_two s f))
-answers_refused left after d Failure.OutOfMemory h f = tt
-answers_refused None after d (Failure.Refused r) h f = tt
-answers_refused (Some s) after d (Failure.Refused r) h f = let x = f s (fed_all (Some s) after d s refl h) in (x.1, x.0)
-
--- and of octets that were kept
-pub answers_kept : (left after : Option (List ℕ)) (d : Decoder) (found : Option Message) (old new : List ℕ) → HasKept left after d old new
-    → ((s : List ℕ) → IsFed d s → FinishAnswers s (Ok found)) → IfSome found (λ m. (b : List ℕ) × Consumes left after b × IsSpelled m b × (new ≡ old ++ b))
-answers_kept left after d None old new h f = tt
-answers_kept left after d (Some m) old new h f =
-    let b = h.filled.octets in
-    (b, h.filled.taken, spelled_by m b (f b h.filled.fed) h.filled.exact, h.kept)
+-- what a reader returns then
+pub reads_filled : (left after : Option (List ℕ)) (broken broken' : Bool) (d : Decoder) (r : Result (Option Message) Failure) (old new : Option (List ℕ))
+    → HasKept left after d old new → ((s : List ℕ) → IsFed d s → FinishAnswers s r) → TakesFront left after → (IsTrue broken → IsTrue broken')
+    → ReadsNext left after broken broken' (λ m b. IsSpelled m b × Appends old new b) (read_result r)
+reads_filled left after broken broken' d r old new h f taken stays = record {
+  message = says_message r f;
+  none = says_none r f;
+  refused = says_refused left r f h.filled;
+  taken = taken;
+  fault = says_fault r;
+  stays = stays;
+}
+  where
+    says_message : (r : Result (Option Message) Failure) → ((s : List ℕ) → IsFed d s → FinishAnswers s r)
+        → IfOk (read_result r) (λ found. IfSome found (λ m. (b : List ℕ) × Consumes left after b × (IsSpelled m b × Appends old new b)))
+    says_message (Ok None) f = tt
+    says_message (Ok (Some m)) f = let b = h.filled.octets in (b, h.filled.taken, (spelled_by m b (f b h.filled.fed) h.filled.exact, h.kept))
+    says_message (Err e) f = tt
+    says_none : (r : Result (Option Message) Failure) → ((s : List ℕ) → IsFed d s → FinishAnswers s r)
+        → IfOk (read_result r) (λ found. IfNone found (Consumes left after [] × IsAtEnd after))
+    says_none (Ok (Some m)) f = tt
+    says_none (Err e) f = tt
+    says_none (Ok None) f = (
+      subst (Consumes left after) (f h.filled.octets h.filled.fed) h.filled.taken,
+      elim h.filled.ended [
+        | inr none ↦ none
+        | inl closed ↦ absurd (let e = ap length (f (h.filled.octets ++ 0 ∷ []) (ended_longer d.state h.filled.octets (0 ∷ []) _ _ closed h.filled.fed)) in omega (arith, e, length-append h.filled.octets (0 ∷ [])))
+      ],
+    )
+    says_refused : (left : Option (List ℕ)) (r : Result (Option Message) Failure) → ((s : List ℕ) → IsFed d s → FinishAnswers s r) → HasFilled left after d
+        → IfErr (read_result r) (λ e. IfReadRefused e (λ f. IfSome left (λ s. (0 < length s) × OnlyRefuses profile_two s f)))
+    says_refused left (Ok found) f h = tt
+    says_refused left (Err Failure.OutOfMemory) f h = tt
+    says_refused None (Err (Failure.Refused r)) f h = tt
+    says_refused (Some s) (Err (Failure.Refused r)) f h = let x = f s (fed_all (Some s) after d s refl h) in (x.1, x.0)
+    says_fault : (r : Result (Option Message) Failure) → IfErr (read_result r) (λ e. IfReadFault e (IsTrue broken' × TakesNoMessage left after))
+    says_fault (Ok found) = tt
+    says_fault (Err Failure.OutOfMemory) = tt
+    says_fault (Err (Failure.Refused r)) = tt

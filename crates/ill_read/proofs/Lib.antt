@@ -24,3 +24,4 @@ pub mod Judges
 pub mod Stepping
 pub mod Needing
 pub mod Filled
+pub mod NextRead

@@ -1,6 +1,6 @@
 -- What is returned for octets: fed in pieces, out of a source, or a whole slice.
-use Rattle.std.specs.Prelude.{◌≡◌, ◌≢◌, ◌⊎◌, ℕ, ◌<◌, ◌≤◌, List, length, Option, Some, None, Result, Ok, Err}
-use Rattle.std.specs.Io.KnownBytes.{Consumes}
+use Rattle.std.specs.Prelude.{◌≡◌, ◌≢◌, ◌⊎◌, ℕ, ◌<◌, ◌≤◌, Bool, List, [], length, Option, Some, None, Result, Ok, Err, IfOk, IfErr, IfSome, IfNone, IsTrue}
+use Rattle.std.specs.Io.KnownBytes.{Consumes, IsAtEnd}
 use Rattle.ber_leaf.specs.Profile.{profile_two}
 use Rattle.ill_schema.specs.declared.message.Message.{Message}
 use Rattle.ill_schema.specs.declared.refusal.Cause.{Cause}
@@ -50,6 +50,23 @@ abbrev pub IfReadRefused : ReadFailure → (Fault → Type 0) → Type 0
 IfReadRefused (ReadFailure.Refused refusal) P = P (fault_of refusal)
 IfReadRefused ReadFailure.OutOfMemory P = Unit {0}
 IfReadRefused ReadFailure.ReadFault P = Unit {0}
+
+abbrev pub IfReadFault : ReadFailure → Type 0 → Type 0
+IfReadFault ReadFailure.ReadFault P = P
+IfReadFault _ P = Unit {0}
+
+-- a call reads the next message of a source: what was left before and after it, whether the source was broken before and is after it, what Is
+-- says of the value that it returns and the octets that it took, and its result
+pub record ReadsNext {T : Type 0} (left left' : Option (List ℕ)) (broken broken' : Bool) (Is : T → List ℕ → Type 0) (result : Result (Option T) ReadFailure) : Type 0 where
+  pub message : IfOk result (λ found. IfSome found (λ x. (b : List ℕ) × Consumes left left' b × Is x b))
+  pub none : IfOk result (λ found. IfNone found (Consumes left left' [] × IsAtEnd left'))
+  -- the one fault of what was left
+  pub refused : IfErr result (λ e. IfReadRefused e (λ f. IfSome left (λ s. (0 < length s) × OnlyRefuses profile_two s f)))
+  -- at most 1,048,576 octets are taken, whatever the result
+  pub taken : TakesFront left left'
+  -- a source that breaks after a message is not noticed
+  pub fault : IfErr result (λ e. IfReadFault e (IsTrue broken' × TakesNoMessage left left'))
+  pub stays : IsTrue broken → IsTrue broken'
 
 -- the fault of octets that are to be one message: theirs, or that of what follows the message at their front
 abbrev pub RefusesWhole : List ℕ → Fault → Type 0

@@ -8,6 +8,7 @@ mod failure;
 mod frame;
 mod header;
 mod judge;
+mod keep;
 mod laws;
 mod leaf_type;
 mod need;

@@ -1,15 +1,13 @@
 //! Messages out of sources and slices.
-ghost use Rattle.std.specs.Prelude.{◌≡◌, ℕ, ◌<◌, ◌≤◌, List, [], ◌++◌, length, take, IfErr, IfNone, IfOk, IfSome, IsErr, IsErrOf, IsTrue};
-ghost use Rattle.std.specs.Io.KnownBytes.{Consumes, IsAtEnd, Keeps};
-ghost use Rattle.ber_leaf.specs.Profile.{profile_two};
-ghost use Rattle.ill_read.specs.Answers.{DecodeAnswers, IfReadRefused, IsRead, IsSpelled, IsUnfinished, TakesFront, TakesNoMessage};
-ghost use Rattle.ill_read.specs.code.Filling.{HasFilled, HasKept, HasPulled, NoneEndsWithin};
-ghost use Rattle.ill_refusals.specs.Outcome.{OnlyRefuses};
+ghost use Rattle.std.specs.Prelude.{◌≡◌, ℕ, ◌<◌, ◌≤◌, List, ◌++◌, length, take, IfOk, IsErr, IsErrOf, IsTrue};
+ghost use Rattle.std.specs.Io.KnownBytes.{Appends, Consumes, Keeps};
+ghost use Rattle.ill_read.specs.Answers.{DecodeAnswers, IsRead, IsSpelled, IsUnfinished, ReadsNext, TakesFront, TakesNoMessage};
+ghost use Rattle.ill_read.specs.code.Filling.{HasKept, HasPulled, NoneEndsWithin};
 ghost use Rattle.ill_read.specs.code.DecoderCode.{HasOutcome, IsFed};
-ghost use Rattle.ill_read.specs.declared.failure.ReadFailure.{ReadFailure};
 
 use crate::decoder::Decoder;
 use crate::failure::{Failure, ReadFailure};
+use crate::keep::{Forget, Keep};
 use ber_core::{Broken, Source};
 use ill_schema::{Cause, LIMIT, Message};
 use std::alloc::Global;
@@ -21,26 +19,14 @@ const CHUNK: usize = 1024;
 ///
 /// # Errors
 ///
-/// The one fault of what is left, out of memory, or a broken source. At most [`LIMIT`] octets are taken, whatever the answer.
+/// The one fault of what is left, out of memory, or a broken source. At most [`LIMIT`] octets are taken, whatever the result.
 pub fn read_message<R: Source>(
     alloc: Global,
     source: &mut R,
 ) -> Result<Option<Message>, ReadFailure>
-    ensures message { IfOk result (λ found. IfSome found (λ m. (b : List ℕ) × Consumes (R.left source.old) (R.left source.new) b × IsSpelled m b)) }
-    ensures none { IfOk result (λ found. IfNone found (Consumes (R.left source.old) (R.left source.new) [] × IsAtEnd (R.left source.new))) }
-    ensures refused { IfErr result (λ e. IfReadRefused e (λ f. IfSome (R.left source.old) (λ s. (0 < length s) × OnlyRefuses profile_two s f))) }
-    ensures taken { TakesFront (R.left source.old) (R.left source.new) }
-    ensures broken { IsErrOf result ReadFailure.ReadFault → IsTrue (R.is_broken source.new) }
-    ensures unfinished { IsErrOf result ReadFailure.ReadFault → TakesNoMessage (R.left source.old) (R.left source.new) }
-    ensures stays { IsTrue (R.is_broken source.old) → IsTrue (R.is_broken source.new) }
+    ensures { ReadsNext (R.left source.old) (R.left source.new) (R.is_broken source.old) (R.is_broken source.new) IsSpelled result }
 {
-    match fill(alloc, source) {
-        Ok(decoder) => match decoder.finish() {
-            Ok(message) => Ok(message),
-            Err(failure) => Err(ReadFailure::from(failure)),
-        },
-        Err(Broken) => Err(ReadFailure::ReadFault),
-    }
+    read_into(alloc, source, &mut Forget)
 }
 
 /// Reads a message as [`read_message`] does, and keeps its octets at the end of `kept`.
@@ -53,16 +39,23 @@ pub fn read_kept<R: Source>(
     source: &mut R,
     kept: &mut Vec<u8>,
 ) -> Result<Option<Message>, ReadFailure>
-    ensures message { IfOk result (λ found. IfSome found (λ m.
-        (b : List ℕ) × Consumes (R.left source.old) (R.left source.new) b × IsSpelled m b × (kept.new.items ≡ kept.old.items ++ b))) }
-    ensures none { IfOk result (λ found. IfNone found (Consumes (R.left source.old) (R.left source.new) [] × IsAtEnd (R.left source.new))) }
-    ensures refused { IfErr result (λ e. IfReadRefused e (λ f. IfSome (R.left source.old) (λ s. (0 < length s) × OnlyRefuses profile_two s f))) }
-    ensures taken { TakesFront (R.left source.old) (R.left source.new) }
-    ensures broken { IsErrOf result ReadFailure.ReadFault → IsTrue (R.is_broken source.new) }
-    ensures unfinished { IsErrOf result ReadFailure.ReadFault → TakesNoMessage (R.left source.old) (R.left source.new) }
-    ensures stays { IsTrue (R.is_broken source.old) → IsTrue (R.is_broken source.new) }
+    ensures { ReadsNext (R.left source.old) (R.left source.new) (R.is_broken source.old) (R.is_broken source.new)
+        (λ m octets. IsSpelled m octets × (kept.new.items ≡ kept.old.items ++ octets)) result }
 {
-    match fill_and_keep(alloc, source, kept) {
+    read_into(alloc, source, kept)
+}
+
+/// Reads a message, and hands its octets to what keeps them.
+#[inline(always)]
+fn read_into<R: Source, K: Keep>(
+    alloc: Global,
+    source: &mut R,
+    keep: &mut K,
+) -> Result<Option<Message>, ReadFailure>
+    ensures { ReadsNext (R.left source.old) (R.left source.new) (R.is_broken source.old) (R.is_broken source.new)
+        (λ m octets. IsSpelled m octets × Appends (K.kept keep.old) (K.kept keep.new) octets) result }
+{
+    match fill(alloc, source, keep) {
         Ok(decoder) => match decoder.finish() {
             Ok(message) => Ok(message),
             Err(failure) => Err(ReadFailure::from(failure)),
@@ -78,35 +71,14 @@ enum Unfilled {
     OutOfMemory,
 }
 
-/// Feeds a decoder with what it needs, until nothing is needed any more or the source ends.
+/// Feeds a decoder with what it needs, until nothing is needed any more or the source ends, and hands on what it is fed to what keeps it.
 #[inline(always)]
-fn fill<R: Source>(alloc: Global, source: &mut R) -> Result<Decoder, Broken>
-    ensures filled { IfOk result (λ decoder. HasFilled (R.left source.old) (R.left source.new) decoder) }
-    ensures taken { TakesFront (R.left source.old) (R.left source.new) }
-    ensures broken { IsErr result → IsTrue (R.is_broken source.new) }
-    ensures unfinished { IsErr result → TakesNoMessage (R.left source.old) (R.left source.new) }
-    ensures stays { IsTrue (R.is_broken source.old) → IsTrue (R.is_broken source.new) }
-{
-    let mut decoder = Decoder::new(alloc);
-    let mut buffer = [0; CHUNK];
-    let mut room = LIMIT;
-    while room > 0 {
-        let count = pull(&mut decoder, source, &mut buffer, room)?;
-        if count == 0 {
-            return Ok(decoder);
-        }
-        room -= count as u32;
-    }
-    Ok(decoder)
-}
-
-/// Fills a decoder as [`fill`] does, and keeps the octets that it was fed.
-fn fill_and_keep<R: Source>(
+fn fill<R: Source, K: Keep>(
     alloc: Global,
     source: &mut R,
-    kept: &mut Vec<u8>,
+    keep: &mut K,
 ) -> Result<Decoder, Unfilled>
-    ensures filled { IfOk result (λ decoder. HasKept (R.left source.old) (R.left source.new) decoder kept.old.items kept.new.items) }
+    ensures filled { IfOk result (λ decoder. HasKept (R.left source.old) (R.left source.new) decoder (K.kept keep.old) (K.kept keep.new)) }
     ensures taken { TakesFront (R.left source.old) (R.left source.new) }
     ensures broken { IsErrOf result Unfilled.Broken → IsTrue (R.is_broken source.new) }
     ensures unfinished { IsErrOf result Unfilled.Broken → TakesNoMessage (R.left source.old) (R.left source.new) }
@@ -121,7 +93,7 @@ fn fill_and_keep<R: Source>(
             Ok(count) => count,
             Err(Broken) => return Err(Unfilled::Broken),
         };
-        if let Err(_) = kept.extend_from_slice(&buffer[..count]) {
+        if let Err(_) = keep.keep(&buffer[..count]) {
             return Err(Unfilled::OutOfMemory);
         }
         room -= count as u32;
@@ -129,7 +101,7 @@ fn fill_and_keep<R: Source>(
     Ok(decoder)
 }
 
-/// Feeds the decoder with some octets that it needs, at most so many, and answers how many they are at the front of the buffer; 0 where
+/// Feeds the decoder with some octets that it needs, at most `room`, and returns how many they are at the front of the buffer; 0 where
 /// nothing is needed or the source is at its end.
 #[inline(always)]
 fn pull<R: Source>(

@@ -1,11 +1,15 @@
 -- A decoder that was fed from a source.
-use Rattle.std.specs.Prelude.{◌≡◌, ◌≢◌, ◌⊎◌, ℕ, ◌≤◌, List, [], ◌++◌, length, Option}
-use Rattle.std.specs.Io.KnownBytes.{Consumes, IsAtEnd}
+use Rattle.std.specs.Prelude.{◌≡◌, ◌≢◌, ◌⊎◌, ℕ, ◌≤◌, List, [], ◌++◌, length, Option, Result, Ok, Err}
+use Rattle.std.specs.Io.KnownBytes.{Appends, Consumes, IsAtEnd}
 use Rattle.ber_leaf.specs.Profile.{profile_two}
+use Rattle.ill_schema.specs.declared.message.Message.{Message}
 use Rattle.ill_schema.specs.Apdu.{Apdu, Accepts}
 use Rattle.ill_read.specs.code.DecoderCode.{IsFed}
+use Rattle.ill_read.specs.Failures.{read_failure}
 use Rattle.ill_read.specs.declared.decoder.Decoder.{Decoder}
 use Rattle.ill_read.specs.declared.decoder.State.TheVariants as state
+use Rattle.ill_read.specs.declared.failure.Failure.{Failure}
+use Rattle.ill_read.specs.declared.failure.ReadFailure.{ReadFailure}
 
 -- no message ends before the octets do
 abbrev pub NoneEndsWithin : List ℕ → Type 0
@@ -25,7 +29,12 @@ pub record HasFilled (left after : Option (List ℕ)) (d : Decoder) : Type 0 whe
   pub exact : NoneEndsWithin octets
   pub ended : (d.state ≢ state.Open) ⊎ IsAtEnd after
 
--- and these octets were kept after those that stood there
-pub record HasKept (left after : Option (List ℕ)) (d : Decoder) (old new : List ℕ) : Type 0 where
+-- and these octets were kept after those that were kept before
+pub record HasKept (left after : Option (List ℕ)) (d : Decoder) (old new : Option (List ℕ)) : Type 0 where
   pub filled : HasFilled left after d
-  pub kept : new ≡ old ++ filled.octets
+  pub kept : Appends old new filled.octets
+
+-- what a reader returns for what its decoder returns at the end
+abbrev pub read_result : Result (Option Message) Failure → Result (Option Message) ReadFailure
+read_result (Ok found) = Ok found
+read_result (Err failure) = Err (read_failure failure)

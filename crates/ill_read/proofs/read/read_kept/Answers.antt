@@ -1,18 +1,4 @@
-use Rattle.std.proofs.Common.{◌<◌, length, Ok, Err, sym, subst}
-use Rattle.std.specs.Prelude.{IfSome}
-use Rattle.ber_leaf.specs.Profile.{profile_two}
-use Rattle.ill_read.specs.Answers.{IfReadRefused}
-use Rattle.ill_refusals.specs.Outcome.{OnlyRefuses}
-use Rattle.ill_read.proofs.Filled.{answers_kept, answers_none, answers_refused, finished}
 use Rattle.ill_read.proofs.read.read_kept.Goals as goal
 
-pub returns-in-Ok-finish-clause-message : goal.returns-in-Ok-finish-clause-message
-returns-in-Ok-finish-clause-message g c = answers_kept _ _ c.in-Ok.decoder c.in-Ok-finish.message _ _ c.in-Ok.ensures.filled (finished c.in-Ok.decoder (Ok c.in-Ok-finish.message) c.in-Ok-finish.ensures.«open» c.in-Ok-finish.ensures.whole c.in-Ok-finish.ensures.failed)
-
-pub returns-in-Ok-finish-clause-none : goal.returns-in-Ok-finish-clause-none
-returns-in-Ok-finish-clause-none g c = answers_none _ _ c.in-Ok.decoder c.in-Ok-finish.message c.in-Ok.ensures.filled.filled (finished c.in-Ok.decoder (Ok c.in-Ok-finish.message) c.in-Ok-finish.ensures.«open» c.in-Ok-finish.ensures.whole c.in-Ok-finish.ensures.failed)
-
-pub returns-in-Err-clause-refused : goal.returns-in-Err-clause-refused
-returns-in-Err-clause-refused g c =
-    subst (λ e. IfReadRefused e (λ f. IfSome (g.R.Source.left c.args.source.now) (λ s. (0 < length s) × OnlyRefuses profile_two s f))) (sym c.from.ensures)
-    (answers_refused _ _ c.in-Ok.decoder c.in-Err.failure c.in-Ok.ensures.filled.filled (finished c.in-Ok.decoder (Err c.in-Err.failure) c.in-Err.ensures.«open» c.in-Err.ensures.whole c.in-Err.ensures.failed))
+pub returns : goal.returns
+returns g c = c.read_into.ensures
