@@ -10,6 +10,7 @@ use Rattle.ill_refusals.specs.Fault.{Fault, fault_of}
 use Rattle.ill_refusals.specs.Outcome.{OnlyRefuses}
 use Rattle.ill_normal.proofs.Answering.{front}
 use Rattle.ill_normal.proofs.Longest.{nothing_over, no_longer, one_rest}
+use Rattle.ill_normal.specs.Calls.{taking, putting}
 use Rattle.ill_jobs.specs.declared.job.Job.{Job}
 use Rattle.ill_jobs.specs.declared.job.Verdict.{Verdict}
 use Rattle.ill_jobs.specs.declared.fault.RunFault.{RunFault}
@@ -99,7 +100,7 @@ module _ (job : Job) (hex : Bool) (s : List ℕ) (left' held held' : Option (Lis
     left_then : (Q : List ℕ → Type 0) → IfSome rest Q → (r : List ℕ) × AreSpelled s ms r × Q r
     left_then Q q = let t = taken_of job hex s rest held grown ms w in (t.0, t.2, subst (λ o. IfSome o Q) t.1 q)
 
-    stop_does : (e : RunFault) → Stops job hex rest left' held grown held' x y ms e → (ns : List Spelling) → AreSpelled s ns [] → length ns ≤ 1_000_000 → IsFault e
+    stop_does : (e : RunFault) → Stops job hex (taking rest left' x) (putting grown held' y) held ms e → (ns : List Spelling) → AreSpelled s ns [] → length ns ≤ 1_000_000 → IsFault e
     stop_does (RunFault.Refused message refusal) h ns k le =
         let t = left_then _ h.2 in
         let a = longest s t.0 [] ms ns t.1 t.2.1.2 k in
@@ -117,7 +118,7 @@ module _ (job : Job) (hex : Bool) (s : List ℕ) (left' held held' : Option (Lis
     stop_does (RunFault.BadHex n) h ns k le = absurd h
     stop_does RunFault.HexTooLong h ns k le = absurd h
 
-    stop_refuses : (e : RunFault) → Stops job hex rest left' held grown held' x y ms e → (r : List ℕ) (ns : List Spelling) (f : Fault) → AreSpelled s ns r → length ns < 1_000_000
+    stop_refuses : (e : RunFault) → Stops job hex (taking rest left' x) (putting grown held' y) held ms e → (r : List ℕ) (ns : List Spelling) (f : Fault) → AreSpelled s ns r → length ns < 1_000_000
         → 0 < length r → OnlyRefuses profile_two r f → IsRefused e (length ns + 1) f
     stop_refuses (RunFault.Refused message refusal) h r ns f k lt some only =
         let t = left_then _ h.2 in
@@ -137,7 +138,7 @@ module _ (job : Job) (hex : Bool) (s : List ℕ) (left' held held' : Option (Lis
     stop_refuses (RunFault.BadHex n) h r ns f k lt some only = absurd h
     stop_refuses RunFault.HexTooLong h r ns f k lt some only = absurd h
 
-    stop_many : (e : RunFault) → Stops job hex rest left' held grown held' x y ms e → (r : List ℕ) (ns : List Spelling) → AreSpelled s ns r → length ns ≡ 1_000_000
+    stop_many : (e : RunFault) → Stops job hex (taking rest left' x) (putting grown held' y) held ms e → (r : List ℕ) (ns : List Spelling) → AreSpelled s ns r → length ns ≡ 1_000_000
         → 0 < length r → (e ≡ RunFault.TooManyMessages) ⊎ IsFault e
     stop_many (RunFault.Refused message refusal) h r ns k many some =
         let t = left_then _ h.2 in
@@ -154,18 +155,18 @@ module _ (job : Job) (hex : Bool) (s : List ℕ) (left' held held' : Option (Lis
 
   -- the answer to messages of which s is made
   module _ (x y : Bool) where
-    pub does : (answer : Result Verdict RunFault) → IfOk answer (Done job hex (Some s) left' held held') → IfErr answer (StopsAfter job hex (Some s) left' held held' x y)
+    pub does : (answer : Result Verdict RunFault) → IfOk answer (Done job hex (Some s) left' held held') → IfErr answer (StopsAfter job hex (taking (Some s) left' x) (putting held held' y))
         → (ms : List Spelling) → AreSpelled s ms [] → length ms ≤ 1_000_000 → AnswersVerdict answer (verdict_of job ms)
     does (Ok v) d n ms h le = done_does v d ms h
     does (Err e) d n ms h le = stop_does x y n.messages n.rest n.grown n.writes e n.stops ms h le
 
-    pub refuses : (answer : Result Verdict RunFault) → IfOk answer (Done job hex (Some s) left' held held') → IfErr answer (StopsAfter job hex (Some s) left' held held' x y)
+    pub refuses : (answer : Result Verdict RunFault) → IfOk answer (Done job hex (Some s) left' held held') → IfErr answer (StopsAfter job hex (taking (Some s) left' x) (putting held held' y))
         → (rest : List ℕ) (ms : List Spelling) (f : Fault) → AreSpelled s ms rest → length ms < 1_000_000 → 0 < length rest → OnlyRefuses profile_two rest f
         → AnswersRefused answer (length ms + 1) f
     refuses (Ok v) d n rest ms f h lt some only = absurd (done_refuses v d rest ms f h some only)
     refuses (Err e) d n rest ms f h lt some only = stop_refuses x y n.messages n.rest n.grown n.writes e n.stops rest ms f h lt some only
 
-    pub refuses_more : (answer : Result Verdict RunFault) → IfOk answer (Done job hex (Some s) left' held held') → IfErr answer (StopsAfter job hex (Some s) left' held held' x y)
+    pub refuses_more : (answer : Result Verdict RunFault) → IfOk answer (Done job hex (Some s) left' held held') → IfErr answer (StopsAfter job hex (taking (Some s) left' x) (putting held held' y))
         → (rest : List ℕ) (ms : List Spelling) → AreSpelled s ms rest → length ms ≡ 1_000_000 → 0 < length rest → AnswersFault answer RunFault.TooManyMessages
     refuses_more (Ok v) d n rest ms h many some = absurd (done_many v d rest ms h many some)
     refuses_more (Err e) d n rest ms h many some = stop_many x y n.messages n.rest n.grown n.writes e n.stops rest ms h many some

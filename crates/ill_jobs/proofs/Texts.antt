@@ -6,6 +6,7 @@ use Rattle.std.proofs.lemmas.Bool.{cases_lt, lt-ltb}
 use Rattle.hex.specs.Hex.{decode_of}
 use Rattle.ill_refusals.specs.Fault.{Fault}
 use Rattle.ill_normal.proofs.Answering.{front}
+use Rattle.ill_normal.specs.Calls.{taking, putting}
 use Rattle.ill_jobs.specs.declared.job.Job.{Job}
 use Rattle.ill_jobs.specs.declared.job.Verdict.{Verdict}
 use Rattle.ill_jobs.specs.declared.fault.RunFault.{RunFault}
@@ -41,19 +42,19 @@ not_both r a e h k = cc
 
 module _ (job : Job) (held held' : Option (List ℕ)) (x y : Bool) (answer : Result Verdict RunFault) where
   -- octets as they are
-  pub plain_does : (left left' : Option (List ℕ)) → IfOk answer (Done job false left left' held held') → IfErr answer (StopsAfter job false left left' held held' x y)
+  pub plain_does : (left left' : Option (List ℕ)) → IfOk answer (Done job false left left' held held') → IfErr answer (StopsAfter job false (taking left left' x) (putting held held' y))
       → IfSome left (λ s. DoesMessages job false s answer)
   plain_does None left' d n = tt
   plain_does (Some s) left' d n = λ octets ms e h le.
       does job false s left' held held' x y answer d n ms (subst (λ z. AreSpelled z ms []) (sym (same_ok (Ok s) s octets refl e)) h) le
 
-  pub plain_refuses : (left left' : Option (List ℕ)) → IfOk answer (Done job false left left' held held') → IfErr answer (StopsAfter job false left left' held held' x y)
+  pub plain_refuses : (left left' : Option (List ℕ)) → IfOk answer (Done job false left left' held held') → IfErr answer (StopsAfter job false (taking left left' x) (putting held held' y))
       → IfSome left (λ s. RefusesFirst false s answer)
   plain_refuses None left' d n = tt
   plain_refuses (Some s) left' d n = λ octets rest ms f e h lt some only.
       refuses job false s left' held held' x y answer d n rest ms f (subst (λ z. AreSpelled z ms rest) (sym (same_ok (Ok s) s octets refl e)) h) lt some only
 
-  pub plain_more : (left left' : Option (List ℕ)) → IfOk answer (Done job false left left' held held') → IfErr answer (StopsAfter job false left left' held held' x y)
+  pub plain_more : (left left' : Option (List ℕ)) → IfOk answer (Done job false left left' held held') → IfErr answer (StopsAfter job false (taking left left' x) (putting held held' y))
       → IfSome left (λ s. RefusesMore false s answer)
   plain_more None left' d n = tt
   plain_more (Some s) left' d n = λ octets rest ms e h many some.
@@ -65,7 +66,7 @@ module _ (job : Job) (held held' : Option (List ℕ)) (x y : Bool) (answer : Res
 
   -- the octets of a text
   module _ (octets : List ℕ) (rest : Option (List ℕ)) (d : IfOk answer (Done job true (Some octets) rest held held'))
-      (n : IfErr answer (StopsAfter job true (Some octets) rest held held' x y)) where
+      (n : IfErr answer (StopsAfter job true (taking (Some octets) rest x) (putting held held' y))) where
     stands : (s : List ℕ) (left' : Option (List ℕ)) → TextOf (Some s) left' octets → hex_octets s ≡ Ok octets
     stands s left' t = same_octets s left' t.text t.taken ∙ t.stands
 

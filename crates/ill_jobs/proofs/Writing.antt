@@ -7,16 +7,15 @@ use Rattle.std.proofs.Math.Seq.{take-append-add}
 use Rattle.ber_leaf.specs.Profile.{profile_two}
 use Rattle.ill_schema.specs.Apdu.{SpellsApdu}
 use Rattle.ill_schema.proofs.Streams.{accepts_some}
+use Rattle.ill_normal.specs.Calls.{taking, putting}
 use Rattle.ill_jobs.specs.declared.job.Job.{Job}
 use Rattle.ill_jobs.specs.declared.piece.Piece.{Piece}
 use Rattle.ill_jobs.specs.Output.{Spelling, AreSpelled, message_output, output_from, output, is_good}
-use Rattle.ill_jobs.specs.code.Pieces.{Makes}
+use Rattle.ill_jobs.specs.code.Pieces.{Makes, spelling}
 use Rattle.ill_jobs.specs.Ran.{Writes, BrokeAt, StopsAfter, GoesOn, fault_at}
 use Rattle.ill_jobs.specs.declared.fault.RunFault.{RunFault}
 use Rattle.ill_read.specs.declared.failure.ReadFailure.{ReadFailure}
-use Rattle.ill_read.specs.Answers.{IfReadRefused, TakesFront, TakesNoMessage}
-use Rattle.ill_refusals.specs.Outcome.{OnlyRefuses}
-use Rattle.std.specs.Prelude.{IsErrOf}
+use Rattle.ill_read.specs.Answers.{ReadsNext, TakesFront}
 
 pub spelled_front : (b t : List ℕ) (ms : List Spelling) → AreSpelled b ms [] → AreSpelled (b ++ t) ms t
 spelled_front b t [] h = ap (λ l. l ++ t) h
@@ -69,27 +68,31 @@ reached_none job hex left held = record {
   all = refl;
 }
 
+-- the octets of message i were taken, and the piece was made of them
+abbrev pub Made : Job → Bool → ℕ → Option (List ℕ) → Option (List ℕ) → Piece → Type 0
+Made job hex i left left' piece = (b : List ℕ) × Consumes left left' b × Makes job hex i piece b
+
 module _ (job : Job) (hex : Bool) (left left' left'' held held' held'' : Option (List ℕ)) (whole written : ℕ) (good : Bool) (r : Reached job hex left left' held held' whole written good) where
   pushed : (m : Spelling) → output job hex (r.messages ++ m ∷ []) ≡ output job hex r.messages ++ message_output job hex (whole + 1) m
   pushed m = let e : 1 + length r.messages ≡ whole + 1 = omega (arith, r.count) in
       output_push job hex 1 r.messages m ∙ ap (λ (n : ℕ). output job hex r.messages ++ message_output job hex n m) e
 
-  pub reached_more : (piece : Piece) → Makes job hex (whole + 1) left' left'' piece → Appends held' held'' piece.text.items
+  pub reached_more : (piece : Piece) → Made job hex (whole + 1) left' left'' piece → Appends held' held'' piece.text.items
       → Reached job hex left left'' held held'' (whole + 1) (written + length piece.text.items) (next_good good piece.is_good)
   reached_more piece p w =
-      let m = p.message in
-      let all : output job hex r.messages ++ piece.text.items ≡ output job hex (r.messages ++ m ∷ []) = ap (λ l. output job hex r.messages ++ l) p.text ∙ sym (pushed m) in
+      let m : Spelling = spelling p.2.apdu p.0 in
+      let all : output job hex r.messages ++ piece.text.items ≡ output job hex (r.messages ++ m ∷ []) = ap (λ l. output job hex r.messages ++ l) p.2.text ∙ sym (pushed m) in
       record {
         messages = r.messages ++ m ∷ [];
         writes = record {
           octets = r.writes.octets ++ m.octets;
-          spelled = spelled_more r.writes.octets r.messages m r.writes.spelled p.spells;
-          taken = Consumes-trans left left' left'' r.writes.octets m.octets r.writes.taken p.taken;
+          spelled = spelled_more r.writes.octets r.messages m r.writes.spelled p.2.spells;
+          taken = Consumes-trans left left' left'' r.writes.octets m.octets r.writes.taken p.1;
           written = subst (Appends held held'') all (Appends-trans held held' held'' _ _ r.writes.written w);
         };
         count = omega (arith, r.count, length-append r.messages (m ∷ []));
         size = omega (arith, r.size, ap length all, length-append (output job hex r.messages) piece.text.items);
-        all = ap (λ (b : Bool). next_good b piece.is_good) r.all ∙ ap (λ (b : Bool). next_good (list_all (is_good job) r.messages) b) p.good ∙ sym (good_push (is_good job) r.messages m);
+        all = ap (λ (b : Bool). next_good b piece.is_good) r.all ∙ ap (λ (b : Bool). next_good (list_all (is_good job) r.messages) b) p.2.good ∙ sym (good_push (is_good job) r.messages m);
       }
 
   pub reached_end : Consumes left' left'' [] → Writes job hex left left'' held held' r.messages
@@ -101,20 +104,20 @@ module _ (job : Job) (hex : Bool) (left left' left'' held held' held'' : Option 
   }
 
   -- the sink broke within a piece
-  pub broke_within : (piece : Piece) (k : ℕ) → Makes job hex (whole + 1) left' left'' piece → Appends held' held'' (take k piece.text.items) → k < length piece.text.items
+  pub broke_within : (piece : Piece) (k : ℕ) → Made job hex (whole + 1) left' left'' piece → Appends held' held'' (take k piece.text.items) → k < length piece.text.items
       → BrokeAt job hex left' left'' held held'' r.messages (written + k)
   broke_within piece k p w lt =
-      let m = p.message in
+      let m : Spelling = spelling p.2.apdu p.0 in
       let so_far = output job hex r.messages in
-      let all : so_far ++ piece.text.items ≡ output job hex (r.messages ++ m ∷ []) = ap (λ l. so_far ++ l) p.text ∙ sym (pushed m) in
+      let all : so_far ++ piece.text.items ≡ output job hex (r.messages ++ m ∷ []) = ap (λ l. so_far ++ l) p.2.text ∙ sym (pushed m) in
       let le : length so_far ≤ written + k = omega (arith, r.size) in
       let k' : written + k ≡ length so_far + k = omega (arith, r.size) in
       let part : so_far ++ take k piece.text.items ≡ take (written + k) (output job hex (r.messages ++ m ∷ [])) =
       sym (ap (λ (n : ℕ). take n (output job hex (r.messages ++ m ∷ []))) k' ∙ ap (λ l. take (length so_far + k) l) (sym all) ∙ take-append-add so_far piece.text.items k) in
       record {
         message = m;
-        spells = p.spells;
-        taken = p.taken;
+        spells = p.2.spells;
+        taken = p.1;
         written = subst (Appends held held'') part (Appends-trans held held' held'' _ _ r.writes.written w);
         some = le;
         not_all = omega (arith, r.size, lt, ap length all, length-append so_far piece.text.items);
@@ -122,37 +125,36 @@ module _ (job : Job) (hex : Bool) (left left' left'' held held' held'' : Option 
 
   module _ (x y : Bool) where
     -- the next message was not read
-    pub stops_reading : (e : ReadFailure) → whole < 1_000_000 → TakesFront left' left'' → IfReadRefused e (λ f. IfSome left' (λ s. (0 < length s) × OnlyRefuses profile_two s f))
-        → (IsErrOf {T = Option Piece} (Err e) ReadFailure.ReadFault → IsTrue x) → (IsErrOf {T = Option Piece} (Err e) ReadFailure.ReadFault → TakesNoMessage left' left'')
-        → StopsAfter job hex left left'' held held' x y (fault_at (whole + 1) e)
-    stops_reading (ReadFailure.Refused refusal) lt t h broken unfinished = record {
+    pub stops_reading : {T : Type 0} (before : Bool) (Is : T → List ℕ → Type 0) (e : ReadFailure) → whole < 1_000_000 → ReadsNext left' left'' before x Is (Err e)
+        → StopsAfter job hex (taking left left'' x) (putting held held' y) (fault_at (whole + 1) e)
+    stops_reading before Is (ReadFailure.Refused refusal) lt h = record {
       messages = r.messages;
       rest = left';
       grown = held';
       writes = r.writes;
-      taken = t;
-      stops = (ap (λ (n : ℕ). n + 1) (sym r.count), omega (arith, r.count), h, Keeps-refl held');
+      taken = h.taken;
+      stops = (ap (λ (n : ℕ). n + 1) (sym r.count), omega (arith, r.count), h.refused, Keeps-refl held');
     }
-    stops_reading ReadFailure.OutOfMemory lt t h broken unfinished = record {
+    stops_reading before Is ReadFailure.OutOfMemory lt h = record {
       messages = r.messages;
       rest = left';
       grown = held';
       writes = r.writes;
-      taken = t;
+      taken = h.taken;
       stops = (omega (arith, r.count), Keeps-refl held');
     }
-    stops_reading ReadFailure.ReadFault lt t h broken unfinished = record {
+    stops_reading before Is ReadFailure.ReadFault lt h = record {
       messages = r.messages;
       rest = left';
       grown = held';
       writes = r.writes;
-      taken = t;
-      stops = (omega (arith, r.count), broken refl, unfinished refl, Keeps-refl held');
+      taken = h.taken;
+      stops = (omega (arith, r.count), h.fault.0, h.fault.1, Keeps-refl held');
     }
 
     -- the sink broke
-    pub stops_writing : (piece : Piece) (k : ℕ) → whole < 1_000_000 → TakesFront left' left'' → Makes job hex (whole + 1) left' left'' piece → Appends held' held'' (take k piece.text.items)
-        → k < length piece.text.items → IsTrue y → StopsAfter job hex left left'' held held'' x y (RunFault.WriteFault (written + k))
+    pub stops_writing : (piece : Piece) (k : ℕ) → whole < 1_000_000 → TakesFront left' left'' → Made job hex (whole + 1) left' left'' piece → Appends held' held'' (take k piece.text.items)
+        → k < length piece.text.items → IsTrue y → StopsAfter job hex (taking left left'' x) (putting held held'' y) (RunFault.WriteFault (written + k))
     stops_writing piece k lt t p w fewer broken = record {
       messages = r.messages;
       rest = left';
@@ -163,7 +165,7 @@ module _ (job : Job) (hex : Bool) (left left' left'' held held' held'' : Option 
     }
 
     -- after the last message that an input may have an octet was taken, or the source broke
-    pub stops_at_the_end : (e : RunFault) → whole ≡ 1_000_000 → GoesOn left' left'' x e → StopsAfter job hex left left'' held held' x y e
+    pub stops_at_the_end : (e : RunFault) → whole ≡ 1_000_000 → GoesOn left' left'' x e → StopsAfter job hex (taking left left'' x) (putting held held' y) e
     stops_at_the_end RunFault.TooManyMessages last h = record {
       messages = r.messages;
       rest = left';

@@ -4,6 +4,7 @@ use Rattle.std.specs.Io.KnownBytes.{Consumes, Keeps, Appends, IsAtEnd}
 use Rattle.ber_leaf.specs.Profile.{profile_two}
 use Rattle.ill_schema.specs.Apdu.{Apdu, SpellsApdu}
 use Rattle.ill_refusals.specs.Fault.{Fault, fault_of}
+use Rattle.ill_normal.specs.Calls.{Taking, Putting}
 use Rattle.ill_normal.specs.Compared.{RefusesSide}
 use Rattle.ill_normal.specs.declared.compare.Side.{Side}
 use Rattle.ill_jobs.specs.declared.job.Verdict.{Verdict}
@@ -50,19 +51,20 @@ pub record SameDone (hex : Bool) (left left' other other' held held' : Option (L
   pub written : Appends held held' (verdict_line verdict)
 
 -- both inputs were read, and they were not compared, or the line was not written
-pub record SameStops (hex : Bool) (left left' other other' held held' : Option (List ℕ)) (sink_broken : Bool) (fault : RunFault) : Type 0 where
+pub record SameStops (hex : Bool) (one other : Taking) (sink : Putting) (fault : RunFault) : Type 0 where
   pub first : List ℕ
   pub second : List ℕ
-  pub reads_first : ReadsSide hex left left' first
-  pub reads_second : ReadsSide hex other other' second
-  pub stops : (NotCompared first second fault × Keeps held held') ⊎ ((verdict : Verdict) × Compares first second verdict × BreaksLine verdict held held' sink_broken fault)
+  pub reads_first : ReadsSide hex one.left one.left' first
+  pub reads_second : ReadsSide hex other.left other.left' second
+  pub stops : (NotCompared first second fault × Keeps sink.held sink.held')
+      ⊎ ((verdict : Verdict) × Compares first second verdict × BreaksLine verdict sink.held sink.held' sink.broken fault)
 
 -- the first input was not read, and nothing was asked of the second; or the second was not read; or both were
-abbrev pub SameFails : Bool → Option (List ℕ) → Option (List ℕ) → Option (List ℕ) → Option (List ℕ) → Option (List ℕ) → Option (List ℕ) → Bool → Bool → Bool → RunFault → Type 0
-SameFails hex left left' other other' held held' first_broken second_broken sink_broken fault =
-    (SideFails hex left left' first_broken fault × Keeps other other' × Keeps held held')
-    ⊎ (((first : List ℕ) × ReadsSide hex left left' first × SideFails hex other other' second_broken fault × Keeps held held')
-    ⊎ SameStops hex left left' other other' held held' sink_broken fault)
+abbrev pub SameFails : Bool → Taking → Taking → Putting → RunFault → Type 0
+SameFails hex one other sink fault =
+    (SideFails hex one.left one.left' one.broken fault × Keeps other.left other.left' × Keeps sink.held sink.held')
+    ⊎ (((first : List ℕ) × ReadsSide hex one.left one.left' first × SideFails hex other.left other.left' other.broken fault × Keeps sink.held sink.held')
+    ⊎ SameStops hex one other sink fault)
 
 -- the octets of an input that are compared
 abbrev pub side_octets : Bool → List ℕ → Result (List ℕ) RunFault

@@ -7,6 +7,7 @@ use Rattle.ill_refusals.specs.Fault.{Fault, fault_of}
 use Rattle.ill_read.specs.declared.failure.ReadFailure.{ReadFailure}
 use Rattle.ill_read.specs.Answers.{TakesFront, TakesNoMessage}
 use Rattle.ill_refusals.specs.Outcome.{OnlyRefuses}
+use Rattle.ill_normal.specs.Calls.{Taking, taking, Putting, putting}
 use Rattle.ill_jobs.specs.declared.job.Job.{Job}
 use Rattle.ill_jobs.specs.declared.job.Verdict.{Verdict}
 use Rattle.ill_jobs.specs.declared.fault.RunFault.{RunFault}
@@ -30,20 +31,19 @@ pub record BrokeAt (job : Job) (hex : Bool) (left left' held held' : Option (Lis
   pub some : length (output job hex messages) ≤ n
   pub not_all : n < length (output job hex (messages ++ message ∷ []))
 
--- why a job stopped after these messages: what was left in the source then and now; what the sink held first, then and now
-abbrev pub Stops : Job → Bool → Option (List ℕ) → Option (List ℕ) → Option (List ℕ) → Option (List ℕ) → Option (List ℕ) → Bool → Bool
-    → List Spelling → RunFault → Type 0
-Stops job hex left left' first held held' source_broken sink_broken ms (RunFault.Refused message refusal) =
+-- why a job stopped after these messages, from where its source and its sink stood then; `first` is what the sink held before all of them
+abbrev pub Stops : Job → Bool → Taking → Putting → Option (List ℕ) → List Spelling → RunFault → Type 0
+Stops job hex source sink first ms (RunFault.Refused message refusal) =
     (message ≡ length ms + 1) × (length ms < 1_000_000)
-    × IfSome left (λ s. (0 < length s) × OnlyRefuses profile_two s (fault_of refusal)) × Keeps held held'
-Stops job hex left left' first held held' source_broken sink_broken ms RunFault.TooManyMessages =
-    (length ms ≡ 1_000_000) × ((octet : ℕ) × Consumes left left' (octet ∷ [])) × Keeps held held'
-Stops job hex left left' first held held' source_broken sink_broken ms RunFault.OutOfMemory = (length ms < 1_000_000) × Keeps held held'
-Stops job hex left left' first held held' source_broken sink_broken ms RunFault.ReadFault =
-    (length ms ≤ 1_000_000) × IsTrue source_broken × TakesNoMessage left left' × Keeps held held'
-Stops job hex left left' first held held' source_broken sink_broken ms (RunFault.WriteFault n) =
-    (length ms < 1_000_000) × IsTrue sink_broken × BrokeAt job hex left left' first held' ms n
-Stops job hex left left' first held held' source_broken sink_broken ms _ = ⊥
+    × IfSome source.left (λ s. (0 < length s) × OnlyRefuses profile_two s (fault_of refusal)) × Keeps sink.held sink.held'
+Stops job hex source sink first ms RunFault.TooManyMessages =
+    (length ms ≡ 1_000_000) × ((octet : ℕ) × Consumes source.left source.left' (octet ∷ [])) × Keeps sink.held sink.held'
+Stops job hex source sink first ms RunFault.OutOfMemory = (length ms < 1_000_000) × Keeps sink.held sink.held'
+Stops job hex source sink first ms RunFault.ReadFault =
+    (length ms ≤ 1_000_000) × IsTrue source.broken × TakesNoMessage source.left source.left' × Keeps sink.held sink.held'
+Stops job hex source sink first ms (RunFault.WriteFault n) =
+    (length ms < 1_000_000) × IsTrue sink.broken × BrokeAt job hex source.left source.left' first sink.held' ms n
+Stops job hex source sink first ms _ = ⊥
 
 -- the failure to read message i
 abbrev pub fault_at : ℕ → ReadFailure → RunFault
@@ -58,13 +58,13 @@ GoesOn left left' broken RunFault.ReadFault = IsTrue broken × Keeps left left'
 GoesOn left left' broken _ = ⊥
 
 -- the messages before the fault, and why the job went no further; of what follows them no more was taken than a message may have
-pub record StopsAfter (job : Job) (hex : Bool) (left left' held held' : Option (List ℕ)) (source_broken sink_broken : Bool) (fault : RunFault) : Type 0 where
+pub record StopsAfter (job : Job) (hex : Bool) (source : Taking) (sink : Putting) (fault : RunFault) : Type 0 where
   pub messages : List Spelling
   pub rest : Option (List ℕ)
   pub grown : Option (List ℕ)
-  pub writes : Writes job hex left rest held grown messages
-  pub taken : TakesFront rest left'
-  pub stops : Stops job hex rest left' held grown held' source_broken sink_broken messages fault
+  pub writes : Writes job hex source.left rest sink.held grown messages
+  pub taken : TakesFront rest source.left'
+  pub stops : Stops job hex (taking rest source.left' source.broken) (putting grown sink.held' sink.broken) sink.held messages fault
 
 -- the job was done: the octets are messages to their end, at most 1,000,000
 pub record Done (job : Job) (hex : Bool) (left left' held held' : Option (List ℕ)) (verdict : Verdict) : Type 0 where
@@ -102,11 +102,11 @@ RunDone false job left left' held held' verdict = Done job false left left' held
 RunDone true job left left' held held' verdict =
     (octets : List ℕ) × TextOf left left' octets × ((rest : List ℕ) × Done job true (Some octets) (Some rest) held held' verdict)
 
-abbrev pub RunFails : Bool → Job → Option (List ℕ) → Option (List ℕ) → Option (List ℕ) → Option (List ℕ) → Bool → Bool → RunFault → Type 0
-RunFails false job left left' held held' source_broken sink_broken fault = StopsAfter job false left left' held held' source_broken sink_broken fault
-RunFails true job left left' held held' source_broken sink_broken fault =
-    (FailsText left left' source_broken fault × Keeps held held')
-    ⊎ ((octets : List ℕ) × TextOf left left' octets × ((rest : List ℕ) × StopsAfter job true (Some octets) (Some rest) held held' false sink_broken fault))
+abbrev pub RunFails : Bool → Job → Taking → Putting → RunFault → Type 0
+RunFails false job source sink fault = StopsAfter job false source sink fault
+RunFails true job source sink fault =
+    (FailsText source.left source.left' source.broken fault × Keeps sink.held sink.held')
+    ⊎ ((octets : List ℕ) × TextOf source.left source.left' octets × ((rest : List ℕ) × StopsAfter job true (taking (Some octets) (Some rest) false) sink fault))
 
 -- ---- which answer an input has
 

@@ -1,6 +1,7 @@
 //! Jobs on the messages of one input.
 ghost use Rattle.std.specs.Prelude.{◌≡◌, ℕ, [], ◌∷◌, false, IfOk, IfErr, IfSome, OnOk, IsTrue};
 ghost use Rattle.std.specs.Io.KnownBytes.{Consumes, IsAtEnd};
+ghost use Rattle.ill_normal.specs.Calls.{taking, putting};
 ghost use Rattle.ill_jobs.specs.Output.{verdict_if};
 ghost use Rattle.ill_jobs.specs.Ran.{fault_at, Done, StopsAfter, RunDone, RunFails, DoesMessages, RefusesFirst, RefusesMore, RefusesText, GoesOn};
 
@@ -35,8 +36,8 @@ pub fn run<R: Source, W: Sink>(
 ) -> Result<Verdict, RunFault>
     // The input was messages to its end, and their output was written.
     ensures done { IfOk result (RunDone hex job (R.left source.old) (R.left source.new) (W.contents sink.old) (W.contents sink.new)) }
-    ensures fails { IfErr result (RunFails hex job (R.left source.old) (R.left source.new) (W.contents sink.old) (W.contents sink.new)
-        (R.is_broken source.new) (W.is_broken sink.new)) }
+    ensures fails { IfErr result (RunFails hex job (taking (R.left source.old) (R.left source.new) (R.is_broken source.new))
+        (putting (W.contents sink.old) (W.contents sink.new) (W.is_broken sink.new))) }
     // Each input has one result, unless memory, the source or the sink fails.
     ensures does { IfSome (R.left source.old) (λ s. DoesMessages job hex s result) }
     ensures refuses { IfSome (R.left source.old) (λ s. RefusesFirst hex s result) }
@@ -61,8 +62,8 @@ fn run_messages<R: Source, W: Sink>(
     sink: &mut W,
 ) -> Result<Verdict, RunFault>
     ensures done { IfOk result (Done job hex (R.left source.old) (R.left source.new) (W.contents sink.old) (W.contents sink.new)) }
-    ensures stops { IfErr result (StopsAfter job hex (R.left source.old) (R.left source.new) (W.contents sink.old) (W.contents sink.new)
-        (R.is_broken source.new) (W.is_broken sink.new)) }
+    ensures stops { IfErr result (StopsAfter job hex (taking (R.left source.old) (R.left source.new) (R.is_broken source.new))
+        (putting (W.contents sink.old) (W.contents sink.new) (W.is_broken sink.new))) }
     ensures source_stays { IsTrue (R.is_broken source.old) → IsTrue (R.is_broken source.new) }
     ensures sink_stays { IsTrue (W.is_broken sink.old) → IsTrue (W.is_broken sink.new) }
 {

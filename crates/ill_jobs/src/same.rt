@@ -1,5 +1,6 @@
 //! Two inputs, compared.
 ghost use Rattle.std.specs.Prelude.{◌≡◌, IfOk, IfErr, IfSome, IsTrue};
+ghost use Rattle.ill_normal.specs.Calls.{taking, putting};
 ghost use Rattle.ill_jobs.specs.Compared.{verdict_line, ReadsSide, SideFails, Compares, NotCompared, SameDone, SameFails, ComparesBoth, RefusesOne, RefusesTexts};
 
 use crate::fault::RunFault;
@@ -30,8 +31,8 @@ pub fn run_same<R: Source, S: Source, W: Sink>(
     // Both inputs were one message, and the line was written.
     ensures done { IfOk result (SameDone hex (R.left first.old) (R.left first.new) (S.left second.old) (S.left second.new)
         (W.contents sink.old) (W.contents sink.new)) }
-    ensures fails { IfErr result (SameFails hex (R.left first.old) (R.left first.new) (S.left second.old) (S.left second.new)
-        (W.contents sink.old) (W.contents sink.new) (R.is_broken first.new) (S.is_broken second.new) (W.is_broken sink.new)) }
+    ensures fails { IfErr result (SameFails hex (taking (R.left first.old) (R.left first.new) (R.is_broken first.new))
+        (taking (S.left second.old) (S.left second.new) (S.is_broken second.new)) (putting (W.contents sink.old) (W.contents sink.new) (W.is_broken sink.new))) }
     // Two inputs have one result, unless memory, a source or the sink fails.
     ensures compares { IfSome (R.left first.old) (λ s. IfSome (S.left second.old) (λ t. ComparesBoth hex s t result)) }
     ensures refuses { IfSome (R.left first.old) (λ s. IfSome (S.left second.old) (λ t. RefusesOne hex s t result)) }

@@ -33,7 +33,8 @@ pub(crate) fn forward<R: Source, W: Sink>(
         (W.contents sink.old) (W.contents sink.new) size.read size.written)) }
     ensures none { IfOk result (λ found. IfNone found (Consumes (R.left source.old) (R.left source.new) []
         × IsAtEnd (R.left source.new) × Keeps (W.contents sink.old) (W.contents sink.new))) }
-    ensures fails { IfErr result (Fails (taking (R.left source.old) (R.left source.new) (R.is_broken source.new)) (putting (W.contents sink.old) (W.contents sink.new) (W.is_broken sink.new))) }
+    ensures fails { IfErr result (Fails (taking (R.left source.old) (R.left source.new) (R.is_broken source.new))
+        (putting (W.contents sink.old) (W.contents sink.new) (W.is_broken sink.new))) }
     ensures taken { TakesFront (R.left source.old) (R.left source.new) }
     ensures source_stays { IsTrue (R.is_broken source.old) → IsTrue (R.is_broken source.new) }
     ensures sink_stays { IsTrue (W.is_broken sink.old) → IsTrue (W.is_broken sink.new) }
@@ -67,7 +68,8 @@ pub fn normalise<R: Source, W: Sink>(
     // There was nothing left, and nothing was written.
     ensures none { IfOk result (λ found. IfNone found (Consumes (R.left source.old) (R.left source.new) []
         × IsAtEnd (R.left source.new) × Keeps (W.contents sink.old) (W.contents sink.new))) }
-    ensures fails { IfErr result (Fails (taking (R.left source.old) (R.left source.new) (R.is_broken source.new)) (putting (W.contents sink.old) (W.contents sink.new) (W.is_broken sink.new))) }
+    ensures fails { IfErr result (Fails (taking (R.left source.old) (R.left source.new) (R.is_broken source.new))
+        (putting (W.contents sink.old) (W.contents sink.new) (W.is_broken sink.new))) }
     // What begins with a spelling is normalised, what is empty is no message, and what is refused is refused so.
     ensures accepts { IfSome (R.left source.old) (λ s. (a : Apdu) (n : ℕ) → Accepts profile_two s a n → Answers result (Some (length (normal_form a)))) }
     ensures empty { IfSome (R.left source.old) (λ s. s ≡ [] → Answers result None) }

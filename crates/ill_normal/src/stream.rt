@@ -32,7 +32,8 @@ pub fn normalise_stream<R: Source, W: Sink>(
     // The input was this number of messages and nothing else, and their normal forms were written.
     ensures streamed { IfOk result (λ whole. (before : ℕ) × Passes (R.left source.old) (R.left source.new)
         (W.contents sink.old) (W.contents sink.new) whole before × IsAtEnd (R.left source.new) × (whole ≤ 1_000_000)) }
-    ensures stops { IfErr result (StopsAfter (taking (R.left source.old) (R.left source.new) (R.is_broken source.new)) (putting (W.contents sink.old) (W.contents sink.new) (W.is_broken sink.new))) }
+    ensures stops { IfErr result (StopsAfter (taking (R.left source.old) (R.left source.new) (R.is_broken source.new))
+        (putting (W.contents sink.old) (W.contents sink.new) (W.is_broken sink.new))) }
     // A stream of messages is normalised, unless they are too many or what follows is refused.
     ensures accepts { IfSome (R.left source.old) (λ s. (as' : List Apdu) → IsStream profile_two s as' [] → length as' ≤ 1_000_000
         → AnswersCount result (length as')) }

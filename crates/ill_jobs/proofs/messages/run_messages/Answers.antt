@@ -6,12 +6,11 @@ use Rattle.ill_jobs.proofs.messages.run_messages.Goals.{then-not-piece, else-not
 
 pub returns-in-Err-clause-stops : goal.returns-in-Err-clause-stops
 returns-in-Err-clause-stops g c =
-    rw c.fault_at.ensures (stops_reading _ _ _ _ _ _ _ (g.W.Sink.contents c.loop-whole.sink) _ _ _ c.loop-whole.invariant.reached _ _ c.in-Err.failure c.loop-whole-test.true c.in-Err.ensures.taken
-    c.in-Err.ensures.refused (λ e. c.next_piece.ensures.broken (c.in-Err.is ∙ e)) (λ e. c.next_piece.ensures.unfinished (c.in-Err.is ∙ e)))
+    rw c.fault_at.ensures (stops_reading _ _ _ _ _ _ _ (g.W.Sink.contents c.loop-whole.sink) _ _ _ c.loop-whole.invariant.reached _ _ _ _ c.in-Err.failure c.loop-whole-test.true c.in-Err.ensures)
 
 pub loop-whole-preserved : goal.loop-whole-preserved
 loop-whole-preserved g c =
-    let made = rw c.in-Ok-Some.field-0-is at c.in-Ok-Some.ensures.piece in
+    let next = rw c.in-Ok-Some.field-0-is at c.in-Ok-Some.ensures in let made = next.message in
     let all = rw c.deref.ensures.value at c.in_default.ensures.all in
     let more = reached_more _ _ _ _ _ _ _ _ _ _ _ c.loop-whole.invariant.reached c.in-Ok-Some.piece made all in
     let size : c.len.result ≡ length c.in-Ok-Some.piece.text.items = search rules in
@@ -20,16 +19,16 @@ loop-whole-preserved g c =
     record {
       reached = rw (good, size) more;
       bound = omega (arith, c.loop-whole.invariant.bound, c.in-Ok-Some.piece.text.small, size);
-      source_stays = λ h. c.in-Ok-Some.ensures.stays (c.loop-whole.invariant.source_stays h);
+      source_stays = λ h. next.stays (c.loop-whole.invariant.source_stays h);
       sink_stays = λ h. c.put_all.ensures.stays (c.loop-whole.invariant.sink_stays h);
     }
 
 pub returns-in-Err-put_all-clause-stops : goal.returns-in-Err-put_all-clause-stops
 returns-in-Err-put_all-clause-stops g c =
-    let made = rw c.in-Ok-Some.field-0-is at c.in-Ok-Some.ensures.piece in
+    let next = rw c.in-Ok-Some.field-0-is at c.in-Ok-Some.ensures in let made = next.message in
     let some = rw c.deref.ensures.value at c.in-Err-put_all.ensures.some in
     let fewer = rw c.deref.ensures.value at c.in-Err-put_all.ensures.fewer in
-    stops_writing _ _ _ _ _ _ _ _ _ _ _ c.loop-whole.invariant.reached _ _ c.in-Ok-Some.piece c.in-Err-put_all.count c.loop-whole-test.true c.in-Ok-Some.ensures.taken made some fewer (c.put_all.ensures.breaks (search rules))
+    stops_writing _ _ _ _ _ _ _ _ _ _ _ c.loop-whole.invariant.reached _ _ c.in-Ok-Some.piece c.in-Err-put_all.count c.loop-whole-test.true next.taken made some fewer (c.put_all.ensures.breaks (search rules))
 
 pub returns-in_err-end_of_input-clause-stops : goal.returns-in_err-end_of_input-clause-stops
 returns-in_err-end_of_input-clause-stops g c =
