@@ -1,19 +1,7 @@
 use Rattle.std.proofs.Common.{◌≡◌, true, false, rules}
-use Rattle.std.proofs.lemmas.Result.{err_from_is_err_and}
-use Rattle.ill_read.proofs.NextRead.{reads_as, reads_fails, reads_none, reads_without_memory}
+use Rattle.ill_read.proofs.NextRead.{reads_as}
 use Rattle.ill_jobs.proofs.Making.{makes_normal, makes_hex}
 use Rattle.ill_jobs.proofs.piece.canonical.Goals as goal
-
-pub returns-in_err-message : goal.returns-in_err-message
-returns-in_err-message g c =
-    let p = err_from_is_err_and c.from_residual.result c.from_residual.ensures.1 in
-    rw (p.1, p.2) (reads_fails _ _ _ _ _ _ _ c.in_err-message.ensures)
-
-pub returns-in_default : goal.returns-in_default
-returns-in_default g c = reads_none _ _ _ _ _ _ (rw c.in_default.is at c.in_ok-message.ensures)
-
-pub returns-in_default-2 : goal.returns-in_default-2
-returns-in_default-2 g c = reads_without_memory _ _ _ _ _ _ c.in-Some.message (rw c.in-Some.is at c.in_ok-message.ensures)
 
 pub returns-then-not-hex : goal.returns-then-not-hex
 returns-then-not-hex g c =
@@ -25,6 +13,3 @@ returns-in-Ok-hex_line g c =
     let yes : c.args.hex ≡ true = search rules in
     let line = rw (c.deref.ensures.value, c.in-Ok.ensures) at c.in-Ok-hex_line.ensures in
     reads_as _ _ _ _ _ _ c.in-Some.message _ (λ b h number. rw yes (makes_hex number c.in-Ok-hex_line.text c.in-Some.message line b h)) (rw c.in-Some.is at c.in_ok-message.ensures)
-
-pub returns-in-Err : goal.returns-in-Err
-returns-in-Err g c = reads_without_memory _ _ _ _ _ _ c.in-Some.message (rw c.in-Some.is at c.in_ok-message.ensures)
