@@ -1,4 +1,5 @@
 use Rattle.std.proofs.Common.{◌≡◌, ◌++◌, ◌<◌, ℕ, Bool, false, List, [], length, take, Option, Some, IfErr, ap, subst, arith, length-append, length-take}
+use Rattle.ill_normal.specs.Calls.{taking, putting}
 use Rattle.ill_jobs.specs.Ran.{StopsAfter}
 use Rattle.ill_jobs.specs.declared.fault.RunFault.{RunFault}
 use Rattle.ill_jobs.specs.declared.job.Job.{Job}
@@ -8,7 +9,7 @@ length_of : (held new out : List ℕ) (n : ℕ) → held ≡ [] → new ≡ held
 length_of held new out n e w l = omega (arith, ap length e, ap length w, length-append held (take n out), length-take n out, l)
 
 counted : (job : Job) (left left' : Option (List ℕ)) (held new : List ℕ) (x y : Bool) (n : ℕ) → held ≡ []
-    → StopsAfter job false left left' (Some held) (Some new) x y (RunFault.WriteFault n) → length new ≡ n
+    → StopsAfter job false (taking left left' x) (putting (Some held) (Some new) y) (RunFault.WriteFault n) → length new ≡ n
 counted job left left' held new x y n e h =
     let b = h.stops.2 in
     length_of held new _ n e b.written b.not_all
@@ -20,4 +21,4 @@ returns c n p =
     let x = c.run.new.source.broken in
     let y = c.run.new.sink.broken in
     counted c.args.job left left' c.args.sink.now.octets c.run.new.sink.octets x y n c.requires
-    (subst (λ r. IfErr r (StopsAfter c.args.job false left left' (Some c.args.sink.now.octets) (Some c.run.new.sink.octets) x y)) p c.run.ensures.fails)
+    (subst (λ r. IfErr r (StopsAfter c.args.job false (taking left left' x) (putting (Some c.args.sink.now.octets) (Some c.run.new.sink.octets) y))) p c.run.ensures.fails)

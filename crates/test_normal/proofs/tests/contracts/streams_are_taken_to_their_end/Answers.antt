@@ -3,6 +3,7 @@ use Rattle.std.specs.Io.KnownBytes.{Consumes}
 use Rattle.ber_leaf.specs.Profile.{profile_two}
 use Rattle.ill_schema.specs.Apdu.{Apdu, IsStream}
 use Rattle.ill_schema.proofs.Streams.{take_front}
+use Rattle.ill_normal.specs.Calls.{taking, putting}
 use Rattle.ill_normal.specs.Streamed.{StopsAfter}
 use Rattle.ill_normal.specs.declared.failure.StreamFailure.{StreamFailure}
 use Rattle.std.specs.Prelude.{Bool}
@@ -13,7 +14,7 @@ in_front s b None n h e = absurd h
 in_front s b (Some t) n h e = sym (take_front b t) ∙ ap (take (length b)) (sym h) ∙ ap (λ k. take k s) e
 
 counted : (s : List ℕ) (left' held held' : Option (List ℕ)) (x y : Bool) (r : Result ℕ StreamFailure)
-    → IfErr r (StopsAfter (Some s) left' held held' x y)
+    → IfErr r (StopsAfter (taking (Some s) left' x) (putting held held' y))
     → IfErr r (λ failure. (apdus : List Apdu) × (length apdus ≡ failure.whole) × IsStream profile_two (take failure.before s) apdus [])
 counted s left' held held' x y (Ok n) h = h
 counted s left' held held' x y (Err failure) h =
