@@ -5,6 +5,7 @@ mod check;
 mod compare;
 mod failure;
 mod laws;
+mod messages;
 mod single;
 mod stream;
 
@@ -22,5 +23,6 @@ pub use laws::{
     normal_form_is_accepted, normal_form_is_its_own, normal_forms_are_equal_exactly_if_apdus_are,
     one_prefix_is_accepted, one_refusal_of_a_slice,
 };
+pub use messages::{Maker, Passed, Piece, Stopped, Why, each_message};
 pub use single::normalise;
-pub use stream::normalise_stream;
+pub use stream::{NormalForms, normalise_stream};

@@ -1,20 +1,62 @@
 //! Messages one after another.
-ghost use Rattle.std.specs.Prelude.{◌≡◌, ◌<◌, ◌≤◌, ℕ, List, [], length, IfOk, IfErr, IfSome, IsTrue};
+ghost use Rattle.std.specs.Prelude.{◌≡◌, ◌<◌, ◌≤◌, ℕ, List, [], true, length, IfOk, IfErr, IfSome, IsTrue};
 ghost use Rattle.std.specs.Io.KnownBytes.{IsAtEnd};
 ghost use Rattle.ber_leaf.specs.Profile.{profile_two};
-ghost use Rattle.ill_schema.specs.Apdu.{Apdu, IsStream};
+ghost use Rattle.ill_schema.specs.Apdu.{Apdu, IsStream, normal_form};
 ghost use Rattle.ill_refusals.specs.Fault.{Fault};
 ghost use Rattle.ill_refusals.specs.Outcome.{OnlyRefuses};
 ghost use Rattle.ill_normal.specs.Calls.{taking, putting};
+ghost use Rattle.ill_normal.specs.Messages.{part_of};
+ghost use Rattle.ill_normal.specs.code.Ending.{stream_cause};
 ghost use Rattle.ill_normal.specs.Streamed.{Passes, StopsAfter, AnswersCount, AnswersRefusedAfter, AnswersTooMany};
 
 use crate::failure::{NormalFailure, StreamCause, StreamFailure};
-use crate::single::forward;
+use crate::messages::{Maker, Piece, Why, each_message};
 use ber_core::{Sink, Source};
+use ill_read::{ReadFailure, read_message};
+use ill_write::normal_bytes;
 use std::alloc::Global;
 
-/// How many messages a stream may have.
-const MESSAGES: u32 = 1_000_000;
+/// Makes the normal form of each message.
+pub struct NormalForms;
+
+impl Maker for NormalForms {
+    ghost text = { λ _ i m. normal_form m.apdu };
+
+    ghost is_good = { λ _ m. true };
+
+    fn next<R: Source>(
+        &self,
+        alloc: Global,
+        number: u32,
+        source: &mut R,
+    ) -> Result<Option<Piece>, ReadFailure> {
+        let _ = number;
+        let Some(message) = read_message(alloc, source)? else {
+            return Ok(None);
+        };
+        let Ok(text) = normal_bytes(alloc, &message) else {
+            return Err(ReadFailure::OutOfMemory);
+        };
+        Ok(Some(Piece {
+            text,
+            is_good: true,
+            octets: message.octets(),
+        }))
+    }
+}
+
+/// Why a stream went no further.
+fn cause(why: Why) -> StreamCause
+    requires { part_of why ≤ 1_048_576 }
+    ensures { result ≡ stream_cause why }
+{
+    match why {
+        Why::Read(failure) => StreamCause::Normal(NormalFailure::from(failure)),
+        Why::Write(count) => StreamCause::Normal(NormalFailure::WriteFault(count as u32)),
+        Why::TooMany => StreamCause::TooManyMessages,
+    }
+}
 
 /// Writes the normal forms of the messages that the source holds up to its end, at most 1,000,000,
 /// and returns how many messages they are. One message is held in memory at a time.
@@ -44,33 +86,12 @@ pub fn normalise_stream<R: Source, W: Sink>(
     ensures source_stays { IsTrue (R.is_broken source.old) → IsTrue (R.is_broken source.new) }
     ensures sink_stays { IsTrue (W.is_broken sink.old) → IsTrue (W.is_broken sink.new) }
 {
-    let mut before = 0;
-    for whole in 0..MESSAGES {
-        match forward(alloc, source, sink) {
-            Ok(Some(size)) => before += u64::from(size.read),
-            Ok(None) => return Ok(whole),
-            Err(failure) => {
-                return Err(StreamFailure {
-                    whole,
-                    before,
-                    why: StreamCause::Normal(failure),
-                });
-            }
-        }
-    }
-    // One octet more is one too many, whatever it begins.
-    let mut room = [0];
-    match source.take(&mut room) {
-        Ok(0) => Ok(MESSAGES),
-        Ok(_) => Err(StreamFailure {
-            whole: MESSAGES,
-            before,
-            why: StreamCause::TooManyMessages,
-        }),
-        Err(_) => Err(StreamFailure {
-            whole: MESSAGES,
-            before,
-            why: StreamCause::Normal(NormalFailure::ReadFault),
+    match each_message(alloc, &NormalForms, source, sink) {
+        Ok(passed) => Ok(passed.whole),
+        Err(stopped) => Err(StreamFailure {
+            whole: stopped.whole,
+            before: stopped.before,
+            why: cause(stopped.why),
         }),
     }
 }

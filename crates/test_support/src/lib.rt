@@ -1,10 +1,12 @@
-//! What crates of tests share: messages and octets from words, and what came of a call that `tests/growths.sh` makes.
+//! What crates of tests share: messages and octets from words, all memory that there is, and what came of a call.
 #![tactic(auto)]
 
 mod build;
+mod hoard;
 mod octets;
 mod outcome;
 
 pub use build::{date_text, general_string, general_text, message, value};
+pub use hoard::Hoard;
 pub use octets::octets_of;
 pub use outcome::Outcome;

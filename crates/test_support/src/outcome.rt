@@ -1,8 +1,10 @@
 //! What came of a call.
 ghost use Rattle.std.specs.Prelude.{◌≡◌, if◌then◌else◌};
 
+use std::alloc::AllocError;
+
 /// Whether a call returned what its test vector says, or out of memory with the state that is promised then.
-#[derive(Clone, Copy)]
+#[derive(Clone, Copy, Debug, PartialEq, Eq)]
 pub enum Outcome {
     Right,
     OutOfMemory,
@@ -12,6 +14,14 @@ pub enum Outcome {
 }
 
 impl Outcome {
+    /// Of a call that has no other error than out of memory.
+    pub fn of<T: Drop>(made: Result<T, AllocError>) -> Outcome {
+        match made {
+            Ok(_) => Outcome::Right,
+            Err(AllocError) => Outcome::OutOfMemory,
+        }
+    }
+
     /// What the script reads.
     pub fn words(self) -> &'static str {
         match self {

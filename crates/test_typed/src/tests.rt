@@ -1,4 +1,5 @@
 //! Typed parts and APDUs.
 mod contracts;
+mod memory;
 mod parts;
 mod round_trips;

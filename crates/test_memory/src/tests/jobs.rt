@@ -1,10 +1,10 @@
 //! The program's jobs, on octets and on hexadecimal text. Nothing is written where there is no memory.
 use super::Row;
-use super::came::Came;
 use super::given::EXPIRED;
 use ber_core::{Pieces, Room};
 use ill_jobs::{Job, RunFault, Verdict, run, run_same};
 use std::alloc::Global;
+use test_support::Outcome;
 
 /// The EXPIRED as hexadecimal text.
 const EXPIRED_HEX: &[u8] = b"741f301d800102a10aa1031b0147a2031b0151a20ca00a80083230323430323239";
@@ -31,20 +31,20 @@ fn input(hex: bool) -> Pieces<'static> {
     Pieces::new(if hex { EXPIRED_HEX } else { EXPIRED }, 64, None)
 }
 
-fn of_job(done: Result<Verdict, RunFault>, written: &[u8]) -> Came {
+fn of_job(done: Result<Verdict, RunFault>, written: &[u8]) -> Outcome {
     match done {
-        Ok(verdict) => Came::done(verdict == Verdict::Good && !written.is_empty()),
-        Err(fault) => Came::out_of_memory(fault == RunFault::OutOfMemory && written.is_empty()),
+        Ok(verdict) => Outcome::right(verdict == Verdict::Good && !written.is_empty()),
+        Err(fault) => Outcome::out_of_memory(fault == RunFault::OutOfMemory && written.is_empty()),
     }
 }
 
-fn run_job(alloc: Global, job: Job, hex: bool) -> Came {
+fn run_job(alloc: Global, job: Job, hex: bool) -> Outcome {
     let mut sink: Room<512> = Room::new(64, None);
     let done = run(alloc, job, hex, &mut input(hex), &mut sink);
     of_job(done, sink.octets())
 }
 
-fn compare(alloc: Global, hex: bool) -> Came {
+fn compare(alloc: Global, hex: bool) -> Outcome {
     let mut sink: Room<64> = Room::new(64, None);
     let done = run_same(alloc, hex, &mut input(hex), &mut input(hex), &mut sink);
     of_job(done, sink.octets())

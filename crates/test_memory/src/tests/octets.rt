@@ -1,6 +1,5 @@
 //! Texts, and messages out of octets.
 use super::Row;
-use super::came::Came;
 use super::given::{EXPIRED, Given};
 use ber_core::Pieces;
 use ber_leaf::Segments;
@@ -8,17 +7,21 @@ use ill_normal::{ReadFailure, check_one, is_normal, same_message};
 use ill_read::{Decoder, Failure, Progress, decode, read_kept, read_message};
 use ill_schema::Message;
 use std::alloc::Global;
+use test_support::Outcome;
 
 /// What came of each call of this file.
 pub fn calls(alloc: Global, given: &Given) -> [Row; 14] {
     let texts = &given.texts;
     [
-        ("VisibleText::copy", Came::of(texts.visible.copy(alloc))),
-        ("GeneralText::copy", Came::of(texts.general.copy(alloc))),
-        ("PrintableText::copy", Came::of(texts.printable.copy(alloc))),
-        ("DateText::copy", Came::of(texts.date.copy(alloc))),
-        ("TimeText::copy", Came::of(texts.time.copy(alloc))),
-        ("IllString::copy", Came::of(texts.either.copy(alloc))),
+        ("VisibleText::copy", Outcome::of(texts.visible.copy(alloc))),
+        ("GeneralText::copy", Outcome::of(texts.general.copy(alloc))),
+        (
+            "PrintableText::copy",
+            Outcome::of(texts.printable.copy(alloc)),
+        ),
+        ("DateText::copy", Outcome::of(texts.date.copy(alloc))),
+        ("TimeText::copy", Outcome::of(texts.time.copy(alloc))),
+        ("IllString::copy", Outcome::of(texts.either.copy(alloc))),
         ("Segments::push", push_segment(alloc)),
         ("decode", of_decoding(decode(alloc, EXPIRED).map(|_| true))),
         ("Decoder::feed and finish", feed(alloc)),
@@ -31,42 +34,42 @@ pub fn calls(alloc: Global, given: &Given) -> [Row; 14] {
 }
 
 /// Of a call that is to return true.
-fn of_decoding(found: Result<bool, Failure>) -> Came {
+fn of_decoding(found: Result<bool, Failure>) -> Outcome {
     match found {
-        Ok(found) => Came::done(found),
-        Err(failure) => Came::out_of_memory(failure == Failure::OutOfMemory),
+        Ok(found) => Outcome::right(found),
+        Err(failure) => Outcome::out_of_memory(failure == Failure::OutOfMemory),
     }
 }
 
 /// Of a call that is to return a message.
-fn of_reading(read: Result<Option<Message>, ReadFailure>) -> Came {
+fn of_reading(read: Result<Option<Message>, ReadFailure>) -> Outcome {
     match read {
-        Ok(message) => Came::done(message.is_some()),
-        Err(failure) => Came::out_of_memory(failure == ReadFailure::OutOfMemory),
+        Ok(message) => Outcome::right(message.is_some()),
+        Err(failure) => Outcome::out_of_memory(failure == ReadFailure::OutOfMemory),
     }
 }
 
 /// A segment that is refused leaves nothing.
-fn push_segment(alloc: Global) -> Came {
+fn push_segment(alloc: Global) -> Outcome {
     let mut segments = Segments::new(alloc);
     let pushed = segments.push(b"2024");
     let octets = segments.into_octets();
     match pushed {
-        Ok(()) => Came::done(octets.as_slice() == b"2024".as_slice()),
-        Err(_) => Came::out_of_memory(octets.is_empty()),
+        Ok(()) => Outcome::right(octets.as_slice() == b"2024".as_slice()),
+        Err(_) => Outcome::out_of_memory(octets.is_empty()),
     }
 }
 
 /// A decoder that is out of memory stays so.
-fn feed(alloc: Global) -> Came {
+fn feed(alloc: Global) -> Outcome {
     let mut decoder = Decoder::new(alloc);
     let fed = decoder.feed(EXPIRED);
     let again = decoder.feed(b"");
     let need = decoder.need();
     let finished = decoder.finish();
     match fed {
-        Ok(progress) => Came::done(progress == Progress::Done && finished.is_ok()),
-        Err(failure) => Came::out_of_memory(
+        Ok(progress) => Outcome::right(progress == Progress::Done && finished.is_ok()),
+        Err(failure) => Outcome::out_of_memory(
             failure == Failure::OutOfMemory
                 && again == Err(Failure::OutOfMemory)
                 && need == 0
@@ -75,28 +78,28 @@ fn feed(alloc: Global) -> Came {
     }
 }
 
-fn read(alloc: Global) -> Came {
+fn read(alloc: Global) -> Outcome {
     let mut source = Pieces::new(EXPIRED, 64, None);
     of_reading(read_message(alloc, &mut source))
 }
 
-fn read_and_keep(alloc: Global) -> Came {
+fn read_and_keep(alloc: Global) -> Outcome {
     let mut source = Pieces::new(EXPIRED, 64, None);
     let mut kept = Vec::new(alloc);
     of_reading(read_kept(alloc, &mut source, &mut kept))
 }
 
-fn check(alloc: Global) -> Came {
+fn check(alloc: Global) -> Outcome {
     let mut source = Pieces::new(EXPIRED, 64, None);
     match check_one(alloc, &mut source) {
-        Ok(checked) => Came::done(checked.is_some()),
-        Err(failure) => Came::out_of_memory(failure == ReadFailure::OutOfMemory),
+        Ok(checked) => Outcome::right(checked.is_some()),
+        Err(failure) => Outcome::out_of_memory(failure == ReadFailure::OutOfMemory),
     }
 }
 
-fn same(alloc: Global) -> Came {
+fn same(alloc: Global) -> Outcome {
     match same_message(alloc, EXPIRED, EXPIRED) {
-        Ok(same) => Came::done(same),
-        Err((_, failure)) => Came::out_of_memory(failure == Failure::OutOfMemory),
+        Ok(same) => Outcome::right(same),
+        Err((_, failure)) => Outcome::out_of_memory(failure == Failure::OutOfMemory),
     }
 }

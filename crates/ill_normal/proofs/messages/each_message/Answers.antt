@@ -1,0 +1,51 @@
+use Rattle.std.proofs.Common.{◌≡◌, ◌+◌, length, refl, arith, rules}
+use Rattle.ill_normal.proofs.Reaching.{ends_at_last, ends_reading, ends_writing, made_bound, next_good, passes_all, reached_more, reached_none}
+use Rattle.ill_normal.proofs.messages.each_message.Goals as goal
+use Rattle.ill_normal.proofs.messages.each_message.Goals.{then-not-piece, else-not-piece}
+
+pub returns-in-Ok-None-clause-passes : goal.returns-in-Ok-None-clause-passes
+returns-in-Ok-None-clause-passes g c =
+    let next = rw c.in-Ok-None.field-0-is at c.in-Ok-None.ensures in
+    passes_all _ _ _ _ _ _ _ (g.W.Sink.contents c.loop-whole.sink) _ _ _ _ c.loop-whole.invariant.reached _ refl next.none.0 next.none.1 (omega arith)
+
+pub returns-in-Err-clause-ends : goal.returns-in-Err-clause-ends
+returns-in-Err-clause-ends g c =
+    ends_reading _ _ _ _ _ _ _ (g.W.Sink.contents c.loop-whole.sink) _ _ _ _ c.loop-whole.invariant.reached _ _ _ _ c.in-Err.failure c.loop-whole-test.true c.in-Err.ensures
+
+pub loop-whole-preserved : goal.loop-whole-preserved
+loop-whole-preserved g c =
+    let next = rw c.in-Ok-Some.field-0-is at c.in-Ok-Some.ensures in
+    let made = next.message in
+    let all = rw c.deref.ensures.value at c.in_default.ensures.all in
+    let more = reached_more _ _ _ _ _ _ _ _ _ _ _ _ c.loop-whole.invariant.reached c.in-Ok-Some.piece made all in
+    let most = made_bound (g.M.Maker.text c.args.maker.now) (g.M.Maker.is_good c.args.maker.now) (c.loop-whole.whole + 1) _ _ c.in-Ok-Some.piece made in
+    let size : c.len.result ≡ length c.in-Ok-Some.piece.text.items = search rules in
+    let good : c.if-not-piece.all_good ≡ next_good c.loop-whole.all_good c.in-Ok-Some.piece.is_good =
+    elim c.if-not-piece.branch [ then-not-piece w ↦ rw (w.all_good-is, w.if-not-piece.true) refl | else-not-piece w ↦ rw (w.all_good-is, w.if-not-piece.false) refl ] in
+    record {
+      reached = rw (good, size, c.from-before.ensures) more;
+      before = omega (arith, c.loop-whole.invariant.before, most, c.from-before.ensures);
+      bound = omega (arith, c.loop-whole.invariant.bound, c.in-Ok-Some.piece.text.small, size);
+      source_stays = λ h. next.stays (c.loop-whole.invariant.source_stays h);
+      sink_stays = λ h. c.put_all.ensures.stays (c.loop-whole.invariant.sink_stays h);
+    }
+
+pub returns-in-Err-put_all-clause-ends : goal.returns-in-Err-put_all-clause-ends
+returns-in-Err-put_all-clause-ends g c =
+    let next = rw c.in-Ok-Some.field-0-is at c.in-Ok-Some.ensures in
+    let some = rw c.deref.ensures.value at c.in-Err-put_all.ensures.some in
+    let fewer = rw c.deref.ensures.value at c.in-Err-put_all.ensures.fewer in
+    ends_writing _ _ _ _ _ _ _ _ _ _ _ _ c.loop-whole.invariant.reached _ _ c.in-Ok-Some.piece c.in-Err-put_all.count c.loop-whole-test.true next.taken next.message some fewer (c.put_all.ensures.breaks (search rules))
+
+pub loop-whole-init : goal.loop-whole-init
+loop-whole-init g c = record {
+  reached = reached_none _ _ _ _;
+  before = omega arith;
+  bound = omega arith;
+  source_stays = λ h. h;
+  sink_stays = λ h. h;
+}
+
+pub returns-in-Err-end_of_input-clause-ends : goal.returns-in-Err-end_of_input-clause-ends
+returns-in-Err-end_of_input-clause-ends g c =
+    ends_at_last _ _ _ _ _ _ _ (g.W.Sink.contents c.loop-whole.sink) _ _ _ _ c.loop-whole.invariant.reached _ _ 1_000_000 c.in-Err-end_of_input.why (omega arith) refl c.in-Err-end_of_input.ensures.more

@@ -1,0 +1,95 @@
+-- The messages of an input, one after another, and what is written of them.
+use Rattle.std.specs.Prelude.{◌≡◌, ℕ, suc, ◌+◌, ◌<◌, ◌≤◌, Bool, List, [], ◌∷◌, ◌++◌, length, take, Option, IfSome, IsTrue}
+use Rattle.std.specs.List.{list_all}
+use Rattle.std.specs.Io.KnownBytes.{Consumes, Keeps, Appends, IsAtEnd}
+use Rattle.ber_leaf.specs.Profile.{profile_two}
+use Rattle.ill_schema.specs.Apdu.{Apdu, SpellsApdu}
+use Rattle.ill_read.specs.Answers.{TakesFront, TakesNoMessage}
+use Rattle.ill_read.specs.declared.failure.ReadFailure.{ReadFailure}
+use Rattle.ill_refusals.specs.Fault.{fault_of}
+use Rattle.ill_refusals.specs.Outcome.{OnlyRefuses}
+use Rattle.ill_normal.specs.Calls.{Taking, taking, Putting, putting}
+use Rattle.ill_normal.specs.declared.messages.Passed.{Passed}
+use Rattle.ill_normal.specs.declared.messages.Piece.{Piece}
+use Rattle.ill_normal.specs.declared.messages.Stopped.{Stopped}
+use Rattle.ill_normal.specs.declared.messages.Why.{Why}
+
+-- an APDU, and octets
+pub record Spelling : Type 0 where
+  pub apdu : Apdu
+  pub octets : List ℕ
+
+abbrev pub spelling : Apdu → List ℕ → Spelling
+spelling a octets = record { apdu = a; octets = octets }
+
+-- s is octets that spell the APDUs, one after another, and then the rest
+abbrev pub AreSpelled : List ℕ → List Spelling → List ℕ → Type 0
+AreSpelled s [] rest = s ≡ rest
+AreSpelled s (m ∷ ms) rest = (t : List ℕ) × (s ≡ m.octets ++ t) × SpellsApdu profile_two m.apdu m.octets × AreSpelled t ms rest
+
+-- what is written of messages that are numbered from i on, where `text i m` is written of message i
+abbrev pub output_from : (ℕ → Spelling → List ℕ) → ℕ → List Spelling → List ℕ
+output_from text i [] = []
+output_from text i (m ∷ ms) = text i m ++ output_from text (suc i) ms
+
+-- the octets spell an APDU, and the piece says what is written of it, whether it is as it should be, and how many octets it has
+pub record Makes (output : Spelling → List ℕ) (is_good : Spelling → Bool) (piece : Piece) (octets : List ℕ) : Type 0 where
+  pub apdu : Apdu
+  pub spells : SpellsApdu profile_two apdu octets
+  pub text : piece.text.items ≡ output (spelling apdu octets)
+  pub good : piece.is_good ≡ is_good (spelling apdu octets)
+  pub size : piece.octets ≡ length octets
+
+-- the octets that were taken are these messages, and their output was written
+pub record Writes (text : ℕ → Spelling → List ℕ) (left left' held held' : Option (List ℕ)) (messages : List Spelling) : Type 0 where
+  pub octets : List ℕ
+  pub spelled : AreSpelled octets messages []
+  pub taken : Consumes left left' octets
+  pub written : Appends held held' (output_from text 1 messages)
+
+-- the input was messages to its end, at most 1,000,000
+pub record PassesAll (text : ℕ → Spelling → List ℕ) (is_good : Spelling → Bool) (left left' held held' : Option (List ℕ)) (passed : Passed) : Type 0 where
+  pub messages : List Spelling
+  pub writes : Writes text left left' held held' messages
+  pub end : IsAtEnd left'
+  pub few : length messages ≤ 1_000_000
+  pub count : passed.whole ≡ length messages
+  pub good : passed.all_good ≡ list_all is_good messages
+
+-- of the next message, of which `text` is written, only the first n octets were written
+pub record BreaksWithin (text : Spelling → List ℕ) (source : Taking) (sink : Putting) (n : ℕ) : Type 0 where
+  pub message : Spelling
+  pub spells : SpellsApdu profile_two message.apdu message.octets
+  pub taken : Consumes source.left source.left' message.octets
+  pub written : Appends sink.held sink.held' (take n (text message))
+  pub fewer : n < length (text message)
+  pub broken : IsTrue sink.broken
+
+-- why no further message was written, after `whole` of them
+abbrev pub Ends : (ℕ → Spelling → List ℕ) → Taking → Putting → ℕ → Why → Type 0
+Ends text source sink whole (Why.Read (ReadFailure.Refused refusal)) =
+    (whole < 1_000_000) × IfSome source.left (λ s. (0 < length s) × OnlyRefuses profile_two s (fault_of refusal)) × Keeps sink.held sink.held'
+Ends text source sink whole (Why.Read ReadFailure.OutOfMemory) = (whole < 1_000_000) × Keeps sink.held sink.held'
+Ends text source sink whole (Why.Read ReadFailure.ReadFault) =
+    (whole ≤ 1_000_000) × IsTrue source.broken × TakesNoMessage source.left source.left' × Keeps sink.held sink.held'
+Ends text source sink whole (Why.Write n) = (whole < 1_000_000) × BreaksWithin (text (whole + 1)) source sink n
+Ends text source sink whole Why.TooMany =
+    (whole ≡ 1_000_000) × ((octet : ℕ) × Consumes source.left source.left' (octet ∷ [])) × Keeps sink.held sink.held'
+
+-- the octets of the last message that were written, where the sink broke within it
+abbrev pub part_of : Why → ℕ
+part_of (Why.Read failure) = 0
+part_of (Why.Write n) = n
+part_of Why.TooMany = 0
+
+-- the messages before the end, and why there was one; of what follows them no more was taken than a message may have
+pub record EndsAfter (text : ℕ → Spelling → List ℕ) (source : Taking) (sink : Putting) (stopped : Stopped) : Type 0 where
+  pub messages : List Spelling
+  pub rest : Option (List ℕ)
+  pub grown : Option (List ℕ)
+  pub writes : Writes text source.left rest sink.held grown messages
+  pub taken : TakesFront rest source.left'
+  pub count : stopped.whole ≡ length messages
+  pub before : stopped.before ≡ length writes.octets
+  pub written : stopped.written ≡ length (output_from text 1 messages) + part_of stopped.why
+  pub ends : Ends text (taking rest source.left' source.broken) (putting grown sink.held' sink.broken) stopped.whole stopped.why

@@ -1,0 +1,159 @@
+//! The messages of an input, one after another.
+ghost use Rattle.std.specs.Prelude.{◌≡◌, ℕ, ◌+◌, Bool, List, [], ◌∷◌, IfOk, IfErr, OnOk, IsTrue};
+ghost use Rattle.std.specs.Io.KnownBytes.{Consumes, IsAtEnd, Keeps};
+ghost use Rattle.ill_read.specs.Answers.{ReadsNext};
+ghost use Rattle.ill_normal.specs.Calls.{taking, putting};
+ghost use Rattle.ill_normal.specs.Messages.{EndsAfter, Makes, PassesAll, Spelling};
+ghost use Rattle.ill_normal.specs.code.Ending.{GoesOn};
+
+use ber_core::{Sink, Source};
+use ill_read::ReadFailure;
+use ill_write::put_all;
+use std::alloc::Global;
+
+/// How many messages an input may have.
+const MESSAGES: u32 = 1_000_000;
+
+/// What is made of a message.
+#[derive(Drop)]
+pub struct Piece {
+    /// What is written of it.
+    pub text: Vec<u8>,
+    /// Whether the message is as it should be.
+    pub is_good: bool,
+    /// How many octets it has in the input.
+    pub octets: u32,
+}
+
+/// What makes something of each message of an input.
+pub trait Maker {
+    // What is written of the message of this number.
+    ghost text: { Self → ℕ → Spelling → List ℕ };
+
+    // Whether a message is as it should be.
+    ghost is_good: { Self → Spelling → Bool };
+
+    /// Reads the message that the source begins with, as [`read_message`](crate::read_message) does, and makes of it what is written.
+    ///
+    /// # Errors
+    ///
+    /// Those of [`read_message`](crate::read_message), or out of memory.
+    fn next<R: Source>(
+        &self,
+        alloc: Global,
+        number: u32,
+        source: &mut R,
+    ) -> Result<Option<Piece>, ReadFailure>
+        ensures { ReadsNext (R.left source.old) (R.left source.new) (R.is_broken source.old) (R.is_broken source.new)
+            (Makes (text self.now number) (is_good self.now)) result };
+}
+
+/// Messages to the end of an input.
+#[derive(Clone, Copy)]
+pub struct Passed {
+    /// How many they are.
+    pub whole: u32,
+    /// Whether all are as they should be.
+    pub all_good: bool,
+}
+
+/// Why no further message of an input was written.
+#[derive(Clone, Copy)]
+pub enum Why {
+    /// None was read, or memory ran out.
+    Read(ReadFailure),
+    /// The sink broke after this many octets of the message.
+    Write(usize),
+    /// There were 1,000,000 messages, and the input goes on.
+    TooMany,
+}
+
+/// How far the messages of an input were written, and why no further.
+#[derive(Clone, Copy)]
+pub struct Stopped {
+    /// How many messages were read, and written whole.
+    pub whole: u32,
+    /// How many octets those have in the input.
+    pub before: u64,
+    /// How many octets were written.
+    pub written: u128,
+    pub why: Why,
+}
+
+/// Writes what is made of each message of an input, one after another up to its end. A message's whole text is made before any of it is
+/// written, and one message is held at a time.
+///
+/// # Errors
+///
+/// How far it came, and why no further, where the input goes on after 1,000,000 messages, too. Of what follows the messages that were
+/// written, at most 1,048,576 octets are taken.
+pub fn each_message<M: Maker, R: Source, W: Sink>(
+    alloc: Global,
+    maker: &M,
+    source: &mut R,
+    sink: &mut W,
+) -> Result<Passed, Stopped>
+    ensures passes { IfOk result (PassesAll (M.text maker.now) (M.is_good maker.now) (R.left source.old) (R.left source.new)
+        (W.contents sink.old) (W.contents sink.new)) }
+    ensures ends { IfErr result (EndsAfter (M.text maker.now) (taking (R.left source.old) (R.left source.new) (R.is_broken source.new))
+        (putting (W.contents sink.old) (W.contents sink.new) (W.is_broken sink.new))) }
+    ensures source_stays { IsTrue (R.is_broken source.old) → IsTrue (R.is_broken source.new) }
+    ensures sink_stays { IsTrue (W.is_broken sink.old) → IsTrue (W.is_broken sink.new) }
+{
+    let mut all_good = true;
+    let mut before = 0;
+    let mut written = 0;
+    for whole in 0..MESSAGES {
+        let piece = match maker.next(alloc, whole + 1, source) {
+            Ok(Some(piece)) => piece,
+            Ok(None) => return Ok(Passed { whole, all_good }),
+            Err(failure) => {
+                return Err(Stopped {
+                    whole,
+                    before,
+                    written,
+                    why: Why::Read(failure),
+                });
+            }
+        };
+        if let Err(count) = put_all(sink, &piece.text) {
+            return Err(Stopped {
+                whole,
+                before,
+                written: written + count as u128,
+                why: Why::Write(count),
+            });
+        }
+        before += u64::from(piece.octets);
+        written += piece.text.len() as u128;
+        if !piece.is_good {
+            all_good = false;
+        }
+    }
+    match end_of_input(source) {
+        Ok(()) => Ok(Passed {
+            whole: MESSAGES,
+            all_good,
+        }),
+        Err(why) => Err(Stopped {
+            whole: MESSAGES,
+            before,
+            written,
+            why,
+        }),
+    }
+}
+
+/// One octet more is one too many, whatever it begins.
+fn end_of_input<R: Source>(source: &mut R) -> Result<(), Why>
+    ensures end { OnOk result (Consumes (R.left source.old) (R.left source.new) [] × IsAtEnd (R.left source.new)) }
+    ensures more { IfErr result (GoesOn (R.left source.old) (R.left source.new) (R.is_broken source.new)) }
+    ensures stays { IsTrue (R.is_broken source.old) → IsTrue (R.is_broken source.new) }
+{
+    let mut room = [0];
+    match source.take(&mut room) {
+        Ok(0) => Ok(()),
+        Ok(_) => Err(Why::TooMany),
+        Err(_) => Err(Why::Read(ReadFailure::ReadFault)),
+    }
+}
