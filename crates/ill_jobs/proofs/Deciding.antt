@@ -9,26 +9,16 @@ use Rattle.ill_schema.proofs.Streams.{parts_accept, accepts_once, accepts_some, 
 use Rattle.ill_refusals.specs.Fault.{Fault, fault_of}
 use Rattle.ill_refusals.specs.Outcome.{OnlyRefuses}
 use Rattle.ill_normal.proofs.Answering.{front}
+use Rattle.ill_normal.specs.Messages.{Spelling, AreSpelled}
 use Rattle.ill_normal.proofs.Longest.{nothing_over, no_longer, one_rest}
+use Rattle.ill_normal.proofs.Reaching.{spelled_front}
+use Rattle.ill_normal.proofs.Streaming.{apdus_of, as_many, stream_of}
 use Rattle.ill_normal.specs.Calls.{taking, putting}
 use Rattle.ill_jobs.specs.declared.job.Job.{Job}
 use Rattle.ill_jobs.specs.declared.job.Verdict.{Verdict}
 use Rattle.ill_jobs.specs.declared.fault.RunFault.{RunFault}
-use Rattle.ill_jobs.specs.Output.{Spelling, AreSpelled, verdict_of}
+use Rattle.ill_jobs.specs.Output.{verdict_of}
 use Rattle.ill_jobs.specs.Ran.{Writes, Stops, StopsAfter, Done, IsFault, AnswersVerdict, IsRefused, AnswersRefused, AnswersFault}
-use Rattle.ill_jobs.proofs.Writing.{spelled_front}
-
-apdus_of : List Spelling → List Apdu
-apdus_of ms = map (λ m. m.apdu) ms
-
-stream_of : (s rest : List ℕ) (ms : List Spelling) → AreSpelled s ms rest → IsStream profile_two s (apdus_of ms) rest
-unfolding apdus_of
-stream_of s rest [] h = h
-stream_of s rest (m ∷ ms) h = (m.octets, h.0, h.1, h.2, stream_of h.0 rest ms h.3)
-
-as_many : (ms : List Spelling) → length (apdus_of ms) ≡ length ms
-unfolding apdus_of
-as_many ms = length-map ms (λ m. m.apdu)
 
 same_spelling : (m n : Spelling) → m.apdu ≡ n.apdu → m.octets ≡ n.octets → m ≡ n
 same_spelling m n e f = ap (λ (a : Apdu). let x : Spelling = record { apdu = a; octets = m.octets } in x) e ∙ ap (λ (o : List ℕ). let x : Spelling = record { apdu = n.apdu; octets = o } in x) f

@@ -11,7 +11,7 @@ use Rattle.ill_jobs.specs.declared.job.Job.{Job}
 use Rattle.ill_jobs.specs.declared.job.Verdict.{Verdict}
 use Rattle.ill_jobs.specs.declared.fault.RunFault.{RunFault}
 use Rattle.ill_jobs.specs.Hexadecimal.{hex_octets, with_fault, without_blanks, TakesText}
-use Rattle.ill_jobs.specs.Output.{AreSpelled}
+use Rattle.ill_normal.specs.Messages.{AreSpelled}
 use Rattle.ill_jobs.specs.Ran.{Done, StopsAfter, TextOf, NoHex, FailsText, IsUnread, IsFault, IsRefused, DoesMessages, RefusesFirst, RefusesMore, RefusesText}
 use Rattle.ill_jobs.proofs.Deciding.{does, refuses, refuses_more}
 

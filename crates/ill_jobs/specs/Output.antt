@@ -1,24 +1,14 @@
 -- What a job writes.
-use Rattle.std.specs.Prelude.{◌≡◌, ℕ, suc, Bool, true, false, List, [], ◌∷◌, ◌++◌, length, codes, decimal}
+use Rattle.std.specs.Prelude.{ℕ, Bool, true, false, List, ◌++◌, length, codes, decimal}
 use Rattle.std.specs.List.{list_all}
 use Rattle.std.specs.Str.{bytes_eq}
 use Rattle.hex.specs.Hex.{encode_lower}
-use Rattle.ber_leaf.specs.Profile.{profile_two}
-use Rattle.ill_schema.specs.Apdu.{Apdu, SpellsApdu, normal_form}
+use Rattle.ill_schema.specs.Apdu.{normal_form}
 use Rattle.ill_schema.specs.Names.{apdu_name_of}
 use Rattle.ill_text.specs.Shown.{name_or_none, shown_text}
+use Rattle.ill_normal.specs.Messages.{Spelling, output_from}
 use Rattle.ill_jobs.specs.declared.job.Job.{Job}
 use Rattle.ill_jobs.specs.declared.job.Verdict.{Verdict}
-
--- an APDU, and octets
-pub record Spelling : Type 0 where
-  pub apdu : Apdu
-  pub octets : List ℕ
-
--- s is octets that spell the APDUs, one after another, and then the rest
-abbrev pub AreSpelled : List ℕ → List Spelling → List ℕ → Type 0
-AreSpelled s [] rest = s ≡ rest
-AreSpelled s (m ∷ ms) rest = (t : List ℕ) × (s ≡ m.octets ++ t) × SpellsApdu profile_two m.apdu m.octets × AreSpelled t ms rest
 
 -- the octets are the normal form
 abbrev pub is_normal : Spelling → Bool
@@ -43,13 +33,9 @@ message_output Job.Check hex i m = check_line i m
 message_output Job.Canonicalise false i m = normal_form m.apdu
 message_output Job.Canonicalise true i m = encode_lower (normal_form m.apdu) ++ codes "\n"
 
--- what is written of messages that are numbered from i on
-abbrev pub output_from : Job → Bool → ℕ → List Spelling → List ℕ
-output_from job hex i [] = []
-output_from job hex i (m ∷ ms) = message_output job hex i m ++ output_from job hex (suc i) ms
-
+-- what is written of messages that are numbered from 1 on
 abbrev pub output : Job → Bool → List Spelling → List ℕ
-output job hex ms = output_from job hex 1 ms
+output job hex ms = output_from (message_output job hex) 1 ms
 
 -- what `check` is asked for, and no other job
 abbrev pub is_good : Job → Spelling → Bool

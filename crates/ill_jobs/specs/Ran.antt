@@ -11,16 +11,15 @@ use Rattle.ill_normal.specs.Calls.{Taking, taking, Putting, putting}
 use Rattle.ill_jobs.specs.declared.job.Job.{Job}
 use Rattle.ill_jobs.specs.declared.job.Verdict.{Verdict}
 use Rattle.ill_jobs.specs.declared.fault.RunFault.{RunFault}
-use Rattle.ill_jobs.specs.Output.{Spelling, AreSpelled, output, verdict_of}
+use Rattle.ill_normal.specs.Messages.{Spelling, AreSpelled}
+use Rattle.ill_normal.specs.Messages as messages
+use Rattle.ill_jobs.specs.Output.{message_output, output, verdict_of}
 use Rattle.ill_jobs.specs.Hexadecimal.{hex_octets, TakesText}
 use Rattle.ill_jobs.specs.Unread.{TakesAtMost}
 
 -- the octets that were taken are these messages, and their output was written
-pub record Writes (job : Job) (hex : Bool) (left left' held held' : Option (List ℕ)) (messages : List Spelling) : Type 0 where
-  pub octets : List ℕ
-  pub spelled : AreSpelled octets messages []
-  pub taken : Consumes left left' octets
-  pub written : Appends held held' (output job hex messages)
+abbrev pub Writes : Job → Bool → Option (List ℕ) → Option (List ℕ) → Option (List ℕ) → Option (List ℕ) → List Spelling → Type 0
+Writes job hex left left' held held' ms = messages.Writes (message_output job hex) left left' held held' ms
 
 -- where a sink broke: of the output, with that of one message more, the first n octets were written
 pub record BrokeAt (job : Job) (hex : Bool) (left left' held held' : Option (List ℕ)) (messages : List Spelling) (n : ℕ) : Type 0 where
@@ -50,12 +49,6 @@ abbrev pub fault_at : ℕ → ReadFailure → RunFault
 fault_at i (ReadFailure.Refused refusal) = RunFault.Refused i refusal
 fault_at i ReadFailure.OutOfMemory = RunFault.OutOfMemory
 fault_at i ReadFailure.ReadFault = RunFault.ReadFault
-
--- an octet more was taken, or the source broke and none was
-abbrev pub GoesOn : Option (List ℕ) → Option (List ℕ) → Bool → RunFault → Type 0
-GoesOn left left' broken RunFault.TooManyMessages = (octet : ℕ) × Consumes left left' (octet ∷ [])
-GoesOn left left' broken RunFault.ReadFault = IsTrue broken × Keeps left left'
-GoesOn left left' broken _ = ⊥
 
 -- the messages before the fault, and why the job went no further; of what follows them no more was taken than a message may have
 pub record StopsAfter (job : Job) (hex : Bool) (source : Taking) (sink : Putting) (fault : RunFault) : Type 0 where

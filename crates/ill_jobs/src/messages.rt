@@ -1,22 +1,18 @@
 //! Jobs on the messages of one input.
-ghost use Rattle.std.specs.Prelude.{◌≡◌, ℕ, [], ◌∷◌, false, IfOk, IfErr, IfSome, OnOk, IsTrue};
-ghost use Rattle.std.specs.Io.KnownBytes.{Consumes, IsAtEnd};
+ghost use Rattle.std.specs.Prelude.{◌≡◌, ◌<◌, false, IfOk, IfErr, IfSome, IsTrue};
 ghost use Rattle.ill_normal.specs.Calls.{taking, putting};
 ghost use Rattle.ill_jobs.specs.Output.{verdict_if};
-ghost use Rattle.ill_jobs.specs.Ran.{fault_at, Done, StopsAfter, RunDone, RunFails, DoesMessages, RefusesFirst, RefusesMore, RefusesText, GoesOn};
+ghost use Rattle.ill_jobs.specs.code.Endings.{run_fault};
+ghost use Rattle.ill_jobs.specs.Ran.{fault_at, Done, StopsAfter, RunDone, RunFails, DoesMessages, RefusesFirst, RefusesMore, RefusesText};
 
 use crate::bytes::FromSlice;
 use crate::fault::RunFault;
 use crate::hexadecimal::read_hex;
 use crate::job::{Job, Verdict};
-use crate::piece::next_piece;
+use crate::piece::Work;
 use ber_core::{Sink, Source};
-use ill_normal::ReadFailure;
-use ill_write::put_all;
+use ill_normal::{ReadFailure, Stopped, Why, each_message};
 use std::alloc::Global;
-
-/// How many messages an input may have.
-const MESSAGES: u32 = 1_000_000;
 
 /// Does a job with the messages of an input, one after another up to its end. With `hex` the input
 /// is hexadecimal text, which is read whole first; otherwise one message is held at a time. A
@@ -67,24 +63,10 @@ fn run_messages<R: Source, W: Sink>(
     ensures source_stays { IsTrue (R.is_broken source.old) → IsTrue (R.is_broken source.new) }
     ensures sink_stays { IsTrue (W.is_broken sink.old) → IsTrue (W.is_broken sink.new) }
 {
-    let mut all_good = true;
-    let mut written = 0;
-    for whole in 0..MESSAGES {
-        let piece = match next_piece(alloc, job, hex, whole + 1, source) {
-            Ok(Some(piece)) => piece,
-            Ok(None) => return Ok(verdict(all_good)),
-            Err(failure) => return Err(fault_at(whole + 1, failure)),
-        };
-        if let Err(count) = put_all(sink, &piece.text) {
-            return Err(RunFault::WriteFault(written + count as u128));
-        }
-        written += piece.text.len() as u128;
-        if !piece.is_good {
-            all_good = false;
-        }
+    match each_message(alloc, &Work { job, hex }, source, sink) {
+        Ok(passed) => Ok(verdict(passed.all_good)),
+        Err(stopped) => Err(fault_of(stopped)),
     }
-    end_of_input(source)?;
-    Ok(verdict(all_good))
 }
 
 fn verdict(all_good: bool) -> Verdict
@@ -97,6 +79,18 @@ fn verdict(all_good: bool) -> Verdict
     }
 }
 
+/// Why no further message was written.
+fn fault_of(stopped: Stopped) -> RunFault
+    requires { stopped.whole < 4_294_967_295 }
+    ensures { result ≡ run_fault stopped }
+{
+    match stopped.why {
+        Why::Read(failure) => fault_at(stopped.whole + 1, failure),
+        Why::Write(_) => RunFault::WriteFault(stopped.written),
+        Why::TooMany => RunFault::TooManyMessages,
+    }
+}
+
 /// The failure to read the message of this number.
 fn fault_at(message: u32, failure: ReadFailure) -> RunFault
     ensures { result ≡ fault_at message failure }
@@ -105,19 +99,5 @@ fn fault_at(message: u32, failure: ReadFailure) -> RunFault
         ReadFailure::Refused(refusal) => RunFault::Refused { message, refusal },
         ReadFailure::OutOfMemory => RunFault::OutOfMemory,
         ReadFailure::ReadFault => RunFault::ReadFault,
-    }
-}
-
-/// One octet more is one too many, whatever it begins.
-fn end_of_input<R: Source>(source: &mut R) -> Result<(), RunFault>
-    ensures end { OnOk result (Consumes (R.left source.old) (R.left source.new) [] × IsAtEnd (R.left source.new)) }
-    ensures more { IfErr result (GoesOn (R.left source.old) (R.left source.new) (R.is_broken source.new)) }
-    ensures stays { IsTrue (R.is_broken source.old) → IsTrue (R.is_broken source.new) }
-{
-    let mut room = [0];
-    match source.take(&mut room) {
-        Ok(0) => Ok(()),
-        Ok(_) => Err(RunFault::TooManyMessages),
-        Err(_) => Err(RunFault::ReadFault),
     }
 }

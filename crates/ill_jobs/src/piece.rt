@@ -1,28 +1,47 @@
-//! The whole output of one message.
+//! What a job makes of one message.
 ghost use Rattle.std.specs.Prelude.{◌≡◌, ℕ, Bool, ◌++◌, codes, IfOk};
 ghost use Rattle.hex.specs.Hex.{encode_lower};
 ghost use Rattle.ill_read.specs.Answers.{ReadsNext};
 ghost use Rattle.ill_jobs.specs.declared.job.Job.{Job};
-ghost use Rattle.ill_jobs.specs.Output.{line_of_check};
-ghost use Rattle.ill_jobs.specs.code.Pieces.{Makes};
+ghost use Rattle.ill_normal.specs.Messages.{Makes};
+ghost use Rattle.ill_jobs.specs.Output.{is_good, line_of_check, message_output};
 
 use crate::job::Job;
 use ber_core::Source;
-use ill_normal::{Checked, ReadFailure, apdu_name, check_one, read_message};
+use ill_normal::{
+    Checked, Maker, NormalForms, Piece, ReadFailure, apdu_name, check_one, read_message,
+};
 use ill_text::show_text;
-use ill_write::normal_bytes;
 use itoa::Buffer;
 use std::alloc::{AllocError, Global};
 
-/// What is written for a message, and whether the message is as it should be.
-#[derive(Drop)]
-pub struct Piece {
-    pub text: Vec<u8>,
-    pub is_good: bool,
+/// What a job makes of each message.
+#[derive(Clone, Copy)]
+pub struct Work {
+    pub job: Job,
+    /// Whether octets are written as hexadecimal text.
+    pub hex: bool,
+}
+
+impl Maker for Work {
+    ghost use Rattle.ill_jobs.specs.Output.{is_good, message_output};
+
+    ghost text = { λ work. message_output work.job work.hex };
+
+    ghost is_good = { λ work. is_good work.job };
+
+    fn next<R: Source>(
+        &self,
+        alloc: Global,
+        number: u32,
+        source: &mut R,
+    ) -> Result<Option<Piece>, ReadFailure> {
+        next_piece(alloc, self.job, self.hex, number, source)
+    }
 }
 
 /// Reads the next message, and makes its whole output; None at the end of the input.
-pub fn next_piece<R: Source>(
+fn next_piece<R: Source>(
     alloc: Global,
     job: Job,
     hex: bool,
@@ -30,7 +49,7 @@ pub fn next_piece<R: Source>(
     source: &mut R,
 ) -> Result<Option<Piece>, ReadFailure>
     ensures { ReadsNext (R.left source.old) (R.left source.new) (R.is_broken source.old) (R.is_broken source.new)
-        (Makes job hex number) result }
+        (Makes (message_output job hex number) (is_good job)) result }
 {
     match job {
         Job::Show => shown(alloc, number, source),
@@ -45,7 +64,7 @@ fn shown<R: Source>(
     source: &mut R,
 ) -> Result<Option<Piece>, ReadFailure>
     ensures { ReadsNext (R.left source.old) (R.left source.new) (R.is_broken source.old) (R.is_broken source.new)
-        (λ p octets. (hex : Bool) → Makes Job.Show hex number p octets) result }
+        (λ p octets. (hex : Bool) → Makes (message_output Job.Show hex number) (is_good Job.Show) p octets) result }
 {
     let Some(message) = read_message(alloc, source)? else {
         return Ok(None);
@@ -54,6 +73,7 @@ fn shown<R: Source>(
         Ok(text) => Ok(Some(Piece {
             text,
             is_good: true,
+            octets: message.octets(),
         })),
         Err(AllocError) => Err(ReadFailure::OutOfMemory),
     }
@@ -65,7 +85,7 @@ fn checked<R: Source>(
     source: &mut R,
 ) -> Result<Option<Piece>, ReadFailure>
     ensures { ReadsNext (R.left source.old) (R.left source.new) (R.is_broken source.old) (R.is_broken source.new)
-        (λ p octets. (hex : Bool) → Makes Job.Check hex number p octets) result }
+        (λ p octets. (hex : Bool) → Makes (message_output Job.Check hex number) (is_good Job.Check) p octets) result }
 {
     let Some(found) = check_one(alloc, source)? else {
         return Ok(None);
@@ -74,6 +94,7 @@ fn checked<R: Source>(
         Ok(text) => Ok(Some(Piece {
             text,
             is_good: found.is_normal,
+            octets: found.octets,
         })),
         Err(AllocError) => Err(ReadFailure::OutOfMemory),
     }
@@ -110,24 +131,19 @@ fn canonical<R: Source>(
     source: &mut R,
 ) -> Result<Option<Piece>, ReadFailure>
     ensures { ReadsNext (R.left source.old) (R.left source.new) (R.is_broken source.old) (R.is_broken source.new)
-        (λ p octets. (number : ℕ) → Makes Job.Canonicalise hex number p octets) result }
+        (λ p octets. (number : ℕ) → Makes (message_output Job.Canonicalise hex number) (is_good Job.Canonicalise) p octets) result }
 {
-    let Some(message) = read_message(alloc, source)? else {
+    let Some(normal) = NormalForms.next(alloc, 1, source)? else {
         return Ok(None);
     };
-    let Ok(normal) = normal_bytes(alloc, &message) else {
-        return Err(ReadFailure::OutOfMemory);
-    };
     if !hex {
-        return Ok(Some(Piece {
-            text: normal,
-            is_good: true,
-        }));
+        return Ok(Some(normal));
     }
-    match hex_line(alloc, &normal) {
+    match hex_line(alloc, &normal.text) {
         Ok(text) => Ok(Some(Piece {
             text,
             is_good: true,
+            octets: normal.octets,
         })),
         Err(AllocError) => Err(ReadFailure::OutOfMemory),
     }

@@ -24,7 +24,7 @@ spelled_more : (b : List ℕ) (ms : List Spelling) (m : Spelling) → AreSpelled
 spelled_more b [] m h k = ([], ap (λ l. l ++ m.octets) h ∙ sym (append-nil m.octets), k, refl)
 spelled_more b (x ∷ ms) m h k = (h.0 ++ m.octets, ap (λ l. l ++ m.octets) h.1 ∙ append_assoc x.octets h.0 m.octets, h.2, spelled_more h.0 ms m h.3 k)
 
-output_push : (text : ℕ → Spelling → List ℕ) (i : ℕ) (ms : List Spelling) (m : Spelling)
+pub output_push : (text : ℕ → Spelling → List ℕ) (i : ℕ) (ms : List Spelling) (m : Spelling)
     → output_from text i (ms ++ m ∷ []) ≡ output_from text i ms ++ text (i + length ms) m
 output_push text i [] m = let e : i ≡ i + 0 = omega arith in append-nil (text i m) ∙ ap (λ (n : ℕ). text n m) e
 output_push text i (x ∷ ms) m =
