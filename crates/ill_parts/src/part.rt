@@ -99,7 +99,7 @@ pub fn sequence<T: Node, const N: usize>(
 }
 
 /// The entries, or the error of one of them.
-fn all_entries(
+pub(crate) fn all_entries(
     alloc: Global,
     pending: Vec<Result<Option<Value>, AllocError>>,
 ) -> Result<Vec<Option<Value>>, AllocError>
