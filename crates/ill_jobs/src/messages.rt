@@ -4,12 +4,11 @@ ghost use Rattle.std.specs.Io.KnownBytes.{Consumes, IsAtEnd};
 ghost use Rattle.ill_jobs.specs.Output.{verdict_if};
 ghost use Rattle.ill_jobs.specs.Ran.{fault_at, Done, StopsAfter, RunDone, RunFails, DoesMessages, RefusesFirst, RefusesMore, RefusesText, GoesOn};
 
-use crate::bytes::FromSlice;
 use crate::fault::RunFault;
 use crate::hexadecimal::read_hex;
 use crate::job::{Job, Verdict};
 use crate::piece::next_piece;
-use ber_core::{Sink, Source};
+use ber_core::{FromSlice, Sink, Source};
 use ill_normal::ReadFailure;
 use ill_write::put_all;
 use std::alloc::Global;
