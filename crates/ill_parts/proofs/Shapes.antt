@@ -255,3 +255,13 @@ ready_joined [] others [] ss h k = k
 ready_joined [] others (r ∷ rs) ss h k = absurd h
 ready_joined (row ∷ rows) others [] ss h k = absurd h
 ready_joined (row ∷ rows) others (r ∷ rs) ss h k = (h.0, ready_joined rows others rs ss h.1 k)
+
+pub seen_built : (es : List (Option Value)) → AreBuilt (map Ok es) (entries_seen es)
+seen_built [] = tt
+seen_built (e ∷ es) = (refl, seen_built es)
+
+pub seen_ready : (es : List (Option Value)) (rows : List Row) → RowsHold rows (entries_seen es) → AreReady rows (map Ok es)
+seen_ready [] [] h = tt
+seen_ready [] (row ∷ rows) h = absurd h
+seen_ready (e ∷ es) [] h = absurd h
+seen_ready (e ∷ es) (row ∷ rows) h = (h.0, seen_ready es rows h.1)

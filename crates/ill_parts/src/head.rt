@@ -1,13 +1,13 @@
 //! What each APDU begins with.
-ghost use Rattle.std.specs.Prelude.{◌≡◌, ◌++◌, IfOk, [], Some, drop, option_map};
+ghost use Rattle.std.specs.Prelude.{◌≡◌, ◌++◌, IfOk, OnOk, [], Some, drop, option_map};
 ghost use Rattle.ill_schema.specs.declared.node.Kind.{Kind};
 ghost use Rattle.ill_schema.specs.declared.node.NodeId.TheVariants.{Integer, TransactionId as TransactionNode, ServiceDateTime as TimeNode, SystemId as SystemNode};
 ghost use Rattle.ill_schema.specs.Table.{kind_of, rows_of};
 ghost use Rattle.ill_schema.specs.Value.{content_of};
-ghost use Rattle.ill_parts.specs.Shape.{Is, Must, May, AreBuilt, AreReady, entry_at, head_rows, number_content, other_rows, record_of};
+ghost use Rattle.ill_parts.specs.Shape.{Is, Must, May, AreBuilt, AreReady, RowsHold, entries_seen, entry_at, head_rows, number_content, other_rows, record_of};
 ghost use Rattle.ill_parts.specs.Views.{headed, transaction_id, service_date_time, system_id};
 
-use crate::part::{Node, all_entries, both, optional, optional_value, required, required_value};
+use crate::part::{Node, both, optional, optional_value, push_all, required, required_value};
 use crate::party::SystemId;
 use crate::transaction::{ServiceDateTime, TransactionId};
 use ill_schema::Value;
@@ -59,18 +59,18 @@ pub fn read_head(alloc: Global, entries: &[Option<Value>]) -> Result<Head, Alloc
     })
 }
 
-/// The entries of the first five rows of an APDU, or the error of each.
-fn head_entries(alloc: Global, head: &Head) -> [Result<Option<Value>, AllocError>; 5]
-    ensures built { AreBuilt result (headed head.now []) }
-    ensures ready { AreReady head_rows result }
+/// Pushes the entries of the first five rows of an APDU.
+fn push_head(alloc: Global, head: &Head, entries: &mut Vec<Option<Value>>) -> Result<(), AllocError>
+    requires { entries.old.items ≡ [] }
+    ensures built { OnOk result (entries_seen entries.new.items ≡ headed head.now []) }
+    ensures ready { OnOk result (RowsHold head_rows (entries_seen entries.new.items)) }
 {
-    [
-        required_value(alloc, &head.protocol_version_num),
-        required_value(alloc, &head.transaction_id),
-        required_value(alloc, &head.service_date_time),
-        optional_value(alloc, &head.requester_id),
-        optional_value(alloc, &head.responder_id),
-    ]
+    entries.push(required_value(alloc, &head.protocol_version_num)?)?;
+    entries.push(required_value(alloc, &head.transaction_id)?)?;
+    entries.push(required_value(alloc, &head.service_date_time)?)?;
+    entries.push(optional_value(alloc, &head.requester_id)?)?;
+    entries.push(optional_value(alloc, &head.responder_id)?)?;
+    Ok(())
 }
 
 /// The value of an APDU, from what it begins with and the entries of its other rows.
@@ -93,8 +93,9 @@ pub fn headed<T: Node, const N: usize>(
     ensures fits { IfOk result (λ v. Is T.NODE (content_of v)) }
 {
     let _ = part;
-    let mut pending = Vec::from_array(alloc, head_entries(alloc, head))?;
-    pending.append(&mut Vec::from_array(alloc, others)?)?;
-    let entries = all_entries(alloc, pending)?;
+    let others = Vec::from_array(alloc, others)?;
+    let mut entries = Vec::with_capacity(alloc, others.len().saturating_add(5))?;
+    push_head(alloc, head, &mut entries)?;
+    push_all(&mut entries, others)?;
     Ok(Value::Seq(entries))
 }
