@@ -1,8 +1,6 @@
 //! LOST and DAMAGED.
 use ber_leaf::IllString;
-use ill_parts::{
-    Head, Node, Part, Typed, entries, optional, optional_value, read_head, required_value, sequence,
-};
+use ill_parts::{Head, Node, Part, Typed, entries, headed, optional, optional_value, read_head};
 use ill_schema::{NodeId, Value};
 use std::alloc::{AllocError, Global};
 
@@ -39,16 +37,8 @@ impl Part for Lost {
     ghost accepts = { Is TheNode };
 
     fn to_value(&self, alloc: Global) -> Result<Value, AllocError> {
-        let entries = [
-            required_value(alloc, &self.head.protocol_version_num),
-            required_value(alloc, &self.head.transaction_id),
-            required_value(alloc, &self.head.service_date_time),
-            optional_value(alloc, &self.head.requester_id),
-            optional_value(alloc, &self.head.responder_id),
-            optional_value(alloc, &self.note),
-            Ok(None),
-        ];
-        sequence(alloc, self, entries)
+        let others = [optional_value(alloc, &self.note), Ok(None)];
+        headed(alloc, self, &self.head, others)
     }
 
     fn read(alloc: Global, value: &Value) -> Result<Self, AllocError> {
@@ -102,17 +92,8 @@ impl Part for Damaged {
     ghost accepts = { Is TheNode };
 
     fn to_value(&self, alloc: Global) -> Result<Value, AllocError> {
-        let entries = [
-            required_value(alloc, &self.head.protocol_version_num),
-            required_value(alloc, &self.head.transaction_id),
-            required_value(alloc, &self.head.service_date_time),
-            optional_value(alloc, &self.head.requester_id),
-            optional_value(alloc, &self.head.responder_id),
-            Ok(None),
-            optional_value(alloc, &self.note),
-            Ok(None),
-        ];
-        sequence(alloc, self, entries)
+        let others = [Ok(None), optional_value(alloc, &self.note), Ok(None)];
+        headed(alloc, self, &self.head, others)
     }
 
     fn read(alloc: Global, value: &Value) -> Result<Self, AllocError> {

@@ -1,8 +1,8 @@
 //! RECEIVED.
 use ber_leaf::{DateText, IllString};
 use ill_parts::{
-    Head, Node, Part, SystemId, Typed, entries, optional, optional_value, read_head, required,
-    required_value, sequence,
+    Head, Node, Part, SystemId, Typed, entries, headed, optional, optional_value, read_head,
+    required, required_value,
 };
 use ill_schema::{NodeId, Value};
 use std::alloc::{AllocError, Global};
@@ -46,12 +46,7 @@ impl Part for Received {
     ghost accepts = { Is TheNode };
 
     fn to_value(&self, alloc: Global) -> Result<Value, AllocError> {
-        let entries = [
-            required_value(alloc, &self.head.protocol_version_num),
-            required_value(alloc, &self.head.transaction_id),
-            required_value(alloc, &self.head.service_date_time),
-            optional_value(alloc, &self.head.requester_id),
-            optional_value(alloc, &self.head.responder_id),
+        let others = [
             optional_value(alloc, &self.supplier_id),
             Ok(None),
             required_value(alloc, &self.date_received),
@@ -59,7 +54,7 @@ impl Part for Received {
             optional_value(alloc, &self.requester_note),
             Ok(None),
         ];
-        sequence(alloc, self, entries)
+        headed(alloc, self, &self.head, others)
     }
 
     fn read(alloc: Global, value: &Value) -> Result<Self, AllocError> {

@@ -1,8 +1,8 @@
 //! RENEW and RENEW-ANSWER.
 use ber_leaf::{DateText, IllString};
 use ill_parts::{
-    DateDue, Head, Node, Part, Typed, entries, optional, optional_value, read_head, required,
-    required_value, sequence,
+    DateDue, Head, Node, Part, Typed, entries, headed, optional, optional_value, read_head,
+    required, required_value,
 };
 use ill_schema::{NodeId, Value};
 use std::alloc::{AllocError, Global};
@@ -42,17 +42,12 @@ impl Part for Renew {
     ghost accepts = { Is TheNode };
 
     fn to_value(&self, alloc: Global) -> Result<Value, AllocError> {
-        let entries = [
-            required_value(alloc, &self.head.protocol_version_num),
-            required_value(alloc, &self.head.transaction_id),
-            required_value(alloc, &self.head.service_date_time),
-            optional_value(alloc, &self.head.requester_id),
-            optional_value(alloc, &self.head.responder_id),
+        let others = [
             optional_value(alloc, &self.desired_due_date),
             optional_value(alloc, &self.requester_note),
             Ok(None),
         ];
-        sequence(alloc, self, entries)
+        headed(alloc, self, &self.head, others)
     }
 
     fn read(alloc: Global, value: &Value) -> Result<Self, AllocError> {
@@ -111,18 +106,13 @@ impl Part for RenewAnswer {
     ghost accepts = { Is TheNode };
 
     fn to_value(&self, alloc: Global) -> Result<Value, AllocError> {
-        let entries = [
-            required_value(alloc, &self.head.protocol_version_num),
-            required_value(alloc, &self.head.transaction_id),
-            required_value(alloc, &self.head.service_date_time),
-            optional_value(alloc, &self.head.requester_id),
-            optional_value(alloc, &self.head.responder_id),
+        let others = [
             required_value(alloc, &self.answer),
             optional_value(alloc, &self.date_due),
             optional_value(alloc, &self.responder_note),
             Ok(None),
         ];
-        sequence(alloc, self, entries)
+        headed(alloc, self, &self.head, others)
     }
 
     fn read(alloc: Global, value: &Value) -> Result<Self, AllocError> {

@@ -1,8 +1,8 @@
 //! RETURNED and CHECKED-IN.
 use ber_leaf::{DateText, IllString};
 use ill_parts::{
-    Amount, Head, Node, Part, Typed, both, entries, optional, optional_value, read_head, required,
-    required_value, sequence,
+    Amount, Head, Node, Part, Typed, both, entries, headed, optional, optional_value, read_head,
+    required, required_value,
 };
 use ill_schema::{NodeId, Value};
 use std::alloc::{AllocError, Global};
@@ -46,12 +46,7 @@ impl Part for Returned {
     ghost accepts = { Is TheNode };
 
     fn to_value(&self, alloc: Global) -> Result<Value, AllocError> {
-        let entries = [
-            required_value(alloc, &self.head.protocol_version_num),
-            required_value(alloc, &self.head.transaction_id),
-            required_value(alloc, &self.head.service_date_time),
-            optional_value(alloc, &self.head.requester_id),
-            optional_value(alloc, &self.head.responder_id),
+        let others = [
             Ok(None),
             required_value(alloc, &self.date_returned),
             optional_value(alloc, &self.returned_via),
@@ -59,7 +54,7 @@ impl Part for Returned {
             optional_value(alloc, &self.requester_note),
             Ok(None),
         ];
-        sequence(alloc, self, entries)
+        headed(alloc, self, &self.head, others)
     }
 
     fn read(alloc: Global, value: &Value) -> Result<Self, AllocError> {
@@ -124,17 +119,12 @@ impl Part for CheckedIn {
     ghost accepts = { Is TheNode };
 
     fn to_value(&self, alloc: Global) -> Result<Value, AllocError> {
-        let entries = [
-            required_value(alloc, &self.head.protocol_version_num),
-            required_value(alloc, &self.head.transaction_id),
-            required_value(alloc, &self.head.service_date_time),
-            optional_value(alloc, &self.head.requester_id),
-            optional_value(alloc, &self.head.responder_id),
+        let others = [
             required_value(alloc, &self.date_checked_in),
             optional_value(alloc, &self.responder_note),
             Ok(None),
         ];
-        sequence(alloc, self, entries)
+        headed(alloc, self, &self.head, others)
     }
 
     fn read(alloc: Global, value: &Value) -> Result<Self, AllocError> {

@@ -2,8 +2,8 @@
 use ber_leaf::IllString;
 use ill_parts::{
     ClientId, Head, Node, Part, PostalAddress, ResponderOptionalMessages, SupplyDetails,
-    SystemAddress, SystemId, Typed, entries, optional, optional_value, read_head, required,
-    required_value, sequence,
+    SystemAddress, SystemId, Typed, entries, headed, optional, optional_value, read_head, required,
+    required_value,
 };
 use ill_schema::{NodeId, Value};
 use std::alloc::{AllocError, Global};
@@ -59,12 +59,7 @@ impl Part for Shipped {
     ghost accepts = { Is TheNode };
 
     fn to_value(&self, alloc: Global) -> Result<Value, AllocError> {
-        let entries = [
-            required_value(alloc, &self.head.protocol_version_num),
-            required_value(alloc, &self.head.transaction_id),
-            required_value(alloc, &self.head.service_date_time),
-            optional_value(alloc, &self.head.requester_id),
-            optional_value(alloc, &self.head.responder_id),
+        let others = [
             optional_value(alloc, &self.responder_address),
             optional_value(alloc, &self.intermediary_id),
             optional_value(alloc, &self.supplier_id),
@@ -78,7 +73,7 @@ impl Part for Shipped {
             optional_value(alloc, &self.responder_note),
             Ok(None),
         ];
-        sequence(alloc, self, entries)
+        headed(alloc, self, &self.head, others)
     }
 
     fn read(alloc: Global, value: &Value) -> Result<Self, AllocError> {

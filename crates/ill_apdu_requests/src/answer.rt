@@ -3,7 +3,7 @@ use ber_leaf::IllString;
 use ill_apdu_results::Results;
 use ill_parts::{
     Head, Node, Part, ResponderOptionalMessages, SendTo, SystemId, Typed, both, entries,
-    four_optional, optional, optional_value, read_head, required, required_value, sequence,
+    four_optional, headed, optional, optional_value, read_head, required, required_value,
 };
 use ill_schema::{NodeId, Value};
 use std::alloc::{AllocError, Global};
@@ -53,12 +53,7 @@ impl Part for IllAnswer {
     ghost accepts = { Is TheNode };
 
     fn to_value(&self, alloc: Global) -> Result<Value, AllocError> {
-        let entries = [
-            required_value(alloc, &self.head.protocol_version_num),
-            required_value(alloc, &self.head.transaction_id),
-            required_value(alloc, &self.head.service_date_time),
-            optional_value(alloc, &self.head.requester_id),
-            optional_value(alloc, &self.head.responder_id),
+        let others = [
             required_value(alloc, &self.transaction_results),
             optional_value(alloc, &self.results_explanation),
             Ok(None),
@@ -69,7 +64,7 @@ impl Part for IllAnswer {
             optional_value(alloc, &self.responder_note),
             Ok(None),
         ];
-        sequence(alloc, self, entries)
+        headed(alloc, self, &self.head, others)
     }
 
     fn read(alloc: Global, value: &Value) -> Result<Self, AllocError> {

@@ -1,7 +1,5 @@
 //! EXPIRED.
-use ill_parts::{
-    Head, Node, Part, Typed, entries, optional_value, read_head, required_value, sequence,
-};
+use ill_parts::{Head, Node, Part, Typed, entries, headed, read_head};
 use ill_schema::{NodeId, Value};
 use std::alloc::{AllocError, Global};
 
@@ -36,15 +34,8 @@ impl Part for Expired {
     ghost accepts = { Is TheNode };
 
     fn to_value(&self, alloc: Global) -> Result<Value, AllocError> {
-        let entries = [
-            required_value(alloc, &self.head.protocol_version_num),
-            required_value(alloc, &self.head.transaction_id),
-            required_value(alloc, &self.head.service_date_time),
-            optional_value(alloc, &self.head.requester_id),
-            optional_value(alloc, &self.head.responder_id),
-            Ok(None),
-        ];
-        sequence(alloc, self, entries)
+        let others = [Ok(None)];
+        headed(alloc, self, &self.head, others)
     }
 
     fn read(alloc: Global, value: &Value) -> Result<Self, AllocError> {

@@ -8,7 +8,7 @@ use ber_leaf::IllString;
 use ill_parts::{
     ClientId, CostInfo, DeliveryAddress, DeliveryService, Head, ItemId, Node, Part,
     RequesterOptionalMessages, SearchType, SupplyMediumInfo, ThirdPartyInfo, Typed, both, entries,
-    four_optional, optional, optional_value, read_head, required, required_value, sequence,
+    four_optional, headed, optional, optional_value, read_head, required, required_value,
 };
 use ill_schema::{NodeId, Value};
 use std::alloc::{AllocError, Global};
@@ -83,12 +83,7 @@ impl Part for IllRequest {
     ghost accepts = { Is TheNode };
 
     fn to_value(&self, alloc: Global) -> Result<Value, AllocError> {
-        let entries = [
-            required_value(alloc, &self.head.protocol_version_num),
-            required_value(alloc, &self.head.transaction_id),
-            required_value(alloc, &self.head.service_date_time),
-            optional_value(alloc, &self.head.requester_id),
-            optional_value(alloc, &self.head.responder_id),
+        let others = [
             required_value(alloc, &self.transaction_type),
             optional_value(alloc, &self.delivery_address),
             optional_value(alloc, &self.delivery_service),
@@ -111,7 +106,7 @@ impl Part for IllRequest {
             optional_value(alloc, &self.forward_note),
             Ok(None),
         ];
-        sequence(alloc, self, entries)
+        headed(alloc, self, &self.head, others)
     }
 
     fn read(alloc: Global, value: &Value) -> Result<Self, AllocError> {

@@ -1,7 +1,6 @@
 //! The jobs of the program, over sources and sinks: to show, check, canonicalise and compare.
 #![tactic(auto)]
 
-mod bytes;
 mod fault;
 mod hexadecimal;
 mod job;

@@ -5,12 +5,11 @@ ghost use Rattle.ill_jobs.specs.Output.{verdict_if};
 ghost use Rattle.ill_jobs.specs.code.Endings.{run_fault};
 ghost use Rattle.ill_jobs.specs.Ran.{fault_at, Done, StopsAfter, RunDone, RunFails, DoesMessages, RefusesFirst, RefusesMore, RefusesText};
 
-use crate::bytes::FromSlice;
 use crate::fault::RunFault;
 use crate::hexadecimal::read_hex;
 use crate::job::{Job, Verdict};
 use crate::piece::Work;
-use ber_core::{Sink, Source};
+use ber_core::{FromSlice, Sink, Source};
 use ill_normal::{ReadFailure, Stopped, Why, each_message};
 use std::alloc::Global;
 

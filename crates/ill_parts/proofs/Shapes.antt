@@ -1,5 +1,5 @@
 -- The shapes of the parts, from the fit of a value to its node.
-use Rattle.std.proofs.Common.{◌≡◌, ◌++◌, ℕ, suc, List, [], ◌∷◌, map, length, Option, Some, None, option_map, slice_get, refl, sym, ap, ◌∙◌, subst, inl, inr, Box, Global, arith, zero, ◌+◌, zero-add, add-zero, Ok}
+use Rattle.std.proofs.Common.{◌≡◌, ◌++◌, ℕ, suc, List, [], ◌∷◌, map, length, Option, Some, None, option_map, slice_get, refl, sym, ap, ◌∙◌, subst, inl, inr, Box, Global, arith, zero, ◌+◌, zero-add, add-zero, Ok, Result}
 use Rattle.std.specs.Global.{Vec}
 use Rattle.ber_leaf.specs.Leaf.{Leaf, integer, enumerated, Holds as LeafHolds, normal_content}
 use Rattle.ber_leaf.specs.Profile.{profile_two}
@@ -15,6 +15,7 @@ use Rattle.ill_schema.specs.Tagging.{leaf_of}
 use Rattle.ill_schema.specs.Value.{content_of, entries_of, items_of}
 use Rattle.ill_schema.proofs.Contents.{content_of-Seq, content_of-List, content_of-Alt}
 use Rattle.ill_schema.proofs.RowFits.{entries_fit-length}
+use Rattle.std.specs.declared.alloc.AllocError.{AllocError}
 use Rattle.ill_parts.specs.Shape.{Is, EachItem, IsListOf, Single, ItemHolds, Holds, Must, May, PresenceHolds, RowsHold, record_of, list_of, option_of, entry_at, entries_seen, entries_from, AreBuilt, AreReady, AltAt, AltHolds}
 
 enumerated-integer : (c : Content) → Fits profile_two c Enumerated → Fits profile_two c Integer
@@ -242,3 +243,25 @@ ready_holds [] [] h = tt
 ready_holds [] (e ∷ es) h = absurd h
 ready_holds (row ∷ rows) [] h = absurd h
 ready_holds (row ∷ rows) (e ∷ es) h = (h.0, ready_holds rows es h.1)
+
+pub built_joined : (rs ss : List (Result (Option Value) AllocError)) (os us : List (Option Content)) → AreBuilt rs os → AreBuilt ss us → AreBuilt (rs ++ ss) (os ++ us)
+built_joined [] ss [] us h k = k
+built_joined [] ss (o ∷ os) us h k = absurd h
+built_joined (r ∷ rs) ss [] us h k = absurd h
+built_joined (r ∷ rs) ss (o ∷ os) us h k = (h.0, built_joined rs ss os us h.1 k)
+
+pub ready_joined : (rows others : List Row) (rs ss : List (Result (Option Value) AllocError)) → AreReady rows rs → AreReady others ss → AreReady (rows ++ others) (rs ++ ss)
+ready_joined [] others [] ss h k = k
+ready_joined [] others (r ∷ rs) ss h k = absurd h
+ready_joined (row ∷ rows) others [] ss h k = absurd h
+ready_joined (row ∷ rows) others (r ∷ rs) ss h k = (h.0, ready_joined rows others rs ss h.1 k)
+
+pub seen_built : (es : List (Option Value)) → AreBuilt (map Ok es) (entries_seen es)
+seen_built [] = tt
+seen_built (e ∷ es) = (refl, seen_built es)
+
+pub seen_ready : (es : List (Option Value)) (rows : List Row) → RowsHold rows (entries_seen es) → AreReady rows (map Ok es)
+seen_ready [] [] h = tt
+seen_ready [] (row ∷ rows) h = absurd h
+seen_ready (e ∷ es) [] h = absurd h
+seen_ready (e ∷ es) (row ∷ rows) h = (h.0, seen_ready es rows h.1)

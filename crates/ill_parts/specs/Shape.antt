@@ -1,5 +1,5 @@
 -- How a typed part stands to the content that it is written as.
-use Rattle.std.specs.Prelude.{◌≡◌, ◌⊎◌, ℕ, suc, ℤ, Bool, List, [], ◌∷◌, map, Option, Some, None, option_map, slice_get, Result, IfOk}
+use Rattle.std.specs.Prelude.{◌≡◌, ◌⊎◌, ℕ, suc, ℤ, Bool, List, [], ◌∷◌, map, take, drop, Option, Some, None, option_map, slice_get, Result, IfOk}
 use Rattle.std.specs.Global.{Vec}
 use Rattle.std.specs.declared.alloc.AllocError.{AllocError}
 use Rattle.ber_leaf.specs.declared.text.ill_string.IllString.{IllString}
@@ -7,7 +7,7 @@ use Rattle.ber_leaf.specs.Profile.{profile_two}
 use Rattle.ber_leaf.specs.Simple.{flag, whole, date, time, printable}
 use Rattle.ber_leaf.specs.Strings.{string_value}
 use Rattle.ill_schema.specs.declared.{node.Kind.Kind, node.LeafKind.LeafKind, node.NodeId.NodeId, part.Presence.Presence, part.Row.Row, value.Value.Value}
-use Rattle.ill_schema.specs.declared.node.NodeId.TheVariants.{Integer}
+use Rattle.ill_schema.specs.declared.node.NodeId.TheVariants.{Integer, Expired}
 use Rattle.ill_schema.specs.Content.{Content, simple, sequence, list, alternative, Items, no_items, item}
 use Rattle.ill_schema.specs.Fits.{Fits}
 use Rattle.ill_schema.specs.Table.{kind_of, rows_of}
@@ -117,6 +117,14 @@ abbrev pub AreReady : List Row → List (Result (Option Value) AllocError) → T
 AreReady [] [] = Unit {0}
 AreReady (row ∷ rows) (r ∷ rs) = IfOk r (λ e. RowHolds row (option_map content_of e)) × AreReady rows rs
 AreReady _ _ = ⊥
+
+-- the rows that each APDU begins with, which are those of EXPIRED
+abbrev pub head_rows : List Row
+head_rows = take 5 (rows_of Expired)
+
+-- the rows of an APDU after these
+abbrev pub other_rows : NodeId → List Row
+other_rows node = drop 5 (rows_of node)
 
 -- the entries of the rows, from row k on
 abbrev pub entries_from : List Row → (ℕ → Option Content) → ℕ → List (Option Content)

@@ -1,10 +1,13 @@
 //! What each APDU begins with.
-ghost use Rattle.std.specs.Prelude.{◌≡◌, IfOk, Some, option_map};
+ghost use Rattle.std.specs.Prelude.{◌≡◌, ◌++◌, IfOk, OnOk, [], Some, drop, option_map};
+ghost use Rattle.ill_schema.specs.declared.node.Kind.{Kind};
 ghost use Rattle.ill_schema.specs.declared.node.NodeId.TheVariants.{Integer, TransactionId as TransactionNode, ServiceDateTime as TimeNode, SystemId as SystemNode};
-ghost use Rattle.ill_parts.specs.Shape.{Is, Must, May, entry_at, number_content};
-ghost use Rattle.ill_parts.specs.Views.{transaction_id, service_date_time, system_id};
+ghost use Rattle.ill_schema.specs.Table.{kind_of, rows_of};
+ghost use Rattle.ill_schema.specs.Value.{content_of};
+ghost use Rattle.ill_parts.specs.Shape.{Is, Must, May, AreBuilt, AreReady, RowsHold, entries_seen, entry_at, head_rows, number_content, other_rows, record_of};
+ghost use Rattle.ill_parts.specs.Views.{headed, transaction_id, service_date_time, system_id};
 
-use crate::part::{both, optional, required};
+use crate::part::{Node, both, optional, optional_value, push_all, required, required_value};
 use crate::party::SystemId;
 use crate::transaction::{ServiceDateTime, TransactionId};
 use ill_schema::Value;
@@ -54,4 +57,45 @@ pub fn read_head(alloc: Global, entries: &[Option<Value>]) -> Result<Head, Alloc
         requester_id,
         responder_id,
     })
+}
+
+/// Pushes the entries of the first five rows of an APDU.
+fn push_head(alloc: Global, head: &Head, entries: &mut Vec<Option<Value>>) -> Result<(), AllocError>
+    requires { entries.old.items ≡ [] }
+    ensures built { OnOk result (entries_seen entries.new.items ≡ headed head.now []) }
+    ensures ready { OnOk result (RowsHold head_rows (entries_seen entries.new.items)) }
+{
+    entries.push(required_value(alloc, &head.protocol_version_num)?)?;
+    entries.push(required_value(alloc, &head.transaction_id)?)?;
+    entries.push(required_value(alloc, &head.service_date_time)?)?;
+    entries.push(optional_value(alloc, &head.requester_id)?)?;
+    entries.push(optional_value(alloc, &head.responder_id)?)?;
+    Ok(())
+}
+
+/// The value of an APDU, from what it begins with and the entries of its other rows.
+///
+/// # Errors
+///
+/// [`AllocError`], where memory is refused, also for one of the entries.
+pub fn headed<T: Node, const N: usize>(
+    alloc: Global,
+    part: &T,
+    head: &Head,
+    others: [Result<Option<Value>, AllocError>; N],
+) -> Result<Value, AllocError>
+    requires kind { kind_of T.NODE ≡ Kind.Seq }
+    requires rows { rows_of T.NODE ≡ head_rows ++ other_rows T.NODE }
+    requires entries { T.entries part.now ≡ headed head.now (drop 5 (T.entries part.now)) }
+    requires ready { AreReady (other_rows T.NODE) others }
+    requires built { AreBuilt others (drop 5 (T.entries part.now)) }
+    ensures value { IfOk result (λ v. content_of v ≡ record_of (T.entries part.now)) }
+    ensures fits { IfOk result (λ v. Is T.NODE (content_of v)) }
+{
+    let _ = part;
+    let others = Vec::from_array(alloc, others)?;
+    let mut entries = Vec::with_capacity(alloc, others.len().saturating_add(5))?;
+    push_head(alloc, head, &mut entries)?;
+    push_all(&mut entries, others)?;
+    Ok(Value::Seq(entries))
 }

@@ -25,7 +25,7 @@ pub use address::{DeliveryAddress, PostalAddress, SystemAddress};
 pub use client::ClientId;
 pub use cost::{Amount, CostInfo};
 pub use delivery::{DeliveryService, ShippedVia};
-pub use head::{Head, read_head};
+pub use head::{Head, headed, read_head};
 pub use item::ItemId;
 pub use medium::{SupplyMediumInfo, UnitsPerMedium};
 pub use optional_messages::{RequesterOptionalMessages, ResponderOptionalMessages};

@@ -1,5 +1,5 @@
 //! What typed parts have in common: how they are written as values and read from them.
-ghost use Rattle.std.specs.Prelude.{◌≡◌, ◌↔◌, ◌⊎◌, IfOk, IfErr, IsTrue, List, [], map, Option, option_map, MatchOption, Ok, Err};
+ghost use Rattle.std.specs.Prelude.{◌≡◌, ◌↔◌, ◌⊎◌, ◌++◌, IfOk, IfErr, OnOk, IsTrue, List, [], map, Option, option_map, MatchOption, Ok, Err};
 ghost use Rattle.ber_leaf.specs.Profile.{profile_two};
 ghost use Rattle.ill_schema.specs.declared.node.NodeId.{NodeId};
 ghost use Rattle.ill_schema.specs.Content.{Content};
@@ -106,10 +106,21 @@ fn all_entries(
     ensures { IfOk result (λ entries. pending.items ≡ map Ok entries.items) }
 {
     let mut entries = Vec::with_capacity(alloc, pending.len())?;
+    push_all(&mut entries, pending)?;
+    Ok(entries)
+}
+
+/// Pushes the entries after those that are there, or returns the error of one of them.
+pub(crate) fn push_all(
+    entries: &mut Vec<Option<Value>>,
+    pending: Vec<Result<Option<Value>, AllocError>>,
+) -> Result<(), AllocError>
+    ensures { OnOk result (map Ok entries.new.items ≡ map Ok entries.old.items ++ pending.items) }
+{
     for entry in pending {
         entries.push(entry?)?;
     }
-    Ok(entries)
+    Ok(())
 }
 
 /// The entries of a sequence.

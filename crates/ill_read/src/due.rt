@@ -15,7 +15,7 @@ ghost use Rattle.ill_read.specs.code.Held.{HasNext};
 use crate::element::{
     Element, Found, Tagging, Wrapped, component_element, is_universal, own_element, tagging_of,
 };
-use ber_core::Id;
+use ber_core::{Id, universal};
 use ill_schema::{Kind, NodeId, PartId, Presence, Row, kind, rows_of};
 
 /// What may come next in an open element.
@@ -221,7 +221,7 @@ fn due_item(node: NodeId, id: Id) -> Option<Due>
 fn due_segment(id: Id) -> Option<Due>
     ensures { MatchOption result (due profile_two (tag_of_id id) (next_is Next.Segments) ≡ None) (λ due. IsSegmentDue (tag_of_id id) due) }
 {
-    if !is_universal(id, 4) {
+    if !is_universal(id, universal::OCTET_STRING) {
         return None;
     }
     Some(Due {
@@ -235,7 +235,7 @@ fn due_segment(id: Id) -> Option<Due>
 fn due_loose(wrapped: Wrapped, id: Id) -> Option<Due>
     ensures { MatchOption result (due profile_two (tag_of_id id) (next_is (Next.Either wrapped)) ≡ None) (λ due. IsDueIn (tag_of_id id) (Next.Either wrapped) due) }
 {
-    if is_universal(id, 16) {
+    if is_universal(id, universal::SEQUENCE) {
         due_inner(wrapped, id)
     } else {
         due_row(wrapped.node, 0, id)

@@ -11,7 +11,7 @@ ghost use Rattle.ill_read.specs.Elements.{element_is, found_is, tagging_is, elem
 ghost use Rattle.ill_read.specs.LeafTypes.{leaf_is};
 
 use crate::leaf_type::LeafType;
-use ber_core::{Class, Id};
+use ber_core::{Class, Id, universal};
 use ill_schema::{Kind, LeafKind, Mode, NodeId, PartId, Presence, Row, kind};
 
 /// An element, as what it is read.
@@ -94,19 +94,19 @@ pub fn tagging_of(row: Row) -> Tagging
     }
 }
 
-/// The universal number of a leaf (X.680, table 1).
+/// The universal number of a leaf.
 fn leaf_number(leaf: LeafType) -> u32
     ensures { universal result ≡ leaf_tag (leaf_is leaf) }
 {
     match leaf {
-        LeafType::Boolean => 1,
-        LeafType::Integer => 2,
-        LeafType::Enumerated => 10,
-        LeafType::General => 27,
-        LeafType::Visible => 26,
-        LeafType::Printable => 19,
-        LeafType::Date => 26,
-        LeafType::Time => 26,
+        LeafType::Boolean => universal::BOOLEAN,
+        LeafType::Integer => universal::INTEGER,
+        LeafType::Enumerated => universal::ENUMERATED,
+        LeafType::General => universal::GENERAL_STRING,
+        LeafType::Visible => universal::VISIBLE_STRING,
+        LeafType::Printable => universal::PRINTABLE_STRING,
+        LeafType::Date => universal::VISIBLE_STRING,
+        LeafType::Time => universal::VISIBLE_STRING,
     }
 }
 
@@ -138,10 +138,14 @@ fn if_universal(id: Id, number: u32, element: Element) -> Option<Element>
 fn string_element(id: Id) -> Option<Element>
     ensures { (node : NodeId) → option_map element_is result ≡ element_with (tag_of_id id) (own_starts Kind.IllString node) }
 {
-    if is_universal(id, 27) {
+    if is_universal(id, universal::GENERAL_STRING) {
         return Some(Element::Leaf(LeafType::General));
     }
-    if_universal(id, 26, Element::Leaf(LeafType::Visible))
+    if_universal(
+        id,
+        universal::VISIBLE_STRING,
+        Element::Leaf(LeafType::Visible),
+    )
 }
 
 /// The element of a leaf under its own tag.
@@ -157,8 +161,8 @@ fn element_of_kind(kind: Kind, node: NodeId, id: Id) -> Option<Element>
     ensures { option_map element_is result ≡ element_with (tag_of_id id) (own_starts kind node) }
 {
     match kind {
-        Kind::Seq => if_universal(id, 16, Element::Sequence(node)),
-        Kind::SeqOf => if_universal(id, 16, Element::List(node)),
+        Kind::Seq => if_universal(id, universal::SEQUENCE, Element::Sequence(node)),
+        Kind::SeqOf => if_universal(id, universal::SEQUENCE, Element::List(node)),
         Kind::Leaf(leaf) => leaf_element(leaf, id),
         Kind::IllString => string_element(id),
         Kind::Choice => None,

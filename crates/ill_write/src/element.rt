@@ -9,7 +9,7 @@ ghost use Rattle.ill_schema.specs.Message.{apdu_of};
 ghost use Rattle.ill_schema.specs.Table.{kind_of, rows_of};
 ghost use Rattle.ill_schema.specs.Value.{content_of};
 
-use ber_core::{Class, Id, header_size};
+use ber_core::{Class, Id, header_size, universal};
 use ber_leaf::IllString;
 use ill_schema::{Kind, LeafKind, Message, NodeId, PartId, Row, Value, kind, row, rows_of};
 
@@ -24,24 +24,27 @@ pub fn row_at(node: NodeId, i: usize) -> Option<Row>
 fn own_number(value: &Value, kind: Kind) -> u32
     ensures { result ≡ own_number kind (content_of value.now) }
 {
-    const SEQUENCE: u32 = 16;
     let (wanted, number) = match value {
-        Value::Flag(_) => (Kind::Leaf(LeafKind::Boolean), 1),
+        Value::Flag(_) => (Kind::Leaf(LeafKind::Boolean), universal::BOOLEAN),
         Value::Whole(_) => {
             return match kind {
-                Kind::Leaf(LeafKind::Integer) => 2,
-                Kind::Leaf(LeafKind::Enumerated) => 10,
-                _ => SEQUENCE,
+                Kind::Leaf(LeafKind::Integer) => universal::INTEGER,
+                Kind::Leaf(LeafKind::Enumerated) => universal::ENUMERATED,
+                _ => universal::SEQUENCE,
             };
         }
-        Value::Date(_) => (Kind::Leaf(LeafKind::Date), 26),
-        Value::Time(_) => (Kind::Leaf(LeafKind::Time), 26),
-        Value::Print(_) => (Kind::Leaf(LeafKind::Printable), 19),
-        Value::Str(IllString::General(_)) => (Kind::IllString, 27),
-        Value::Str(IllString::Visible(_)) => (Kind::IllString, 26),
-        Value::Seq(_) | Value::List(_) | Value::Alt(..) => return SEQUENCE,
+        Value::Date(_) => (Kind::Leaf(LeafKind::Date), universal::VISIBLE_STRING),
+        Value::Time(_) => (Kind::Leaf(LeafKind::Time), universal::VISIBLE_STRING),
+        Value::Print(_) => (Kind::Leaf(LeafKind::Printable), universal::PRINTABLE_STRING),
+        Value::Str(IllString::General(_)) => (Kind::IllString, universal::GENERAL_STRING),
+        Value::Str(IllString::Visible(_)) => (Kind::IllString, universal::VISIBLE_STRING),
+        Value::Seq(_) | Value::List(_) | Value::Alt(..) => return universal::SEQUENCE,
     };
-    if kind == wanted { number } else { SEQUENCE }
+    if kind == wanted {
+        number
+    } else {
+        universal::SEQUENCE
+    }
 }
 
 /// The class and number of a value's element, where these may stand in place of its own.

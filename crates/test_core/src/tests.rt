@@ -1,4 +1,5 @@
 //! Headers, leaves, sources and sinks.
+mod ahead;
 mod buffers;
 mod contracts;
 mod fake;

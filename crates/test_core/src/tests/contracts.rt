@@ -1,13 +1,14 @@
 //! Contracts that leave one result. Each function here makes calls on any arguments, and what they return is proved of their
 //! contracts alone. So a body that returns anything else doesn't meet its contract.
-ghost use Rattle.std.specs.Prelude.{◌≡◌, ℕ, List, ◌++◌, IfOk, length, take};
+ghost use Rattle.std.specs.Prelude.{◌≡◌, ℕ, ◌≤◌, List, ◌++◌, IfOk, IfSome, length, take, drop};
+ghost use Rattle.std.specs.Io.KnownBytes.{Consumes};
 ghost use Rattle.ber_core.specs.HeaderState.{Fed, IsOpen};
 ghost use Rattle.ber_leaf.specs.Content.{IsContent};
 ghost use Rattle.ber_leaf.specs.Leaf.{normal_content};
 
 use ber_core::{
-    Broken, Class, FromRead, Header, HeaderFault, HeaderState, Id, Pieces, Room, Sink, Source,
-    ToWrite, header_size, put_header,
+    Ahead, AtHand, Broken, Class, FromBuffer, FromRead, FromSlice, Header, HeaderFault,
+    HeaderState, Id, Look, Pieces, Room, Sink, Source, ToWrite, Unseen, header_size, put_header,
 };
 use ber_leaf::{
     DateText, GeneralText, IllString, Leaf, PrintableText, Segments, TimeText, VisibleText,
@@ -114,6 +115,106 @@ fn readers_lose_nothing(
 {
     let mut source = FromRead::new(octets);
     Ok((source.take(one)?, source.take(other)?))
+}
+
+/// Equal slices move as many octets into equal buffers, and have as many left.
+fn slices_move_in_one_way(
+    one: &mut FromSlice,
+    other: &mut FromSlice,
+    a: &mut [u8],
+    b: &mut [u8],
+) -> (Result<usize, Broken>, Result<usize, Broken>)
+    requires slices { one.old ≡ other.old }
+    requires buffers { a.old ≡ b.old }
+    ensures result { result.0 ≡ result.1 }
+    ensures left { one.new ≡ other.new }
+    ensures buffer { IfOk result.0 (λ n. take n a.new ≡ take n b.new) }
+{
+    (one.take(a), other.take(b))
+}
+
+/// A slice has at hand all that was not yet passed.
+fn slices_show_what_is_left(octets: &[u8], count: usize) -> FromSlice<'_>
+    requires { count ≤ length octets.now }
+    ensures { result ≡ drop count octets.now }
+{
+    let mut source = FromSlice::new(octets);
+    prove!(source.at_hand() == octets);
+    prove!(!source.broken());
+    source.pass(count);
+    source
+}
+
+/// The octets of a buffered reader come each once, in their order, whether they are taken or passed.
+fn buffers_lose_nothing(
+    octets: &[u8],
+    one: &mut [u8],
+    other: &mut [u8],
+    alloc: Global,
+) -> Option<(usize, Vec<u8>, usize)>
+    ensures { IfSome result (λ r. (rest : List ℕ) × (octets.now ≡ take r.0 one.new ++ (r.1.items ++ (take r.2 other.new ++ rest)))) }
+{
+    let Ok(mut source) = FromBuffer::new(alloc, octets) else {
+        return None;
+    };
+    let Ok(first) = source.take(one) else {
+        return None;
+    };
+    let Ok(shown) = Vec::from_slice(alloc, source.at_hand()) else {
+        return None;
+    };
+    source.pass(shown.len());
+    let Ok(last) = source.take(other) else {
+        return None;
+    };
+    Some((first, shown, last))
+}
+
+/// A source over a buffered reader has nothing at hand at first, and is broken exactly after an error.
+fn buffers_say_that_they_broke<R: Read + Drop>(
+    reader: R,
+    buffer: &mut [u8],
+    alloc: Global,
+) -> Result<(), AllocError> {
+    let mut source = FromBuffer::new(alloc, reader)?;
+    prove!(!source.broken());
+    prove!(source.at_hand().is_empty());
+    let taken = source.take(buffer);
+    prove!(taken.is_err() == source.broken());
+    Ok(())
+}
+
+/// What is seen of a source is what is passed.
+fn looks_pass_what_they_show<R: Source, L: Look<R>>(
+    source: &mut R,
+    alloc: Global,
+) -> Result<Vec<u8>, AllocError>
+    ensures octets { IfOk result (λ seen. Consumes (R.left source.old) (R.left source.new) seen.items) }
+    ensures broken { R.is_broken source.new ≡ R.is_broken source.old }
+{
+    let seen = Vec::from_slice(alloc, L::at_hand(source))?;
+    L::pass(source, seen.len());
+    prove!(L::at_hand(source).is_empty());
+    Ok(seen)
+}
+
+/// What serves any look takes what a source shows, and of a source that is not seen as much as it says.
+fn looks_serve_all_sources<A: Ahead, R: Source>(
+    shown: &mut A,
+    unseen: &mut R,
+    alloc: Global,
+) -> Result<(Vec<u8>, Vec<u8>), AllocError>
+    ensures shown { IfOk result (λ r. Consumes (A.left shown.old) (A.left shown.new) r.0.items) }
+    ensures unseen { IfOk result (λ r. Consumes (R.left unseen.old) (R.left unseen.new) r.1.items) }
+{
+    let seen = looks_pass_what_they_show::<A, AtHand>(shown, alloc)?;
+    let rest = looks_pass_what_they_show::<R, Unseen>(unseen, alloc)?;
+    Ok((seen, rest))
+}
+
+/// Nothing is seen of a source that doesn't show it.
+fn unseen_sources_show_nothing<R: Source>(source: &R) {
+    prove!(<Unseen as Look<R>>::at_hand(source).is_empty());
 }
 
 /// A source over a reader is broken exactly after an error.

@@ -1,0 +1,77 @@
+ghost use Rattle.std.specs.Prelude.{◌≡◌, ◌≤◌, ◌↔◌, min, false, Ok, Some, IfOk, IsErr, IsTrue, length, take, drop};
+ghost use Rattle.std.specs.Io.KnownBytes.{ReadConsumes};
+
+use super::{Ahead, Broken, Source};
+use std::marker::Model;
+
+/// A slice as a source, which never breaks, and has all that is left at hand. In contracts it is the octets that are left.
+///
+/// # Examples
+///
+/// ```
+/// let mut source = FromSlice::new(&[1, 2, 3]);
+/// source.pass(1);
+/// // Now `source.at_hand()` is `[2, 3]`.
+/// ```
+#[derive(Debug, Drop)]
+pub struct FromSlice<'a> {
+    octets: &'a [u8],
+}
+
+impl<'a> Model for FromSlice<'a> {
+    ghost use Rattle.std.specs.Prelude.{ℕ, List};
+
+    ghost Value = { List ℕ };
+
+    ghost view = { λ s. s.octets.now };
+}
+
+impl<'a> FromSlice<'a> {
+    /// The octets of the slice as a source.
+    pub fn new(octets: &'a [u8]) -> FromSlice<'a>
+        ensures { result ≡ octets.now }
+    {
+        FromSlice { octets }
+    }
+}
+
+impl Source for FromSlice<'_> {
+    ghost left = { λ s. Some s };
+
+    ghost is_broken = { λ _. false };
+
+    /// Takes as many octets as there are, or as the buffer has room for.
+    fn take(&mut self, buffer: &mut [u8]) -> Result<usize, Broken>
+        ensures count { IfOk result (λ n. n ≤ length buffer.new) }
+        ensures octets { ReadConsumes (Some self.old) (Some self.new) result buffer.new }
+        ensures breaks { IsErr result ↔ IsTrue false }
+        ensures stays { IsTrue false → IsTrue false }
+        ensures taken { result ≡ Ok (min (length buffer.old) (length self.old)) }
+        ensures left { IfOk result (λ n. self.new ≡ drop n self.old) }
+        ensures front { IfOk result (λ n. take n buffer.new ≡ take n self.old) }
+        ensures rest { IfOk result (λ n. drop n buffer.new ≡ drop n buffer.old) }
+    {
+        let all: &[u8] = self.octets;
+        let n = buffer.len().min(all.len());
+        buffer[..n].copy_from_slice(&all[..n]);
+        self.octets = &all[n..];
+        Ok(n)
+    }
+
+    fn broken(&self) -> bool {
+        false
+    }
+}
+
+impl Ahead for FromSlice<'_> {
+    ghost hand = { λ s. s };
+
+    fn at_hand(&self) -> &[u8] {
+        self.octets
+    }
+
+    fn pass(&mut self, count: usize) {
+        let all: &[u8] = self.octets;
+        self.octets = &all[count..];
+    }
+}
