@@ -1,0 +1,144 @@
+-- What the cells of a node are to say.
+use Rattle.std.specs.Prelude.{◌≡◌, ℕ, suc, Bool, true, false, ◌&&◌, List, [], ◌∷◌, Option, Some, None, is_some, map, nat_eq, nat_lt, if◌then◌else◌}
+use Rattle.ber_core.specs.Identifier.{Tag}
+use Rattle.ber_core.specs.Tree.{octet_string}
+use Rattle.ber_leaf.specs.Profile.{profile_two}
+use Rattle.ill_schema.specs.declared.node.Kind.{Kind}
+use Rattle.ill_schema.specs.declared.node.NodeId.{NodeId}
+use Rattle.ill_schema.specs.declared.node.NodeId.TheVariants.{IllApdu}
+use Rattle.ill_schema.specs.declared.part.PartId.{PartId}
+use Rattle.ill_schema.specs.declared.part.Presence.{Presence}
+use Rattle.ill_schema.specs.Table.{kind_of, rows_of}
+use Rattle.ill_refusals.specs.Element.{Component, components, component_starts, Element, segment, Start, start, starts}
+use Rattle.ill_refusals.specs.Next.{first_mandatory}
+use Rattle.ill_cells.specs.Cells.{wrapped, element_in, row_before}
+use Rattle.ill_cells.specs.declared.cell.Cell.{Cell}
+use Rattle.ill_cells.specs.declared.cell.What.{What}
+use Rattle.ill_cells.specs.declared.cell.What.TheVariants as what
+use Rattle.ill_cells.specs.declared.cell.Slot.{Slot}
+use Rattle.ill_cells.specs.declared.cell.Slot.TheVariants as slot
+
+-- the starts of a node in a wrapper: by its own tags, or by its alternatives'
+abbrev pub node_starts : NodeId → List Start
+node_starts node = starts profile_two (wrapped (record { node = node; row = 0 }) node)
+
+-- what an element that a cell names is
+abbrev pub cell_start : NodeId → ℕ → Cell → Start
+cell_start node row c = start (record { class = c.class; number = c.number }) (element_in (record { node = node; row = row }) c.node c.what)
+
+abbrev pub cell_starts : NodeId → ℕ → Cell → List Start
+cell_starts node position c = if c.nested then node_starts c.node else cell_start node (row_before position) c ∷ []
+
+abbrev pub is_leaf : Kind → Bool
+is_leaf (Kind.Leaf _) = true
+is_leaf Kind.IllString = true
+is_leaf _ = false
+
+abbrev pub is_empty : Kind → List Component → Bool
+is_empty Kind.Seq [] = true
+is_empty _ _ = false
+
+abbrev pub is_sequence : Kind → Bool
+is_sequence Kind.Seq = true
+is_sequence _ = false
+
+abbrev pub is_list : Kind → Bool
+is_list Kind.SeqOf = true
+is_list _ = false
+
+abbrev pub is_other : Kind → Bool
+is_other Kind.Seq = false
+is_other _ = true
+
+-- the element opens where a node of this kind is open
+abbrev pub opens : What → Kind → List Component → Bool
+opens what.Sequence k cs = is_sequence k
+opens what.List k cs = is_list k
+opens what.Wrapper k cs = is_other k
+opens what.LooseWrapper k cs = is_sequence k
+opens what.LeftOut k cs = is_empty k cs
+opens _ k cs = is_leaf k
+
+-- a node of this kind begins by the tags of alternatives, or by two of its own
+abbrev pub is_nested : Kind → Bool
+is_nested Kind.Choice = true
+is_nested Kind.IllString = true
+is_nested _ = false
+
+abbrev pub opens_in : What → NodeId → Bool
+opens_in w node = opens w (kind_of node) (components profile_two node)
+
+abbrev pub cell_opens : Cell → Bool
+cell_opens c = if c.nested then is_nested (kind_of c.node) else opens_in c.what c.node
+
+-- an element may stand at a position of a node of this kind
+abbrev pub is_placed : Kind → ℕ → Slot → Bool
+is_placed k position slot.Row = is_sequence k && nat_lt 0 position
+is_placed k position slot.Inner = true
+is_placed k position slot.Item = is_list k && nat_eq position 1
+is_placed k position slot.Segment = is_leaf k && nat_eq position 1
+
+-- what a cell says
+pub record Meant : Type 0 where
+  pub starts : List Start
+  pub slot : Slot
+  pub stops : Bool
+  pub lacks : Bool
+  pub opens : Bool
+
+abbrev pub cell_meant : NodeId → ℕ → Cell → Meant
+cell_meant node position c = record { starts = cell_starts node position c; slot = c.slot; stops = c.stops; lacks = c.lacks; opens = cell_opens c }
+
+abbrev pub cells_meant : NodeId → ℕ → List Cell → List Meant
+cells_meant node position [] = []
+cells_meant node position (c ∷ cs) = cell_meant node position c ∷ cells_meant node (suc position) cs
+
+abbrev meant : List Start → Slot → Bool → Bool → Meant
+meant ss slot stops lacks = record { starts = ss; slot = slot; stops = stops; lacks = lacks; opens = true }
+
+abbrev pub is_must : Presence → Bool
+is_must Presence.Must = true
+is_must _ = false
+
+-- what the rows of a sequence are to say
+abbrev pub rows_meant : List Component → List Meant
+rows_meant [] = []
+rows_meant (c ∷ cs) = meant (starts profile_two c) slot.Row (is_must c.presence) (is_some (first_mandatory (c ∷ cs))) ∷ rows_meant cs
+
+abbrev item_meant : List Component → List Meant
+item_meant [] = []
+item_meant (c ∷ cs) = meant (starts profile_two c) slot.Item false false ∷ []
+
+abbrev segment_meant : List Meant
+segment_meant = meant (start octet_string segment ∷ []) slot.Segment false false ∷ []
+
+-- what the cells of a node of a kind are to say
+abbrev pub kind_meant : Kind → NodeId → List Meant
+kind_meant Kind.Seq node =
+    meant (node_starts node) slot.Inner false (is_some (first_mandatory (components profile_two node))) ∷ rows_meant (components profile_two node)
+kind_meant Kind.SeqOf node = meant (node_starts node) slot.Inner true true ∷ item_meant (components profile_two node)
+kind_meant Kind.Choice node = meant (node_starts node) slot.Inner true true ∷ []
+kind_meant (Kind.Leaf _) node = meant (node_starts node) slot.Inner true true ∷ segment_meant
+kind_meant Kind.IllString node = meant (node_starts node) slot.Inner true true ∷ segment_meant
+
+abbrev pub node_meant : NodeId → List Meant
+node_meant node = kind_meant (kind_of node) node
+
+-- the starts of cells, from a row on, each alone
+abbrev pub starts_of_cells : NodeId → ℕ → List Cell → List (List Start)
+starts_of_cells node row [] = []
+starts_of_cells node row (c ∷ cs) = (cell_start node row c ∷ []) ∷ starts_of_cells node (suc row) cs
+
+abbrev pub alone : List Start → List (List Start)
+alone [] = []
+alone (s ∷ ss) = (s ∷ []) ∷ alone ss
+
+-- the starts of each alternative, or of each type
+abbrev pub nested_starts : Kind → NodeId → List (List Start)
+nested_starts Kind.Choice node = map component_starts (components profile_two node)
+nested_starts Kind.IllString node = alone (node_starts node)
+nested_starts _ node = []
+
+abbrev pub all_open : List Cell → Bool
+all_open [] = true
+all_open (c ∷ cs) = opens_in c.what c.node && all_open cs

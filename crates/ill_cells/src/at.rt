@@ -1,0 +1,207 @@
+//! Places in a message, and the elements that are due there.
+ghost use Rattle.std.specs.Prelude.{◌≡◌, ◌<◌, IsTrue, true, MatchOption, None, Some, is_some, []};
+ghost use Rattle.ber_core.specs.Id.{tag_of_id};
+ghost use Rattle.ber_leaf.specs.Profile.{profile_two};
+ghost use Rattle.ill_schema.specs.Table.{kind_of};
+ghost use Rattle.ill_schema.specs.Tagging.{same_tag};
+ghost use Rattle.ill_cells.specs.Cells.{element_in};
+ghost use Rattle.ill_cells.specs.code.Meant.{cell_opens, cell_starts, is_nested, is_placed, node_starts, opens_in};
+ghost use Rattle.ill_cells.specs.code.Starts.{element_with};
+
+use crate::cell::{Cell, Slot, What};
+use crate::runs::{alternatives_of, cells_of};
+use ber_core::Id;
+use ill_schema::{Kind, NodeId, PartId, kind};
+
+/// A place where an element may begin: a position in the cells of a node, at 0 in a wrapper round the node, from 1 on in the node itself.
+#[derive(Clone, Copy, Debug, PartialEq, Eq)]
+pub struct At {
+    /// The part that the wrapper is.
+    part: PartId,
+    node: NodeId,
+    position: u8,
+}
+
+/// An element that is due.
+#[derive(Clone, Copy)]
+pub struct Found {
+    /// Where it is due: the position of its row's cell.
+    at: At,
+    slot: Slot,
+    /// The row of the tables, or the alternative, that it is.
+    part: PartId,
+    cell: Cell,
+    alternative: Option<u8>,
+    ghost opens: { IsTrue (opens_in cell.what cell.node) },
+    ghost placed: { IsTrue (is_placed (kind_of at.node) at.position slot) },
+    ghost few: { at.position < 27 },
+}
+
+/// What a cell is by a tag.
+#[derive(Clone, Copy)]
+struct Begun {
+    part: PartId,
+    cell: Cell,
+    alternative: Option<u8>,
+    ghost opens: { IsTrue (opens_in cell.what cell.node) },
+}
+
+/// Whether the identifier is the cell's.
+#[inline(always)]
+fn has_tag(cell: Cell, id: Id) -> bool
+    ensures { result ≡ same_tag (record { class = cell.class; number = cell.number }) (tag_of_id id) }
+{
+    id.number() == cell.number && id.class() == cell.class
+}
+
+/// What a node with alternatives, or of two types, is by the tag.
+fn nested_start(node: NodeId, id: Id) -> Option<Begun>
+    requires { is_nested (kind_of node) ≡ true }
+    ensures { MatchOption result (element_with (tag_of_id id) (node_starts node) ≡ None)
+        (λ begun. element_with (tag_of_id id) (node_starts node) ≡ Some (element_in begun.part begun.cell.node begun.cell.what)) }
+{
+    let cells = alternatives_of(node);
+    for row in 0..cells.len() as u8 {
+        let cell = cells[row as usize];
+        if has_tag(cell, id) {
+            return Some(Begun {
+                part: PartId { node, row },
+                cell,
+                alternative: alternative_number(node, row),
+            });
+        }
+    }
+    None
+}
+
+/// The number as that of an alternative, None where the node is no choice.
+fn alternative_number(node: NodeId, number: u8) -> Option<u8> {
+    match kind(node) {
+        Kind::Choice => Some(number),
+        _ => None,
+    }
+}
+
+/// What a cell is by the tag.
+#[inline(always)]
+fn start(cell: Cell, node: NodeId, position: u8, id: Id) -> Option<Begun>
+    requires { cell_opens cell ≡ true }
+    ensures { MatchOption result (element_with (tag_of_id id) (cell_starts node position cell) ≡ None)
+        (λ begun. element_with (tag_of_id id) (cell_starts node position cell) ≡ Some (element_in begun.part begun.cell.node begun.cell.what)) }
+{
+    if cell.nested {
+        return nested_start(cell.node, id);
+    }
+    if !has_tag(cell, id) {
+        return None;
+    }
+    Some(Begun {
+        part: PartId {
+            node,
+            row: position.saturating_sub(1),
+        },
+        cell,
+        alternative: None,
+    })
+}
+
+impl At {
+    ghost use Rattle.ill_refusals.specs.Next.{due, missing};
+    ghost use Rattle.ill_refusals.specs.Place.{next_in};
+    ghost use Rattle.ill_cells.specs.Places.{due_of, next_at};
+
+    /// Where a message begins.
+    pub fn top() -> At
+        ensures { next_at result ≡ next_in profile_two [] }
+    {
+        At {
+            part: PartId {
+                node: NodeId::IllApdu,
+                row: 0,
+            },
+            node: NodeId::IllApdu,
+            position: 0,
+        }
+    }
+
+    /// What is due with the identifier's tag, None where nothing is.
+    pub fn find(self, id: Id) -> Option<Found>
+        ensures { MatchOption result (due profile_two (tag_of_id id) (next_at self) ≡ None)
+            (λ found. due profile_two (tag_of_id id) (next_at self) ≡ Some (due_of found)) }
+    {
+        let cells = cells_of(self.node);
+        for position in self.position..cells.len() as u8 {
+            let cell = cells[position as usize];
+            if let Some(begun) = start(cell, self.node, position, id) {
+                return Some(Found {
+                    at: At { position, ..self },
+                    slot: cell.slot,
+                    part: begun.part,
+                    cell: begun.cell,
+                    alternative: begun.alternative,
+                });
+            }
+            if cell.stops {
+                return None;
+            }
+        }
+        None
+    }
+
+    /// Whether something mandatory is still to come.
+    pub fn is_missing(self) -> bool
+        ensures { result ≡ is_some (missing profile_two (next_at self)) }
+    {
+        match cells_of(self.node).get(self.position as usize) {
+            Some(cell) => cell.lacks,
+            None => false,
+        }
+    }
+}
+
+/// Where nothing may come.
+fn nowhere() -> At
+    ensures { next_at result ≡ rows [] }
+{
+    At {
+        part: PartId {
+            node: NodeId::LeftOut,
+            row: 0,
+        },
+        node: NodeId::LeftOut,
+        position: 1,
+    }
+}
+
+impl Found {
+    ghost use Rattle.ill_refusals.specs.Next.{element_of, next_of, opening};
+    ghost use Rattle.ill_cells.specs.Places.{due_of, next_at};
+
+    /// The place in the element, once it is open.
+    pub fn first(self) -> At
+        ensures { next_at result ≡ opening profile_two (element_of (due_of self)) }
+    {
+        At {
+            part: self.part,
+            node: self.cell.node,
+            position: match self.cell.what {
+                What::Wrapper | What::LooseWrapper => 0,
+                _ => 1,
+            },
+        }
+    }
+
+    /// The place behind the element.
+    pub fn after(self) -> At
+        ensures { next_at result ≡ next_of (due_of self) }
+    {
+        match self.slot {
+            Slot::Row => At {
+                position: self.at.position + 1,
+                ..self.at
+            },
+            Slot::Inner => nowhere(),
+            Slot::Item | Slot::Segment => self.at,
+        }
+    }
+}
