@@ -106,7 +106,7 @@ fn start(cell: Cell, node: NodeId, position: u8, id: Id) -> Option<Begun>
 }
 
 impl At {
-    ghost use Rattle.ill_refusals.specs.Next.{due, missing};
+    ghost use Rattle.ill_refusals.specs.Next.{due, missing, rows};
     ghost use Rattle.ill_refusals.specs.Place.{next_in};
     ghost use Rattle.ill_cells.specs.Places.{due_of, next_at};
 
@@ -121,6 +121,20 @@ impl At {
             },
             node: NodeId::IllApdu,
             position: 0,
+        }
+    }
+
+    /// Where nothing may come.
+    fn nowhere() -> At
+        ensures { next_at result ≡ rows [] }
+    {
+        At {
+            part: PartId {
+                node: NodeId::LeftOut,
+                row: 0,
+            },
+            node: NodeId::LeftOut,
+            position: 1,
         }
     }
 
@@ -159,20 +173,6 @@ impl At {
     }
 }
 
-/// Where nothing may come.
-fn nowhere() -> At
-    ensures { next_at result ≡ rows [] }
-{
-    At {
-        part: PartId {
-            node: NodeId::LeftOut,
-            row: 0,
-        },
-        node: NodeId::LeftOut,
-        position: 1,
-    }
-}
-
 impl Found {
     ghost use Rattle.ill_refusals.specs.Next.{element_of, next_of, opening};
     ghost use Rattle.ill_cells.specs.Places.{due_of, next_at};
@@ -200,7 +200,7 @@ impl Found {
                 position: self.at.position + 1,
                 ..self.at
             },
-            Slot::Inner => nowhere(),
+            Slot::Inner => At::nowhere(),
             Slot::Item | Slot::Segment => self.at,
         }
     }

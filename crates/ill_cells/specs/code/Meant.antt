@@ -93,7 +93,7 @@ abbrev pub cells_meant : NodeId → ℕ → List Cell → List Meant
 cells_meant node position [] = []
 cells_meant node position (c ∷ cs) = cell_meant node position c ∷ cells_meant node (suc position) cs
 
-abbrev meant : List Start → Slot → Bool → Bool → Meant
+abbrev pub meant : List Start → Slot → Bool → Bool → Meant
 meant ss slot stops lacks = record { starts = ss; slot = slot; stops = stops; lacks = lacks; opens = true }
 
 abbrev pub is_must : Presence → Bool
@@ -105,11 +105,11 @@ abbrev pub rows_meant : List Component → List Meant
 rows_meant [] = []
 rows_meant (c ∷ cs) = meant (starts profile_two c) slot.Row (is_must c.presence) (is_some (first_mandatory (c ∷ cs))) ∷ rows_meant cs
 
-abbrev item_meant : List Component → List Meant
+abbrev pub item_meant : List Component → List Meant
 item_meant [] = []
 item_meant (c ∷ cs) = meant (starts profile_two c) slot.Item false false ∷ []
 
-abbrev segment_meant : List Meant
+abbrev pub segment_meant : List Meant
 segment_meant = meant (start octet_string segment ∷ []) slot.Segment false false ∷ []
 
 -- what the cells of a node of a kind are to say

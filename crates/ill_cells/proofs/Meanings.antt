@@ -1,0 +1,1 @@
+-- What the cells of a node say, one by one.
