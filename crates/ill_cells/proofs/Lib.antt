@@ -1,2 +1,4 @@
 pub mod Scanning
 pub mod Meanings
+pub mod Alternatives
+pub mod Going

@@ -13,9 +13,8 @@ use Rattle.ill_schema.specs.Table.{kind_of}
 use Rattle.ill_schema.specs.Tagging.{same_tag, sequence_tag}
 use Rattle.ill_refusals.specs.Element.{Component, component_starts, components, Element, own_starts, list, segment, sequence, Start, start, starts}
 use Rattle.ill_refusals.specs.Next.{Next, rows, items, either, segments, Due, part, octets, due, due_in, opening, start_of, first_mandatory, missing}
-use Rattle.ill_cells.specs.Cells.{due_at, next_from, next_of_kind, wrapped}
-use Rattle.ill_cells.specs.code.Meant.{Meant, meant, is_must, item_meant, kind_meant, node_meant, node_starts, rows_meant, segment_meant}
-use Rattle.ill_cells.specs.code.Starts.{element_with}
+use Rattle.ill_cells.specs.Cells.{due_at, element_with, next_from, next_of_kind, wrapped}
+use Rattle.ill_cells.specs.code.Meant.{Meant, meant, is_must, node_choice, item_meant, kind_meant, node_meant, node_starts, rows_meant, segment_meant}
 use Rattle.ill_cells.specs.declared.cell.Slot.TheVariants as slot
 
 -- what is due by the tag, where these say what may come at a position of a node and behind it
@@ -59,9 +58,9 @@ scan-rows t p node row [] e = refl
 scan-rows t p node row (c ∷ cs) e = row-scanned t p node row c cs e (scan-rows t p node (suc row) cs (drop-next _ row c cs e))
 
 -- in a wrapper there is the one component
-scan-around : (t : Tag) (p : PartId) (node : NodeId) (ms : List Meant)
-    → scan t p node zero (meant (node_starts node) slot.Inner true true ∷ ms) ≡ due profile_two t (rows (wrapped p node ∷ []))
-scan-around t p node ms = at (start_of profile_two t (wrapped p node))
+scan-around : (t : Tag) (p : PartId) (node : NodeId) (choice : Option NodeId) (ms : List Meant)
+    → scan t p node zero (meant (node_starts node) slot.Inner true true choice ∷ ms) ≡ due profile_two t (rows (wrapped p node ∷ []))
+scan-around t p node choice ms = at (start_of profile_two t (wrapped p node))
   where
     at : (o : Option Start) → elim (option_map (λ (s : Start). s.element) o) as (λ _. Option Due) [
       | Some x ↦ Some (due_at p node zero slot.Inner x)
@@ -131,15 +130,15 @@ scan-either t p node k = at (same_tag t sequence_tag) (start_of profile_two t (w
     at false None e r = r
     at false (Some s) e r = absurd cc
 
-drop-none : {A : Type 0} (n : ℕ) → drop n (let none : List A = [] in none) ≡ []
+pub drop-none : {A : Type 0} (n : ℕ) → drop n (let none : List A = [] in none) ≡ []
 drop-none zero = refl
 drop-none (suc n) = refl
 
-drop-item : (n : ℕ) (cs : List Component) → drop (suc n) (item_meant cs) ≡ []
+pub drop-item : (n : ℕ) (cs : List Component) → drop (suc n) (item_meant cs) ≡ []
 drop-item n [] = refl
 drop-item n (c ∷ cs) = drop-none n
 
-drop-rows : (n : ℕ) (cs : List Component) → drop n (rows_meant cs) ≡ rows_meant (drop n cs)
+pub drop-rows : (n : ℕ) (cs : List Component) → drop n (rows_meant cs) ≡ rows_meant (drop n cs)
 drop-rows zero cs = refl
 drop-rows (suc n) [] = refl
 drop-rows (suc n) (c ∷ cs) = drop-rows n cs
@@ -149,16 +148,16 @@ scan-kind : (t : Tag) (p : PartId) (node : NodeId) (position : ℕ) (k : Kind) �
 scan-kind t p node zero Kind.Seq e = scan-either t p node e
 scan-kind t p node (suc row) Kind.Seq e =
     ap (scan t p node (suc row)) (drop-rows row (components profile_two node)) ∙ scan-rows t p node row (drop row (components profile_two node)) refl
-scan-kind t p node zero Kind.SeqOf e = scan-around t p node (item_meant (components profile_two node))
+scan-kind t p node zero Kind.SeqOf e = scan-around t p node (node_choice node) (item_meant (components profile_two node))
 scan-kind t p node (suc zero) Kind.SeqOf e = scan-item t p node (components profile_two node) refl
 scan-kind t p node (suc (suc n)) Kind.SeqOf e = ap (scan t p node (suc (suc n))) (drop-item n (components profile_two node))
-scan-kind t p node zero Kind.Choice e = scan-around t p node []
+scan-kind t p node zero Kind.Choice e = scan-around t p node (node_choice node) []
 scan-kind t p node (suc zero) Kind.Choice e = refl
 scan-kind t p node (suc (suc n)) Kind.Choice e = refl
-scan-kind t p node zero (Kind.Leaf l) e = scan-around t p node segment_meant
+scan-kind t p node zero (Kind.Leaf l) e = scan-around t p node (node_choice node) segment_meant
 scan-kind t p node (suc zero) (Kind.Leaf l) e = scan-segments t p node
 scan-kind t p node (suc (suc n)) (Kind.Leaf l) e = ap (scan t p node (suc (suc n))) (drop-none n)
-scan-kind t p node zero Kind.IllString e = scan-around t p node segment_meant
+scan-kind t p node zero Kind.IllString e = scan-around t p node (node_choice node) segment_meant
 scan-kind t p node (suc zero) Kind.IllString e = scan-segments t p node
 scan-kind t p node (suc (suc n)) Kind.IllString e = ap (scan t p node (suc (suc n))) (drop-none n)
 

@@ -1,5 +1,5 @@
 -- What an index and a cell that is found stand for.
-use Rattle.std.specs.Prelude.{◌≡◌, ℕ, zero, suc, List, [], ◌∷◌, drop, Option, Some, None}
+use Rattle.std.specs.Prelude.{◌≡◌, ℕ, zero, suc, List, [], ◌∷◌, drop, Option, Some, None, find, option_map, slice_get}
 use Rattle.ber_core.specs.Identifier.{Tag}
 use Rattle.ber_leaf.specs.Leaf.{boolean, integer, enumerated, general_string, visible_string, printable_string, iso_date, iso_time}
 use Rattle.ber_leaf.specs.Profile.{profile_two}
@@ -8,8 +8,8 @@ use Rattle.ill_schema.specs.declared.node.NodeId.{NodeId}
 use Rattle.ill_schema.specs.declared.part.PartId.{PartId}
 use Rattle.ill_schema.specs.declared.part.Presence.{Presence}
 use Rattle.ill_schema.specs.Table.{kind_of}
-use Rattle.ill_schema.specs.Tagging.{untagged}
-use Rattle.ill_refusals.specs.Element.{Component, components, Element, leaf, sequence, list, wrapper, loose_wrapper, segment, left_out}
+use Rattle.ill_schema.specs.Tagging.{untagged, same_tag}
+use Rattle.ill_refusals.specs.Element.{Component, component_starts, components, Start, Element, leaf, sequence, list, wrapper, loose_wrapper, segment, left_out}
 use Rattle.ill_refusals.specs.Next.{Next, rows, items, either, segments, Due, part, octets, opening}
 use Rattle.ill_cells.specs.declared.cell.What.{What}
 use Rattle.ill_cells.specs.declared.cell.What.TheVariants as what
@@ -55,20 +55,26 @@ element_in p node what.LooseWrapper = loose_wrapper (wrapped p node)
 element_in p node what.Segment = segment
 element_in p node what.LeftOut = left_out p
 
+-- where the element begins inside: a tag round a node at 0
+abbrev pub first_position : What → ℕ
+first_position what.Wrapper = 0
+first_position what.LooseWrapper = 0
+first_position _ = 1
+
 -- the row before a position of a sequence
 abbrev pub row_before : ℕ → ℕ
 row_before zero = zero
 row_before (suc row) = row
 
-abbrev due_row : Component → Element → List Component → Due
+abbrev pub due_row : Component → Element → List Component → Due
 due_row other e [] = part other e (rows [])
 due_row other e (c ∷ cs) = part c e (rows cs)
 
-abbrev due_item : Component → Element → List Component → Due
+abbrev pub due_item : Component → Element → List Component → Due
 due_item other e [] = part other e (rows [])
 due_item other e (c ∷ cs) = part c e (items c)
 
-abbrev due_segment : Component → Element → Due
+abbrev pub due_segment : Component → Element → Due
 due_segment other segment = octets
 due_segment other e = part other e segments
 
@@ -78,3 +84,21 @@ due_at p node position slot.Row e = due_row (wrapped p node) e (drop (row_before
 due_at p node position slot.Inner e = part (wrapped p node) e (rows [])
 due_at p node position slot.Item e = due_item (wrapped p node) e (components profile_two node)
 due_at p node position slot.Segment e = due_segment (wrapped p node) e
+
+-- the first element with the tag
+abbrev pub element_with : Tag → List Start → Option Element
+element_with t ss = option_map (λ s. s.element) (find (λ s. same_tag s.tag t) ss)
+
+-- the tag begins the alternative of this number of a choice (8.13)
+abbrev pub IsAlternative : Tag → NodeId → ℕ → Element → Type 0
+IsAlternative t node n e = (c : Component) × (slice_get (components profile_two node) n ≡ Some c) × (element_with t (component_starts c) ≡ Some e)
+
+-- the tag begins the component itself, or an alternative of it where it is a choice without a tag
+abbrev pub Begins : Tag → Component → Option ℕ → Element → Type 0
+Begins t c None e = element_with t (component_starts c) ≡ Some e
+Begins t c (Some n) e = (c.tagging ≡ untagged) × (kind_of c.node ≡ Kind.Choice) × IsAlternative t c.node n e
+
+-- the same of what is due
+abbrev pub BeginsDue : Tag → Due → Option ℕ → Type 0
+BeginsDue t (part c e n) alternative = Begins t c alternative e
+BeginsDue t octets alternative = alternative ≡ None

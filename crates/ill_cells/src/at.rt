@@ -1,12 +1,12 @@
 //! Places in a message, and the elements that are due there.
-ghost use Rattle.std.specs.Prelude.{◌≡◌, ◌<◌, IsTrue, true, MatchOption, None, Some, is_some, []};
+ghost use Rattle.std.specs.Prelude.{◌≡◌, ◌<◌, IsTrue, true, MatchOption, None, Some, length, slice_get, is_some, option_map, []};
 ghost use Rattle.ber_core.specs.Id.{tag_of_id};
 ghost use Rattle.ber_leaf.specs.Profile.{profile_two};
 ghost use Rattle.ill_schema.specs.Table.{kind_of};
 ghost use Rattle.ill_schema.specs.Tagging.{same_tag};
-ghost use Rattle.ill_cells.specs.Cells.{element_in};
-ghost use Rattle.ill_cells.specs.code.Meant.{cell_opens, cell_starts, is_nested, is_placed, node_starts, opens_in};
-ghost use Rattle.ill_cells.specs.code.Starts.{element_with};
+ghost use Rattle.ill_cells.specs.Cells.{element_in, element_with, first_position};
+ghost use Rattle.ill_cells.specs.code.Meant.{cell_choice, cell_opens, cell_starts, is_nested, is_placed, node_choice, node_starts, opens_in};
+ghost use Rattle.ill_cells.specs.code.Starts.{IsBegun};
 
 use crate::cell::{Cell, Slot, What};
 use crate::runs::{alternatives_of, cells_of};
@@ -58,11 +58,11 @@ fn has_tag(cell: Cell, id: Id) -> bool
 fn nested_start(node: NodeId, id: Id) -> Option<Begun>
     requires { is_nested (kind_of node) ≡ true }
     ensures { MatchOption result (element_with (tag_of_id id) (node_starts node) ≡ None)
-        (λ begun. element_with (tag_of_id id) (node_starts node) ≡ Some (element_in begun.part begun.cell.node begun.cell.what)) }
+        (λ begun. IsBegun (tag_of_id id) (node_starts node) (node_choice node) begun.alternative (element_in begun.part begun.cell.node begun.cell.what)) }
 {
     let cells = alternatives_of(node);
     for row in 0..cells.len() as u8 {
-        let cell = cells[row as usize];
+        let cell = cell_at(cells, row);
         if has_tag(cell, id) {
             return Some(Begun {
                 part: PartId { node, row },
@@ -75,11 +75,33 @@ fn nested_start(node: NodeId, id: Id) -> Option<Begun>
 }
 
 /// The number as that of an alternative, None where the node is no choice.
-fn alternative_number(node: NodeId, number: u8) -> Option<u8> {
+fn alternative_number(node: NodeId, number: u8) -> Option<u8>
+    ensures { result ≡ option_map (λ _. number) (node_choice node) }
+{
     match kind(node) {
         Kind::Choice => Some(number),
         _ => None,
     }
+}
+
+/// Where an element begins inside.
+#[inline(always)]
+fn first_position(what: What) -> u8
+    ensures { result ≡ first_position what }
+{
+    match what {
+        What::Wrapper | What::LooseWrapper => 0,
+        _ => 1,
+    }
+}
+
+/// The cell at a position.
+#[inline(always)]
+fn cell_at(cells: &[Cell], position: u8) -> Cell
+    requires { position < length cells.now }
+    ensures { slice_get cells.now position ≡ Some result }
+{
+    cells[position as usize]
 }
 
 /// What a cell is by the tag.
@@ -87,7 +109,7 @@ fn alternative_number(node: NodeId, number: u8) -> Option<u8> {
 fn start(cell: Cell, node: NodeId, position: u8, id: Id) -> Option<Begun>
     requires { cell_opens cell ≡ true }
     ensures { MatchOption result (element_with (tag_of_id id) (cell_starts node position cell) ≡ None)
-        (λ begun. element_with (tag_of_id id) (cell_starts node position cell) ≡ Some (element_in begun.part begun.cell.node begun.cell.what)) }
+        (λ begun. IsBegun (tag_of_id id) (cell_starts node position cell) (cell_choice cell) begun.alternative (element_in begun.part begun.cell.node begun.cell.what)) }
 {
     if cell.nested {
         return nested_start(cell.node, id);
@@ -108,7 +130,7 @@ fn start(cell: Cell, node: NodeId, position: u8, id: Id) -> Option<Begun>
 impl At {
     ghost use Rattle.ill_refusals.specs.Next.{due, missing, rows};
     ghost use Rattle.ill_refusals.specs.Place.{next_in};
-    ghost use Rattle.ill_cells.specs.Places.{due_of, next_at};
+    ghost use Rattle.ill_cells.specs.Places.{IsDue, next_at};
 
     /// Where a message begins.
     pub fn top() -> At
@@ -141,11 +163,11 @@ impl At {
     /// What is due with the identifier's tag, None where nothing is.
     pub fn find(self, id: Id) -> Option<Found>
         ensures { MatchOption result (due profile_two (tag_of_id id) (next_at self) ≡ None)
-            (λ found. due profile_two (tag_of_id id) (next_at self) ≡ Some (due_of found)) }
+            (λ found. IsDue (tag_of_id id) self found) }
     {
         let cells = cells_of(self.node);
         for position in self.position..cells.len() as u8 {
-            let cell = cells[position as usize];
+            let cell = cell_at(cells, position);
             if let Some(begun) = start(cell, self.node, position, id) {
                 return Some(Found {
                     at: At { position, ..self },
@@ -184,10 +206,7 @@ impl Found {
         At {
             part: self.part,
             node: self.cell.node,
-            position: match self.cell.what {
-                What::Wrapper | What::LooseWrapper => 0,
-                _ => 1,
-            },
+            position: first_position(self.cell.what),
         }
     }
 

@@ -1,5 +1,5 @@
 -- What the cells of a node are to say.
-use Rattle.std.specs.Prelude.{◌≡◌, ℕ, suc, Bool, true, false, ◌&&◌, List, [], ◌∷◌, Option, Some, None, is_some, map, nat_eq, nat_lt, if◌then◌else◌}
+use Rattle.std.specs.Prelude.{◌≡◌, ℕ, zero, suc, Bool, true, false, ◌&&◌, List, [], ◌∷◌, Option, Some, None, is_some, map, if◌then◌else◌}
 use Rattle.ber_core.specs.Identifier.{Tag}
 use Rattle.ber_core.specs.Tree.{octet_string}
 use Rattle.ber_leaf.specs.Profile.{profile_two}
@@ -9,6 +9,7 @@ use Rattle.ill_schema.specs.declared.node.NodeId.TheVariants.{IllApdu}
 use Rattle.ill_schema.specs.declared.part.PartId.{PartId}
 use Rattle.ill_schema.specs.declared.part.Presence.{Presence}
 use Rattle.ill_schema.specs.Table.{kind_of, rows_of}
+use Rattle.ill_schema.specs.Tagging.{untagged}
 use Rattle.ill_refusals.specs.Element.{Component, components, component_starts, Element, segment, Start, start, starts}
 use Rattle.ill_refusals.specs.Next.{first_mandatory}
 use Rattle.ill_cells.specs.Cells.{wrapped, element_in, row_before}
@@ -73,10 +74,22 @@ cell_opens c = if c.nested then is_nested (kind_of c.node) else opens_in c.what 
 
 -- an element may stand at a position of a node of this kind
 abbrev pub is_placed : Kind → ℕ → Slot → Bool
-is_placed k position slot.Row = is_sequence k && nat_lt 0 position
+is_placed k (suc row) slot.Row = is_sequence k
 is_placed k position slot.Inner = true
-is_placed k position slot.Item = is_list k && nat_eq position 1
-is_placed k position slot.Segment = is_leaf k && nat_eq position 1
+is_placed k (suc zero) slot.Item = is_list k
+is_placed k (suc zero) slot.Segment = is_leaf k
+is_placed k position _ = false
+
+-- the node, where it is a choice
+abbrev pub node_choice : NodeId → Option NodeId
+node_choice node = elim (kind_of node) as (λ _. Option NodeId) [ Kind.Choice ↦ Some node | _ ↦ None ]
+
+abbrev pub cell_choice : Cell → Option NodeId
+cell_choice c = if c.nested then node_choice c.node else None
+
+-- the choice without a tag that a component is
+abbrev pub component_choice : Component → Option NodeId
+component_choice c = elim c.tagging as (λ _. Option NodeId) [ untagged ↦ node_choice c.node | _ ↦ None ]
 
 -- what a cell says
 pub record Meant : Type 0 where
@@ -85,16 +98,18 @@ pub record Meant : Type 0 where
   pub stops : Bool
   pub lacks : Bool
   pub opens : Bool
+  -- the choice without a tag whose alternatives these are
+  pub choice : Option NodeId
 
 abbrev pub cell_meant : NodeId → ℕ → Cell → Meant
-cell_meant node position c = record { starts = cell_starts node position c; slot = c.slot; stops = c.stops; lacks = c.lacks; opens = cell_opens c }
+cell_meant node position c = record { starts = cell_starts node position c; slot = c.slot; stops = c.stops; lacks = c.lacks; opens = cell_opens c; choice = cell_choice c }
 
 abbrev pub cells_meant : NodeId → ℕ → List Cell → List Meant
 cells_meant node position [] = []
 cells_meant node position (c ∷ cs) = cell_meant node position c ∷ cells_meant node (suc position) cs
 
-abbrev pub meant : List Start → Slot → Bool → Bool → Meant
-meant ss slot stops lacks = record { starts = ss; slot = slot; stops = stops; lacks = lacks; opens = true }
+abbrev pub meant : List Start → Slot → Bool → Bool → Option NodeId → Meant
+meant ss slot stops lacks choice = record { starts = ss; slot = slot; stops = stops; lacks = lacks; opens = true; choice = choice }
 
 abbrev pub is_must : Presence → Bool
 is_must Presence.Must = true
@@ -103,23 +118,23 @@ is_must _ = false
 -- what the rows of a sequence are to say
 abbrev pub rows_meant : List Component → List Meant
 rows_meant [] = []
-rows_meant (c ∷ cs) = meant (starts profile_two c) slot.Row (is_must c.presence) (is_some (first_mandatory (c ∷ cs))) ∷ rows_meant cs
+rows_meant (c ∷ cs) = meant (starts profile_two c) slot.Row (is_must c.presence) (is_some (first_mandatory (c ∷ cs))) (component_choice c) ∷ rows_meant cs
 
 abbrev pub item_meant : List Component → List Meant
 item_meant [] = []
-item_meant (c ∷ cs) = meant (starts profile_two c) slot.Item false false ∷ []
+item_meant (c ∷ cs) = meant (starts profile_two c) slot.Item false false (component_choice c) ∷ []
 
 abbrev pub segment_meant : List Meant
-segment_meant = meant (start octet_string segment ∷ []) slot.Segment false false ∷ []
+segment_meant = meant (start octet_string segment ∷ []) slot.Segment false false None ∷ []
 
 -- what the cells of a node of a kind are to say
 abbrev pub kind_meant : Kind → NodeId → List Meant
 kind_meant Kind.Seq node =
-    meant (node_starts node) slot.Inner false (is_some (first_mandatory (components profile_two node))) ∷ rows_meant (components profile_two node)
-kind_meant Kind.SeqOf node = meant (node_starts node) slot.Inner true true ∷ item_meant (components profile_two node)
-kind_meant Kind.Choice node = meant (node_starts node) slot.Inner true true ∷ []
-kind_meant (Kind.Leaf _) node = meant (node_starts node) slot.Inner true true ∷ segment_meant
-kind_meant Kind.IllString node = meant (node_starts node) slot.Inner true true ∷ segment_meant
+    meant (node_starts node) slot.Inner false (is_some (first_mandatory (components profile_two node))) (node_choice node) ∷ rows_meant (components profile_two node)
+kind_meant Kind.SeqOf node = meant (node_starts node) slot.Inner true true (node_choice node) ∷ item_meant (components profile_two node)
+kind_meant Kind.Choice node = meant (node_starts node) slot.Inner true true (node_choice node) ∷ []
+kind_meant (Kind.Leaf _) node = meant (node_starts node) slot.Inner true true (node_choice node) ∷ segment_meant
+kind_meant Kind.IllString node = meant (node_starts node) slot.Inner true true (node_choice node) ∷ segment_meant
 
 abbrev pub node_meant : NodeId → List Meant
 node_meant node = kind_meant (kind_of node) node

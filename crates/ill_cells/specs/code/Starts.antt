@@ -1,8 +1,19 @@
--- The first element with a tag.
-use Rattle.std.specs.Prelude.{List, Option, find, option_map}
+-- What a tag begins.
+use Rattle.std.specs.Prelude.{◌≡◌, ℕ, List, Option, Some, None, find, option_map, slice_get}
 use Rattle.ber_core.specs.Identifier.{Tag}
+use Rattle.ber_leaf.specs.Profile.{profile_two}
+use Rattle.ill_schema.specs.declared.node.NodeId.{NodeId}
 use Rattle.ill_schema.specs.Tagging.{same_tag}
-use Rattle.ill_refusals.specs.Element.{Element, Start}
+use Rattle.ill_refusals.specs.Element.{Component, component_starts, components, Element, Start}
+use Rattle.ill_cells.specs.Cells.{element_with, IsAlternative}
 
-abbrev pub element_with : Tag → List Start → Option Element
-element_with tag ss = option_map (λ s. s.element) (find (λ s. same_tag s.tag tag) ss)
+-- the element begins by an alternative of this number exactly where there is a choice
+abbrev pub BeginsIn : Tag → Option NodeId → Option ℕ → Element → Type 0
+BeginsIn t None None e = Unit {0}
+BeginsIn t (Some node) (Some n) e = IsAlternative t node n e
+BeginsIn _ _ _ _ = ⊥
+
+-- the tag begins the element by one of these, or by an alternative
+pub record IsBegun (t : Tag) (ss : List Start) (choice : Option NodeId) (alternative : Option ℕ) (e : Element) : Type 0 where
+  pub is : element_with t ss ≡ Some e
+  pub by : BeginsIn t choice alternative e
