@@ -2,3 +2,4 @@ pub mod Scanning
 pub mod Meanings
 pub mod Alternatives
 pub mod Going
+pub mod Steps

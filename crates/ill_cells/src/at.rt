@@ -188,10 +188,11 @@ impl At {
     pub fn is_missing(self) -> bool
         ensures { result ≡ is_some (missing profile_two (next_at self)) }
     {
-        match cells_of(self.node).get(self.position as usize) {
-            Some(cell) => cell.lacks,
-            None => false,
+        let cells = cells_of(self.node);
+        if cells.len() <= self.position as usize {
+            return false;
         }
+        cell_at(cells, self.position).lacks
     }
 }
 
