@@ -12,8 +12,8 @@ use Rattle.ill_schema.specs.Table.{kind_of}
 use Rattle.ill_schema.specs.Tagging.{Tagging, untagged, implicit, explicit, explicit_or_bare, same_tag}
 use Rattle.ill_refusals.specs.Element.{Component, component_starts, components, Element, segment, Start, start, starts}
 use Rattle.ill_refusals.specs.Next.{rows, Due, part, first_mandatory}
-use Rattle.ill_cells.specs.Cells.{Begins, BeginsDue, IsAlternative, due_at, due_item, due_row, due_segment, element_with, wrapped}
-use Rattle.ill_cells.specs.code.Meant.{Meant, cell_meant, cell_start, cells_meant, component_choice, is_must, is_placed, item_meant, kind_meant, meant, node_choice, node_meant, node_starts, rows_meant, segment_meant}
+use Rattle.ill_cells.specs.Cells.{Begins, BeginsDue, IsAlternative, due_at, due_item, due_row, due_segment, element_with, presence_default, wrapped}
+use Rattle.ill_cells.specs.code.Meant.{Meant, cell_meant, cell_start, cells_meant, component_choice, default_at, default_first, is_must, is_there, is_placed, item_meant, kind_meant, meant, node_choice, node_meant, node_starts, row_there, rows_meant, segment_meant}
 use Rattle.ill_cells.specs.code.Starts.{BeginsIn, IsBegun}
 use Rattle.ill_cells.specs.declared.cell.Cell.{Cell}
 use Rattle.ill_cells.specs.declared.cell.Slot.TheVariants as slot
@@ -88,12 +88,16 @@ begins-component t c a e h = begins-under t c a e c.tagging refl h.is h.by
 pub record IsSaid (k : Kind) (node : NodeId) (position : ℕ) (m : Meant) : Type 0 where
   pub opens : m.opens ≡ true
   pub placed : IsTrue (is_placed k position m.slot)
+  pub there : IsTrue (row_there m.slot position (components profile_two node))
+  pub default : m.default ≡ default_at node position m.slot
   pub begins : (t : Tag) (p : PartId) (a : Option ℕ) (e : Element) → IsBegun t m.starts m.choice a e → BeginsDue t (due_at p node position m.slot e) a
 
-said-around : (k : Kind) (node : NodeId) (stops lacks : Bool) → IsSaid k node zero (meant (node_starts node) slot.Inner stops lacks (node_choice node))
+said-around : (k : Kind) (node : NodeId) (stops lacks : Bool) → IsSaid k node zero (meant (node_starts node) slot.Inner stops lacks (node_choice node) None)
 said-around k node stops lacks = record {
   opens = refl;
   placed = refl;
+  there = refl;
+  default = refl;
   begins = λ t p a e h. begins-component t (wrapped p node) a e (record { is = h.is; by = h.by });
 }
 
@@ -101,10 +105,12 @@ said-row : (node : NodeId) (row : ℕ) (cs : List Component) (m : Meant) (ms : L
     → rows_meant cs ≡ m ∷ ms → IsSaid Kind.Seq node (suc row) m
 said-row node row [] m ms e f = absurd cc
 said-row node row (c ∷ cs) m ms e f =
-    let g : meant (starts profile_two c) slot.Row (is_must c.presence) (is_some (first_mandatory (c ∷ cs))) (component_choice c) ≡ m = cc in
+    let g : meant (starts profile_two c) slot.Row (is_must c.presence) (is_some (first_mandatory (c ∷ cs))) (component_choice c) (presence_default c.presence) ≡ m = cc in
     subst (IsSaid Kind.Seq node (suc row)) g (record {
       opens = refl;
       placed = refl;
+      there = ap is_there e;
+      default = ap default_first (sym e);
       begins = λ t p a x b. subst (λ xs. BeginsDue t (due_row (wrapped p node) x xs) a) (sym e) (begins-component t c a x (record { is = b.is; by = b.by }));
     })
 
@@ -112,10 +118,12 @@ said-item : (node : NodeId) (cs : List Component) (m : Meant) (ms : List Meant) 
     → item_meant cs ≡ m ∷ ms → IsSaid Kind.SeqOf node 1 m
 said-item node [] m ms e f = absurd cc
 said-item node (c ∷ cs) m ms e f =
-    let g : meant (starts profile_two c) slot.Item false false (component_choice c) ≡ m = cc in
+    let g : meant (starts profile_two c) slot.Item false false (component_choice c) (presence_default c.presence) ≡ m = cc in
     subst (IsSaid Kind.SeqOf node 1) g (record {
       opens = refl;
       placed = refl;
+      there = ap is_there e;
+      default = ap default_first (sym e);
       begins = λ t p a x b. subst (λ xs. BeginsDue t (due_item (wrapped p node) x xs) a) (sym e) (begins-component t c a x (record { is = b.is; by = b.by }));
     })
 
@@ -127,34 +135,36 @@ no_alternative : (t : Tag) (a : Option ℕ) (e : Element) → BeginsIn t None a 
 no_alternative t None e b = refl
 no_alternative t (Some n) e b = absurd b
 
-said-segment : (k : Kind) (node : NodeId) → IsTrue (is_placed k 1 slot.Segment) → IsSaid k node 1 (meant (start octet_string segment ∷ []) slot.Segment false false None)
+said-segment : (k : Kind) (node : NodeId) → IsTrue (is_placed k 1 slot.Segment) → IsSaid k node 1 (meant (start octet_string segment ∷ []) slot.Segment false false None None)
 said-segment k node h = record {
   opens = refl;
   placed = h;
+  there = refl;
+  default = refl;
   begins = λ t p a e b.
       subst (λ x. BeginsDue t (due_segment (wrapped p node) x) a) (segment-only (same_tag octet_string t) e b.is) (no_alternative t a e b.by);
 }
 
 said-string : (k : Kind) (node : NodeId) (position : ℕ) (m : Meant) (ms : List Meant) → IsTrue (is_placed k 1 slot.Segment)
-    → drop position (meant (node_starts node) slot.Inner true true (node_choice node) ∷ segment_meant) ≡ m ∷ ms → IsSaid k node position m
+    → drop position (meant (node_starts node) slot.Inner true true (node_choice node) None ∷ segment_meant) ≡ m ∷ ms → IsSaid k node position m
 said-string k node zero m ms h f =
-    let g : meant (node_starts node) slot.Inner true true (node_choice node) ≡ m = cc in subst (IsSaid k node zero) g (said-around k node true true)
+    let g : meant (node_starts node) slot.Inner true true (node_choice node) None ≡ m = cc in subst (IsSaid k node zero) g (said-around k node true true)
 said-string k node (suc zero) m ms h f =
-    let g : meant (start octet_string segment ∷ []) slot.Segment false false None ≡ m = cc in subst (IsSaid k node 1) g (said-segment k node h)
+    let g : meant (start octet_string segment ∷ []) slot.Segment false false None None ≡ m = cc in subst (IsSaid k node 1) g (said-segment k node h)
 said-string k node (suc (suc n)) m ms h f = absurd (let g : [] ≡ m ∷ ms = sym (drop-none n) ∙ f in cc)
 
 said-kind : (k : Kind) (node : NodeId) (position : ℕ) (m : Meant) (ms : List Meant) → drop position (kind_meant k node) ≡ m ∷ ms → IsSaid k node position m
 said-kind Kind.Seq node zero m ms f =
-    let g : meant (node_starts node) slot.Inner false (is_some (first_mandatory (components profile_two node))) (node_choice node) ≡ m = cc in
+    let g : meant (node_starts node) slot.Inner false (is_some (first_mandatory (components profile_two node))) (node_choice node) None ≡ m = cc in
     subst (IsSaid Kind.Seq node zero) g (said-around Kind.Seq node _ _)
 said-kind Kind.Seq node (suc row) m ms f =
     said-row node row (drop row (components profile_two node)) m ms refl (sym (drop-rows row (components profile_two node)) ∙ f)
 said-kind Kind.SeqOf node zero m ms f =
-    let g : meant (node_starts node) slot.Inner true true (node_choice node) ≡ m = cc in subst (IsSaid Kind.SeqOf node zero) g (said-around Kind.SeqOf node true true)
+    let g : meant (node_starts node) slot.Inner true true (node_choice node) None ≡ m = cc in subst (IsSaid Kind.SeqOf node zero) g (said-around Kind.SeqOf node true true)
 said-kind Kind.SeqOf node (suc zero) m ms f = said-item node (components profile_two node) m ms refl f
 said-kind Kind.SeqOf node (suc (suc n)) m ms f = absurd (let g : [] ≡ m ∷ ms = sym (drop-item n (components profile_two node)) ∙ f in cc)
 said-kind Kind.Choice node zero m ms f =
-    let g : meant (node_starts node) slot.Inner true true (node_choice node) ≡ m = cc in subst (IsSaid Kind.Choice node zero) g (said-around Kind.Choice node true true)
+    let g : meant (node_starts node) slot.Inner true true (node_choice node) None ≡ m = cc in subst (IsSaid Kind.Choice node zero) g (said-around Kind.Choice node true true)
 said-kind Kind.Choice node (suc n) m ms f = absurd (let g : [] ≡ m ∷ ms = sym (drop-none n) ∙ f in cc)
 said-kind (Kind.Leaf l) node position m ms f = said-string (Kind.Leaf l) node position m ms refl f
 said-kind Kind.IllString node position m ms f = said-string Kind.IllString node position m ms refl f

@@ -59,7 +59,7 @@ scan-rows t p node row (c ∷ cs) e = row-scanned t p node row c cs e (scan-rows
 
 -- in a wrapper there is the one component
 scan-around : (t : Tag) (p : PartId) (node : NodeId) (choice : Option NodeId) (ms : List Meant)
-    → scan t p node zero (meant (node_starts node) slot.Inner true true choice ∷ ms) ≡ due profile_two t (rows (wrapped p node ∷ []))
+    → scan t p node zero (meant (node_starts node) slot.Inner true true choice None ∷ ms) ≡ due profile_two t (rows (wrapped p node ∷ []))
 scan-around t p node choice ms = at (start_of profile_two t (wrapped p node))
   where
     at : (o : Option Start) → elim (option_map (λ (s : Start). s.element) o) as (λ _. Option Due) [

@@ -1,5 +1,5 @@
 -- What an index and a cell that is found stand for.
-use Rattle.std.specs.Prelude.{◌≡◌, ℕ, zero, suc, List, [], ◌∷◌, drop, Option, Some, None, find, option_map, slice_get}
+use Rattle.std.specs.Prelude.{◌≡◌, ℕ, ℤ, zero, suc, List, [], ◌∷◌, drop, Option, Some, None, find, option_map, slice_get}
 use Rattle.ber_core.specs.Identifier.{Tag}
 use Rattle.ber_leaf.specs.Leaf.{boolean, integer, enumerated, general_string, visible_string, printable_string, iso_date, iso_time}
 use Rattle.ber_leaf.specs.Profile.{profile_two}
@@ -102,3 +102,17 @@ Begins t c (Some n) e = (c.tagging ≡ untagged) × (kind_of c.node ≡ Kind.Cho
 abbrev pub BeginsDue : Tag → Due → Option ℕ → Type 0
 BeginsDue t (part c e n) alternative = Begins t c alternative e
 BeginsDue t octets alternative = alternative ≡ None
+
+-- the part that is missing at a position of a node, where the wrapper round it is of a part
+abbrev pub part_at : PartId → NodeId → ℕ → Slot → PartId
+part_at p node position slot.Row = record { node = node; row = row_before position }
+part_at p node position _ = p
+
+abbrev pub presence_default : Presence → Option ℤ
+presence_default (Presence.Default d) = Some d
+presence_default _ = None
+
+-- the default of the component that is due (8.9.3)
+abbrev pub default_due : Due → Option ℤ
+default_due (part c e n) = presence_default c.presence
+default_due octets = None

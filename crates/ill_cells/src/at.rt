@@ -1,11 +1,13 @@
 //! Places in a message, and the elements that are due there.
-ghost use Rattle.std.specs.Prelude.{◌≡◌, ◌<◌, IsTrue, true, MatchOption, None, Some, length, slice_get, is_some, option_map, []};
+ghost use Rattle.std.specs.Prelude.{◌≡◌, ◌<◌, IsTrue, true, MatchOption, None, Some, length, slice_get, is_some, option_map, [], pos};
+ghost use Rattle.std.proofs.Props.{props};
 ghost use Rattle.ber_core.specs.Id.{tag_of_id};
 ghost use Rattle.ber_leaf.specs.Profile.{profile_two};
 ghost use Rattle.ill_schema.specs.Table.{kind_of};
 ghost use Rattle.ill_schema.specs.Tagging.{same_tag};
-ghost use Rattle.ill_cells.specs.Cells.{element_in, element_with, first_position};
-ghost use Rattle.ill_cells.specs.code.Meant.{cell_choice, cell_opens, cell_starts, is_nested, is_placed, node_choice, node_starts, opens_in};
+ghost use Rattle.ill_cells.specs.Cells.{element_in, element_with, first_position, part_at};
+ghost use Rattle.ill_cells.specs.code.Meant.{cell_choice, cell_opens, cell_starts, default_at, is_nested, is_placed, node_choice, node_starts, opens_in, row_there};
+ghost use Rattle.ill_refusals.specs.Element.{components};
 ghost use Rattle.ill_cells.specs.code.Starts.{IsBegun};
 
 use crate::cell::{Cell, Slot, What};
@@ -28,22 +30,28 @@ pub struct Found {
     /// Where it is due: the position of its row's cell.
     at: At,
     slot: Slot,
-    /// The row of the tables, or the alternative, that it is.
+    what: What,
+    /// The node that the element is, or that is in the wrapper.
+    node: NodeId,
+    /// The row of the tables, or the alternative, that the element is.
     part: PartId,
-    cell: Cell,
+    default: Option<u8>,
     alternative: Option<u8>,
-    ghost opens: { IsTrue (opens_in cell.what cell.node) },
+    ghost opens: { IsTrue (opens_in what node) },
     ghost placed: { IsTrue (is_placed (kind_of at.node) at.position slot) },
+    ghost there: { IsTrue (row_there slot at.position (components profile_two at.node)) },
+    ghost default_is: { option_map pos default ≡ default_at at.node at.position slot } by { Prim.hlevel props },
     ghost few: { at.position < 27 },
 }
 
 /// What a cell is by a tag.
 #[derive(Clone, Copy)]
 struct Begun {
+    what: What,
+    node: NodeId,
     part: PartId,
-    cell: Cell,
     alternative: Option<u8>,
-    ghost opens: { IsTrue (opens_in cell.what cell.node) },
+    ghost opens: { IsTrue (opens_in what node) },
 }
 
 /// Whether the identifier is the cell's.
@@ -58,15 +66,16 @@ fn has_tag(cell: Cell, id: Id) -> bool
 fn nested_start(node: NodeId, id: Id) -> Option<Begun>
     requires { is_nested (kind_of node) ≡ true }
     ensures { MatchOption result (element_with (tag_of_id id) (node_starts node) ≡ None)
-        (λ begun. IsBegun (tag_of_id id) (node_starts node) (node_choice node) begun.alternative (element_in begun.part begun.cell.node begun.cell.what)) }
+        (λ begun. IsBegun (tag_of_id id) (node_starts node) (node_choice node) begun.alternative (element_in begun.part begun.node begun.what)) }
 {
     let cells = alternatives_of(node);
     for row in 0..cells.len() as u8 {
         let cell = cell_at(cells, row);
         if has_tag(cell, id) {
             return Some(Begun {
+                what: cell.what,
+                node: cell.node,
                 part: PartId { node, row },
-                cell,
                 alternative: alternative_number(node, row),
             });
         }
@@ -104,12 +113,25 @@ fn cell_at(cells: &[Cell], position: u8) -> Cell
     cells[position as usize]
 }
 
+/// The part that is due at a position.
+fn part_at(at: At, position: u8, slot: Slot) -> PartId
+    ensures { result ≡ part_at at.part at.node position slot }
+{
+    match slot {
+        Slot::Row => PartId {
+            node: at.node,
+            row: position.saturating_sub(1),
+        },
+        _ => at.part,
+    }
+}
+
 /// What a cell is by the tag.
 #[inline(always)]
 fn start(cell: Cell, node: NodeId, position: u8, id: Id) -> Option<Begun>
     requires { cell_opens cell ≡ true }
     ensures { MatchOption result (element_with (tag_of_id id) (cell_starts node position cell) ≡ None)
-        (λ begun. IsBegun (tag_of_id id) (cell_starts node position cell) (cell_choice cell) begun.alternative (element_in begun.part begun.cell.node begun.cell.what)) }
+        (λ begun. IsBegun (tag_of_id id) (cell_starts node position cell) (cell_choice cell) begun.alternative (element_in begun.part begun.node begun.what)) }
 {
     if cell.nested {
         return nested_start(cell.node, id);
@@ -118,11 +140,12 @@ fn start(cell: Cell, node: NodeId, position: u8, id: Id) -> Option<Begun>
         return None;
     }
     Some(Begun {
+        what: cell.what,
+        node: cell.node,
         part: PartId {
             node,
             row: position.saturating_sub(1),
         },
-        cell,
         alternative: None,
     })
 }
@@ -172,13 +195,30 @@ impl At {
                 return Some(Found {
                     at: At { position, ..self },
                     slot: cell.slot,
+                    what: begun.what,
+                    node: begun.node,
                     part: begun.part,
-                    cell: begun.cell,
+                    default: cell.default,
                     alternative: begun.alternative,
                 });
             }
             if cell.stops {
                 return None;
+            }
+        }
+        None
+    }
+
+    /// The first mandatory part that is still to come.
+    #[cold]
+    pub fn missing(self) -> Option<PartId>
+        ensures { result ≡ missing profile_two (next_at self) }
+    {
+        let cells = cells_of(self.node);
+        for position in self.position..cells.len() as u8 {
+            let cell = cell_at(cells, position);
+            if cell.stops {
+                return Some(part_at(self, position, cell.slot));
             }
         }
         None
@@ -198,7 +238,8 @@ impl At {
 
 impl Found {
     ghost use Rattle.ill_refusals.specs.Next.{element_of, next_of, opening};
-    ghost use Rattle.ill_cells.specs.Places.{due_of, next_at};
+    ghost use Rattle.ill_cells.specs.Places.{IsAtRow, alternative_of, due_of, next_at, node_of, node_round, part_of, slot_of};
+    ghost use Rattle.ill_cells.specs.Cells.{default_due};
 
     /// The place in the element, once it is open.
     pub fn first(self) -> At
@@ -206,8 +247,8 @@ impl Found {
     {
         At {
             part: self.part,
-            node: self.cell.node,
-            position: first_position(self.cell.what),
+            node: self.node,
+            position: first_position(self.what),
         }
     }
 
@@ -222,6 +263,59 @@ impl Found {
             },
             Slot::Inner => At::nowhere(),
             Slot::Item | Slot::Segment => self.at,
+        }
+    }
+
+    /// As what it is read.
+    pub fn what(self) -> What
+        ensures { element_of (due_of self) ≡ element_in (part_of self) (node_of self) result }
+    {
+        self.what
+    }
+
+    /// The node that it is, or that is in the wrapper.
+    pub fn node(self) -> NodeId
+        ensures { result ≡ node_of self }
+    {
+        self.node
+    }
+
+    /// The row of the tables, or the alternative, that it is.
+    pub fn part(self) -> PartId
+        ensures { result ≡ part_of self }
+    {
+        self.part
+    }
+
+    /// Where it stands in the element round it.
+    pub fn slot(self) -> Slot
+        ensures { result ≡ slot_of self }
+    {
+        self.slot
+    }
+
+    /// The row of the sequence round it.
+    pub fn row(self) -> u8
+        requires { slot_of self ≡ Slot.Row }
+        ensures { IsAtRow (node_round self) result (due_of self) }
+    {
+        self.at.position - 1
+    }
+
+    /// The alternative of the choice without a tag that it is.
+    pub fn alternative(self) -> Option<u8>
+        ensures { result ≡ alternative_of self }
+    {
+        self.alternative
+    }
+
+    /// The default of its row.
+    pub fn default(self) -> Option<i64>
+        ensures { result ≡ default_due (due_of self) }
+    {
+        match self.default {
+            Some(default) => Some(default as i64),
+            None => None,
         }
     }
 }

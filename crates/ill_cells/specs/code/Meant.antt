@@ -1,5 +1,5 @@
 -- What the cells of a node are to say.
-use Rattle.std.specs.Prelude.{◌≡◌, ℕ, zero, suc, Bool, true, false, ◌&&◌, List, [], ◌∷◌, Option, Some, None, is_some, map, if◌then◌else◌}
+use Rattle.std.specs.Prelude.{◌≡◌, ℕ, ℤ, pos, drop, option_map, zero, suc, Bool, true, false, ◌&&◌, List, [], ◌∷◌, Option, Some, None, is_some, map, if◌then◌else◌}
 use Rattle.ber_core.specs.Identifier.{Tag}
 use Rattle.ber_core.specs.Tree.{octet_string}
 use Rattle.ber_leaf.specs.Profile.{profile_two}
@@ -12,7 +12,7 @@ use Rattle.ill_schema.specs.Table.{kind_of, rows_of}
 use Rattle.ill_schema.specs.Tagging.{untagged}
 use Rattle.ill_refusals.specs.Element.{Component, components, component_starts, Element, segment, Start, start, starts}
 use Rattle.ill_refusals.specs.Next.{first_mandatory}
-use Rattle.ill_cells.specs.Cells.{wrapped, element_in, row_before}
+use Rattle.ill_cells.specs.Cells.{wrapped, element_in, presence_default, row_before}
 use Rattle.ill_cells.specs.declared.cell.Cell.{Cell}
 use Rattle.ill_cells.specs.declared.cell.What.{What}
 use Rattle.ill_cells.specs.declared.cell.What.TheVariants as what
@@ -66,6 +66,26 @@ is_nested Kind.Choice = true
 is_nested Kind.IllString = true
 is_nested _ = false
 
+abbrev pub is_there : List Component → Bool
+is_there [] = false
+is_there (c ∷ cs) = true
+
+-- the component at a position is there
+abbrev pub row_there : Slot → ℕ → List Component → Bool
+row_there slot.Row position cs = is_there (drop (row_before position) cs)
+row_there slot.Item position cs = is_there cs
+row_there _ position cs = true
+
+abbrev pub default_first : List Component → Option ℤ
+default_first [] = None
+default_first (c ∷ cs) = presence_default c.presence
+
+-- the default of the component at a position
+abbrev pub default_at : NodeId → ℕ → Slot → Option ℤ
+default_at node position slot.Row = default_first (drop (row_before position) (components profile_two node))
+default_at node position slot.Item = default_first (components profile_two node)
+default_at node position _ = None
+
 abbrev pub opens_in : What → NodeId → Bool
 opens_in w node = opens w (kind_of node) (components profile_two node)
 
@@ -100,16 +120,17 @@ pub record Meant : Type 0 where
   pub opens : Bool
   -- the choice without a tag whose alternatives these are
   pub choice : Option NodeId
+  pub default : Option ℤ
 
 abbrev pub cell_meant : NodeId → ℕ → Cell → Meant
-cell_meant node position c = record { starts = cell_starts node position c; slot = c.slot; stops = c.stops; lacks = c.lacks; opens = cell_opens c; choice = cell_choice c }
+cell_meant node position c = record { starts = cell_starts node position c; slot = c.slot; stops = c.stops; lacks = c.lacks; opens = cell_opens c; choice = cell_choice c; default = option_map pos c.default }
 
 abbrev pub cells_meant : NodeId → ℕ → List Cell → List Meant
 cells_meant node position [] = []
 cells_meant node position (c ∷ cs) = cell_meant node position c ∷ cells_meant node (suc position) cs
 
-abbrev pub meant : List Start → Slot → Bool → Bool → Option NodeId → Meant
-meant ss slot stops lacks choice = record { starts = ss; slot = slot; stops = stops; lacks = lacks; opens = true; choice = choice }
+abbrev pub meant : List Start → Slot → Bool → Bool → Option NodeId → Option ℤ → Meant
+meant ss slot stops lacks choice default = record { starts = ss; slot = slot; stops = stops; lacks = lacks; opens = true; choice = choice; default = default }
 
 abbrev pub is_must : Presence → Bool
 is_must Presence.Must = true
@@ -118,23 +139,23 @@ is_must _ = false
 -- what the rows of a sequence are to say
 abbrev pub rows_meant : List Component → List Meant
 rows_meant [] = []
-rows_meant (c ∷ cs) = meant (starts profile_two c) slot.Row (is_must c.presence) (is_some (first_mandatory (c ∷ cs))) (component_choice c) ∷ rows_meant cs
+rows_meant (c ∷ cs) = meant (starts profile_two c) slot.Row (is_must c.presence) (is_some (first_mandatory (c ∷ cs))) (component_choice c) (presence_default c.presence) ∷ rows_meant cs
 
 abbrev pub item_meant : List Component → List Meant
 item_meant [] = []
-item_meant (c ∷ cs) = meant (starts profile_two c) slot.Item false false (component_choice c) ∷ []
+item_meant (c ∷ cs) = meant (starts profile_two c) slot.Item false false (component_choice c) (presence_default c.presence) ∷ []
 
 abbrev pub segment_meant : List Meant
-segment_meant = meant (start octet_string segment ∷ []) slot.Segment false false None ∷ []
+segment_meant = meant (start octet_string segment ∷ []) slot.Segment false false None None ∷ []
 
 -- what the cells of a node of a kind are to say
 abbrev pub kind_meant : Kind → NodeId → List Meant
 kind_meant Kind.Seq node =
-    meant (node_starts node) slot.Inner false (is_some (first_mandatory (components profile_two node))) (node_choice node) ∷ rows_meant (components profile_two node)
-kind_meant Kind.SeqOf node = meant (node_starts node) slot.Inner true true (node_choice node) ∷ item_meant (components profile_two node)
-kind_meant Kind.Choice node = meant (node_starts node) slot.Inner true true (node_choice node) ∷ []
-kind_meant (Kind.Leaf _) node = meant (node_starts node) slot.Inner true true (node_choice node) ∷ segment_meant
-kind_meant Kind.IllString node = meant (node_starts node) slot.Inner true true (node_choice node) ∷ segment_meant
+    meant (node_starts node) slot.Inner false (is_some (first_mandatory (components profile_two node))) (node_choice node) None ∷ rows_meant (components profile_two node)
+kind_meant Kind.SeqOf node = meant (node_starts node) slot.Inner true true (node_choice node) None ∷ item_meant (components profile_two node)
+kind_meant Kind.Choice node = meant (node_starts node) slot.Inner true true (node_choice node) None ∷ []
+kind_meant (Kind.Leaf _) node = meant (node_starts node) slot.Inner true true (node_choice node) None ∷ segment_meant
+kind_meant Kind.IllString node = meant (node_starts node) slot.Inner true true (node_choice node) None ∷ segment_meant
 
 abbrev pub node_meant : NodeId → List Meant
 node_meant node = kind_meant (kind_of node) node

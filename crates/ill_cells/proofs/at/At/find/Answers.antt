@@ -1,4 +1,4 @@
-use Rattle.std.proofs.Common.{◌≡◌, Some, sym, ap, ◌∙◌, arith}
+use Rattle.std.proofs.Common.{◌≡◌, Some, refl, sym, ap, ◌∙◌, arith}
 use Rattle.ber_core.specs.Id.{tag_of_id}
 use Rattle.ill_cells.proofs.Steps.{cell-said, scan-all, scan-end, scan-found, scan-skip, scan-stop}
 use Rattle.ill_cells.proofs.at.At.find.Goals as goal
@@ -10,6 +10,8 @@ pub invariant_of-result : goal.invariant_of-result
 invariant_of-result c = record {
   opens = c.in-Some.begun.opens;
   placed = (cell-said c.args.self.node c.loop-position.position c.cells_of-cells.result.now c.cell_at-cell.result c.cells_of-cells.ensures.meant c.cell_at-cell.ensures).placed;
+  there = (cell-said c.args.self.node c.loop-position.position c.cells_of-cells.result.now c.cell_at-cell.result c.cells_of-cells.ensures.meant c.cell_at-cell.ensures).there;
+  default_is = (cell-said c.args.self.node c.loop-position.position c.cells_of-cells.result.now c.cell_at-cell.result c.cells_of-cells.ensures.meant c.cell_at-cell.ensures).default;
   few = omega (arith, c.cells_of-cells.ensures.few);
 }
 
@@ -25,6 +27,7 @@ returns-in-Some c =
       is = scan-all t s.part s.node s.position cells c.cells_of-cells.ensures.meant ∙ c.loop-position.invariant
           ∙ scan-found t s.part s.node i cells cell _ c.cell_at-cell.ensures begun.is;
       begins = (cell-said s.node i cells cell c.cells_of-cells.ensures.meant c.cell_at-cell.ensures).begins t s.part _ _ (record { is = begun.is; by = begun.by });
+      round = refl;
     }
 
 pub returns-then-cell : goal.returns-then-cell

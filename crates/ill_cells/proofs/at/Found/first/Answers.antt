@@ -9,6 +9,6 @@ use Rattle.ill_cells.proofs.at.Found.first.Goals as goal
 pub returns : goal.returns
 returns c =
     let f = c.args.self in
-    ap (next_from f.part f.cell.node) c.first_position.ensures
-    ∙ first-opens f.cell.what f.part f.cell.node f.opens
+    ap (next_from f.part f.node) c.first_position.ensures
+    ∙ first-opens f.what f.part f.node f.opens
     ∙ ap (opening profile_two) (sym (element-due f.at.part f.at.node f.at.position f.slot (element_found f)))
