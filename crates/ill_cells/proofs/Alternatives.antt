@@ -1,5 +1,5 @@
 -- The cells of alternatives, one by one.
-use Rattle.std.proofs.Common.{◌≡◌, ℕ, zero, suc, ◌+◌, ◌<◌, ◌≤◌, Bool, true, false, ◌&&◌, IsTrue, List, [], ◌∷◌, ◌++◌, drop, length, map, Option, Some, None, option_map, refl, sym, ap, ap₂, subst, ◌∙◌, arith, slice_get}
+use Rattle.std.proofs.Common.{◌≡◌, ℕ, zero, suc, ◌+◌, ◌≤◌, Bool, true, false, IsTrue, List, [], ◌∷◌, ◌++◌, drop, length, map, Option, Some, None, option_map, refl, sym, ap, ap₂, subst, ◌∙◌, arith, slice_get}
 use Rattle.std.specs.Prelude.{flat_map, if◌then◌else◌}
 use Rattle.std.proofs.lemmas.Bool.{and_parts}
 use Rattle.ber_core.specs.Identifier.{Tag}
@@ -8,8 +8,8 @@ use Rattle.ill_schema.specs.declared.node.Kind.{Kind}
 use Rattle.ill_schema.specs.declared.node.NodeId.{NodeId}
 use Rattle.ill_schema.specs.Table.{kind_of}
 use Rattle.ill_schema.specs.Tagging.{same_tag}
-use Rattle.ill_refusals.specs.Element.{Component, component_starts, components, Element, own_starts, Start}
-use Rattle.ill_cells.specs.Cells.{IsAlternative, element_with}
+use Rattle.ill_refusals.specs.Element.{Component, component_starts, components, own_starts, Start}
+use Rattle.ill_cells.specs.Cells.{element_with}
 use Rattle.ill_cells.specs.code.Meant.{all_open, alone, cell_start, is_nested, nested_starts, node_choice, node_starts, opens_in, starts_of_cells}
 use Rattle.ill_cells.specs.code.Starts.{BeginsIn}
 use Rattle.ill_cells.specs.declared.cell.Cell.{Cell}

@@ -1,12 +1,11 @@
 -- The row at which an element is due.
-use Rattle.std.proofs.Common.{◌≡◌, ℕ, zero, suc, ◌-◌, true, IsTrue, List, [], ◌∷◌, drop, refl, sym, ap, subst, ◌∙◌, arith}
+use Rattle.std.proofs.Common.{◌≡◌, ℕ, zero, suc, ◌-◌, true, IsTrue, List, [], ◌∷◌, drop, refl, sym, ap, subst, arith}
 use Rattle.ber_leaf.specs.Profile.{profile_two}
-use Rattle.ill_schema.specs.declared.node.Kind.{Kind}
 use Rattle.ill_schema.specs.declared.node.NodeId.{NodeId}
 use Rattle.ill_schema.specs.declared.part.PartId.{PartId}
 use Rattle.ill_schema.specs.Table.{kind_of}
 use Rattle.ill_refusals.specs.Element.{Component, components, Element}
-use Rattle.ill_refusals.specs.Next.{rows, Due, part}
+use Rattle.ill_refusals.specs.Next.{rows, part}
 use Rattle.ill_cells.specs.Cells.{due_at, due_row, wrapped}
 use Rattle.ill_cells.specs.Places.{IsAtRow}
 use Rattle.ill_cells.specs.code.Meant.{is_placed, is_there, row_there}

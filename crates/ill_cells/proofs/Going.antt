@@ -1,12 +1,12 @@
 -- Where an element begins inside, and what comes behind it.
-use Rattle.std.proofs.Common.{◌≡◌, ℕ, zero, suc, ◌+◌, Bool, true, false, ◌&&◌, IsTrue, List, [], ◌∷◌, drop, refl, sym, ap, ◌∙◌, arith}
+use Rattle.std.proofs.Common.{◌≡◌, ℕ, zero, suc, ◌+◌, true, IsTrue, List, [], ◌∷◌, drop, refl, sym, ap, ◌∙◌, arith}
 use Rattle.ber_leaf.specs.Profile.{profile_two}
 use Rattle.ill_schema.specs.declared.node.Kind.{Kind}
 use Rattle.ill_schema.specs.declared.node.NodeId.{NodeId}
 use Rattle.ill_schema.specs.declared.part.PartId.{PartId}
 use Rattle.ill_schema.specs.Table.{kind_of}
 use Rattle.ill_refusals.specs.Element.{Component, components, Element, leaf, sequence, list, wrapper, loose_wrapper, segment, left_out}
-use Rattle.ill_refusals.specs.Next.{Next, rows, items, either, segments, Due, element_of, next_of, opening}
+use Rattle.ill_refusals.specs.Next.{Next, rows, items, either, segments, element_of, next_of, opening}
 use Rattle.ill_cells.specs.Cells.{due_at, due_item, due_row, due_segment, element_in, first_position, next_from, next_of_kind, wrapped}
 use Rattle.ill_cells.specs.code.Meant.{is_empty, is_leaf, is_list, is_other, is_placed, is_sequence, opens, opens_in}
 use Rattle.ill_cells.specs.declared.cell.What.{What}

@@ -1,7 +1,7 @@
 -- What the cells of a node say, one by one.
 use Rattle.std.proofs.lemmas.List.{append-nil}
-use Rattle.std.proofs.Common.{◌≡◌, ℕ, zero, suc, ◌+◌, ◌<◌, ◌≤◌, Bool, true, false, IsTrue, List, [], ◌∷◌, ◌++◌, drop, length, Option, Some, None, option_map, refl, sym, ap, ap₂, subst, ◌∙◌, arith, slice_get}
-use Rattle.std.specs.Prelude.{find, flat_map, is_some, if◌then◌else◌}
+use Rattle.std.proofs.Common.{◌≡◌, ℕ, zero, suc, ◌+◌, ◌≤◌, Bool, true, false, IsTrue, List, [], ◌∷◌, ◌++◌, drop, length, Option, Some, None, option_map, refl, sym, ap, ap₂, subst, ◌∙◌, arith, slice_get}
+use Rattle.std.specs.Prelude.{flat_map, is_some, if◌then◌else◌}
 use Rattle.ber_core.specs.Identifier.{Tag}
 use Rattle.ber_core.specs.Tree.{octet_string}
 use Rattle.ber_leaf.specs.Profile.{profile_two}
@@ -11,9 +11,9 @@ use Rattle.ill_schema.specs.declared.part.PartId.{PartId}
 use Rattle.ill_schema.specs.Table.{kind_of}
 use Rattle.ill_schema.specs.Tagging.{Tagging, untagged, implicit, explicit, explicit_or_bare, same_tag}
 use Rattle.ill_refusals.specs.Element.{Component, component_starts, components, Element, segment, Start, start, starts}
-use Rattle.ill_refusals.specs.Next.{rows, Due, part, first_mandatory}
-use Rattle.ill_cells.specs.Cells.{Begins, BeginsDue, IsAlternative, due_at, due_item, due_row, due_segment, element_with, presence_default, wrapped}
-use Rattle.ill_cells.specs.code.Meant.{Meant, cell_meant, cell_start, cells_meant, component_choice, default_at, default_first, is_must, is_there, is_placed, item_meant, kind_meant, meant, node_choice, node_meant, node_starts, row_there, rows_meant, segment_meant}
+use Rattle.ill_refusals.specs.Next.{first_mandatory}
+use Rattle.ill_cells.specs.Cells.{Begins, BeginsDue, due_at, due_item, due_row, due_segment, element_with, presence_default, wrapped}
+use Rattle.ill_cells.specs.code.Meant.{Meant, cell_meant, cells_meant, component_choice, default_at, default_first, is_must, is_there, is_placed, item_meant, kind_meant, meant, node_choice, node_meant, node_starts, row_there, rows_meant, segment_meant}
 use Rattle.ill_cells.specs.code.Starts.{BeginsIn, IsBegun}
 use Rattle.ill_cells.specs.declared.cell.Cell.{Cell}
 use Rattle.ill_cells.specs.declared.cell.Slot.TheVariants as slot

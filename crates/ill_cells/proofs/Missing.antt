@@ -1,5 +1,5 @@
 -- The first mandatory part from a position on.
-use Rattle.std.proofs.Common.{◌≡◌, ℕ, zero, suc, ◌+◌, ◌≤◌, Bool, true, false, List, [], ◌∷◌, drop, length, Option, Some, None, refl, sym, ap, ◌∙◌, arith, slice_get}
+use Rattle.std.proofs.Common.{◌≡◌, ℕ, zero, suc, ◌+◌, ◌≤◌, true, false, List, [], ◌∷◌, drop, length, Option, Some, None, refl, sym, ap, ◌∙◌, arith, slice_get}
 use Rattle.std.specs.Prelude.{if◌then◌else◌}
 use Rattle.ber_leaf.specs.Profile.{profile_two}
 use Rattle.ill_schema.specs.declared.node.Kind.{Kind}
@@ -11,7 +11,7 @@ use Rattle.ill_schema.specs.Table.{kind_of, rows_of}
 use Rattle.ill_refusals.specs.Element.{Component, components, components_from}
 use Rattle.ill_refusals.specs.Next.{Next, rows, items, first_mandatory, missing}
 use Rattle.ill_cells.specs.Cells.{next_from, next_of_kind, part_at}
-use Rattle.ill_cells.specs.code.Meant.{Meant, cell_meant, cells_meant, is_must, item_meant, kind_meant, node_meant, rows_meant}
+use Rattle.ill_cells.specs.code.Meant.{Meant, cells_meant, is_must, item_meant, kind_meant, node_meant, rows_meant}
 use Rattle.ill_cells.specs.declared.cell.Cell.{Cell}
 use Rattle.ill_cells.specs.declared.cell.Slot.TheVariants as slot
 use Rattle.ill_cells.proofs.Scanning.{drop-item, drop-next, drop-none, drop-rows}

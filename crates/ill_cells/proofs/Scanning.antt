@@ -1,5 +1,5 @@
 -- What the cells of a node are to say is what is due there.
-use Rattle.std.proofs.Common.{◌≡◌, ◌⊎◌, ℕ, zero, suc, Bool, true, false, ◌&&◌, List, [], ◌∷◌, drop, ◌++◌, Option, Some, None, option_map, refl, sym, ap, ap₂, ◌∙◌, inl, inr, arith, eqb}
+use Rattle.std.proofs.Common.{◌≡◌, ℕ, zero, suc, Bool, true, false, ◌&&◌, List, [], ◌∷◌, drop, ◌++◌, Option, Some, None, option_map, refl, ap, ap₂, ◌∙◌, arith}
 use Rattle.std.specs.Prelude.{find, flat_map, if◌then◌else◌, is_some, nat_eq}
 use Rattle.std.proofs.lemmas.Bool.Decides.{nat_tests}
 use Rattle.ber_core.specs.Identifier.{Tag, class_bits}
@@ -11,8 +11,8 @@ use Rattle.ill_schema.specs.declared.part.PartId.{PartId}
 use Rattle.ill_schema.specs.declared.part.Presence.{Presence}
 use Rattle.ill_schema.specs.Table.{kind_of}
 use Rattle.ill_schema.specs.Tagging.{same_tag, sequence_tag}
-use Rattle.ill_refusals.specs.Element.{Component, component_starts, components, Element, own_starts, list, segment, sequence, Start, start, starts}
-use Rattle.ill_refusals.specs.Next.{Next, rows, items, either, segments, Due, part, octets, due, due_in, opening, start_of, first_mandatory, missing}
+use Rattle.ill_refusals.specs.Element.{Component, component_starts, components, own_starts, segment, sequence, Start, start}
+use Rattle.ill_refusals.specs.Next.{Next, rows, items, either, segments, Due, part, octets, due, due_in, start_of, first_mandatory, missing}
 use Rattle.ill_cells.specs.Cells.{due_at, element_with, next_from, next_of_kind, wrapped}
 use Rattle.ill_cells.specs.code.Meant.{Meant, meant, is_must, node_choice, item_meant, kind_meant, node_meant, node_starts, rows_meant, segment_meant}
 use Rattle.ill_cells.specs.declared.cell.Slot.TheVariants as slot

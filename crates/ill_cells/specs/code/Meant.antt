@@ -1,16 +1,13 @@
 -- What the cells of a node are to say.
-use Rattle.std.specs.Prelude.{◌≡◌, ℕ, ℤ, pos, drop, option_map, zero, suc, Bool, true, false, ◌&&◌, List, [], ◌∷◌, Option, Some, None, is_some, map, if◌then◌else◌}
-use Rattle.ber_core.specs.Identifier.{Tag}
+use Rattle.std.specs.Prelude.{ℕ, ℤ, pos, drop, option_map, zero, suc, Bool, true, false, ◌&&◌, List, [], ◌∷◌, Option, Some, None, is_some, map, if◌then◌else◌}
 use Rattle.ber_core.specs.Tree.{octet_string}
 use Rattle.ber_leaf.specs.Profile.{profile_two}
 use Rattle.ill_schema.specs.declared.node.Kind.{Kind}
 use Rattle.ill_schema.specs.declared.node.NodeId.{NodeId}
-use Rattle.ill_schema.specs.declared.node.NodeId.TheVariants.{IllApdu}
-use Rattle.ill_schema.specs.declared.part.PartId.{PartId}
 use Rattle.ill_schema.specs.declared.part.Presence.{Presence}
-use Rattle.ill_schema.specs.Table.{kind_of, rows_of}
+use Rattle.ill_schema.specs.Table.{kind_of}
 use Rattle.ill_schema.specs.Tagging.{untagged}
-use Rattle.ill_refusals.specs.Element.{Component, components, component_starts, Element, segment, Start, start, starts}
+use Rattle.ill_refusals.specs.Element.{Component, components, component_starts, segment, Start, start, starts}
 use Rattle.ill_refusals.specs.Next.{first_mandatory}
 use Rattle.ill_cells.specs.Cells.{wrapped, element_in, presence_default, row_before}
 use Rattle.ill_cells.specs.declared.cell.Cell.{Cell}

@@ -1,10 +1,8 @@
 -- What a tag begins.
-use Rattle.std.specs.Prelude.{◌≡◌, ℕ, List, Option, Some, None, find, option_map, slice_get}
+use Rattle.std.specs.Prelude.{◌≡◌, ℕ, List, Option, Some, None}
 use Rattle.ber_core.specs.Identifier.{Tag}
-use Rattle.ber_leaf.specs.Profile.{profile_two}
 use Rattle.ill_schema.specs.declared.node.NodeId.{NodeId}
-use Rattle.ill_schema.specs.Tagging.{same_tag}
-use Rattle.ill_refusals.specs.Element.{Component, component_starts, components, Element, Start}
+use Rattle.ill_refusals.specs.Element.{Element, Start}
 use Rattle.ill_cells.specs.Cells.{element_with, IsAlternative}
 
 -- the element begins by an alternative of this number exactly where there is a choice

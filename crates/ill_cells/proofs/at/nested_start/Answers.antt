@@ -1,9 +1,9 @@
-use Rattle.std.proofs.Common.{◌≡◌, ◌+◌, suc, Some, drop, sym, ap, subst, ◌∙◌, arith}
+use Rattle.std.proofs.Common.{◌≡◌, ◌+◌, suc, drop, sym, ap, subst, ◌∙◌, arith}
 use Rattle.ber_core.specs.Id.{tag_of_id}
 use Rattle.ill_cells.specs.Cells.{element_with}
 use Rattle.ill_cells.specs.code.Meant.{cell_start, node_choice}
 use Rattle.ill_cells.specs.code.Starts.{BeginsIn}
-use Rattle.ill_cells.proofs.Alternatives.{begins-nested, drop-at, drop-past, element_with-found, element_with-other, open-at, starts-nested, starts_from}
+use Rattle.ill_cells.proofs.Alternatives.{begins-nested, drop-at, element_with-found, element_with-other, open-at, starts-nested, starts_from}
 use Rattle.ill_cells.proofs.at.nested_start.Goals as goal
 
 pub loop-row-init : goal.loop-row-init

@@ -1,4 +1,4 @@
-use Rattle.std.proofs.Common.{◌≡◌, Some, refl, sym, ap, ◌∙◌, arith}
+use Rattle.std.proofs.Common.{refl, ◌∙◌, arith}
 use Rattle.ber_core.specs.Id.{tag_of_id}
 use Rattle.ill_cells.proofs.Steps.{cell-said, scan-all, scan-end, scan-found, scan-skip, scan-stop}
 use Rattle.ill_cells.proofs.at.At.find.Goals as goal

@@ -1,4 +1,4 @@
-use Rattle.std.proofs.Common.{◌≡◌, Some, sym, ap, ◌∙◌, arith}
+use Rattle.std.proofs.Common.{Some, sym, ap, ◌∙◌, arith}
 use Rattle.ill_cells.proofs.Missing.{needed-all, needed-end, needed-found, needed-skip}
 use Rattle.ill_cells.proofs.at.At.missing.Goals as goal
 

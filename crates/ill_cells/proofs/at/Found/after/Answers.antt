@@ -1,4 +1,4 @@
-use Rattle.std.proofs.Common.{◌≡◌, sym, ap, subst, ◌∙◌, refl, IsTrue, inl, inr}
+use Rattle.std.proofs.Common.{sym, ap, subst, ◌∙◌, refl, IsTrue, inl, inr}
 use Rattle.ill_schema.specs.Table.{kind_of}
 use Rattle.ill_refusals.specs.Next.{next_of}
 use Rattle.ill_cells.specs.Cells.{due_at}
