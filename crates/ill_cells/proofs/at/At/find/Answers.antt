@@ -1,0 +1,54 @@
+use Rattle.std.proofs.Common.{refl, ◌∙◌, arith}
+use Rattle.ber_core.specs.Id.{tag_of_id}
+use Rattle.ill_cells.proofs.Steps.{cell-said, scan-all, scan-end, scan-found, scan-skip, scan-stop}
+use Rattle.ill_cells.proofs.at.At.find.Goals as goal
+
+pub start-requires : goal.start-requires
+start-requires c = (cell-said c.args.self.node c.loop-position.position c.cells_of-cells.result.now c.cell_at-cell.result c.cells_of-cells.ensures.meant c.cell_at-cell.ensures).opens
+
+pub invariant_of-result : goal.invariant_of-result
+invariant_of-result c = record {
+  opens = c.in-Some.begun.opens;
+  placed = (cell-said c.args.self.node c.loop-position.position c.cells_of-cells.result.now c.cell_at-cell.result c.cells_of-cells.ensures.meant c.cell_at-cell.ensures).placed;
+  there = (cell-said c.args.self.node c.loop-position.position c.cells_of-cells.result.now c.cell_at-cell.result c.cells_of-cells.ensures.meant c.cell_at-cell.ensures).there;
+  default_is = (cell-said c.args.self.node c.loop-position.position c.cells_of-cells.result.now c.cell_at-cell.result c.cells_of-cells.ensures.meant c.cell_at-cell.ensures).default;
+  few = omega (arith, c.cells_of-cells.ensures.few);
+}
+
+pub returns-in-Some : goal.returns-in-Some
+returns-in-Some c =
+    let s = c.args.self in
+    let t = tag_of_id c.args.id in
+    let i = c.loop-position.position in
+    let cells = c.cells_of-cells.result.now in
+    let cell = c.cell_at-cell.result in
+    let begun = c.in-Some.ensures in
+    record {
+      is = scan-all t s.part s.node s.position cells c.cells_of-cells.ensures.meant ∙ c.loop-position.invariant
+          ∙ scan-found t s.part s.node i cells cell _ c.cell_at-cell.ensures begun.is;
+      begins = (cell-said s.node i cells cell c.cells_of-cells.ensures.meant c.cell_at-cell.ensures).begins t s.part _ _ (record { is = begun.is; by = begun.by });
+      round = refl;
+    }
+
+pub returns-then-cell : goal.returns-then-cell
+returns-then-cell c =
+    let s = c.args.self in
+    let t = tag_of_id c.args.id in
+    let cells = c.cells_of-cells.result.now in
+    scan-all t s.part s.node s.position cells c.cells_of-cells.ensures.meant ∙ c.loop-position.invariant
+    ∙ scan-stop t s.part s.node c.loop-position.position cells c.cell_at-cell.result c.cell_at-cell.ensures c.in_default.ensures c.if-cell.true
+
+pub loop-position-preserved : goal.loop-position-preserved
+loop-position-preserved c =
+    let s = c.args.self in
+    let t = tag_of_id c.args.id in
+    let cells = c.cells_of-cells.result.now in
+    c.loop-position.invariant ∙ scan-skip t s.part s.node c.loop-position.position cells c.cell_at-cell.result c.cell_at-cell.ensures c.in_default.ensures c.if-cell.false
+
+pub returns : goal.returns
+returns c =
+    let s = c.args.self in
+    let t = tag_of_id c.args.id in
+    let cells = c.cells_of-cells.result.now in
+    scan-all t s.part s.node s.position cells c.cells_of-cells.ensures.meant ∙ c.loop-position.invariant
+    ∙ scan-end t s.part s.node c.loop-position.position cells (omega (arith, c.loop-position-test.false))

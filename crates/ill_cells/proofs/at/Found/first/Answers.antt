@@ -1,0 +1,14 @@
+use Rattle.std.proofs.Common.{sym, ap, ◌∙◌}
+use Rattle.ber_leaf.specs.Profile.{profile_two}
+use Rattle.ill_refusals.specs.Next.{opening}
+use Rattle.ill_cells.specs.Cells.{next_from}
+use Rattle.ill_cells.specs.Places.{element_found}
+use Rattle.ill_cells.proofs.Going.{element-due, first-opens}
+use Rattle.ill_cells.proofs.at.Found.first.Goals as goal
+
+pub returns : goal.returns
+returns c =
+    let f = c.args.self in
+    ap (next_from f.part f.node) c.first_position.ensures
+    ∙ first-opens f.what f.part f.node f.opens
+    ∙ ap (opening profile_two) (sym (element-due f.at.part f.at.node f.at.position f.slot (element_found f)))

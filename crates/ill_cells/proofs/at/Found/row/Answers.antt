@@ -1,0 +1,17 @@
+use Rattle.std.proofs.Common.{◌-◌, sym, subst, IsTrue}
+use Rattle.ber_leaf.specs.Profile.{profile_two}
+use Rattle.ill_schema.specs.Table.{kind_of}
+use Rattle.ill_refusals.specs.Element.{components}
+use Rattle.ill_cells.specs.Cells.{due_at}
+use Rattle.ill_cells.specs.code.Meant.{is_placed, row_there}
+use Rattle.ill_cells.specs.Places.{IsAtRow, element_found}
+use Rattle.ill_cells.proofs.AtRow.{row-at}
+use Rattle.ill_cells.proofs.at.Found.row.Goals as goal
+
+pub returns : goal.returns
+returns c =
+    let f = c.args.self in
+    subst (λ s. IsAtRow f.at.node (f.at.position - 1) (due_at f.at.part f.at.node f.at.position s (element_found f))) (sym c.requires)
+    (row-at f.at.part f.at.node f.at.position (element_found f)
+    (subst (λ s. IsTrue (is_placed (kind_of f.at.node) f.at.position s)) c.requires f.placed)
+    (subst (λ s. IsTrue (row_there s f.at.position (components profile_two f.at.node))) c.requires f.there))

@@ -1,0 +1,118 @@
+-- What an index and a cell that is found stand for.
+use Rattle.std.specs.Prelude.{◌≡◌, ℕ, ℤ, zero, suc, List, [], ◌∷◌, drop, Option, Some, None, find, option_map, slice_get}
+use Rattle.ber_core.specs.Identifier.{Tag}
+use Rattle.ber_leaf.specs.Leaf.{boolean, integer, enumerated, general_string, visible_string, printable_string, iso_date, iso_time}
+use Rattle.ber_leaf.specs.Profile.{profile_two}
+use Rattle.ill_schema.specs.declared.node.Kind.{Kind}
+use Rattle.ill_schema.specs.declared.node.NodeId.{NodeId}
+use Rattle.ill_schema.specs.declared.part.PartId.{PartId}
+use Rattle.ill_schema.specs.declared.part.Presence.{Presence}
+use Rattle.ill_schema.specs.Table.{kind_of}
+use Rattle.ill_schema.specs.Tagging.{untagged, same_tag}
+use Rattle.ill_refusals.specs.Element.{Component, component_starts, components, Start, Element, leaf, sequence, list, wrapper, loose_wrapper, segment, left_out}
+use Rattle.ill_refusals.specs.Next.{Next, rows, items, either, segments, Due, part, octets, opening}
+use Rattle.ill_cells.specs.declared.cell.What.{What}
+use Rattle.ill_cells.specs.declared.cell.What.TheVariants as what
+use Rattle.ill_cells.specs.declared.cell.Slot.{Slot}
+use Rattle.ill_cells.specs.declared.cell.Slot.TheVariants as slot
+
+-- what an explicit tag of a part stands round
+abbrev pub wrapped : PartId → NodeId → Component
+wrapped p node = record { part = p; presence = Presence.Must; tagging = untagged; node = node }
+
+-- what may come in a node that is open
+abbrev pub inside : Kind → NodeId → Next
+inside Kind.SeqOf node = opening profile_two (list node)
+inside (Kind.Leaf _) node = segments
+inside Kind.IllString node = segments
+inside _ node = rows []
+
+-- what may come at a position of a node: at 0 in the wrapper of a part round it, from 1 on in the node itself
+abbrev pub next_of_kind : Kind → PartId → NodeId → ℕ → Next
+next_of_kind Kind.Seq p node zero = either (wrapped p node)
+next_of_kind Kind.Seq p node (suc row) = rows (drop row (components profile_two node))
+next_of_kind _ p node zero = rows (wrapped p node ∷ [])
+next_of_kind k p node (suc zero) = inside k node
+next_of_kind _ p node (suc (suc _)) = rows []
+
+abbrev pub next_from : PartId → NodeId → ℕ → Next
+next_from p node position = next_of_kind (kind_of node) p node position
+
+-- what an element is, of this part and with this node
+abbrev pub element_in : PartId → NodeId → What → Element
+element_in p node what.Boolean = leaf boolean
+element_in p node what.Integer = leaf integer
+element_in p node what.Enumerated = leaf enumerated
+element_in p node what.General = leaf general_string
+element_in p node what.Visible = leaf visible_string
+element_in p node what.Printable = leaf printable_string
+element_in p node what.Date = leaf iso_date
+element_in p node what.Time = leaf iso_time
+element_in p node what.Sequence = sequence node
+element_in p node what.List = list node
+element_in p node what.Wrapper = wrapper (wrapped p node)
+element_in p node what.LooseWrapper = loose_wrapper (wrapped p node)
+element_in p node what.Segment = segment
+element_in p node what.LeftOut = left_out p
+
+-- where the element begins inside: a tag round a node at 0
+abbrev pub first_position : What → ℕ
+first_position what.Wrapper = 0
+first_position what.LooseWrapper = 0
+first_position _ = 1
+
+-- the row before a position of a sequence
+abbrev pub row_before : ℕ → ℕ
+row_before zero = zero
+row_before (suc row) = row
+
+abbrev pub due_row : Component → Element → List Component → Due
+due_row other e [] = part other e (rows [])
+due_row other e (c ∷ cs) = part c e (rows cs)
+
+abbrev pub due_item : Component → Element → List Component → Due
+due_item other e [] = part other e (rows [])
+due_item other e (c ∷ cs) = part c e (items c)
+
+abbrev pub due_segment : Component → Element → Due
+due_segment other segment = octets
+due_segment other e = part other e segments
+
+-- the element is due at a position of a node, where the wrapper round it is of a part
+abbrev pub due_at : PartId → NodeId → ℕ → Slot → Element → Due
+due_at p node position slot.Row e = due_row (wrapped p node) e (drop (row_before position) (components profile_two node))
+due_at p node position slot.Inner e = part (wrapped p node) e (rows [])
+due_at p node position slot.Item e = due_item (wrapped p node) e (components profile_two node)
+due_at p node position slot.Segment e = due_segment (wrapped p node) e
+
+-- the first element with the tag
+abbrev pub element_with : Tag → List Start → Option Element
+element_with t ss = option_map (λ s. s.element) (find (λ s. same_tag s.tag t) ss)
+
+-- the tag begins the alternative of this number of a choice (8.13)
+abbrev pub IsAlternative : Tag → NodeId → ℕ → Element → Type 0
+IsAlternative t node n e = (c : Component) × (slice_get (components profile_two node) n ≡ Some c) × (element_with t (component_starts c) ≡ Some e)
+
+-- the tag begins the component itself, or an alternative of it where it is a choice without a tag
+abbrev pub Begins : Tag → Component → Option ℕ → Element → Type 0
+Begins t c None e = element_with t (component_starts c) ≡ Some e
+Begins t c (Some n) e = (c.tagging ≡ untagged) × (kind_of c.node ≡ Kind.Choice) × IsAlternative t c.node n e
+
+-- the same of what is due
+abbrev pub BeginsDue : Tag → Due → Option ℕ → Type 0
+BeginsDue t (part c e n) alternative = Begins t c alternative e
+BeginsDue t octets alternative = alternative ≡ None
+
+-- the part that is missing at a position of a node, where the wrapper round it is of a part
+abbrev pub part_at : PartId → NodeId → ℕ → Slot → PartId
+part_at p node position slot.Row = record { node = node; row = row_before position }
+part_at p node position _ = p
+
+abbrev pub presence_default : Presence → Option ℤ
+presence_default (Presence.Default d) = Some d
+presence_default _ = None
+
+-- the default of the component that is due (8.9.3)
+abbrev pub default_due : Due → Option ℤ
+default_due (part c e n) = presence_default c.presence
+default_due octets = None

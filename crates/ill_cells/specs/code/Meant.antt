@@ -1,0 +1,177 @@
+-- What the cells of a node are to say.
+use Rattle.std.specs.Prelude.{ℕ, ℤ, pos, drop, option_map, zero, suc, Bool, true, false, ◌&&◌, List, [], ◌∷◌, Option, Some, None, is_some, map, if◌then◌else◌}
+use Rattle.ber_core.specs.Tree.{octet_string}
+use Rattle.ber_leaf.specs.Profile.{profile_two}
+use Rattle.ill_schema.specs.declared.node.Kind.{Kind}
+use Rattle.ill_schema.specs.declared.node.NodeId.{NodeId}
+use Rattle.ill_schema.specs.declared.part.Presence.{Presence}
+use Rattle.ill_schema.specs.Table.{kind_of}
+use Rattle.ill_schema.specs.Tagging.{untagged}
+use Rattle.ill_refusals.specs.Element.{Component, components, component_starts, segment, Start, start, starts}
+use Rattle.ill_refusals.specs.Next.{first_mandatory}
+use Rattle.ill_cells.specs.Cells.{wrapped, element_in, presence_default, row_before}
+use Rattle.ill_cells.specs.declared.cell.Cell.{Cell}
+use Rattle.ill_cells.specs.declared.cell.What.{What}
+use Rattle.ill_cells.specs.declared.cell.What.TheVariants as what
+use Rattle.ill_cells.specs.declared.cell.Slot.{Slot}
+use Rattle.ill_cells.specs.declared.cell.Slot.TheVariants as slot
+
+-- the starts of a node in a wrapper: by its own tags, or by its alternatives'
+abbrev pub node_starts : NodeId → List Start
+node_starts node = starts profile_two (wrapped (record { node = node; row = 0 }) node)
+
+-- what an element that a cell names is
+abbrev pub cell_start : NodeId → ℕ → Cell → Start
+cell_start node row c = start (record { class = c.class; number = c.number }) (element_in (record { node = node; row = row }) c.node c.what)
+
+abbrev pub cell_starts : NodeId → ℕ → Cell → List Start
+cell_starts node position c = if c.nested then node_starts c.node else cell_start node (row_before position) c ∷ []
+
+abbrev pub is_leaf : Kind → Bool
+is_leaf (Kind.Leaf _) = true
+is_leaf Kind.IllString = true
+is_leaf _ = false
+
+abbrev pub is_empty : Kind → List Component → Bool
+is_empty Kind.Seq [] = true
+is_empty _ _ = false
+
+abbrev pub is_sequence : Kind → Bool
+is_sequence Kind.Seq = true
+is_sequence _ = false
+
+abbrev pub is_list : Kind → Bool
+is_list Kind.SeqOf = true
+is_list _ = false
+
+abbrev pub is_other : Kind → Bool
+is_other Kind.Seq = false
+is_other _ = true
+
+-- the element opens where a node of this kind is open
+abbrev pub opens : What → Kind → List Component → Bool
+opens what.Sequence k cs = is_sequence k
+opens what.List k cs = is_list k
+opens what.Wrapper k cs = is_other k
+opens what.LooseWrapper k cs = is_sequence k
+opens what.LeftOut k cs = is_empty k cs
+opens _ k cs = is_leaf k
+
+-- a node of this kind begins by the tags of alternatives, or by two of its own
+abbrev pub is_nested : Kind → Bool
+is_nested Kind.Choice = true
+is_nested Kind.IllString = true
+is_nested _ = false
+
+abbrev pub is_there : List Component → Bool
+is_there [] = false
+is_there (c ∷ cs) = true
+
+-- the component at a position is there
+abbrev pub row_there : Slot → ℕ → List Component → Bool
+row_there slot.Row position cs = is_there (drop (row_before position) cs)
+row_there slot.Item position cs = is_there cs
+row_there _ position cs = true
+
+abbrev pub default_first : List Component → Option ℤ
+default_first [] = None
+default_first (c ∷ cs) = presence_default c.presence
+
+-- the default of the component at a position
+abbrev pub default_at : NodeId → ℕ → Slot → Option ℤ
+default_at node position slot.Row = default_first (drop (row_before position) (components profile_two node))
+default_at node position slot.Item = default_first (components profile_two node)
+default_at node position _ = None
+
+abbrev pub opens_in : What → NodeId → Bool
+opens_in w node = opens w (kind_of node) (components profile_two node)
+
+abbrev pub cell_opens : Cell → Bool
+cell_opens c = if c.nested then is_nested (kind_of c.node) else opens_in c.what c.node
+
+-- an element may stand at a position of a node of this kind
+abbrev pub is_placed : Kind → ℕ → Slot → Bool
+is_placed k (suc row) slot.Row = is_sequence k
+is_placed k position slot.Inner = true
+is_placed k (suc zero) slot.Item = is_list k
+is_placed k (suc zero) slot.Segment = is_leaf k
+is_placed k position _ = false
+
+-- the node, where it is a choice
+abbrev pub node_choice : NodeId → Option NodeId
+node_choice node = elim (kind_of node) as (λ _. Option NodeId) [ Kind.Choice ↦ Some node | _ ↦ None ]
+
+abbrev pub cell_choice : Cell → Option NodeId
+cell_choice c = if c.nested then node_choice c.node else None
+
+-- the choice without a tag that a component is
+abbrev pub component_choice : Component → Option NodeId
+component_choice c = elim c.tagging as (λ _. Option NodeId) [ untagged ↦ node_choice c.node | _ ↦ None ]
+
+-- what a cell says
+pub record Meant : Type 0 where
+  pub starts : List Start
+  pub slot : Slot
+  pub stops : Bool
+  pub lacks : Bool
+  pub opens : Bool
+  -- the choice without a tag whose alternatives these are
+  pub choice : Option NodeId
+  pub default : Option ℤ
+
+abbrev pub cell_meant : NodeId → ℕ → Cell → Meant
+cell_meant node position c = record { starts = cell_starts node position c; slot = c.slot; stops = c.stops; lacks = c.lacks; opens = cell_opens c; choice = cell_choice c; default = option_map pos c.default }
+
+abbrev pub cells_meant : NodeId → ℕ → List Cell → List Meant
+cells_meant node position [] = []
+cells_meant node position (c ∷ cs) = cell_meant node position c ∷ cells_meant node (suc position) cs
+
+abbrev pub meant : List Start → Slot → Bool → Bool → Option NodeId → Option ℤ → Meant
+meant ss slot stops lacks choice default = record { starts = ss; slot = slot; stops = stops; lacks = lacks; opens = true; choice = choice; default = default }
+
+abbrev pub is_must : Presence → Bool
+is_must Presence.Must = true
+is_must _ = false
+
+-- what the rows of a sequence are to say
+abbrev pub rows_meant : List Component → List Meant
+rows_meant [] = []
+rows_meant (c ∷ cs) = meant (starts profile_two c) slot.Row (is_must c.presence) (is_some (first_mandatory (c ∷ cs))) (component_choice c) (presence_default c.presence) ∷ rows_meant cs
+
+abbrev pub item_meant : List Component → List Meant
+item_meant [] = []
+item_meant (c ∷ cs) = meant (starts profile_two c) slot.Item false false (component_choice c) (presence_default c.presence) ∷ []
+
+abbrev pub segment_meant : List Meant
+segment_meant = meant (start octet_string segment ∷ []) slot.Segment false false None None ∷ []
+
+-- what the cells of a node of a kind are to say
+abbrev pub kind_meant : Kind → NodeId → List Meant
+kind_meant Kind.Seq node =
+    meant (node_starts node) slot.Inner false (is_some (first_mandatory (components profile_two node))) (node_choice node) None ∷ rows_meant (components profile_two node)
+kind_meant Kind.SeqOf node = meant (node_starts node) slot.Inner true true (node_choice node) None ∷ item_meant (components profile_two node)
+kind_meant Kind.Choice node = meant (node_starts node) slot.Inner true true (node_choice node) None ∷ []
+kind_meant (Kind.Leaf _) node = meant (node_starts node) slot.Inner true true (node_choice node) None ∷ segment_meant
+kind_meant Kind.IllString node = meant (node_starts node) slot.Inner true true (node_choice node) None ∷ segment_meant
+
+abbrev pub node_meant : NodeId → List Meant
+node_meant node = kind_meant (kind_of node) node
+
+-- the starts of cells, from a row on, each alone
+abbrev pub starts_of_cells : NodeId → ℕ → List Cell → List (List Start)
+starts_of_cells node row [] = []
+starts_of_cells node row (c ∷ cs) = (cell_start node row c ∷ []) ∷ starts_of_cells node (suc row) cs
+
+abbrev pub alone : List Start → List (List Start)
+alone [] = []
+alone (s ∷ ss) = (s ∷ []) ∷ alone ss
+
+-- the starts of each alternative, or of each type
+abbrev pub nested_starts : Kind → NodeId → List (List Start)
+nested_starts Kind.Choice node = map component_starts (components profile_two node)
+nested_starts Kind.IllString node = alone (node_starts node)
+nested_starts _ node = []
+
+abbrev pub all_open : List Cell → Bool
+all_open [] = true
+all_open (c ∷ cs) = opens_in c.what c.node && all_open cs

@@ -1,0 +1,9 @@
+//! What a tag begins, found by one index: cells made of the tables' rows, and proved to be what the definitions say is due.
+#![tactic(auto)]
+
+mod at;
+mod cell;
+mod runs;
+
+pub use at::{At, Found};
+pub use cell::{Slot, What};

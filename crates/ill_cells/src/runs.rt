@@ -1,0 +1,438 @@
+//! The cells of each node: by what it may begin in a wrapper, and then what may stand in it.
+ghost use Rattle.std.specs.Prelude.{◌≡◌, ◌≤◌, length, true};
+ghost use Rattle.ill_schema.specs.Table.{kind_of};
+ghost use Rattle.ill_cells.specs.code.Meant.{all_open, cells_meant, nested_starts, node_meant, starts_of_cells};
+
+use crate::cell::{Cell, Slot, What};
+use ber_core::Class;
+use ill_schema::{NodeId, table};
+
+/// The universal number of a node, a SEQUENCE's where it isn't a leaf.
+macro_rules! own_number {
+    (Boolean) => { 1 };
+    (Integer) => { 2 };
+    (Enumerated) => { 10 };
+    (IsoDate) => { 26 };
+    (IsoTime) => { 26 };
+    (PrintableString) => { 19 };
+    ($node:ident) => { 16 };
+}
+
+/// As what a node is read.
+macro_rules! own_what {
+    (Boolean) => { What::Boolean };
+    (Integer) => { What::Integer };
+    (Enumerated) => { What::Enumerated };
+    (IsoDate) => { What::Date };
+    (IsoTime) => { What::Time };
+    (PrintableString) => { What::Printable };
+    (SendToList) => { What::List };
+    (AlreadyTriedList) => { What::List };
+    (UnitsPerMediumList) => { What::List };
+    (IllServiceTypes) => { What::List };
+    (SupplyMediumInfos) => { What::List };
+    (Locs) => { What::List };
+    ($node:ident) => { What::Sequence };
+}
+
+/// As what the element of a row with a tag is read.
+macro_rules! what {
+    (LeftOut, $mode:ident, $node:ident) => { What::LeftOut };
+    ($presence:ident, Explicit, $node:ident) => { What::Wrapper };
+    ($presence:ident, ExplicitOrBare, $node:ident) => { What::LooseWrapper };
+    ($presence:ident, Implicit, $node:ident) => { own_what!($node) };
+}
+
+/// Whether the node is a choice that stands in a sequence without a tag.
+macro_rules! is_nested {
+    (DeliveryService) => { true };
+    (ShippedVia) => { true };
+    ($node:ident) => { false };
+}
+
+macro_rules! is_must {
+    (Must) => { true };
+    ($presence:ident) => { false };
+}
+
+/// Whether a row is mandatory.
+macro_rules! lacks {
+    () => { false };
+    ((Must, $($row:tt)*) $($rest:tt)*) => { true };
+    ($row:tt $($rest:tt)*) => { lacks!($($rest)*) };
+}
+
+macro_rules! default {
+    () => { None };
+    ($default:literal) => { Some($default) };
+}
+
+/// The cell of a row.
+macro_rules! cell {
+    ($slot:ident, $stops:expr, $lacks:expr, $class:ident, ($presence:ident $(($default:literal))?, untagged, $node:ident)) => {
+        Cell {
+            number: own_number!($node),
+            class: Class::Universal,
+            what: own_what!($node),
+            node: NodeId::$node,
+            slot: Slot::$slot,
+            nested: is_nested!($node),
+            stops: $stops,
+            lacks: $lacks,
+            default: default!($($default)?),
+        }
+    };
+    ($slot:ident, $stops:expr, $lacks:expr, $class:ident, ($presence:ident $(($default:literal))?, $number:literal, $mode:ident, $node:ident)) => {
+        Cell {
+            number: $number,
+            class: Class::$class,
+            what: what!($presence, $mode, $node),
+            node: NodeId::$node,
+            slot: Slot::$slot,
+            nested: false,
+            stops: $stops,
+            lacks: $lacks,
+            default: default!($($default)?),
+        }
+    };
+}
+
+/// The cell of a row of a sequence, before others.
+macro_rules! row_cell {
+    ($class:ident, ($presence:ident $($row:tt)*) $($rest:tt)*) => {
+        cell!(Row, is_must!($presence), lacks!(($presence $($row)*) $($rest)*), $class, ($presence $($row)*))
+    };
+}
+
+/// The cells of a sequence: its own, and one for each row.
+macro_rules! sequence {
+    ($node:ident, $class:ident: $($row:tt),*) => {
+        sequence!(@ $class [cell!(Inner, false, lacks!($($row)*), $class, (Must, untagged, $node))] $($row)*)
+    };
+    (@ $class:ident [$($cell:expr),*]) => {
+        [$($cell),*]
+    };
+    (@ $class:ident [$($cell:expr),*] $row:tt $($rest:tt)*) => {
+        sequence!(@ $class [$($cell,)* row_cell!($class, $row $($rest)*)] $($rest)*)
+    };
+}
+
+/// The cells of a list: its own, and its item's.
+macro_rules! list {
+    ($node:ident, $class:ident: $row:tt) => {
+        [
+            cell!(Inner, true, true, $class, (Must, untagged, $node)),
+            cell!(Item, false, false, $class, $row),
+        ]
+    };
+}
+
+/// The cells of the alternatives of a choice.
+macro_rules! alternatives {
+    ($node:ident, $class:ident: $($row:tt),*) => {
+        [$(cell!(Row, false, false, $class, $row)),*]
+    };
+}
+
+/// The cell of a node that begins by its alternatives.
+macro_rules! nested {
+    ($node:ident) => {
+        Cell {
+            number: 0,
+            class: Class::Universal,
+            what: What::LeftOut,
+            node: NodeId::$node,
+            slot: Slot::Inner,
+            nested: true,
+            stops: true,
+            lacks: true,
+            default: None,
+        }
+    };
+}
+
+/// The cell of a segment of a string.
+macro_rules! segment {
+    ($node:ident) => {
+        Cell {
+            number: 4,
+            class: Class::Universal,
+            what: What::Segment,
+            node: NodeId::$node,
+            slot: Slot::Segment,
+            nested: false,
+            stops: false,
+            lacks: false,
+            default: None,
+        }
+    };
+}
+
+/// The cells of a leaf.
+macro_rules! leaf {
+    ($node:ident) => {
+        [cell!(Inner, true, true, Universal, (Must, untagged, $node)), segment!($node)]
+    };
+}
+
+const BOOLEAN: [Cell; 2] = leaf!(Boolean);
+
+const INTEGER: [Cell; 2] = leaf!(Integer);
+
+const ENUMERATED: [Cell; 2] = leaf!(Enumerated);
+
+const ISO_DATE: [Cell; 2] = leaf!(IsoDate);
+
+const ISO_TIME: [Cell; 2] = leaf!(IsoTime);
+
+const PRINTABLE_STRING: [Cell; 2] = leaf!(PrintableString);
+
+const ILL_STRING: [Cell; 2] = [nested!(IllString), segment!(IllString)];
+
+const LEFT_OUT: [Cell; 1] = sequence!(LeftOut, Context:);
+
+const SYMBOL: [Cell; 1] = [nested!(Symbol)];
+
+const NAME: [Cell; 1] = [nested!(Name)];
+
+const SYSTEM_ID: [Cell; 3] = table!(SystemId, sequence);
+
+const TRANSACTION_ID: [Cell; 5] = table!(TransactionId, sequence);
+
+const DATE_TIME: [Cell; 3] = table!(DateTime, sequence);
+
+const SERVICE_DATE_TIME: [Cell; 3] = table!(ServiceDateTime, sequence);
+
+const POSTAL_ADDRESS: [Cell; 9] = table!(PostalAddress, sequence);
+
+const SYSTEM_ADDRESS: [Cell; 3] = table!(SystemAddress, sequence);
+
+const DELIVERY_ADDRESS: [Cell; 3] = table!(DeliveryAddress, sequence);
+
+const CLIENT_ID: [Cell; 4] = table!(ClientId, sequence);
+
+const DELIVERY_SERVICE: [Cell; 1] = [nested!(DeliveryService)];
+
+const REQUESTER_OPTIONAL_MESSAGES: [Cell; 5] = table!(RequesterOptionalMessages, sequence);
+
+const RESPONDER_OPTIONAL_MESSAGES: [Cell; 5] = table!(ResponderOptionalMessages, sequence);
+
+const SEARCH_TYPE: [Cell; 5] = table!(SearchType, sequence);
+
+const SUPPLY_MEDIUM_INFO: [Cell; 3] = table!(SupplyMediumInfo, sequence);
+
+const ITEM_ID: [Cell; 24] = table!(ItemId, sequence);
+
+const AMOUNT: [Cell; 3] = table!(Amount, sequence);
+
+const COST_INFO: [Cell; 6] = table!(CostInfo, sequence);
+
+const SEND_TO: [Cell; 4] = table!(SendTo, sequence);
+
+const SEND_TO_LIST: [Cell; 2] = table!(SendToList, list);
+
+const ALREADY_TRIED_LIST: [Cell; 2] = table!(AlreadyTriedList, list);
+
+const THIRD_PARTY_INFO: [Cell; 9] = table!(ThirdPartyInfo, sequence);
+
+const UNITS_PER_MEDIUM: [Cell; 3] = table!(UnitsPerMedium, sequence);
+
+const UNITS_PER_MEDIUM_LIST: [Cell; 2] = table!(UnitsPerMediumList, list);
+
+const DATE_DUE: [Cell; 3] = table!(DateDue, sequence);
+
+const SHIPPED_VIA: [Cell; 1] = [nested!(ShippedVia)];
+
+const SUPPLY_DETAILS: [Cell; 10] = table!(SupplyDetails, sequence);
+
+const ILL_SERVICE_TYPES: [Cell; 2] = table!(IllServiceTypes, list);
+
+const SUPPLY_MEDIUM_INFOS: [Cell; 2] = table!(SupplyMediumInfos, list);
+
+const ILL_REQUEST: [Cell; 27] = table!(IllRequest, sequence);
+
+const SHIPPED: [Cell; 18] = table!(Shipped, sequence);
+
+const LOCATION_INFO: [Cell; 4] = table!(LocationInfo, sequence);
+
+const LOCS: [Cell; 2] = table!(Locs, list);
+
+const CONDITIONAL: [Cell; 4] = table!(Conditional, sequence);
+
+const RETRY: [Cell; 4] = table!(Retry, sequence);
+
+const UNFILLED: [Cell; 3] = table!(Unfilled, sequence);
+
+const LOCATIONS: [Cell; 3] = table!(Locations, sequence);
+
+const WILL_SUPPLY: [Cell; 6] = table!(WillSupply, sequence);
+
+const HOLD_PLACED: [Cell; 4] = table!(HoldPlaced, sequence);
+
+const ESTIMATE: [Cell; 3] = table!(Estimate, sequence);
+
+const RESULTS: [Cell; 1] = [nested!(Results)];
+
+const ILL_ANSWER: [Cell; 15] = table!(IllAnswer, sequence);
+
+const CONDITIONAL_REPLY: [Cell; 9] = table!(ConditionalReply, sequence);
+
+const CANCEL: [Cell; 8] = table!(Cancel, sequence);
+
+const CANCEL_REPLY: [Cell; 9] = table!(CancelReply, sequence);
+
+const RECEIVED: [Cell; 12] = table!(Received, sequence);
+
+const RECALL: [Cell; 8] = table!(Recall, sequence);
+
+const RETURNED: [Cell; 12] = table!(Returned, sequence);
+
+const CHECKED_IN: [Cell; 9] = table!(CheckedIn, sequence);
+
+const OVERDUE: [Cell; 9] = table!(Overdue, sequence);
+
+const RENEW: [Cell; 9] = table!(Renew, sequence);
+
+const RENEW_ANSWER: [Cell; 10] = table!(RenewAnswer, sequence);
+
+const LOST: [Cell; 8] = table!(Lost, sequence);
+
+const DAMAGED: [Cell; 9] = table!(Damaged, sequence);
+
+const MESSAGE_APDU: [Cell; 8] = table!(MessageApdu, sequence);
+
+const STATUS_QUERY: [Cell; 8] = table!(StatusQuery, sequence);
+
+const EXPIRED: [Cell; 7] = table!(Expired, sequence);
+
+const ILL_APDU: [Cell; 1] = [nested!(IllApdu)];
+
+const SYMBOL_ALTERNATIVES: [Cell; 2] = table!(Symbol, alternatives);
+
+const NAME_ALTERNATIVES: [Cell; 2] = table!(Name, alternatives);
+
+const DELIVERY_SERVICE_ALTERNATIVES: [Cell; 2] = table!(DeliveryService, alternatives);
+
+const SHIPPED_VIA_ALTERNATIVES: [Cell; 2] = table!(ShippedVia, alternatives);
+
+const RESULTS_ALTERNATIVES: [Cell; 7] = table!(Results, alternatives);
+
+const ILL_APDU_ALTERNATIVES: [Cell; 20] = table!(IllApdu, alternatives);
+
+const STRINGS: [Cell; 2] = [
+    Cell {
+        number: 27,
+        class: Class::Universal,
+        what: What::General,
+        node: NodeId::IllString,
+        slot: Slot::Row,
+        nested: false,
+        stops: false,
+        lacks: false,
+        default: None,
+    },
+    Cell {
+        number: 26,
+        class: Class::Universal,
+        what: What::Visible,
+        node: NodeId::IllString,
+        slot: Slot::Row,
+        nested: false,
+        stops: false,
+        lacks: false,
+        default: None,
+    },
+];
+
+/// The cells of a node: those by which it begins, and those of what may stand in it.
+pub fn cells_of(node: NodeId) -> &'static [Cell]
+    ensures meant { cells_meant node 0 result.now ≡ node_meant node }
+    ensures few { length result.now ≤ 27 }
+{
+    match node {
+        NodeId::Boolean => &BOOLEAN,
+        NodeId::Integer => &INTEGER,
+        NodeId::Enumerated => &ENUMERATED,
+        NodeId::IsoDate => &ISO_DATE,
+        NodeId::IsoTime => &ISO_TIME,
+        NodeId::PrintableString => &PRINTABLE_STRING,
+        NodeId::IllString => &ILL_STRING,
+        NodeId::LeftOut => &LEFT_OUT,
+        NodeId::Symbol => &SYMBOL,
+        NodeId::Name => &NAME,
+        NodeId::SystemId => &SYSTEM_ID,
+        NodeId::TransactionId => &TRANSACTION_ID,
+        NodeId::DateTime => &DATE_TIME,
+        NodeId::ServiceDateTime => &SERVICE_DATE_TIME,
+        NodeId::PostalAddress => &POSTAL_ADDRESS,
+        NodeId::SystemAddress => &SYSTEM_ADDRESS,
+        NodeId::DeliveryAddress => &DELIVERY_ADDRESS,
+        NodeId::ClientId => &CLIENT_ID,
+        NodeId::DeliveryService => &DELIVERY_SERVICE,
+        NodeId::RequesterOptionalMessages => &REQUESTER_OPTIONAL_MESSAGES,
+        NodeId::ResponderOptionalMessages => &RESPONDER_OPTIONAL_MESSAGES,
+        NodeId::SearchType => &SEARCH_TYPE,
+        NodeId::SupplyMediumInfo => &SUPPLY_MEDIUM_INFO,
+        NodeId::ItemId => &ITEM_ID,
+        NodeId::Amount => &AMOUNT,
+        NodeId::CostInfo => &COST_INFO,
+        NodeId::SendTo => &SEND_TO,
+        NodeId::SendToList => &SEND_TO_LIST,
+        NodeId::AlreadyTriedList => &ALREADY_TRIED_LIST,
+        NodeId::ThirdPartyInfo => &THIRD_PARTY_INFO,
+        NodeId::UnitsPerMedium => &UNITS_PER_MEDIUM,
+        NodeId::UnitsPerMediumList => &UNITS_PER_MEDIUM_LIST,
+        NodeId::DateDue => &DATE_DUE,
+        NodeId::ShippedVia => &SHIPPED_VIA,
+        NodeId::SupplyDetails => &SUPPLY_DETAILS,
+        NodeId::IllServiceTypes => &ILL_SERVICE_TYPES,
+        NodeId::SupplyMediumInfos => &SUPPLY_MEDIUM_INFOS,
+        NodeId::IllRequest => &ILL_REQUEST,
+        NodeId::Shipped => &SHIPPED,
+        NodeId::LocationInfo => &LOCATION_INFO,
+        NodeId::Locs => &LOCS,
+        NodeId::Conditional => &CONDITIONAL,
+        NodeId::Retry => &RETRY,
+        NodeId::Unfilled => &UNFILLED,
+        NodeId::Locations => &LOCATIONS,
+        NodeId::WillSupply => &WILL_SUPPLY,
+        NodeId::HoldPlaced => &HOLD_PLACED,
+        NodeId::Estimate => &ESTIMATE,
+        NodeId::Results => &RESULTS,
+        NodeId::IllAnswer => &ILL_ANSWER,
+        NodeId::ConditionalReply => &CONDITIONAL_REPLY,
+        NodeId::Cancel => &CANCEL,
+        NodeId::CancelReply => &CANCEL_REPLY,
+        NodeId::Received => &RECEIVED,
+        NodeId::Recall => &RECALL,
+        NodeId::Returned => &RETURNED,
+        NodeId::CheckedIn => &CHECKED_IN,
+        NodeId::Overdue => &OVERDUE,
+        NodeId::Renew => &RENEW,
+        NodeId::RenewAnswer => &RENEW_ANSWER,
+        NodeId::Lost => &LOST,
+        NodeId::Damaged => &DAMAGED,
+        NodeId::MessageApdu => &MESSAGE_APDU,
+        NodeId::StatusQuery => &STATUS_QUERY,
+        NodeId::Expired => &EXPIRED,
+        NodeId::IllApdu => &ILL_APDU,
+    }
+}
+
+/// The cells by which a node begins that has alternatives, or two types.
+pub fn alternatives_of(node: NodeId) -> &'static [Cell]
+    ensures meant { starts_of_cells node 0 result.now ≡ nested_starts (kind_of node) node }
+    ensures open { all_open result.now ≡ true }
+    ensures few { length result.now ≤ 20 }
+{
+    match node {
+        NodeId::Symbol => &SYMBOL_ALTERNATIVES,
+        NodeId::Name => &NAME_ALTERNATIVES,
+        NodeId::DeliveryService => &DELIVERY_SERVICE_ALTERNATIVES,
+        NodeId::ShippedVia => &SHIPPED_VIA_ALTERNATIVES,
+        NodeId::Results => &RESULTS_ALTERNATIVES,
+        NodeId::IllApdu => &ILL_APDU_ALTERNATIVES,
+        NodeId::IllString => &STRINGS,
+        _ => &[],
+    }
+}
