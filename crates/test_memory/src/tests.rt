@@ -17,7 +17,7 @@ type Row = (&'static str, Outcome);
 /// What came of each call.
 #[derive(Drop)]
 struct All {
-    octets: [Row; 14],
+    octets: [Row; 15],
     writing: [Row; 6],
     jobs: [Row; 8],
 }

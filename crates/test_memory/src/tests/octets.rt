@@ -1,7 +1,7 @@
 //! Texts, and messages out of octets.
 use super::Row;
 use super::given::{EXPIRED, Given};
-use ber_core::Pieces;
+use ber_core::{FromBuffer, Pieces};
 use ber_leaf::Segments;
 use ill_normal::{ReadFailure, check_one, is_normal, same_message};
 use ill_read::{Decoder, Failure, Progress, decode, read_kept, read_message};
@@ -10,7 +10,7 @@ use std::alloc::Global;
 use test_support::Outcome;
 
 /// What came of each call of this file.
-pub fn calls(alloc: Global, given: &Given) -> [Row; 14] {
+pub fn calls(alloc: Global, given: &Given) -> [Row; 15] {
     let texts = &given.texts;
     [
         ("VisibleText::copy", Outcome::of(texts.visible.copy(alloc))),
@@ -23,6 +23,10 @@ pub fn calls(alloc: Global, given: &Given) -> [Row; 14] {
         ("TimeText::copy", Outcome::of(texts.time.copy(alloc))),
         ("IllString::copy", Outcome::of(texts.either.copy(alloc))),
         ("Segments::push", push_segment(alloc)),
+        (
+            "FromBuffer::new",
+            Outcome::of(FromBuffer::new(alloc, EXPIRED)),
+        ),
         ("decode", of_decoding(decode(alloc, EXPIRED).map(|_| true))),
         ("Decoder::feed and finish", feed(alloc)),
         ("read_message", read(alloc)),
