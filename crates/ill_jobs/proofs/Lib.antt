@@ -1,7 +1,7 @@
-pub mod Checking
-pub mod Making
-pub mod Writing
-pub mod Deciding
-pub mod Texts
-pub mod Comparing
-pub mod Taking
+pub mod NormalTest
+pub mod MadePieces
+pub mod JobEndings
+pub mod JobAnswers
+pub mod TextAnswers
+pub mod PairAnswers
+pub mod TakenOctets

@@ -20,7 +20,7 @@ use Rattle.ill_read.specs.declared.frame.Frame.{Frame}
 use Rattle.ill_read.specs.declared.path.Path.{Path}
 use Rattle.ill_read.proofs.DueElements.{due_element_is}
 use Rattle.ill_read.proofs.Frames.{next_behind}
-use Rattle.ill_read.proofs.Growing.{next-added, with_one}
+use Rattle.ill_read.proofs.MoreTrees.{next-added, with_one}
 use Rattle.ill_read.proofs.Segments.{text_with}
 use Rattle.ill_refusals.proofs.Rows.{same_tag-is}
 

@@ -1,4 +1,4 @@
-use Rattle.ill_jobs.proofs.Writing.{done_all, few_before, stops_after}
+use Rattle.ill_jobs.proofs.JobEndings.{done_all, few_before, stops_after}
 use Rattle.ill_jobs.proofs.messages.run_messages.Goals as goal
 
 pub returns-in-Ok-clause-done : goal.returns-in-Ok-clause-done

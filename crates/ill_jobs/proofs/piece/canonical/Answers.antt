@@ -1,6 +1,6 @@
 use Rattle.std.proofs.Common.{◌≡◌, true, false, rules}
 use Rattle.ill_read.proofs.NextRead.{reads_as}
-use Rattle.ill_jobs.proofs.Making.{makes_normal, makes_hex}
+use Rattle.ill_jobs.proofs.MadePieces.{makes_normal, makes_hex}
 use Rattle.ill_jobs.proofs.piece.canonical.Goals as goal
 
 pub returns-then-not-hex : goal.returns-then-not-hex

@@ -1,5 +1,5 @@
 use Rattle.ill_read.proofs.NextRead.{reads_as}
-use Rattle.ill_jobs.proofs.Making.{makes_checked}
+use Rattle.ill_jobs.proofs.MadePieces.{makes_checked}
 use Rattle.ill_jobs.proofs.piece.checked.Goals as goal
 
 pub returns-in-Ok : goal.returns-in-Ok

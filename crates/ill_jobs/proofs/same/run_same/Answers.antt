@@ -1,7 +1,7 @@
 use Rattle.std.proofs.Common.{inl, inr}
 use Rattle.std.proofs.KnownBytes.{Keeps-refl}
 use Rattle.std.proofs.lemmas.Result.{err_from_is_err_and}
-use Rattle.ill_jobs.proofs.Comparing.{ok_compares, ok_refuses, err_compares, err_refuses}
+use Rattle.ill_jobs.proofs.PairAnswers.{ok_compares, ok_refuses, err_compares, err_refuses}
 use Rattle.ill_jobs.proofs.same.run_same.Goals as goal
 
 pub returns-in-Ok-clause-done : goal.returns-in-Ok-clause-done

@@ -1,5 +1,5 @@
 use Rattle.std.proofs.Common.{rules}
-use Rattle.ill_jobs.proofs.Taking.{takes_more}
+use Rattle.ill_jobs.proofs.TakenOctets.{takes_more}
 use Rattle.ill_jobs.proofs.text.read_most.Goals as goal
 
 pub returns-then-is_err-clause-bound : goal.returns-then-is_err-clause-bound

@@ -1,5 +1,5 @@
 use Rattle.std.proofs.Common.{◌≡◌, ◌+◌, length, refl, arith, rules}
-use Rattle.ill_normal.proofs.Reaching.{ends_at_last, ends_reading, ends_writing, made_bound, next_good, passes_all, reached_more, reached_none}
+use Rattle.ill_normal.proofs.WrittenMessages.{ends_at_last, ends_reading, ends_writing, made_bound, next_good, passes_all, reached_more, reached_none}
 use Rattle.ill_normal.proofs.messages.each_message.Goals as goal
 use Rattle.ill_normal.proofs.messages.each_message.Goals.{then-not-piece, else-not-piece}
 

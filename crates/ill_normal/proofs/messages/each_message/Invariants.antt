@@ -1,5 +1,5 @@
 use Rattle.std.proofs.Common.{◌≤◌, ◌*◌, ◌^◌, IsTrue}
-use Rattle.ill_normal.proofs.Reaching.{Reached}
+use Rattle.ill_normal.proofs.WrittenMessages.{Reached}
 use Rattle.ill_normal.proofs.messages.each_message.Given as goal
 
 abbrev pub invariant-loop-whole : goal.invariant-loop-whole

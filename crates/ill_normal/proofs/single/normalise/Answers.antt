@@ -1,5 +1,5 @@
 use Rattle.std.proofs.lemmas.Result.{err_from_is_err_and}
-use Rattle.ill_normal.proofs.Answering.{fails_accepts, fails_refuses, forwarded_accepts, forwarded_empty, forwarded_refuses, none_accepts, at_end_before}
+use Rattle.ill_normal.proofs.InputAnswers.{fails_accepts, fails_refuses, forwarded_accepts, forwarded_empty, forwarded_refuses, none_accepts, at_end_before}
 use Rattle.ill_normal.proofs.single.normalise.Goals as goal
 
 pub returns-in_err-size-clause-accepts : goal.returns-in_err-size-clause-accepts

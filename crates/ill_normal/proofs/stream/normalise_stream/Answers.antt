@@ -1,5 +1,5 @@
-use Rattle.ill_normal.proofs.Stopping.{ok_accepts, ok_refuses, ok_too_many, stops_accepts, stops_refuses, stops_too_many}
-use Rattle.ill_normal.proofs.Streaming.{part_bound, stops_of, streamed}
+use Rattle.ill_normal.proofs.StreamAnswers.{ok_accepts, ok_refuses, ok_too_many, stops_accepts, stops_refuses, stops_too_many}
+use Rattle.ill_normal.proofs.NormalStreams.{part_bound, stops_of, streamed}
 use Rattle.ill_normal.proofs.stream.normalise_stream.Goals as goal
 
 pub returns-in-Ok-clause-streamed : goal.returns-in-Ok-clause-streamed

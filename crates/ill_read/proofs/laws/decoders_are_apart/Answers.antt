@@ -1,4 +1,4 @@
-use Rattle.ill_read.proofs.Fed.{states_apart}
+use Rattle.ill_read.proofs.MessageEnds.{states_apart}
 use Rattle.ill_read.proofs.laws.decoders_are_apart.Goals as goal
 
 pub returns : goal.returns

@@ -1,6 +1,6 @@
 use Rattle.std.proofs.Common.{◌≡◌, ◌-◌, ◌&&◌, false, length, sym, ap, ap₂, subst, ◌∙◌}
 use Rattle.ill_read.specs.Need.{IsNeed, begins_zero, in_mark}
-use Rattle.ill_read.proofs.Needing.{need_to_end, need_in_mark, need_in_element}
+use Rattle.ill_read.proofs.NeededOctets.{need_to_end, need_in_mark, need_in_element}
 use Rattle.ill_read.proofs.need.need_at.Goals as goal
 use Rattle.ill_read.proofs.need.need_at.Goals.{else-awaits_end_mark-via-then-awaits_end_mark+else-begins_with_zero, else-awaits_end_mark-via-else-awaits_end_mark}
 

@@ -2,7 +2,7 @@ use Rattle.std.proofs.Common.{◌<◌, ◌++◌, [], get_or, IsTrue, drop, subst
 use Rattle.ber_core.specs.Octets.{are_octets}
 use Rattle.ber_leaf.proofs.Leaves.{octets_fit}
 use Rattle.ill_read.specs.code.DecoderCode.{IsRunning}
-use Rattle.ill_read.proofs.Fed.{is_fed, nothing_waits, running_longer}
+use Rattle.ill_read.proofs.MessageEnds.{is_fed, nothing_waits, running_longer}
 use Rattle.ill_read.proofs.read.begun.Goals as goal
 
 pub returns : goal.returns

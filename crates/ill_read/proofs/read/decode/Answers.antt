@@ -1,7 +1,7 @@
 use Rattle.std.proofs.Common.{Ok, Err, refl, sym, subst, arith}
 use Rattle.ill_read.specs.Answers.{DecodeAnswers}
 use Rattle.ill_read.specs.code.DecoderCode.{HasOutcome}
-use Rattle.ill_read.proofs.Fed.{decode_fails, decode_short}
+use Rattle.ill_read.proofs.MessageEnds.{decode_fails, decode_short}
 use Rattle.ill_read.proofs.read.decode.Goals as goal
 
 pub overflow_cast-octets : goal.overflow_cast-octets

@@ -2,7 +2,7 @@ use Rattle.std.proofs.Common.{◌≡◌, [], ◌++◌, length, length-append, ta
 use Rattle.std.specs.Io.KnownBytes.{Appends}
 use Rattle.std.proofs.KnownBytes.{Appends-trans, Consumes-trans, Consumes-kept}
 use Rattle.std.proofs.lemmas.List.{length-take, length-take-le, nil_from_length}
-use Rattle.ill_read.proofs.Filled.{full_closed}
+use Rattle.ill_read.proofs.SourceReads.{full_closed}
 use Rattle.ill_read.proofs.read.fill.Goals as goal
 
 pub returns-in-Ok-eq0-clause-filled : goal.returns-in-Ok-eq0-clause-filled

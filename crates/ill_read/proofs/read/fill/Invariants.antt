@@ -8,7 +8,7 @@ use Rattle.ill_read.proofs.read.fill.Given as goal
 abbrev pub invariant-loop-room : goal.invariant-loop-room
 invariant-loop-room g l =
     ((b : List ℕ) × Consumes (g.R.Source.left l.fn.source) (g.R.Source.left l.source) b × (length b + l.room ≡ 1_048_576) × IsFed l.decoder b × NoneEndsWithin b
-      × Appends (g.K.Keep.kept l.fn.keep) (g.K.Keep.kept l.keep) b)
+    × Appends (g.K.Keep.kept l.fn.keep) (g.K.Keep.kept l.keep) b)
     × (IsTrue (g.R.Source.is_broken l.fn.source) → IsTrue (g.R.Source.is_broken l.source))
 
 abbrev pub decreases-loop-room : goal.decreases-loop-room

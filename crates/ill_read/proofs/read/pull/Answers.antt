@@ -2,7 +2,7 @@ use Rattle.std.proofs.Common.{rules, ◌≡◌, ◌≤◌, [], ◌++◌, length,
 use Rattle.std.proofs.lemmas.List.{length-take-le, take-append-le}
 use Rattle.ill_read.specs.code.DecoderCode.{IsFed}
 use Rattle.ill_read.specs.code.Filling.{NoneEndsWithin}
-use Rattle.ill_read.proofs.Filled.{none_yet, pulled_exact, pulled_ended}
+use Rattle.ill_read.proofs.SourceReads.{none_yet, pulled_exact, pulled_ended}
 use Rattle.ill_read.proofs.read.pull.Goals as goal
 
 pub returns-then-wanted-eq0-clause-fed : goal.returns-then-wanted-eq0-clause-fed

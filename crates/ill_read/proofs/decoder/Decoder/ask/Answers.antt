@@ -4,8 +4,8 @@ use Rattle.std.specs.Vec.{vec_len}
 use Rattle.std.proofs.lemmas.List.{nil_from_length}
 use Rattle.ill_read.specs.Standing.{StandsLast}
 use Rattle.ill_read.specs.code.DecoderCode.{InState}
-use Rattle.ill_read.proofs.Fed.{is_open}
-use Rattle.ill_read.proofs.Needing.{two_at_least}
+use Rattle.ill_read.proofs.MessageEnds.{is_open}
+use Rattle.ill_read.proofs.NeededOctets.{two_at_least}
 use Rattle.ill_read.proofs.decoder.Decoder.ask.Goals as goal
 
 none_left : (v : Vec ℕ Global) → (vec_len v == 0) ≡ true → v.items ≡ []

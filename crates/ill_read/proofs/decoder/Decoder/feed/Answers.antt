@@ -1,7 +1,7 @@
 use Rattle.std.proofs.Common.{◌++◌, subst}
 use Rattle.ill_read.specs.Standing.{StandsLast}
 use Rattle.ill_read.specs.code.DecoderCode.{InState}
-use Rattle.ill_read.proofs.Fed.{is_fed, stands_part}
+use Rattle.ill_read.proofs.MessageEnds.{is_fed, stands_part}
 use Rattle.ill_read.proofs.decoder.Decoder.feed.Goals as goal
 
 pub returns-in-Failed-clause-open : goal.returns-in-Failed-clause-open

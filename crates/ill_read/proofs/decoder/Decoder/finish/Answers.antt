@@ -1,5 +1,5 @@
 use Rattle.std.proofs.Common.{◌≡◌, length, Err, sym, ap, ◌∙◌, arith}
-use Rattle.ill_read.proofs.Fed.{last_size, ended_some}
+use Rattle.ill_read.proofs.MessageEnds.{last_size, ended_some}
 use Rattle.ill_read.proofs.decoder.Decoder.finish.Goals as goal
 
 pub returns-clause-open : goal.returns-clause-open

@@ -1,7 +1,7 @@
 use Rattle.std.proofs.Common.{sym, subst, take, ap, ◌∙◌}
 use Rattle.ill_read.specs.code.DecoderCode.{body_apdu, InState, IsMessageOf}
 use Rattle.ill_read.specs.declared.decoder.State.TheVariants.{Failed}
-use Rattle.ill_read.proofs.Fed.{read_message, too_long}
+use Rattle.ill_read.proofs.MessageEnds.{read_message, too_long}
 use Rattle.ill_read.proofs.decoder.Decoder.finish_body.Goals as goal
 use Rattle.ill_read.proofs.decoder.Decoder.finish_body.Goals.{in-Some, in-None}
 

@@ -1,6 +1,6 @@
 use Rattle.std.proofs.Common.{◌≡◌, ◌-◌, drop, take, sym, subst, ap, ◌∙◌, arith}
 use Rattle.ill_read.specs.code.DecoderCode.{HasStopped}
-use Rattle.ill_read.proofs.Moving.{moved_front}
+use Rattle.ill_read.proofs.MovedOctets.{moved_front}
 use Rattle.ill_read.proofs.decoder.Decoder.keep_after.Goals as goal
 
 pub returns-then-count-eq0 : goal.returns-then-count-eq0

@@ -2,7 +2,7 @@ use Rattle.std.proofs.Common.{◌≡◌, ◌≤◌, ℕ, List, length, take, ap,
 use Rattle.std.proofs.lemmas.List.{take_all}
 use Rattle.ill_read.specs.Standing.{StandsLast}
 use Rattle.ill_read.specs.Need.{IsNeed}
-use Rattle.ill_read.proofs.Needing.{few, needs_after, need_open, need_at_least}
+use Rattle.ill_read.proofs.NeededOctets.{few, needs_after, need_open, need_at_least}
 use Rattle.ill_read.proofs.decoder.Decoder.need.Goals as goal
 use Rattle.ill_read.proofs.decoder.Decoder.need.Goals.{in-Open, in_default}
 

@@ -1,7 +1,7 @@
 use Rattle.std.proofs.Common.{subst}
 use Rattle.ill_read.specs.Standing.{StandsLast}
 use Rattle.ill_read.specs.code.DecoderCode.{InState}
-use Rattle.ill_read.proofs.Fed.{stands_part, last_size}
+use Rattle.ill_read.proofs.MessageEnds.{stands_part, last_size}
 use Rattle.ill_read.proofs.decoder.Decoder.outcome.Goals as goal
 
 pub returns : goal.returns

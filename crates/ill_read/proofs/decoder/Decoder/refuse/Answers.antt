@@ -2,7 +2,7 @@ use Rattle.std.proofs.Common.{◌≡◌, ◌≢◌, true, false, sym, subst, ◌
 use Rattle.ill_schema.specs.declared.refusal.Cause.{Cause}
 use Rattle.ill_read.specs.Standing.{StandsLast}
 use Rattle.ill_read.specs.code.DecoderCode.{InState}
-use Rattle.ill_read.proofs.Fed.{stops_open, stops_refused}
+use Rattle.ill_read.proofs.MessageEnds.{stops_open, stops_refused}
 use Rattle.ill_read.proofs.decoder.Decoder.refuse.Goals as goal
 use Rattle.ill_read.proofs.decoder.Decoder.refuse.Goals.{in-Truncated, in_default}
 

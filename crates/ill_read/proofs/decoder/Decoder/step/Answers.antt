@@ -6,8 +6,8 @@ use Rattle.ill_read.specs.Standing.{StandsBefore}
 use Rattle.ill_read.specs.code.DecoderCode.{body_apdu, InState}
 use Rattle.ill_read.specs.code.Judged.{IsStep}
 use Rattle.ill_refusals.specs.code.Step.{moved}
-use Rattle.ill_read.proofs.Fed.{after_end}
-use Rattle.ill_read.proofs.Stepping.{goes_on, is_whole, is_refused}
+use Rattle.ill_read.proofs.MessageEnds.{after_end}
+use Rattle.ill_read.proofs.DecoderSteps.{goes_on, is_whole, is_refused}
 use Rattle.ill_read.proofs.decoder.Decoder.step.Goals as goal
 
 pub returns-in-Some-clause-goes : goal.returns-in-Some-clause-goes

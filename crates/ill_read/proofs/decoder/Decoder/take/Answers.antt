@@ -5,7 +5,7 @@ use Rattle.ber_leaf.proofs.Leaves.{octets_fit}
 use Rattle.ill_read.specs.Standing.{StandsBefore}
 use Rattle.ill_read.specs.code.DecoderCode.{HasStopped, InState, IsRunning}
 use Rattle.ill_read.specs.declared.decoder.State.TheVariants.{Open}
-use Rattle.ill_read.proofs.Fed.{running_longer, ended_longer}
+use Rattle.ill_read.proofs.MessageEnds.{running_longer, ended_longer}
 use Rattle.ill_read.proofs.decoder.Decoder.take.Goals as goal
 use Rattle.ill_read.proofs.decoder.Decoder.take.Goals.{in-Open, in_default}
 

@@ -1,5 +1,5 @@
 use Rattle.std.proofs.Common.{◌-◌, ap, ◌∙◌}
-use Rattle.ill_read.proofs.Growing.{advanced}
+use Rattle.ill_read.proofs.MoreTrees.{advanced}
 use Rattle.ill_read.proofs.path.Path.advance.Goals as goal
 
 pub returns-in-Some-clause-frame : goal.returns-in-Some-clause-frame

@@ -5,7 +5,7 @@ use Rattle.ill_refusals.specs.code.Step.{moved}
 use Rattle.ill_read.specs.code.Stepping.{EndsExactly}
 use Rattle.ill_read.specs.declared.path.Body.{Body}
 use Rattle.ill_read.specs.declared.path.Path.{Path}
-use Rattle.ill_read.proofs.Closing.{IsShorter, segment_closed, value_closed, value_refused, value_there, handed_on}
+use Rattle.ill_read.proofs.ClosedElements.{IsShorter, segment_closed, value_closed, value_refused, value_there, handed_on}
 use Rattle.ill_read.proofs.path.Path.close.Goals as goal
 
 pub returns-in-Segment-clause-exact : goal.returns-in-Segment-clause-exact

@@ -4,7 +4,7 @@ use Rattle.ill_read.specs.code.Judged.{IsStep}
 use Rattle.ill_refusals.specs.code.Step.{with_tree}
 use Rattle.ill_read.specs.declared.path.Body.{Body}
 use Rattle.ill_read.specs.declared.values.Values.{Values}
-use Rattle.ill_read.proofs.Delivery.{body_delivered, value_delivered, has_next}
+use Rattle.ill_read.proofs.DeliveredValues.{body_delivered, value_delivered, has_next}
 use Rattle.ill_read.proofs.path.Path.deliver.Goals as goal
 
 pub returns-clause-exact : goal.returns-clause-exact

@@ -1,5 +1,5 @@
 use Rattle.std.proofs.Common.{◌∙◌, Vec, Global, ℕ, refl, ap}
-use Rattle.ill_read.proofs.Ending.{sequence_ended, loose_ended, list_ended, wrapper_ended, loose_wrapper_ended, string_ended}
+use Rattle.ill_read.proofs.EndedElements.{sequence_ended, loose_ended, list_ended, wrapper_ended, loose_wrapper_ended, string_ended}
 use Rattle.ill_read.proofs.path.Path.end_value.Goals as goal
 
 pub returns-in_ok-text_value-in-Leaf-clause-exact : goal.returns-in_ok-text_value-in-Leaf-clause-exact

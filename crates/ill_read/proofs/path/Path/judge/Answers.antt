@@ -3,7 +3,7 @@ use Rattle.ber_leaf.specs.Profile.{profile_two}
 use Rattle.ill_refusals.specs.Fault.{fault_of}
 use Rattle.ill_refusals.specs.Place.{bound}
 use Rattle.ill_read.specs.code.Progress.{depth_of}
-use Rattle.ill_read.proofs.Judges.{octets_judged}
+use Rattle.ill_read.proofs.Judgements.{octets_judged}
 use Rattle.ill_read.proofs.path.Path.judge.Goals.{then-rest-room, else-rest-room}
 use Rattle.ill_read.proofs.path.Path.judge.Goals as goal
 

@@ -7,7 +7,7 @@ use Rattle.ill_read.specs.HeaderCode.{IsLengthRead}
 use Rattle.ill_refusals.specs.Fault.{fault_of}
 use Rattle.ill_read.specs.code.Judged.{IsJudged}
 use Rattle.ill_refusals.specs.Reading.{identified, read_length}
-use Rattle.ill_read.proofs.Judges.{behind_identifier, begun_judged}
+use Rattle.ill_read.proofs.Judgements.{behind_identifier, begun_judged}
 use Rattle.ill_refusals.proofs.Headers.{read_is_identifier}
 use Rattle.ill_read.proofs.path.Path.judge_element.Goals as goal
 

@@ -4,7 +4,7 @@ use Rattle.ill_read.specs.DueCode.{next_is}
 use Rattle.ill_refusals.specs.Next.{missing}
 use Rattle.ill_refusals.specs.Place.{next_in}
 use Rattle.ill_read.proofs.Frames.{frames_open, next_open}
-use Rattle.ill_read.proofs.Judges.{end_missing, end_complete}
+use Rattle.ill_read.proofs.Judgements.{end_missing, end_complete}
 use Rattle.ill_read.proofs.path.Path.judge_end.Goals as goal
 
 pub returns-in-Some-clause-exact : goal.returns-in-Some-clause-exact

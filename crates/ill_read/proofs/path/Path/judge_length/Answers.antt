@@ -8,7 +8,7 @@ use Rattle.ill_refusals.specs.Fault.{fault_of}
 use Rattle.ill_read.specs.code.Judged.{IsJudged}
 use Rattle.ill_refusals.specs.Reading.{read_length}
 use Rattle.ill_read.specs.declared.header.LengthRead.TheVariants.{Whole}
-use Rattle.ill_read.proofs.Judges.{definite_judged}
+use Rattle.ill_read.proofs.Judgements.{definite_judged}
 use Rattle.ill_refusals.proofs.Headers.{octets_right}
 use Rattle.ill_read.proofs.path.Path.judge_length.Goals as goal
 

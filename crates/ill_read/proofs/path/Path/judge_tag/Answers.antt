@@ -5,7 +5,7 @@ use Rattle.ill_read.specs.DueCode.{IsDueIn, next_is}
 use Rattle.ill_refusals.specs.Next.{due}
 use Rattle.ill_read.specs.code.JudgeCode.{IsFormed}
 use Rattle.ill_read.proofs.Frames.{frames_open}
-use Rattle.ill_read.proofs.Judges.{deep_judged, unexpected_judged, identified_judged}
+use Rattle.ill_read.proofs.Judgements.{deep_judged, unexpected_judged, identified_judged}
 use Rattle.ill_read.proofs.path.Path.judge_tag.Goals as goal
 
 pub returns-then-depth-ge-DEPTH : goal.returns-then-depth-ge-DEPTH

@@ -1,6 +1,6 @@
 use Rattle.std.proofs.Common.{◌≡◌, ◌∙◌, ℕ, length, true, nat_eq, refl, sym, arith}
 use Rattle.ill_read.proofs.Frames.{frames_open}
-use Rattle.ill_read.proofs.Opening.{opens_at}
+use Rattle.ill_read.proofs.OpenedElements.{opens_at}
 use Rattle.ill_read.proofs.path.Path.open.Goals as goal
 
 same_length : (n : ℕ) → nat_eq n 32 ≡ true → n ≡ 32

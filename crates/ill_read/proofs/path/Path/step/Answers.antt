@@ -3,7 +3,7 @@ use Rattle.ill_read.specs.code.Judged.{IsJudgement, with_body}
 use Rattle.ill_read.specs.code.Progress.{depth_of, size_of, IsProgress}
 use Rattle.ill_read.specs.declared.judge.Judgement.{Judgement}
 use Rattle.ill_read.specs.declared.judge.Judgement.TheVariants.{Reads}
-use Rattle.ill_read.proofs.Taking.{reads_judged}
+use Rattle.ill_read.proofs.PrimitiveElements.{reads_judged}
 use Rattle.ill_read.proofs.path.Path.step.Goals as goal
 
 pub returns-in-Reads-clause-exact : goal.returns-in-Reads-clause-exact

@@ -2,7 +2,7 @@ use Rattle.std.proofs.Common.{Option, Ok, refl, sym, subst}
 use Rattle.ill_read.specs.code.Judged.{IsStep}
 use Rattle.ill_read.specs.declared.path.Body.{Body}
 use Rattle.ill_read.specs.declared.path.Path.{Path}
-use Rattle.ill_read.proofs.Taking.{content_read, leaf_read, segment_read}
+use Rattle.ill_read.proofs.PrimitiveElements.{content_read, leaf_read, segment_read}
 use Rattle.ill_read.proofs.path.Path.take.Goals as goal
 
 pub returns-in_ok-deliver-in-Leaf-clause-exact : goal.returns-in_ok-deliver-in-Leaf-clause-exact

@@ -9,7 +9,7 @@ use Rattle.ill_schema.specs.declared.value.Value.{Value}
 use Rattle.ill_schema.specs.Value.{items_content}
 use Rattle.ill_schema.specs.Content.{list}
 use Rattle.ill_schema.proofs.Contents.{content_of-List}
-use Rattle.ill_read.proofs.Holding.{somes, somes-some, somes-none, somes-all, drained_all, split_held}
+use Rattle.ill_read.proofs.HeldEntries.{somes, somes-some, somes-none, somes-all, drained_all, split_held}
 use Rattle.ill_read.proofs.values.Values.list.Goals as goal
 
 pub loop-held-preserved : goal.loop-held-preserved

@@ -1,5 +1,5 @@
 use Rattle.std.proofs.Common.{◌≡◌}
-use Rattle.ill_read.proofs.Holding.{somes}
+use Rattle.ill_read.proofs.HeldEntries.{somes}
 use Rattle.ill_read.proofs.values.Values.list.Given as goal
 
 abbrev pub invariant-loop-held : goal.invariant-loop-held

@@ -2,7 +2,7 @@ use Rattle.std.proofs.Common.{take, drop, arith, sym, ap, ◌∙◌, subst}
 use Rattle.ill_schema.specs.Table.{rows_of}
 use Rattle.ill_read.specs.code.Held.{HasPassed}
 use Rattle.ill_read.specs.declared.values.Values.{Values}
-use Rattle.ill_read.proofs.Holding.{passed-more, passed-past}
+use Rattle.ill_read.proofs.HeldEntries.{passed-more, passed-past}
 use Rattle.ill_read.proofs.values.Values.pass.Goals as goal
 use Rattle.ill_read.proofs.values.Values.pass.Goals.{in-Some+in_ok-push, in_default}
 

@@ -4,7 +4,7 @@ use Rattle.ill_jobs.specs.Ran.{AnswersVerdict, DoesMessages, RunDone}
 use Rattle.ill_jobs.specs.declared.fault.RunFault.{RunFault}
 use Rattle.ill_jobs.specs.declared.job.Job.{Job}
 use Rattle.ill_jobs.specs.declared.job.Verdict.{Verdict}
-use Rattle.ill_jobs.proofs.Texts.{same_octets}
+use Rattle.ill_jobs.proofs.TextAnswers.{same_octets}
 use Rattle.test_jobs.proofs.tests.contracts.inputs_have_one_verdict.Goals as goal
 
 answered : (hex : Bool) (job : Job) (s t : List ℕ) (held held' : Option (List ℕ)) (v : Verdict) → RunDone hex job (Some s) (Some t) held held' v

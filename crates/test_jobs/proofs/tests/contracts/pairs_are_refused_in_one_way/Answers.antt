@@ -7,7 +7,7 @@ use Rattle.ill_normal.specs.Calls.{taking, putting}
 use Rattle.ill_jobs.specs.Compared.{AnswersSide, RefusesOne, SameDone, SameFails, SameStops}
 use Rattle.ill_jobs.specs.declared.fault.RunFault.{RunFault}
 use Rattle.ill_jobs.specs.declared.job.Verdict.{Verdict}
-use Rattle.ill_jobs.proofs.Comparing.{side_is}
+use Rattle.ill_jobs.proofs.PairAnswers.{side_is}
 use Rattle.test_jobs.proofs.Bounds.{bounded, unread_bound}
 use Rattle.test_jobs.proofs.tests.contracts.pairs_are_refused_in_one_way.Goals as goal
 

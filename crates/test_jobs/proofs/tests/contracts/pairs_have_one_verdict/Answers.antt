@@ -3,7 +3,7 @@ use Rattle.ill_jobs.specs.Compared.{ComparesBoth, SameDone, SaysSame}
 use Rattle.ill_jobs.specs.Ran.{IsFault}
 use Rattle.ill_jobs.specs.declared.fault.RunFault.{RunFault}
 use Rattle.ill_jobs.specs.declared.job.Verdict.{Verdict}
-use Rattle.ill_jobs.proofs.Comparing.{side_is}
+use Rattle.ill_jobs.proofs.PairAnswers.{side_is}
 use Rattle.test_jobs.proofs.tests.contracts.pairs_have_one_verdict.Goals as goal
 
 -- what a verdict leaves to another result

@@ -4,7 +4,7 @@ use Rattle.ill_jobs.specs.Compared.{RefusesTexts, SameFails, SameStops}
 use Rattle.ill_jobs.specs.Ran.{AnswersFault, IsFault}
 use Rattle.ill_jobs.specs.declared.fault.RunFault.{RunFault}
 use Rattle.ill_jobs.specs.declared.job.Verdict.{Verdict}
-use Rattle.ill_jobs.proofs.Comparing.{no_text, side_is}
+use Rattle.ill_jobs.proofs.PairAnswers.{no_text, side_is}
 use Rattle.test_jobs.proofs.tests.contracts.texts_are_refused_in_order.Goals as goal
 
 stopped : (s t a b held held' : Option (List ℕ)) (u w z : Bool) → SameStops true (taking s a u) (taking t b w) (putting held held' z) RunFault.OddHex → ⊥

@@ -27,7 +27,7 @@ use Rattle.ill_read.specs.declared.failure.Failure.{Failure}
 use Rattle.ill_read.specs.declared.frame.Frame.{Frame}
 use Rattle.ill_read.specs.declared.path.Body.{Body}
 use Rattle.ill_read.specs.declared.path.Path.{Path}
-use Rattle.ill_read.proofs.Adding.{due_with}
+use Rattle.ill_read.proofs.AddedValues.{due_with}
 use Rattle.ill_read.proofs.Frames.{last_open}
 use Rattle.ill_read.proofs.Segments.{segment_due, due_segment, value_apart, text_with, no_text}
 use Rattle.ill_read.proofs.Strings.{segment_added}

@@ -3,8 +3,8 @@ use Rattle.std.proofs.Common.{◌≡◌, ℕ, List, Option, Some, sym, subst}
 use Rattle.ill_schema.specs.Apdu.{IsStream}
 use Rattle.ber_leaf.specs.Profile.{profile_two}
 use Rattle.ill_normal.specs.Streamed.{Passes}
-use Rattle.ill_normal.proofs.Longest.{stream_front}
-use Rattle.ill_normal.proofs.Answering.{front}
+use Rattle.ill_normal.proofs.LongestStreams.{stream_front}
+use Rattle.ill_normal.proofs.InputAnswers.{front}
 
 -- what passed is a stream of what was left, where the source tells it
 pub passes_stream : (s : List ℕ) (left' held held' : Option (List ℕ)) (whole before : ℕ) → (p : Passes (Some s) left' held held' whole before)

@@ -14,7 +14,7 @@ use Rattle.ill_jobs.specs.declared.job.Job.{Job}
 use Rattle.ill_normal.specs.Messages.{Makes}
 use Rattle.ill_normal.specs.declared.messages.Piece.{Piece}
 use Rattle.ill_jobs.specs.Output.{is_good, line_of_check, message_output}
-use Rattle.ill_jobs.proofs.Checking.{tests_equality}
+use Rattle.ill_jobs.proofs.NormalTest.{tests_equality}
 
 module _ (i : ℕ) (text : Vec ℕ Global) where
   pub makes_shown : (m : Message) → text.items ≡ shown_text i (apdu_of m) → (b : List ℕ) → IsSpelled m b

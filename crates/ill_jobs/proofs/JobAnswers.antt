@@ -8,11 +8,11 @@ use Rattle.ill_schema.specs.Apdu.{Apdu, Accepts, IsStream}
 use Rattle.ill_schema.proofs.Streams.{parts_accept, accepts_once, accepts_some, take_front, tails}
 use Rattle.ill_refusals.specs.Fault.{Fault, fault_of}
 use Rattle.ill_refusals.specs.Outcome.{OnlyRefuses}
-use Rattle.ill_normal.proofs.Answering.{front}
+use Rattle.ill_normal.proofs.InputAnswers.{front}
 use Rattle.ill_normal.specs.Messages.{Spelling, AreSpelled}
-use Rattle.ill_normal.proofs.Longest.{nothing_over, no_longer, one_rest}
-use Rattle.ill_normal.proofs.Reaching.{spelled_front}
-use Rattle.ill_normal.proofs.Streaming.{apdus_of, as_many, stream_of}
+use Rattle.ill_normal.proofs.LongestStreams.{nothing_over, no_longer, one_rest}
+use Rattle.ill_normal.proofs.WrittenMessages.{spelled_front}
+use Rattle.ill_normal.proofs.NormalStreams.{apdus_of, as_many, stream_of}
 use Rattle.ill_normal.specs.Calls.{taking, putting}
 use Rattle.ill_jobs.specs.declared.job.Job.{Job}
 use Rattle.ill_jobs.specs.declared.job.Verdict.{Verdict}

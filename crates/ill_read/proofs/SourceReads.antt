@@ -21,7 +21,7 @@ use Rattle.ill_read.specs.declared.decoder.Decoder.{Decoder}
 use Rattle.ill_read.specs.declared.decoder.State.{State}
 use Rattle.ill_read.specs.declared.decoder.State.TheVariants as state
 use Rattle.ill_read.specs.declared.failure.Failure.{Failure}
-use Rattle.ill_read.proofs.Fed.{ended_longer, failed_finish, ended_finish, is_open, last_size, stands_part}
+use Rattle.ill_read.proofs.MessageEnds.{ended_longer, failed_finish, ended_finish, is_open, last_size, stands_part}
 use Rattle.ill_refusals.proofs.Headers.{octets_join}
 
 -- what finish returns, of the octets that were fed
@@ -120,6 +120,7 @@ reads_filled left after broken broken' d r old new h f taken stays = record {
     says_message (Ok None) f = tt
     says_message (Ok (Some m)) f = let b = h.filled.octets in (b, h.filled.taken, (spelled_by m b (f b h.filled.fed) h.filled.exact, h.kept))
     says_message (Err e) f = tt
+
     says_none : (r : Result (Option Message) Failure) → ((s : List ℕ) → IsFed d s → FinishAnswers s r)
         → IfOk (read_result r) (λ found. IfNone found (Consumes left after [] × IsAtEnd after))
     says_none (Ok (Some m)) f = tt
@@ -131,12 +132,14 @@ reads_filled left after broken broken' d r old new h f taken stays = record {
         | inl closed ↦ absurd (let e = ap length (f (h.filled.octets ++ 0 ∷ []) (ended_longer d.state h.filled.octets (0 ∷ []) _ _ closed h.filled.fed)) in omega (arith, e, length-append h.filled.octets (0 ∷ [])))
       ],
     )
+
     says_refused : (left : Option (List ℕ)) (r : Result (Option Message) Failure) → ((s : List ℕ) → IsFed d s → FinishAnswers s r) → HasFilled left after d
         → IfErr (read_result r) (λ e. IfReadRefused e (λ f. IfSome left (λ s. (0 < length s) × OnlyRefuses profile_two s f)))
     says_refused left (Ok found) f h = tt
     says_refused left (Err Failure.OutOfMemory) f h = tt
     says_refused None (Err (Failure.Refused r)) f h = tt
     says_refused (Some s) (Err (Failure.Refused r)) f h = let x = f s (fed_all (Some s) after d s refl h) in (x.1, x.0)
+
     says_fault : (r : Result (Option Message) Failure) → IfErr (read_result r) (λ e. IfReadFault e (IsTrue broken' × TakesNoMessage left after))
     says_fault (Ok found) = tt
     says_fault (Err Failure.OutOfMemory) = tt

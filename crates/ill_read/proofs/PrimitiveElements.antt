@@ -24,7 +24,7 @@ use Rattle.ill_read.specs.declared.judge.Reading.{Reading}
 use Rattle.ill_read.specs.declared.leaf_type.LeafType.{LeafType}
 use Rattle.ill_read.specs.declared.path.Body.{Body}
 use Rattle.ill_read.specs.declared.path.Path.{Path}
-use Rattle.ill_read.proofs.Adding.{due_with}
+use Rattle.ill_read.proofs.AddedValues.{due_with}
 use Rattle.ill_read.proofs.Segments.{segment_due}
 use Rattle.ill_read.proofs.Strings.{segment_added}
 

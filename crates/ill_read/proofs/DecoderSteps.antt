@@ -25,7 +25,7 @@ use Rattle.ill_read.specs.declared.judge.Judgement.{Judgement as CodeJudgement}
 use Rattle.ill_read.specs.declared.judge.Judgement.TheVariants as code
 use Rattle.ill_read.specs.declared.path.Body.{Body}
 use Rattle.ill_read.specs.declared.path.Path.{Path}
-use Rattle.ill_read.proofs.Fed.{refuses_alone}
+use Rattle.ill_read.proofs.MessageEnds.{refuses_alone}
 use Rattle.ill_refusals.proofs.OneOutcome.{message_encodes}
 use Rattle.ill_refusals.proofs.DueSteps.{IsMessage, Placed, step_placed}
 use Rattle.ill_refusals.proofs.Truncation.{leaf_cause}

@@ -28,9 +28,9 @@ use Rattle.ill_read.specs.declared.element.Element.{Element as CodeElement}
 use Rattle.ill_read.specs.declared.element.Wrapped.{Wrapped}
 use Rattle.ill_read.specs.declared.frame.Frame.{Frame}
 use Rattle.ill_read.specs.declared.path.Path.{Path}
-use Rattle.ill_read.proofs.Adding.{due_with, held_added}
+use Rattle.ill_read.proofs.AddedValues.{due_with, held_added}
 use Rattle.ill_read.proofs.Frames.{last_open, next_behind, no_last, frames_open}
-use Rattle.ill_read.proofs.Growing.{with_one, frame_added}
+use Rattle.ill_read.proofs.MoreTrees.{with_one, frame_added}
 use Rattle.ill_read.proofs.Meanings.{begun_means}
 use Rattle.ill_refusals.proofs.OpenElements.{inner_proper}
 use Rattle.ill_read.proofs.Segments.{due_segment, value_apart, text_with, text_apart}

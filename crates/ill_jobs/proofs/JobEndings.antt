@@ -9,7 +9,7 @@ use Rattle.ill_normal.specs.Messages.{Spelling, output_from, PassesAll, BreaksWi
 use Rattle.ill_normal.specs.declared.messages.Passed.{Passed}
 use Rattle.ill_normal.specs.declared.messages.Stopped.{Stopped}
 use Rattle.ill_normal.specs.declared.messages.Why.{Why}
-use Rattle.ill_normal.proofs.Reaching.{output_push}
+use Rattle.ill_normal.proofs.WrittenMessages.{output_push}
 use Rattle.ill_jobs.specs.declared.job.Job.{Job}
 use Rattle.ill_jobs.specs.Output.{message_output, output, is_good, verdict_if}
 use Rattle.ill_jobs.specs.Ran.{Writes, BrokeAt, Stops, StopsAfter, Done}

@@ -14,9 +14,9 @@ use Rattle.ill_normal.specs.Calls.{taking, putting}
 use Rattle.ill_normal.specs.Normalised.{Fails, IsFault}
 use Rattle.ill_normal.specs.Streamed.{Passes, Stops, StopsAfter, IsRefusedAfter, AnswersCount, AnswersRefusedAfter, AnswersTooMany}
 use Rattle.ill_schema.proofs.Streams.{accepts_some}
-use Rattle.ill_normal.proofs.Longest.{nothing_over, no_longer, one_rest}
-use Rattle.ill_normal.proofs.Passing.{passes_stream}
-use Rattle.ill_normal.proofs.Answering.{front}
+use Rattle.ill_normal.proofs.LongestStreams.{nothing_over, no_longer, one_rest}
+use Rattle.ill_normal.proofs.PassedStreams.{passes_stream}
+use Rattle.ill_normal.proofs.InputAnswers.{front}
 
 -- nothing is left of s after these APDUs
 whole_stream : (s : List ℕ) (left' held held' : Option (List ℕ)) (whole before : ℕ) → (p : Passes (Some s) left' held held' whole before) → IsAtEnd left'

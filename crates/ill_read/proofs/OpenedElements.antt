@@ -16,7 +16,7 @@ use Rattle.ill_read.specs.declared.element.Element.{Element as CodeElement}
 use Rattle.ill_read.specs.declared.element.Element.TheVariants.{Leaf, Sequence, List as ListOf, Wrapper, LooseWrapper, Segment}
 use Rattle.ill_read.specs.declared.frame.Frame.{Frame}
 use Rattle.ill_read.specs.declared.path.Path.{Path}
-use Rattle.ill_read.proofs.Adding.{due_with}
+use Rattle.ill_read.proofs.AddedValues.{due_with}
 use Rattle.ill_read.proofs.Segments.{due_segment, text_with, no_text}
 
 -- an element that opens holds nothing

@@ -5,7 +5,7 @@ use Rattle.std.specs.Io.KnownBytes.{IsAtEnd}
 use Rattle.std.proofs.lemmas.Bool.{cases_lt, lt-ltb}
 use Rattle.hex.specs.Hex.{decode_of}
 use Rattle.ill_refusals.specs.Fault.{Fault}
-use Rattle.ill_normal.proofs.Answering.{front}
+use Rattle.ill_normal.proofs.InputAnswers.{front}
 use Rattle.ill_normal.specs.Calls.{taking, putting}
 use Rattle.ill_jobs.specs.declared.job.Job.{Job}
 use Rattle.ill_jobs.specs.declared.job.Verdict.{Verdict}
@@ -13,7 +13,7 @@ use Rattle.ill_jobs.specs.declared.fault.RunFault.{RunFault}
 use Rattle.ill_jobs.specs.Hexadecimal.{hex_octets, with_fault, without_blanks, TakesText}
 use Rattle.ill_normal.specs.Messages.{AreSpelled}
 use Rattle.ill_jobs.specs.Ran.{Done, StopsAfter, TextOf, NoHex, FailsText, IsUnread, IsFault, IsRefused, DoesMessages, RefusesFirst, RefusesMore, RefusesText}
-use Rattle.ill_jobs.proofs.Deciding.{does, refuses, refuses_more}
+use Rattle.ill_jobs.proofs.JobAnswers.{does, refuses, refuses_more}
 
 too_long : (text : List ℕ) → 4_194_304 < length text → hex_octets text ≡ Err RunFault.HexTooLong
 too_long text h = ap (λ (b : Bool). if b then Err RunFault.HexTooLong else with_fault (decode_of (without_blanks text))) (lt-ltb 4_194_304 (length text) h)
