@@ -5,11 +5,13 @@ ghost use Rattle.std.specs.Prelude.{◌≡◌, ◌↔◌, ◌≤◌, ◌+◌, �
 ghost use Rattle.ber_leaf.specs.Profile.{profile_two};
 ghost use Rattle.ill_schema.specs.Apdu.{Apdu, Accepts, IsStream, SpellsApdu, normal_form};
 ghost use Rattle.ill_schema.specs.Message.{apdu_of, octets_of};
+ghost use Rattle.ill_normal.specs.Messages.{AreSpelled, Spelling};
 
 use ber_core::{Pieces, Room, Sink, Source};
 use ill_normal::{
-    Checked, Failure, Message, NormalFailure, ReadFailure, Refusal, Side, StreamFailure, check_one,
-    decode, is_normal, normalise, normalise_stream, read_message, same_message,
+    Checked, Failure, Message, NormalFailure, NormalForms, Passed, ReadFailure, Refusal, Side,
+    Stopped, StreamFailure, check_one, decode, each_message, is_normal, normalise,
+    normalise_stream, read_message, same_message,
 };
 use std::alloc::Global;
 
@@ -129,4 +131,20 @@ fn streams_are_taken_to_their_end(
     ensures stop { IfErr result (λ failure. length source.old.octets ≤ failure.before + (1_048_576 + length source.new.octets)) }
 {
     normalise_stream(alloc, source, sink)
+}
+
+/// The messages of an input are gone through to its end. Where that stops before, it is told how many messages there were and how many
+/// octets they had, and at most 1,048,576 octets were taken after them.
+fn messages_are_gone_through_to_their_end(
+    source: &mut Pieces,
+    sink: &mut Room<64>,
+    alloc: Global,
+) -> Result<Passed, Stopped>
+    ensures end { IfOk result (λ passed. (source.new.octets ≡ []) × ((messages : List Spelling) × (length messages ≡ passed.whole)
+        × AreSpelled source.old.octets messages [])) }
+    ensures before { IfErr result (λ stopped. (messages : List Spelling) × (length messages ≡ stopped.whole)
+        × AreSpelled (take stopped.before source.old.octets) messages []) }
+    ensures stop { IfErr result (λ stopped. length source.old.octets ≤ stopped.before + (1_048_576 + length source.new.octets)) }
+{
+    each_message(alloc, &NormalForms, source, sink)
 }
