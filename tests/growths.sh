@@ -1,11 +1,9 @@
 #!/bin/sh
 # Refuses growth number 1, 2, .. of memory in each call that takes any, until a run meets no refusal. Each result before that must be
 # out of memory, in the call's own words and with the state that is promised then, or the refusal of an input that is refused: a program
-# makes the call and looks. The calls on typed parts and APDUs are those of tests/growths_typed, a program that isn't a crate of this
-# repository, since its proof takes minutes: it is made in a copy. Needs `cc`, since the refusals are made by a wrapper round malloc and
-# realloc.
+# makes the call and looks. The programs are those of tests/growths_calls and tests/growths_typed, which are no crates of this repository,
+# since their proofs take minutes: they are made in a copy. Needs `cc`, since the refusals are made by a wrapper round malloc and realloc.
 cd "$(dirname "$0")/../crates" || exit 2
-(cd tool_growths && rt run >/dev/null 2>&1) || exit 2
 (cd ill_apdu_requests && rt lib >/dev/null 2>&1) || exit 2
 (cd illcanon && rt run -- --version >/dev/null 2>&1) || exit 2
 folder=$(mktemp -d) || exit 2
@@ -39,15 +37,20 @@ void *realloc(void *old, size_t size) {
 }
 C
 
-# The program of the typed calls, in a copy of the crates.
+# Makes the program of tests/NAME, a crate with these dependencies, in a copy of the crates.
 mkdir "$folder/copy" && cp -r . "$folder/copy/crates" && cp ../crates.txt "$folder/copy" || exit 2
-echo "tool_growths_typed: ber_leaf ill_schema ill_parts ill_apdu_requests test_support" >>"$folder/copy/crates.txt"
-typed=$folder/copy/crates/tool_growths_typed
-mkdir -p "$typed/src" || exit 2
-for file in ../tests/growths_typed/*.rt.in; do
-    cp "$file" "$typed/src/$(basename "$file" .in)" || exit 2
-done
-(cd "$typed" && rt run >/dev/null 2>&1) || exit 2
+make_program() {
+    echo "$1: $2" >>"$folder/copy/crates.txt"
+    mkdir -p "$folder/copy/crates/$1/src" || return 1
+    for file in "../tests/$1"/*.rt.in; do
+        cp "$file" "$folder/copy/crates/$1/src/$(basename "$file" .in)" || return 1
+    done
+    (cd "$folder/copy/crates/$1" && rt run >/dev/null 2>&1)
+}
+make_program growths_calls "ber_core ber_leaf ill_schema ill_read ill_write ill_normal ill_text ill_jobs test_support" || exit 2
+make_program growths_typed "ber_leaf ill_schema ill_parts ill_apdu_requests test_support" || exit 2
+calls=$folder/copy/crates/growths_calls/out/growths_calls
+typed=$folder/copy/crates/growths_typed/out/growths_typed
 
 # Prints how many growths a program's call met; fails where a result is wrong.
 growths_of() {
@@ -99,14 +102,14 @@ program_growths() {
 }
 
 failed=0
-for program in tool_growths/out/tool_growths "$typed/out/tool_growths_typed"; do
+for program in "$calls" "$typed"; do
     for call in $("$program" | cut -d : -f 1); do
         growths_of "$program" "$call" || failed=1
     done
 done
 # The writer takes no memory but that for the sizes.
-measured=$(growths_of tool_growths/out/tool_growths sizes-measure-largest)
-written=$(growths_of tool_growths/out/tool_growths write-normal-largest)
+measured=$(growths_of "$calls" sizes-measure-largest)
+written=$(growths_of "$calls" write-normal-largest)
 [ "${measured#*: }" = "${written#*: }" ] || failed=1
 program_growths || failed=1
 exit $failed
