@@ -10,3 +10,7 @@ left_of standard file (File source) = file source
 abbrev pub is_broken_of : {S F : Type 0} → (S → Bool) → (F → Bool) → Opened S F → Bool
 is_broken_of standard file (Standard source) = standard source
 is_broken_of standard file (File source) = file source
+
+abbrev pub hand_of : {S F : Type 0} → (S → List ℕ) → (F → List ℕ) → Opened S F → List ℕ
+hand_of standard file (Standard source) = standard source
+hand_of standard file (File source) = file source

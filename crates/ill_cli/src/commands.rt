@@ -6,8 +6,8 @@ use crate::orders::{Order, Task, task_of};
 use crate::replacement::{self, Replacement};
 use crate::same_file::FileId;
 use crate::words::words_of;
-use ber_core::{Source, ToWrite};
-use ill_jobs::{Job, RunFault, Verdict, run, run_same};
+use ber_core::{Ahead, AtHand, ToWrite};
+use ill_jobs::{Job, RunFault, Verdict, run_by, run_same};
 use std::alloc::Global;
 use std::fs::{self, OpenFile};
 use std::io::{self, BufWriter, Write};
@@ -137,7 +137,7 @@ fn to_replacement<R: Input + Files + AllocGlobal>(
     done
 }
 
-fn to_writer<S: Source, W: Write + Drop>(
+fn to_writer<S: Ahead, W: Write + Drop>(
     alloc: Global,
     job: Job,
     hex: bool,
@@ -145,7 +145,7 @@ fn to_writer<S: Source, W: Write + Drop>(
     writer: &mut BufWriter<W>,
 ) -> Result<Verdict, Fault> {
     let mut sink = ToWrite::new(&mut *writer);
-    let done = run(alloc, job, hex, source, &mut sink);
+    let done = run_by::<S, AtHand, ToWrite<&mut BufWriter<W>>>(alloc, job, hex, source, &mut sink);
     flushed(done, writer)
 }
 

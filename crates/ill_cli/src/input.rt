@@ -4,10 +4,9 @@ ghost use Rattle.ill_cli.specs.Opened.{left_of, is_broken_of};
 
 use crate::fault::Fault;
 use crate::same_file::FileId;
-use ber_core::{Broken, FromRead, Source};
+use ber_core::{Ahead, Broken, FromBuffer, Source};
 use std::alloc::Global;
 use std::fs::{self, OpenFile};
-use std::io::{BufReader, Read};
 use std::rt::Files;
 
 /// A source that was opened: standard input or a file.
@@ -37,11 +36,28 @@ impl<S: Source, F: Source> Source for Opened<S, F> {
     }
 }
 
-/// A reader as a buffered source.
-pub type Buffered<R> = FromRead<BufReader<R>>;
+impl<S: Ahead, F: Ahead> Ahead for Opened<S, F> {
+    ghost use Rattle.ill_cli.specs.Opened.{hand_of};
+
+    ghost hand = { λ opened. hand_of S.hand F.hand opened };
+
+    fn at_hand(&self) -> &[u8] {
+        match self {
+            Opened::Standard(source) => source.at_hand(),
+            Opened::File(source) => source.at_hand(),
+        }
+    }
+
+    fn pass(&mut self, count: usize) {
+        match self {
+            Opened::Standard(source) => source.pass(count),
+            Opened::File(source) => source.pass(count),
+        }
+    }
+}
 
 /// The source of an input under the runtime `R`.
-pub type InputSource<R> = Opened<Buffered<<R as Input>::Reader>, Buffered<<R as Files>::File>>;
+pub type InputSource<R> = Opened<FromBuffer<<R as Input>::Reader>, FromBuffer<<R as Files>::File>>;
 
 /// Opens the input of this name, standard input for `-`.
 ///
@@ -61,11 +77,11 @@ pub fn open_and_identify<R: Input + Files + AllocGlobal>(
     let alloc = rt.alloc();
     if name == "-" {
         let file = FileId::of_standard_input(rt);
-        let reader = BufReader::new(alloc, rt.reader()).map_err(|_| Fault::out_of_memory())?;
-        return Ok((Opened::Standard(FromRead::new(reader)), file));
+        let source = FromBuffer::new(alloc, rt.reader()).map_err(|_| Fault::out_of_memory())?;
+        return Ok((Opened::Standard(source), file));
     }
     let opened = fs::open(rt, name).map_err(|_| Fault::cannot_open(alloc, name))?;
     let file = FileId::of(opened.metadata());
-    let reader = BufReader::new(alloc, opened).map_err(|_| Fault::out_of_memory())?;
-    Ok((Opened::File(FromRead::new(reader)), file))
+    let source = FromBuffer::new(alloc, opened).map_err(|_| Fault::out_of_memory())?;
+    Ok((Opened::File(source), file))
 }

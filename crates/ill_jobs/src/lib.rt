@@ -11,5 +11,5 @@ mod text;
 
 pub use fault::RunFault;
 pub use job::{Job, Verdict};
-pub use messages::run;
+pub use messages::{run, run_by};
 pub use same::run_same;

@@ -9,7 +9,7 @@ use crate::fault::RunFault;
 use crate::hexadecimal::read_hex;
 use crate::job::{Job, Verdict};
 use crate::piece::Work;
-use ber_core::{FromSlice, Sink, Source};
+use ber_core::{AtHand, FromSlice, Look, Sink, Source, Unseen};
 use ill_normal::{ReadFailure, Stopped, Why, each_message};
 use std::alloc::Global;
 
@@ -41,15 +41,42 @@ pub fn run<R: Source, W: Sink>(
     ensures source_stays { IsTrue (R.is_broken source.old) → IsTrue (R.is_broken source.new) }
     ensures sink_stays { IsTrue (W.is_broken sink.old) → IsTrue (W.is_broken sink.new) }
 {
+    run_by::<R, Unseen, W>(alloc, job, hex, source, sink)
+}
+
+/// Does a job as [`run`] does, by a way to look at the source.
+///
+/// # Errors
+///
+/// Those of [`run`].
+pub fn run_by<R: Source, L: Look<R>, W: Sink>(
+    alloc: Global,
+    job: Job,
+    hex: bool,
+    source: &mut R,
+    sink: &mut W,
+) -> Result<Verdict, RunFault>
+    // The input was messages to its end, and their output was written.
+    ensures done { IfOk result (RunDone hex job (R.left source.old) (R.left source.new) (W.contents sink.old) (W.contents sink.new)) }
+    ensures fails { IfErr result (RunFails hex job (taking (R.left source.old) (R.left source.new) (R.is_broken source.new))
+        (putting (W.contents sink.old) (W.contents sink.new) (W.is_broken sink.new))) }
+    // Each input has one result, unless memory, the source or the sink fails.
+    ensures does { IfSome (R.left source.old) (λ s. DoesMessages job hex s result) }
+    ensures refuses { IfSome (R.left source.old) (λ s. RefusesFirst hex s result) }
+    ensures too_many { IfSome (R.left source.old) (λ s. RefusesMore hex s result) }
+    ensures no_hex { IfSome (R.left source.old) (λ s. RefusesText hex s result) }
+    ensures source_stays { IsTrue (R.is_broken source.old) → IsTrue (R.is_broken source.new) }
+    ensures sink_stays { IsTrue (W.is_broken sink.old) → IsTrue (W.is_broken sink.new) }
+{
     if !hex {
-        return run_messages(alloc, job, false, source, sink);
+        return run_messages::<R, L, W>(alloc, job, false, source, sink);
     }
     let octets = read_hex(alloc, source)?;
     let mut messages = FromSlice::new(&octets);
-    run_messages(alloc, job, true, &mut messages, sink)
+    run_messages::<FromSlice<'_>, AtHand, W>(alloc, job, true, &mut messages, sink)
 }
 
-fn run_messages<R: Source, W: Sink>(
+fn run_messages<R: Source, L: Look<R>, W: Sink>(
     alloc: Global,
     job: Job,
     hex: bool,
@@ -62,7 +89,7 @@ fn run_messages<R: Source, W: Sink>(
     ensures source_stays { IsTrue (R.is_broken source.old) → IsTrue (R.is_broken source.new) }
     ensures sink_stays { IsTrue (W.is_broken sink.old) → IsTrue (W.is_broken sink.new) }
 {
-    match each_message(alloc, &Work { job, hex }, source, sink) {
+    match each_message::<Work, R, L, W>(alloc, &Work { job, hex }, source, sink) {
         Ok(passed) => Ok(verdict(passed.all_good)),
         Err(stopped) => Err(fault_of(stopped)),
     }

@@ -7,9 +7,9 @@ ghost use Rattle.ill_normal.specs.Messages.{Makes};
 ghost use Rattle.ill_jobs.specs.Output.{is_good, line_of_check, message_output};
 
 use crate::job::Job;
-use ber_core::Source;
+use ber_core::{Look, Source};
 use ill_normal::{
-    Checked, Maker, NormalForms, Piece, ReadFailure, apdu_name, check_one, read_message,
+    Checked, Maker, NormalForms, Piece, ReadFailure, apdu_name, check_one_by, read_message_by,
 };
 use ill_text::show_text;
 use itoa::Buffer;
@@ -30,18 +30,18 @@ impl Maker for Work {
 
     ghost is_good = { λ work. is_good work.job };
 
-    fn next<R: Source>(
+    fn next<R: Source, L: Look<R>>(
         &self,
         alloc: Global,
         number: u32,
         source: &mut R,
     ) -> Result<Option<Piece>, ReadFailure> {
-        next_piece(alloc, self.job, self.hex, number, source)
+        next_piece::<R, L>(alloc, self.job, self.hex, number, source)
     }
 }
 
 /// Reads the next message, and makes its whole output; None at the end of the input.
-fn next_piece<R: Source>(
+fn next_piece<R: Source, L: Look<R>>(
     alloc: Global,
     job: Job,
     hex: bool,
@@ -52,13 +52,13 @@ fn next_piece<R: Source>(
         (Makes (message_output job hex number) (is_good job)) result }
 {
     match job {
-        Job::Show => shown(alloc, number, source),
-        Job::Check => checked(alloc, number, source),
-        Job::Canonicalise => canonical(alloc, hex, source),
+        Job::Show => shown::<R, L>(alloc, number, source),
+        Job::Check => checked::<R, L>(alloc, number, source),
+        Job::Canonicalise => canonical::<R, L>(alloc, hex, source),
     }
 }
 
-fn shown<R: Source>(
+fn shown<R: Source, L: Look<R>>(
     alloc: Global,
     number: u32,
     source: &mut R,
@@ -66,7 +66,7 @@ fn shown<R: Source>(
     ensures { ReadsNext (R.left source.old) (R.left source.new) (R.is_broken source.old) (R.is_broken source.new)
         (λ p octets. (hex : Bool) → Makes (message_output Job.Show hex number) (is_good Job.Show) p octets) result }
 {
-    let Some(message) = read_message(alloc, source)? else {
+    let Some(message) = read_message_by::<R, L>(alloc, source)? else {
         return Ok(None);
     };
     match show_text(alloc, number, &message) {
@@ -79,7 +79,7 @@ fn shown<R: Source>(
     }
 }
 
-fn checked<R: Source>(
+fn checked<R: Source, L: Look<R>>(
     alloc: Global,
     number: u32,
     source: &mut R,
@@ -87,7 +87,7 @@ fn checked<R: Source>(
     ensures { ReadsNext (R.left source.old) (R.left source.new) (R.is_broken source.old) (R.is_broken source.new)
         (λ p octets. (hex : Bool) → Makes (message_output Job.Check hex number) (is_good Job.Check) p octets) result }
 {
-    let Some(found) = check_one(alloc, source)? else {
+    let Some(found) = check_one_by::<R, L>(alloc, source)? else {
         return Ok(None);
     };
     match check_line(alloc, number, found) {
@@ -125,7 +125,7 @@ fn check_line(alloc: Global, number: u32, found: Checked) -> Result<Vec<u8>, All
     Ok(line)
 }
 
-fn canonical<R: Source>(
+fn canonical<R: Source, L: Look<R>>(
     alloc: Global,
     hex: bool,
     source: &mut R,
@@ -133,7 +133,7 @@ fn canonical<R: Source>(
     ensures { ReadsNext (R.left source.old) (R.left source.new) (R.is_broken source.old) (R.is_broken source.new)
         (λ p octets. (number : ℕ) → Makes (message_output Job.Canonicalise hex number) (is_good Job.Canonicalise) p octets) result }
 {
-    let Some(normal) = NormalForms.next(alloc, 1, source)? else {
+    let Some(normal) = NormalForms.next::<R, L>(alloc, 1, source)? else {
         return Ok(None);
     };
     if !hex {

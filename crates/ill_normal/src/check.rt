@@ -5,8 +5,8 @@ ghost use Rattle.ill_schema.specs.Apdu.{Apdu, Accepts};
 ghost use Rattle.ill_read.specs.Answers.{AnswersSome, ReadsNext};
 ghost use Rattle.ill_normal.specs.Checking.{Describes};
 
-use ber_core::Source;
-use ill_read::{ReadFailure, read_kept};
+use ber_core::{Look, Source, Unseen};
+use ill_read::{ReadFailure, read_kept_by};
 use ill_write::normal_bytes;
 use std::alloc::Global;
 
@@ -34,8 +34,24 @@ pub fn check_one<R: Source>(alloc: Global, source: &mut R) -> Result<Option<Chec
     // A spelling at the front is checked, unless memory or the source failed.
     ensures accepts { IfSome (R.left source.old) (λ s. (a : Apdu) (n : ℕ) → Accepts profile_two s a n → AnswersSome result) }
 {
+    check_one_by::<R, Unseen>(alloc, source)
+}
+
+/// Checks a message as [`check_one`] does, by a way to look at the source.
+///
+/// # Errors
+///
+/// Those of [`check_one`].
+pub fn check_one_by<R: Source, L: Look<R>>(
+    alloc: Global,
+    source: &mut R,
+) -> Result<Option<Checked>, ReadFailure>
+    ensures next { ReadsNext (R.left source.old) (R.left source.new) (R.is_broken source.old) (R.is_broken source.new) Describes result }
+    // A spelling at the front is checked, unless memory or the source failed.
+    ensures accepts { IfSome (R.left source.old) (λ s. (a : Apdu) (n : ℕ) → Accepts profile_two s a n → AnswersSome result) }
+{
     let mut octets = Vec::new(alloc);
-    let Some(message) = read_kept(alloc, source, &mut octets)? else {
+    let Some(message) = read_kept_by::<R, L>(alloc, source, &mut octets)? else {
         return Ok(None);
     };
     let Ok(normal) = normal_bytes(alloc, &message) else {

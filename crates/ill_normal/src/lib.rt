@@ -9,12 +9,15 @@ mod messages;
 mod single;
 mod stream;
 
-pub use ber_core::{Broken, FromRead, Pieces, Room, Sink, Source, ToWrite};
+pub use ber_core::{
+    Ahead, AtHand, Broken, FromBuffer, FromRead, FromSlice, Look, Pieces, Room, Sink, Source,
+    ToWrite, Unseen,
+};
 pub use ber_leaf::{DateText, GeneralText, IllString, PrintableText, TimeText, VisibleText};
-pub use check::{Checked, check_one};
+pub use check::{Checked, check_one, check_one_by};
 pub use compare::{Side, is_normal, same_message};
 pub use failure::{NormalFailure, StreamCause, StreamFailure};
-pub use ill_read::{Failure, ReadFailure, decode, read_message};
+pub use ill_read::{Failure, ReadFailure, decode, read_message, read_message_by};
 pub use ill_schema::{
     Cause, Kind, LIMIT, LeafKind, Message, Mode, NodeId, PartId, Presence, Refusal, Row, Unfit,
     Value, apdu_name, apdu_node, kind, part_name, row, rows,

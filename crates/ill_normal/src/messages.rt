@@ -6,7 +6,7 @@ ghost use Rattle.ill_normal.specs.Calls.{taking, putting};
 ghost use Rattle.ill_normal.specs.Messages.{EndsAfter, Makes, PassesAll, Spelling};
 ghost use Rattle.ill_normal.specs.code.Ending.{GoesOn};
 
-use ber_core::{Sink, Source};
+use ber_core::{Look, Sink, Source};
 use ill_read::ReadFailure;
 use ill_write::put_all;
 use std::alloc::Global;
@@ -38,7 +38,7 @@ pub trait Maker {
     /// # Errors
     ///
     /// Those of [`read_message`](crate::read_message), or out of memory.
-    fn next<R: Source>(
+    fn next<R: Source, L: Look<R>>(
         &self,
         alloc: Global,
         number: u32,
@@ -80,14 +80,14 @@ pub struct Stopped {
     pub why: Why,
 }
 
-/// Writes what is made of each message of an input, one after another up to its end. A message's whole text is made before any of it is
+/// Writes what is made of each message of an input, one after another up to its end, by a way to look at the source. A message's whole text is made before any of it is
 /// written, and one message is held at a time.
 ///
 /// # Errors
 ///
 /// How far it came, and why no further, where the input goes on after 1,000,000 messages, too. Of what follows the messages that were
 /// written, at most 1,048,576 octets are taken.
-pub fn each_message<M: Maker, R: Source, W: Sink>(
+pub fn each_message<M: Maker, R: Source, L: Look<R>, W: Sink>(
     alloc: Global,
     maker: &M,
     source: &mut R,
@@ -104,7 +104,7 @@ pub fn each_message<M: Maker, R: Source, W: Sink>(
     let mut before = 0;
     let mut written = 0;
     for whole in 0..MESSAGES {
-        let piece = match maker.next(alloc, whole + 1, source) {
+        let piece = match maker.next::<R, L>(alloc, whole + 1, source) {
             Ok(Some(piece)) => piece,
             Ok(None) => return Ok(Passed { whole, all_good }),
             Err(failure) => {

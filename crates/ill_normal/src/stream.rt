@@ -12,8 +12,8 @@ ghost use Rattle.ill_normal.specs.Streamed.{Passes, StopsAfter, AnswersCount, An
 
 use crate::failure::{NormalFailure, StreamCause, StreamFailure};
 use crate::messages::{Maker, Piece, Why, each_message};
-use ber_core::{Sink, Source};
-use ill_read::{ReadFailure, read_message};
+use ber_core::{Look, Sink, Source, Unseen};
+use ill_read::{ReadFailure, read_message_by};
 use ill_write::normal_bytes;
 use std::alloc::Global;
 
@@ -25,14 +25,14 @@ impl Maker for NormalForms {
 
     ghost is_good = { λ _ m. true };
 
-    fn next<R: Source>(
+    fn next<R: Source, L: Look<R>>(
         &self,
         alloc: Global,
         number: u32,
         source: &mut R,
     ) -> Result<Option<Piece>, ReadFailure> {
         let _ = number;
-        let Some(message) = read_message(alloc, source)? else {
+        let Some(message) = read_message_by::<R, L>(alloc, source)? else {
             return Ok(None);
         };
         let Ok(text) = normal_bytes(alloc, &message) else {
@@ -86,7 +86,7 @@ pub fn normalise_stream<R: Source, W: Sink>(
     ensures source_stays { IsTrue (R.is_broken source.old) → IsTrue (R.is_broken source.new) }
     ensures sink_stays { IsTrue (W.is_broken sink.old) → IsTrue (W.is_broken sink.new) }
 {
-    match each_message(alloc, &NormalForms, source, sink) {
+    match each_message::<NormalForms, R, Unseen, W>(alloc, &NormalForms, source, sink) {
         Ok(passed) => Ok(passed.whole),
         Err(stopped) => Err(StreamFailure {
             whole: stopped.whole,

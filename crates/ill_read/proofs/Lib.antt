@@ -25,3 +25,4 @@ pub mod DecoderSteps
 pub mod NeededOctets
 pub mod SourceReads
 pub mod NextRead
+pub mod LookedOctets

@@ -54,6 +54,7 @@ impl Decoder {
     ghost use Rattle.ber_core.specs.Octets.{are_octets};
     ghost use Rattle.ill_schema.specs.declared.message.Message.{Message};
     ghost use Rattle.ill_read.specs.code.DecoderCode.{body_apdu, CanRefuse, CanStep, HasAdvanced, HasEnded, HasOutcome, HasStopped, IsFed, IsRunning};
+    ghost use Rattle.ill_read.specs.code.Filling.{HasLooked, NoneEndsWithin};
     ghost use Rattle.ill_read.specs.Feeding.{ended, FeedsTo, HasFailedWith, IsOpenAfter, IsWholeWith};
     ghost use Rattle.ill_read.specs.Need.{NeedsAfter};
     ghost use Rattle.ill_read.specs.code.Progress.{depth_of, size_of, IsProgress, StepsTo};
@@ -146,6 +147,30 @@ impl Decoder {
                 self.keep_after(octets, count);
             }
             Err(error) => self.state = State::Failed(Failure::from(error)),
+        }
+    }
+
+    /// Goes as far as octets reach that a source has at hand, where none is kept, and returns how many of them were taken: those of
+    /// elements that are passed; of a message, no octet after it; all, where they are refused.
+    #[inline(always)]
+    pub(crate) fn look(&mut self, octets: &[u8]) -> usize
+        ensures count { result ≤ length octets.now }
+        ensures looked { (b : List ℕ) → IsFed self.old b → NoneEndsWithin b → HasLooked self.new (b ++ take result octets.now) }
+    {
+        if !matches!(&self.state, State::Open) || !self.pending.is_empty() {
+            return 0;
+        }
+        let before = self.at;
+        let count = self.run(octets);
+        match &self.state {
+            State::Open => count,
+            State::Whole(message) => {
+                octets
+                    .len()
+                    .min(message.octets().saturating_sub(before) as usize)
+            }
+            State::Failed(Failure::Refused(_)) => octets.len(),
+            State::Failed(Failure::OutOfMemory) => 0,
         }
     }
 

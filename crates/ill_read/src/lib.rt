@@ -23,4 +23,4 @@ pub use ill_refusals::{
     one_outcome, one_place, refusals_stay, truncated_at_the_end, values_are_small,
 };
 pub use laws::decoders_are_apart;
-pub use read::{decode, read_kept, read_message};
+pub use read::{decode, read_kept, read_kept_by, read_message, read_message_by};

@@ -1,14 +1,14 @@
 //! Messages out of sources and slices.
-ghost use Rattle.std.specs.Prelude.{◌≡◌, ℕ, ◌<◌, ◌≤◌, List, ◌++◌, length, take, IfOk, IsErr, IsErrOf, IsTrue};
+ghost use Rattle.std.specs.Prelude.{◌≡◌, ℕ, ◌<◌, ◌≤◌, List, ◌++◌, length, take, IfOk, IfErr, IsErr, IsErrOf, IsTrue};
 ghost use Rattle.std.specs.Io.KnownBytes.{Appends, Consumes, Keeps};
 ghost use Rattle.ill_read.specs.Answers.{DecodeAnswers, IsRead, IsSpelled, IsUnfinished, ReadsNext, TakesFront, TakesNoMessage};
-ghost use Rattle.ill_read.specs.code.Filling.{HasKept, HasPulled, NoneEndsWithin};
+ghost use Rattle.ill_read.specs.code.Filling.{HasKept, HasPulled, HasTaken, NoneEndsWithin};
 ghost use Rattle.ill_read.specs.code.DecoderCode.{HasOutcome, IsFed};
 
 use crate::decoder::Decoder;
 use crate::failure::{Failure, ReadFailure};
 use crate::keep::{Forget, Keep};
-use ber_core::{Broken, Source};
+use ber_core::{Broken, Look, Source, Unseen};
 use ill_schema::{Cause, LIMIT, Message};
 use std::alloc::Global;
 
@@ -26,7 +26,22 @@ pub fn read_message<R: Source>(
 ) -> Result<Option<Message>, ReadFailure>
     ensures { ReadsNext (R.left source.old) (R.left source.new) (R.is_broken source.old) (R.is_broken source.new) IsSpelled result }
 {
-    read_into(alloc, source, &mut Forget)
+    read_message_by::<R, Unseen>(alloc, source)
+}
+
+/// Reads a message as [`read_message`] does, by a way to look at the source: octets that are at hand are read where they are, as far as the
+/// message goes, and no octet after it is taken.
+///
+/// # Errors
+///
+/// Those of [`read_message`].
+pub fn read_message_by<R: Source, L: Look<R>>(
+    alloc: Global,
+    source: &mut R,
+) -> Result<Option<Message>, ReadFailure>
+    ensures { ReadsNext (R.left source.old) (R.left source.new) (R.is_broken source.old) (R.is_broken source.new) IsSpelled result }
+{
+    read_into::<R, L, Forget>(alloc, source, &mut Forget)
 }
 
 /// Reads a message as [`read_message`] does, and keeps its octets at the end of `kept`.
@@ -42,12 +57,28 @@ pub fn read_kept<R: Source>(
     ensures { ReadsNext (R.left source.old) (R.left source.new) (R.is_broken source.old) (R.is_broken source.new)
         (λ m octets. IsSpelled m octets × (kept.new.items ≡ kept.old.items ++ octets)) result }
 {
-    read_into(alloc, source, kept)
+    read_kept_by::<R, Unseen>(alloc, source, kept)
+}
+
+/// Reads a message as [`read_kept`] does, by a way to look at the source.
+///
+/// # Errors
+///
+/// Those of [`read_message`]; some octets may have been kept then.
+pub fn read_kept_by<R: Source, L: Look<R>>(
+    alloc: Global,
+    source: &mut R,
+    kept: &mut Vec<u8>,
+) -> Result<Option<Message>, ReadFailure>
+    ensures { ReadsNext (R.left source.old) (R.left source.new) (R.is_broken source.old) (R.is_broken source.new)
+        (λ m octets. IsSpelled m octets × (kept.new.items ≡ kept.old.items ++ octets)) result }
+{
+    read_into::<R, L, Vec<u8>>(alloc, source, kept)
 }
 
 /// Reads a message, and hands its octets to what keeps them.
 #[inline(always)]
-fn read_into<R: Source, K: Keep>(
+fn read_into<R: Source, L: Look<R>, K: Keep>(
     alloc: Global,
     source: &mut R,
     keep: &mut K,
@@ -55,7 +86,7 @@ fn read_into<R: Source, K: Keep>(
     ensures { ReadsNext (R.left source.old) (R.left source.new) (R.is_broken source.old) (R.is_broken source.new)
         (λ m octets. IsSpelled m octets × Appends (K.kept keep.old) (K.kept keep.new) octets) result }
 {
-    match fill(alloc, source, keep) {
+    match fill::<R, L, K>(alloc, source, keep) {
         Ok(decoder) => match decoder.finish() {
             Ok(message) => Ok(message),
             Err(failure) => Err(ReadFailure::from(failure)),
@@ -71,9 +102,9 @@ enum Unfilled {
     OutOfMemory,
 }
 
-/// Feeds a decoder with what it needs, until nothing is needed any more or the source ends, and hands on what it is fed to what keeps it.
+/// Feeds a decoder until nothing is needed any more or the source ends, and hands on what it is fed to what keeps it.
 #[inline(always)]
-fn fill<R: Source, K: Keep>(
+fn fill<R: Source, L: Look<R>, K: Keep>(
     alloc: Global,
     source: &mut R,
     keep: &mut K,
@@ -88,17 +119,54 @@ fn fill<R: Source, K: Keep>(
     let mut buffer = [0; CHUNK];
     let mut room = LIMIT;
     while room > 0 {
-        let count = match pull(&mut decoder, source, &mut buffer, room) {
+        let count = match more::<R, L, K>(&mut decoder, source, keep, &mut buffer, room) {
             Ok(0) => return Ok(decoder),
             Ok(count) => count,
-            Err(Broken) => return Err(Unfilled::Broken),
+            Err(failure) => return Err(failure),
         };
-        if let Err(_) = keep.keep(&buffer[..count]) {
-            return Err(Unfilled::OutOfMemory);
-        }
         room -= count as u32;
     }
     Ok(decoder)
+}
+
+/// Feeds the decoder with octets that the source has at hand, or else with some that it needs, at most `room`, and returns how many they
+/// are; 0 where nothing is needed or the source is at its end.
+#[inline(always)]
+fn more<R: Source, L: Look<R>, K: Keep>(
+    decoder: &mut Decoder,
+    source: &mut R,
+    keep: &mut K,
+    buffer: &mut [u8],
+    room: u32,
+) -> Result<usize, Unfilled>
+    requires space { 0 < length buffer.old }
+    requires room { 0 < room }
+    ensures taken { IfOk result (λ n. (n ≤ room)
+        × HasTaken (R.left source.old) (R.left source.new) (K.kept keep.old) (K.kept keep.new) decoder.old decoder.new n) }
+    ensures front { IfErr result (λ _. (octets : List ℕ) × Consumes (R.left source.old) (R.left source.new) octets × (length octets ≤ room)) }
+    ensures broken { IsErrOf result Unfilled.Broken → IsTrue (R.is_broken source.new) }
+    ensures kept { IsErrOf result Unfilled.Broken → Keeps (R.left source.old) (R.left source.new) }
+    ensures unfinished { IsErrOf result Unfilled.Broken → (b : List ℕ) → IsFed decoder.old b → NoneEndsWithin b → IsUnfinished b }
+    ensures stays { IsTrue (R.is_broken source.old) → IsTrue (R.is_broken source.new) }
+    ensures space { length buffer.new ≡ length buffer.old }
+{
+    let hand = L::at_hand(source);
+    let most = hand.len().min(room as usize);
+    let seen = decoder.look(&hand[..most]);
+    if seen > 0 {
+        if let Err(_) = keep.keep(&hand[..seen]) {
+            return Err(Unfilled::OutOfMemory);
+        }
+        L::pass(source, seen);
+        return Ok(seen);
+    }
+    match pull(decoder, source, buffer, room) {
+        Ok(count) => match keep.keep(&buffer[..count]) {
+            Ok(()) => Ok(count),
+            Err(_) => Err(Unfilled::OutOfMemory),
+        },
+        Err(Broken) => Err(Unfilled::Broken),
+    }
 }
 
 /// Feeds the decoder with some octets that it needs, at most `room`, and returns how many they are at the front of the buffer; 0 where

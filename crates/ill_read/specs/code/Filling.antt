@@ -15,11 +15,24 @@ use Rattle.ill_read.specs.declared.failure.ReadFailure.{ReadFailure}
 abbrev pub NoneEndsWithin : List ℕ → Type 0
 NoneEndsWithin b = (a : Apdu) (n : ℕ) → Accepts profile_two b a n → length b ≤ n
 
+-- it was fed these octets, within which no message ends
+pub record HasLooked (d : Decoder) (octets : List ℕ) : Type 0 where
+  pub fed : IsFed d octets
+  pub exact : NoneEndsWithin octets
+
 -- it was fed a piece more, which is empty only where nothing is open or nothing is left
 pub record HasPulled (after : Option (List ℕ)) (d : Decoder) (b piece : List ℕ) : Type 0 where
   pub fed : IsFed d (b ++ piece)
   pub exact : NoneEndsWithin (b ++ piece)
   pub ended : piece ≡ [] → (d.state ≢ state.Open) ⊎ IsAtEnd after
+
+-- n octets were taken, kept, and fed to the decoder
+pub record HasTaken (left after held held' : Option (List ℕ)) (d d' : Decoder) (n : ℕ) : Type 0 where
+  pub piece : List ℕ
+  pub size : length piece ≡ n
+  pub taken : Consumes left after piece
+  pub kept : Appends held held' piece
+  pub fed : (b : List ℕ) → IsFed d b → NoneEndsWithin b → HasPulled after d' b piece
 
 -- it was fed just these octets, which the source gave up, until nothing was open or the source was at its end
 pub record HasFilled (left after : Option (List ℕ)) (d : Decoder) : Type 0 where

@@ -7,11 +7,11 @@ ghost use Rattle.ill_schema.specs.Apdu.{Apdu, Accepts, IsStream, SpellsApdu, nor
 ghost use Rattle.ill_schema.specs.Message.{apdu_of, octets_of};
 ghost use Rattle.ill_normal.specs.Messages.{AreSpelled, Spelling};
 
-use ber_core::{Pieces, Room, Sink, Source};
+use ber_core::{AtHand, FromSlice, Pieces, Room, Sink, Source, Unseen};
 use ill_normal::{
     Checked, Failure, Message, NormalFailure, NormalForms, Passed, ReadFailure, Refusal, Side,
     Stopped, StreamFailure, check_one, decode, each_message, is_normal, normalise,
-    normalise_stream, read_message, same_message,
+    normalise_stream, read_message, read_message_by, same_message,
 };
 use std::alloc::Global;
 
@@ -61,6 +61,19 @@ fn messages_are_taken_whole(
     ]) }
 {
     read_message(alloc, source)
+}
+
+/// Of octets at hand no more are passed than the message has.
+fn messages_at_hand_are_taken_whole(
+    source: &mut FromSlice,
+    alloc: Global,
+) -> Result<Option<Message>, ReadFailure>
+    ensures { IfOk result (λ found. elim found as (λ _. Type 0) [
+      | Some message ↦ source.new ≡ drop (octets_of message) source.old
+      | None ↦ (source.old ≡ []) × (source.new ≡ [])
+    ]) }
+{
+    read_message_by::<FromSlice, AtHand>(alloc, source)
 }
 
 /// What is checked is the message at the front, and the result describes it.
@@ -146,5 +159,5 @@ fn messages_are_gone_through_to_their_end(
         × AreSpelled (take stopped.before source.old.octets) messages []) }
     ensures stop { IfErr result (λ stopped. length source.old.octets ≤ stopped.before + (1_048_576 + length source.new.octets)) }
 {
-    each_message(alloc, &NormalForms, source, sink)
+    each_message::<NormalForms, Pieces, Unseen, Room<64>>(alloc, &NormalForms, source, sink)
 }

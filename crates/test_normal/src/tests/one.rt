@@ -3,9 +3,10 @@ use super::rows::ROWS;
 use super::sips::Sips;
 use super::{EXPIRED, INDEFINITE_HEX, LONG_FORM};
 use ill_normal::{
-    Cause, NodeId, NormalFailure, PartId, Pieces, Refusal, Room, Source, apdu_name, decode,
-    normal_form_is_accepted, normal_form_is_its_own, normal_forms_are_equal_exactly_if_apdus_are,
-    normalise, one_prefix_is_accepted, one_refusal_of_a_slice, read_message,
+    Ahead, AtHand, Cause, FromSlice, NodeId, NormalFailure, PartId, Pieces, Refusal, Room, Source,
+    apdu_name, decode, normal_form_is_accepted, normal_form_is_its_own,
+    normal_forms_are_equal_exactly_if_apdus_are, normalise, one_prefix_is_accepted,
+    one_refusal_of_a_slice, read_message, read_message_by,
 };
 use std::alloc::Global;
 use std::test::Fail;
@@ -42,6 +43,35 @@ fn normalises_each_row(rt: HostRuntime) -> Result<(), Fail> {
             let found = normal_form(alloc, &octets, read, written)?;
             assert!(rt; found.as_slice() == want.as_slice(), "{name}");
         }
+    }
+    Ok(())
+}
+
+/// How many octets are at hand after the next message, None where there is no message.
+fn left_after(alloc: Global, source: &mut FromSlice<'_>) -> Result<Option<usize>, Fail> {
+    match read_message_by::<FromSlice<'_>, AtHand>(alloc, source) {
+        Ok(Some(_)) => Ok(Some(source.at_hand().len())),
+        Ok(None) => Ok(None),
+        Err(_) => Err(Fail::from("no message")),
+    }
+}
+
+#[test]
+fn octets_at_hand_are_taken_message_by_message(rt: HostRuntime) -> Result<(), Fail> {
+    let alloc = rt.alloc();
+    for line in ROWS.lines() {
+        let (name, row) = line.split_once('|').ok_or("no name")?;
+        let (pieces, _) = row.split_once('|').ok_or("no normal form")?;
+        let octets = octets_of(alloc, pieces)?;
+        let mut twice = octets_of(alloc, pieces)?;
+        twice.extend_from_slice(&octets)?;
+        let mut source = FromSlice::new(&twice);
+        assert!(rt;
+            left_after(alloc, &mut source)? == Some(octets.len()),
+            "{name}"
+        );
+        assert!(rt; left_after(alloc, &mut source)? == Some(0), "{name}");
+        assert!(rt; left_after(alloc, &mut source)?.is_none(), "{name}");
     }
     Ok(())
 }

@@ -1,6 +1,6 @@
 use Rattle.std.proofs.lemmas.Result.{err_from_is_err_and}
 use Rattle.ill_normal.proofs.InputAnswers.{none_is_no_spelling, read_fails_accepts}
-use Rattle.ill_normal.proofs.check.check_one.Goals as goal
+use Rattle.ill_normal.proofs.check.check_one_by.Goals as goal
 
 pub returns-in_err-message-clause-accepts : goal.returns-in_err-message-clause-accepts
 returns-in_err-message-clause-accepts g c =

@@ -1,0 +1,47 @@
+use Rattle.std.proofs.Common.{◌≡◌, ◌≤◌, ◌++◌, length, take, refl, sym, ap, subst, ◌∙◌, arith}
+use Rattle.std.specs.Io.KnownBytes.{Consumes}
+use Rattle.std.proofs.lemmas.List.{length-take, length-take-le, take-take}
+use Rattle.ill_read.specs.code.Filling.{HasLooked}
+use Rattle.ill_read.proofs.LookedOctets.{looked_nothing}
+use Rattle.ill_read.proofs.read.more.Goals as goal
+
+pub returns-then-seen-gt0-clause-taken : goal.returns-then-seen-gt0-clause-taken
+returns-then-seen-gt0-clause-taken g c =
+    let hand = c.at_hand-hand.result.now in
+    let most = c.min-most.result in
+    let n = c.look-seen.result in
+    let within : n ≤ length (take most hand) = c.look-seen.ensures.count in
+    let bound : n ≤ most = omega (arith, within, length-take most hand) in
+    let le : n ≤ length hand = omega (arith, within, length-take most hand) in
+    let size : length (take n hand) ≡ n = length-take-le n hand le in (
+      omega (arith, bound, c.min-most.ensures),
+      record {
+        piece = take n hand;
+        size = size;
+        taken = subst (λ z. Consumes (g.R.Source.left c.args.source.now) (g.R.Source.left c.pass.new.source) (take n z)) (sym c.at_hand-hand.ensures.hand) c.pass.ensures.octets;
+        kept = c.in_default.ensures;
+        fed = λ b h exact.
+            let looked = subst (λ z. HasLooked c.look-seen.new.self (b ++ z)) (take-take n most hand bound) (c.look-seen.ensures.looked b h exact) in
+            record { fed = looked.fed; exact = looked.exact; ended = λ e. absurd (omega (arith, ap length e, size, c.if-seen-gt0.true)) };
+      },
+    )
+
+pub returns-in-Ok-keep-clause-taken : goal.returns-in-Ok-keep-clause-taken
+returns-in-Ok-keep-clause-taken g c =
+    let n = c.in-Ok.count in (
+      c.in-Ok.ensures.count.0,
+      record {
+        piece = take n c.pull.new.buffer;
+        size = length-take-le n c.pull.new.buffer c.in-Ok.ensures.count.1;
+        taken = c.in-Ok.ensures.taken;
+        kept = c.in-Ok-keep.ensures;
+        fed = λ b h exact.
+            let x = looked_nothing c.look-seen.new.self b _ c.look-seen.result (omega (arith, c.if-seen-gt0.false)) (c.look-seen.ensures.looked b h exact) in
+            c.in-Ok.ensures.fed b x.fed x.exact;
+      },
+    )
+
+pub returns-in-Err-pull-clause-unfinished : goal.returns-in-Err-pull-clause-unfinished
+returns-in-Err-pull-clause-unfinished g c is b h exact =
+    let x = looked_nothing c.look-seen.new.self b _ c.look-seen.result (omega (arith, c.if-seen-gt0.false)) (c.look-seen.ensures.looked b h exact) in
+    c.in-Err-pull.ensures.unfinished refl b x.fed
