@@ -10,8 +10,7 @@ use Rattle.ill_schema.proofs.OneMeaning.{one_message}
 use Rattle.ill_schema.proofs.Streams.{accepts_once}
 use Rattle.ill_refusals.specs.Fault.{Fault, fault, fault_of}
 use Rattle.ill_read.specs.declared.failure.Failure.{Failure}
-use Rattle.ill_read.specs.Answers.{DecodeAnswers}
-use Rattle.ill_read.specs.Answers.{IfRefused, RefusesWhole}
+use Rattle.ill_read.specs.Answers.{DecodeAnswers, IfRefused, NormalAnswers, RefusesWhole}
 
 short : (n : ℕ) → n ≤ 1_048_576 → n < 256 ^ 126
 short n h = let k : 1_048_576 < 256 ^ 126 = lit< tt in le_lt n 1_048_576 (256 ^ 126) h k
@@ -53,14 +52,22 @@ pub decode_refuses : (s : List ℕ) (e : Failure) → DecodeAnswers s (Err e) �
 decode_refuses s (Failure.Refused refusal) h = h
 decode_refuses s Failure.OutOfMemory h = tt
 
+pub normal_refuses : (s : List ℕ) (e : Failure) → NormalAnswers s (Err e) → IfRefused e (RefusesWhole s)
+normal_refuses s (Failure.Refused refusal) h = h
+normal_refuses s Failure.OutOfMemory h = tt
+
 -- a spelling is not refused, so there is no memory
 pub only_memory : (e : Failure) (s : List ℕ) (a : Apdu) → IfRefused e (RefusesWhole s) → SpellsApdu profile_two a s → e ≡ Failure.OutOfMemory
 only_memory (Failure.Refused refusal) s a h k = absurd (refuses_whole s (fault_of refusal) a h k)
 only_memory Failure.OutOfMemory s a h k = refl
 
--- what compares APDUs compares normal forms
-pub compared : (a b : Apdu) (x y : List ℕ) (P : Type 0) → SpellsApdu profile_two a x → SpellsApdu profile_two b y → P ↔ (a ≡ b) → P ↔ (normal_form a ≡ normal_form b)
-compared a b x y P h k e = (λ p. ap normal_form (e.0 p), λ n. e.1 (one_normal a b x y h k n))
+-- what compares normal forms compares APDUs
+pub compared_forms : (a b : Apdu) (x y s t : List ℕ) (P : Type 0) → SpellsApdu profile_two a s → SpellsApdu profile_two b t → x ≡ normal_form a → y ≡ normal_form b
+    → P ↔ (x ≡ y) → (P ↔ (a ≡ b)) × (P ↔ (normal_form a ≡ normal_form b))
+compared_forms a b x y s t P h k x_is y_is e =
+    let forward : P → normal_form a ≡ normal_form b = λ p. sym x_is ∙ e.0 p ∙ y_is in
+    let back : normal_form a ≡ normal_form b → P = λ n. e.1 (x_is ∙ n ∙ sym y_is) in
+    ((λ p. one_normal a b s t h k (forward p), λ n. back (ap normal_form n)), (forward, back))
 
 -- octets are refused whole in one way
 pub refuses_once : (s : List ℕ) (f g : Fault) → RefusesWhole s f → RefusesWhole s g → f ≡ g

@@ -6,11 +6,10 @@ use Rattle.std.proofs.lemmas.List.{length-map}
 use Rattle.ber_leaf.specs.Profile.{profile_two}
 use Rattle.ill_schema.specs.Apdu.{Apdu, IsStream, normal_form}
 use Rattle.ill_read.specs.declared.failure.ReadFailure.{ReadFailure}
-use Rattle.ill_normal.specs.Calls.{Taking, taking, Putting, putting}
+use Rattle.ill_normal.specs.Calls.{Taking, Putting}
 use Rattle.ill_normal.specs.Messages.{Spelling, AreSpelled, output_from, Writes, PassesAll, Ends, EndsAfter, part_of}
 use Rattle.ill_normal.specs.Streamed.{Passes, Stops, StopsAfter}
 use Rattle.ill_normal.specs.code.Ending.{stream_cause}
-use Rattle.ill_normal.specs.declared.failure.StreamFailure.{StreamFailure}
 use Rattle.ill_normal.specs.declared.messages.Passed.{Passed}
 use Rattle.ill_normal.specs.declared.messages.Stopped.{Stopped}
 use Rattle.ill_normal.specs.declared.messages.Why.{Why}

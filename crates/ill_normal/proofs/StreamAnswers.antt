@@ -1,19 +1,16 @@
 -- Which answer a stream has.
-use Rattle.std.proofs.Common.{◌≡◌, ℕ, ◌<◌, ◌≤◌, Bool, List, [], ◌∷◌, length, Option, Some, None, Err, IfSome, IsTrue, refl, ap, subst, arith}
-use Rattle.std.specs.Io.KnownBytes.{Consumes, IsAtEnd, Keeps}
-use Rattle.std.proofs.KnownBytes.{Consumes-kept, Consumes-nil, Keeps-refl}
+use Rattle.std.proofs.Common.{◌≡◌, ℕ, ◌<◌, ◌≤◌, Bool, List, [], ◌∷◌, length, Option, Some, None, Err, IfSome, refl, ap, subst, arith}
+use Rattle.std.specs.Io.KnownBytes.{Consumes, IsAtEnd}
 use Rattle.ill_schema.specs.Apdu.{Apdu, IsStream}
 use Rattle.ill_refusals.specs.Fault.{Fault, fault_of}
 use Rattle.ill_refusals.specs.Outcome.{OnlyRefuses}
 use Rattle.ber_leaf.specs.Profile.{profile_two}
-use Rattle.ill_read.specs.Answers.{TakesFront}
 use Rattle.ill_normal.specs.declared.failure.NormalFailure.{NormalFailure}
 use Rattle.ill_normal.specs.declared.failure.StreamCause.{StreamCause}
 use Rattle.ill_normal.specs.declared.failure.StreamFailure.{StreamFailure}
 use Rattle.ill_normal.specs.Calls.{taking, putting}
-use Rattle.ill_normal.specs.Normalised.{Fails, IsFault}
+use Rattle.ill_normal.specs.Normalised.{IsFault}
 use Rattle.ill_normal.specs.Streamed.{Passes, Stops, StopsAfter, IsRefusedAfter, AnswersCount, AnswersRefusedAfter, AnswersTooMany}
-use Rattle.ill_schema.proofs.Streams.{accepts_some}
 use Rattle.ill_normal.proofs.LongestStreams.{nothing_over, no_longer, one_rest}
 use Rattle.ill_normal.proofs.PassedStreams.{passes_stream}
 use Rattle.ill_normal.proofs.InputAnswers.{front}

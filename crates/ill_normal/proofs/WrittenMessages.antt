@@ -9,11 +9,9 @@ use Rattle.ill_schema.proofs.Streams.{accepts_some}
 use Rattle.ill_read.specs.Answers.{ReadsNext, TakesFront}
 use Rattle.ill_read.specs.declared.failure.ReadFailure.{ReadFailure}
 use Rattle.ill_normal.specs.Calls.{taking, putting}
-use Rattle.ill_normal.specs.Messages.{Spelling, spelling, AreSpelled, output_from, Makes, Writes, PassesAll, Ends, EndsAfter, part_of}
+use Rattle.ill_normal.specs.Messages.{Spelling, spelling, AreSpelled, output_from, Makes, Writes, PassesAll, Ends, EndsAfter}
 use Rattle.ill_normal.specs.code.Ending.{GoesOn}
-use Rattle.ill_normal.specs.declared.messages.Passed.{Passed}
 use Rattle.ill_normal.specs.declared.messages.Piece.{Piece}
-use Rattle.ill_normal.specs.declared.messages.Stopped.{Stopped}
 use Rattle.ill_normal.specs.declared.messages.Why.{Why}
 
 pub spelled_front : (b t : List ℕ) (ms : List Spelling) → AreSpelled b ms [] → AreSpelled (b ++ t) ms t

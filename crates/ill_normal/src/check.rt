@@ -1,13 +1,12 @@
 //! What there is to say of a message.
-ghost use Rattle.std.specs.Prelude.{ℕ, IfSome};
+ghost use Rattle.std.specs.Prelude.{◌≡◌, ℕ, List, IfSome};
 ghost use Rattle.ber_leaf.specs.Profile.{profile_two};
-ghost use Rattle.ill_schema.specs.Apdu.{Apdu, Accepts};
+ghost use Rattle.ill_schema.specs.Apdu.{Apdu, Accepts, SpellsApdu, normal_form};
 ghost use Rattle.ill_read.specs.Answers.{AnswersSome, ReadsNext};
 ghost use Rattle.ill_normal.specs.Checking.{Describes};
 
 use ber_core::{Look, Source, Unseen};
-use ill_read::{ReadFailure, read_kept_by};
-use ill_write::normal_bytes;
+use ill_read::{ReadFailure, read_kept_normal_by};
 use std::alloc::Global;
 
 /// A message, and how it was spelled.
@@ -51,16 +50,23 @@ pub fn check_one_by<R: Source, L: Look<R>>(
     ensures accepts { IfSome (R.left source.old) (λ s. (a : Apdu) (n : ℕ) → Accepts profile_two s a n → AnswersSome result) }
 {
     let mut octets = Vec::new(alloc);
-    let Some(message) = read_kept_by::<R, L>(alloc, source, &mut octets)? else {
+    let Some(normal) = read_kept_normal_by::<R, L>(alloc, source, &mut octets)? else {
         return Ok(None);
     };
-    let Ok(normal) = normal_bytes(alloc, &message) else {
-        return Err(ReadFailure::OutOfMemory);
-    };
     Ok(Some(Checked {
-        apdu: message.apdu(),
-        octets: message.octets(),
-        normal: normal.len() as u32,
-        is_normal: octets.as_slice() == normal.as_slice(),
+        apdu: apdu_number(&normal.octets),
+        octets: normal.read,
+        normal: normal.octets.len() as u32,
+        is_normal: octets.as_slice() == normal.octets.as_slice(),
     }))
+}
+
+/// The number of the APDU whose normal form this is: its first octet is [APPLICATION number], constructed.
+fn apdu_number(normal: &[u8]) -> u8
+    ensures { (a : Apdu) (b : List ℕ) → SpellsApdu profile_two a b → normal.now ≡ normal_form a → result ≡ a.number }
+{
+    match normal {
+        [first, ..] => first % 32,
+        [] => 0,
+    }
 }

@@ -5,8 +5,7 @@ ghost use Rattle.ill_schema.specs.Apdu.{Apdu, SpellsApdu, normal_form};
 ghost use Rattle.ill_read.specs.Answers.{IfRefused, RefusesWhole};
 ghost use Rattle.ill_normal.specs.Compared.{RefusesSide};
 
-use ill_read::{Failure, decode};
-use ill_write::normal_bytes;
+use ill_read::{Failure, decode_normal};
 use std::alloc::Global;
 
 /// Which of two messages.
@@ -30,15 +29,15 @@ pub fn same_message(alloc: Global, first: &[u8], second: &[u8]) -> Result<bool, 
     ensures accepts { (a b : Apdu) → SpellsApdu profile_two a first.now → SpellsApdu profile_two b second.now
         → IfErr result (λ e. e.1 ≡ Failure.OutOfMemory) }
 {
-    let one = match decode(alloc, first) {
-        Ok(message) => message,
+    let one = match decode_normal(alloc, first) {
+        Ok(normal) => normal,
         Err(failure) => return Err((Side::First, failure)),
     };
-    let other = match decode(alloc, second) {
-        Ok(message) => message,
+    let other = match decode_normal(alloc, second) {
+        Ok(normal) => normal,
         Err(failure) => return Err((Side::Second, failure)),
     };
-    Ok(one.same_apdu(&other))
+    Ok(one.octets.as_slice() == other.octets.as_slice())
 }
 
 /// Whether the octets are the normal form of the message that they are.
@@ -52,9 +51,6 @@ pub fn is_normal(alloc: Global, octets: &[u8]) -> Result<bool, Failure>
     // A spelling is compared, unless memory runs out.
     ensures accepts { (a : Apdu) → SpellsApdu profile_two a octets.now → IfErr result (λ e. e ≡ Failure.OutOfMemory) }
 {
-    let message = decode(alloc, octets)?;
-    let Ok(normal) = normal_bytes(alloc, &message) else {
-        return Err(Failure::OutOfMemory);
-    };
-    Ok(normal.as_slice() == octets)
+    let normal = decode_normal(alloc, octets)?;
+    Ok(normal.octets.as_slice() == octets)
 }

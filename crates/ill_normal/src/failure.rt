@@ -1,10 +1,9 @@
 //! Why a message or a stream was not normalised.
 ghost use Rattle.std.specs.Prelude.{◌≡◌};
-ghost use Rattle.ill_normal.specs.Failures.{of_read, of_write};
+ghost use Rattle.ill_normal.specs.Failures.{of_read};
 
 use ill_read::ReadFailure;
 use ill_schema::Refusal;
-use ill_write::WriteFailure;
 
 /// Why a message was not normalised.
 #[derive(Clone, Copy, Debug, PartialEq, Eq)]
@@ -27,17 +26,6 @@ impl From<ReadFailure> for NormalFailure {
             ReadFailure::Refused(refusal) => NormalFailure::Refused(refusal),
             ReadFailure::OutOfMemory => NormalFailure::OutOfMemory,
             ReadFailure::ReadFault => NormalFailure::ReadFault,
-        }
-    }
-}
-
-impl From<WriteFailure> for NormalFailure {
-    ghost from_gives = { λ write failure. failure ≡ of_write write };
-
-    fn from(write: WriteFailure) -> NormalFailure {
-        match write {
-            WriteFailure::OutOfMemory => NormalFailure::OutOfMemory,
-            WriteFailure::WriteFault(written) => NormalFailure::WriteFault(written),
         }
     }
 }

@@ -17,7 +17,10 @@ pub use ber_leaf::{DateText, GeneralText, IllString, PrintableText, TimeText, Vi
 pub use check::{Checked, check_one, check_one_by};
 pub use compare::{Side, is_normal, same_message};
 pub use failure::{NormalFailure, StreamCause, StreamFailure};
-pub use ill_read::{Failure, ReadFailure, decode, read_message, read_message_by};
+pub use ill_read::{
+    Failure, Normal, ReadFailure, decode, decode_normal, read_kept_normal_by, read_message,
+    read_message_by, read_normal_by,
+};
 pub use ill_schema::{
     Cause, Kind, LIMIT, LeafKind, Message, Mode, NodeId, PartId, Presence, Refusal, Row, Unfit,
     Value, apdu_name, apdu_node, kind, part_name, row, rows,

@@ -10,9 +10,9 @@ ghost use Rattle.ill_normal.specs.Calls.{taking, putting};
 ghost use Rattle.ill_normal.specs.Normalised.{Forwards, Fails, Answers, AnswersRefused};
 
 use crate::failure::NormalFailure;
-use ber_core::{Sink, Source};
-use ill_read::read_message;
-use ill_write::write_normal;
+use ber_core::{Sink, Source, Unseen};
+use ill_read::read_normal_by;
+use ill_write::put_all;
 use std::alloc::Global;
 
 /// How many octets a message had in the input, and how many its normal form has.
@@ -39,14 +39,16 @@ pub(crate) fn forward<R: Source, W: Sink>(
     ensures source_stays { IsTrue (R.is_broken source.old) → IsTrue (R.is_broken source.new) }
     ensures sink_stays { IsTrue (W.is_broken sink.old) → IsTrue (W.is_broken sink.new) }
 {
-    let Some(message) = read_message(alloc, source)? else {
+    let Some(normal) = read_normal_by::<R, Unseen>(alloc, source)? else {
         return Ok(None);
     };
-    let written = write_normal(alloc, &message, sink)?;
-    Ok(Some(Forwarded {
-        read: message.octets(),
-        written,
-    }))
+    match put_all(sink, &normal.octets) {
+        Ok(()) => Ok(Some(Forwarded {
+            read: normal.read,
+            written: normal.octets.len() as u32,
+        })),
+        Err(count) => Err(NormalFailure::WriteFault(count as u32)),
+    }
 }
 
 /// Writes the normal form of the message that the source begins with, and returns how many octets

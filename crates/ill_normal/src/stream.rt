@@ -13,8 +13,7 @@ ghost use Rattle.ill_normal.specs.Streamed.{Passes, StopsAfter, AnswersCount, An
 use crate::failure::{NormalFailure, StreamCause, StreamFailure};
 use crate::messages::{Maker, Piece, Why, each_message};
 use ber_core::{Look, Sink, Source, Unseen};
-use ill_read::{ReadFailure, read_message_by};
-use ill_write::normal_bytes;
+use ill_read::{ReadFailure, read_normal_by};
 use std::alloc::Global;
 
 /// Makes the normal form of each message.
@@ -32,16 +31,13 @@ impl Maker for NormalForms {
         source: &mut R,
     ) -> Result<Option<Piece>, ReadFailure> {
         let _ = number;
-        let Some(message) = read_message_by::<R, L>(alloc, source)? else {
+        let Some(normal) = read_normal_by::<R, L>(alloc, source)? else {
             return Ok(None);
         };
-        let Ok(text) = normal_bytes(alloc, &message) else {
-            return Err(ReadFailure::OutOfMemory);
-        };
         Ok(Some(Piece {
-            text,
+            text: normal.octets,
             is_good: true,
-            octets: message.octets(),
+            octets: normal.read,
         }))
     }
 }

@@ -1,60 +1,58 @@
 -- The innermost element closes.
 use Rattle.std.specs.Prelude.{⊤}
-use Rattle.std.proofs.Common.{◌≡◌, ℕ, ◌+◌, ◌-◌, List, [], ◌∷◌, ◌++◌, length, length-append, take, drop, append-nil, Option, Some, None, Result, Ok, Err, sym, ap, ap₂, subst, ◌∙◌, arith, slice_get}
+use Rattle.std.proofs.Common.{◌≡◌, ℕ, ◌+◌, ◌-◌, List, [], ◌∷◌, ◌++◌, length, length-append, take, drop, Bool, false, Option, Some, None, Result, Ok, Err, refl, sym, ap, ap₂, subst, ◌∙◌, arith, slice_get}
 use Rattle.std.proofs.lemmas.List.{take_at}
 use Rattle.std.specs.Result.{IsErrAnd}
 use Rattle.ber_core.specs.Tree.{Trees, constructed, text_all, AreSegments}
 use Rattle.ber_leaf.specs.Profile.{profile_two}
 use Rattle.ber_leaf.specs.declared.fault.LeafFault.{LeafFault}
-use Rattle.ill_schema.specs.declared.value.Value.{Value}
 use Rattle.ill_schema.specs.Causes.{cause_of}
-use Rattle.ill_schema.specs.Value.{content_of}
-use Rattle.ill_read.specs.Elements.{element_is}
-use Rattle.ill_read.specs.DueCode.{IsDueIn}
+use Rattle.ill_schema.specs.Content.{Content}
 use Rattle.ill_refusals.specs.Element.{segment}
 use Rattle.ill_refusals.specs.Next.{missing}
 use Rattle.ill_refusals.specs.Fault.{fault, element_fault}
-use Rattle.ill_refusals.specs.code.Judge.{Judgement, closes, or_faulty}
-use Rattle.ill_read.specs.code.Judged.{IsEnd, IsStep, with_body}
 use Rattle.ill_refusals.specs.Place.{Open, next_in}
-use Rattle.ill_read.specs.Standing.{next_at, text_so_far, IsHeld, IsFrame, IsValueOf, AreFrames, StandsAt}
+use Rattle.ill_refusals.specs.code.Judge.{Judgement, closes, or_faulty}
 use Rattle.ill_refusals.specs.code.Step.{moved, refused, with_tree}
-use Rattle.ill_read.specs.code.Stepping.{DeliversExactly, EndsExactly, IsEnded}
+use Rattle.ill_read.specs.Elements.{element_is}
+use Rattle.ill_read.specs.code.Drafts.{ChecksText, HasClosed, IsRightText, due_with, with_entry}
+use Rattle.ill_read.specs.code.Judged.{IsEnd, IsStep}
+use Rattle.ill_read.specs.code.Stepping.{GoesOn}
+use Rattle.ill_read.specs.Standing.{Level, level_of, pushed, next_at, text_so_far, with_alternative, IsHeld, IsFrame, AreFrames, HoldsAt}
 use Rattle.ill_read.specs.declared.due.Next.{Next}
 use Rattle.ill_read.specs.declared.due.Next.TheVariants.{Segments}
-use Rattle.ill_read.specs.declared.element.Element.TheVariants.{Segment}
+use Rattle.ill_read.specs.declared.element.Element.{Element as CodeElement}
+use Rattle.ill_read.specs.declared.element.Element.TheVariants.{Leaf, Sequence, List as ListOf, Wrapper, LooseWrapper, Segment}
 use Rattle.ill_read.specs.declared.failure.Failure.{Failure}
 use Rattle.ill_read.specs.declared.frame.Frame.{Frame}
-use Rattle.ill_read.specs.declared.path.Body.{Body}
 use Rattle.ill_read.specs.declared.path.Path.{Path}
-use Rattle.ill_read.proofs.AddedValues.{due_with}
-use Rattle.ill_read.proofs.Frames.{last_open}
-use Rattle.ill_read.proofs.Segments.{segment_due, due_segment, value_apart, text_with, no_text}
+use Rattle.ill_read.proofs.EndedElements.{frame_ended}
+use Rattle.ill_read.proofs.DeliveredEntries.{entry_added, pushed_apart}
+use Rattle.ill_read.proofs.OpenFrames.{last_open}
+use Rattle.ill_read.proofs.OpenedElements.{only_segment}
+use Rattle.ill_read.proofs.Segments.{segment_due, text_with}
 use Rattle.ill_read.proofs.Strings.{segment_added}
 
--- the path without its last frame
-pub record IsPopped (old : Path) (frames : List Frame) (f : Frame) (o : Open) (path : List Open) : Type 0 where
-  pub below : List (Option Value)
-  pub entries : List (Option Value)
-  pub held : old.values.held.items ≡ below ++ entries
-  pub framed : IsFrame f o path frames (length below) entries
+-- the frames without the last one
+record IsPopped (levels : List Level) (frames : List Frame) (f : Frame) (o : Open) (path : List Open) : Type 0 where
+  pub below : List Level
+  pub entries : List (Option Content)
+  pub held : levels ≡ pushed (level_of f o.tag entries) below
+  pub framed : IsFrame f o path frames entries
   pub outer : AreFrames path frames below
-  pub text : old.text.items ≡ text_so_far (o ∷ path)
 
-popped : (old : Path) (frames : List Frame) (f : Frame) (o : Open) (path : List Open) → StandsAt old (o ∷ path) → frames ≡ take (length old.frames.items - 1) old.frames.items
-    → slice_get old.frames.items (length old.frames.items - 1) ≡ Some f → IsPopped old frames f o path
-popped old frames f o path h rest last =
-    let a : AreFrames (o ∷ path) old.frames.items old.values.held.items = h.0 in
-    let same : a.1 ≡ f = last_open o path old.frames.items old.values.held.items a f last in
-    let n : length a.0 ≡ length old.frames.items - 1 = omega (arith, ap length a.4, length-append a.0 (a.1 ∷ [])) in
-    let outer : a.0 ≡ frames = sym (take_at a.0 (a.1 ∷ []) (length old.frames.items - 1) n) ∙ ap (take (length old.frames.items - 1)) (sym a.4) ∙ sym rest in
+popped : (old frames : List Frame) (levels : List Level) (f : Frame) (o : Open) (path : List Open) → AreFrames (o ∷ path) old levels → frames ≡ take (length old - 1) old → slice_get old (length old - 1) ≡ Some f
+    → IsPopped levels frames f o path
+popped old frames levels f o path a rest last =
+    let same : a.1 ≡ f = last_open o path old levels a f last in
+    let n : length a.0 ≡ length old - 1 = omega (arith, ap length a.4, length-append a.0 (a.1 ∷ [])) in
+    let outer : a.0 ≡ frames = sym (take_at a.0 (a.1 ∷ []) (length old - 1) n) ∙ ap (take (length old - 1)) (sym a.4) ∙ sym rest in
     record {
       below = a.2;
       entries = a.3;
-      held = a.5;
-      framed = subst (λ g. IsFrame g o path frames (length a.2) a.3) same (subst (λ fs. IsFrame a.1 o path fs (length a.2) a.3) outer a.6);
+      held = a.5 ∙ ap (λ (g : Frame). pushed (level_of g o.tag a.3) a.2) same;
+      framed = subst (λ g. IsFrame g o path frames a.3) same (subst (λ fs. IsFrame a.1 o path fs a.3) outer a.6);
       outer = subst (λ fs. AreFrames path fs a.2) outer a.7;
-      text = h.1;
     }
 
 -- the end that was judged
@@ -71,88 +69,84 @@ refusing : (o : Open) (path : List Open) (marks at : ℕ) (rest : List ℕ) (c :
 refusing o path marks at rest c h = ap (λ x. moved (or_faulty x o.start (closes marks)) (o ∷ path) at rest) h
 
 -- a segment closes
-pub segment_closed : (old new : Path) (f : Frame) (place : List Open) (marks at : ℕ) (rest : List ℕ) (j : Judgement) → StandsAt old place → IsEnd place marks j
-    → new.frames.items ≡ take (length old.frames.items - 1) old.frames.items → slice_get old.frames.items (length old.frames.items - 1) ≡ Some f → f.element ≡ Segment
-    → new.values.held.items ≡ old.values.held.items → new.text.items ≡ old.text.items → IsStep new (Ok None) (moved j place at rest)
-segment_closed old new f place marks at rest j stands end frames last is values text =
+pub segment_closed : {D : Type 0} (holds : D → List Level → List ℕ → Type 0) (old new : Path D) (f : Frame) (place : List Open) (marks at : ℕ) (rest : List ℕ) (j : Judgement) → HoldsAt holds old place
+    → IsEnd place marks j → new.frames.open.items ≡ take (length old.frames.open.items - 1) old.frames.open.items → slice_get old.frames.open.items (length old.frames.open.items - 1) ≡ Some f
+    → f.element ≡ Segment → new.draft ≡ old.draft → IsStep holds new (Ok false) (moved j place at rest)
+segment_closed holds old new f place marks at rest j stands end frames last is draft =
     let o = end.innermost in
     let path = end.outer in
-    let here : StandsAt old (o ∷ path) = subst (StandsAt old) end.is_path stands in
-    let p = popped old new.frames.items f o path here frames last in
+    let here : HoldsAt holds old (o ∷ path) = subst (HoldsAt holds old) end.is_path stands in
+    let p = popped old.frames.open.items new.frames.open.items here.0 f o path here.1 frames last in
     let e : segment ≡ o.element = ap element_is (sym is) ∙ p.framed.element in
-    let string : next_at new.frames.items ≡ Segments = segment_due o.tag (next_at new.frames.items) (due_with f.slot f.alternative f.element) p.framed.is_due (ap element_is is) in
-    let held : IsHeld Segment f.next p.entries o.trees = subst (λ x. IsHeld x f.next p.entries o.trees) is p.framed.held in
-    let h = segment_holds f.next p.entries o.trees held in
-    let outer : AreFrames path new.frames.items new.values.held.items =
-    subst (AreFrames path new.frames.items) (sym (values ∙ p.held ∙ ap (λ xs. p.below ++ xs) h.0 ∙ append-nil p.below)) p.outer in
-    let joined : new.text.items ≡ text_so_far path ++ text_all o.trees = text ∙ p.text ∙ sym (ap (λ x. text_with x (text_so_far path) o.trees) e) in
-    let added = segment_added new path (due_with f.slot f.alternative f.element) (constructed o.tag o.trees) (at + marks) (drop marks rest) outer p.framed.is_due string h.1 joined in
+    let string : next_at new.frames.open.items ≡ Segments = segment_due o.tag (next_at new.frames.open.items) (due_with f.slot f.alternative f.element) p.framed.is_due (ap element_is is) in
+    let h = segment_holds f.next p.entries o.trees (subst (λ x. IsHeld x f.next p.entries o.trees) is p.framed.held) in
+    let levels : here.0 ≡ p.below = p.held ∙ pushed_segment (level_of f o.tag p.entries) p.below is in
+    let joined : text_so_far (o ∷ path) ≡ text_so_far path ++ text_all o.trees = sym (ap (λ x. text_with x (text_so_far path) o.trees) e) in
+    let held = subst (λ t. holds new.draft p.below t) joined (subst (λ ls. holds new.draft ls (text_so_far (o ∷ path))) levels (subst (λ d. holds d here.0 (text_so_far (o ∷ path))) (sym draft) here.2)) in
+    let added = segment_added holds new path p.below (due_with f.slot f.alternative f.element) (constructed o.tag o.trees) (at + marks) (drop marks rest) p.outer p.framed.is_due string h held in
     let none : element_fault profile_two o.element (text_all o.trees) ≡ None = sym (ap (λ x. element_fault profile_two x (text_all o.trees)) e) in
-    subst (IsStep new (Ok None)) (sym (ending place marks at rest j end ∙ closing o path marks at rest none)) added
+    subst (IsStep holds new (Ok false)) (sym (ending place marks at rest j end ∙ closing o path marks at rest none)) added
   where
-    segment_holds : (n : Next) (entries : List (Option Value)) (ts : Trees) → IsHeld Segment n entries ts → (entries ≡ []) × AreSegments ts
-    segment_holds Segments entries ts h = h
+    segment_holds : (n : Next) (entries : List (Option Content)) (ts : Trees) → IsHeld Segment n entries ts → AreSegments ts
+    segment_holds Segments entries ts h = h.1
     segment_holds _ entries ts h = absurd h
 
--- the path without the frame of an element that is no segment
-pub record IsShorter (old shorter : Path) (f : Frame) : Type 0 where
-  pub frames : shorter.frames.items ≡ take (length old.frames.items - 1) old.frames.items
-  pub last : slice_get old.frames.items (length old.frames.items - 1) ≡ Some f
-  pub values : shorter.values.held.items ≡ old.values.held.items
-  pub text : shorter.text.items ≡ old.text.items
-  pub apart : f.element ≡ Segment → ⊥
+    pushed_segment : (l : Level) (below : List Level) → l.element ≡ Segment → pushed l below ≡ below
+    pushed_segment l below s = ap (λ (e : CodeElement). elim e as (λ _. List Level) [ Segment ↦ below | _ ↦ l ∷ below ]) s
 
--- what came of the element's value
-record HasEnded (old shorter middle : Path) (f : Frame) (o : Open) (path : List Open) (result : Result (Option Value) Failure) : Type 0 where
-  pub popped : IsPopped old shorter.frames.items f o path
-  pub ended : IsEnded middle o popped.below result
+right_text : (e : CodeElement) (text : List ℕ) → IsRightText e text → element_fault profile_two (element_is e) text ≡ None
+right_text (Leaf l) text h = h.1
+right_text (Sequence node) text h = refl
+right_text (ListOf node) text h = refl
+right_text (Wrapper w) text h = refl
+right_text (LooseWrapper w) text h = refl
+right_text Segment text h = refl
 
-has_ended : (old shorter middle : Path) (f : Frame) (place : List Open) (marks : ℕ) (j : Judgement) (result : Result (Option Value) Failure) → StandsAt old place → (end : IsEnd place marks j)
-    → IsShorter old shorter f → EndsExactly shorter f middle result → HasEnded old shorter middle f end.innermost end.outer result
-has_ended old shorter middle f place marks j result stands end short ends =
-    let here : StandsAt old (end.innermost ∷ end.outer) = subst (StandsAt old) end.is_path stands in
-    let p = popped old shorter.frames.items f end.innermost end.outer here short.frames short.last in
-    record {
-      popped = p;
-      ended = ends end.innermost end.outer p.below p.entries p.framed short.apart (ap (λ x. missing profile_two (next_in profile_two x)) (sym end.is_path) ∙ end.complete) (short.values ∙ p.held) (short.text ∙ p.text);
-    }
-
--- it has a value, which goes to the element round it
-pub value_closed : (old shorter middle new : Path) (f : Frame) (place : List Open) (marks at : ℕ) (rest : List ℕ) (j : Judgement) (v : Value) (result : Result (Option Body) Failure) → StandsAt old place
-    → IsEnd place marks j → IsShorter old shorter f → EndsExactly shorter f middle (Ok (Some v)) → middle.frames.items ≡ shorter.frames.items → DeliversExactly middle f.slot f.alternative v new result
-    → IsStep new result (moved j place at rest)
-value_closed old shorter middle new f place marks at rest j v result stands end short ends frames delivers =
+-- an element closes that is no segment, and its text is right
+pub element_closed : {D : Type 0} (holds : D → List Level → List ℕ → Type 0) (old : Path D) (shorter : List Frame) (f : Frame) (middle : D) (new : Path D) (place : List Open) (marks at : ℕ) (rest : List ℕ)
+    (j : Judgement) (result : Bool) → HoldsAt holds old place → IsEnd place marks j → shorter ≡ take (length old.frames.open.items - 1) old.frames.open.items
+    → slice_get old.frames.open.items (length old.frames.open.items - 1) ≡ Some f → (f.element ≡ Segment → ⊥) → ((x : ⊤) → ChecksText holds old.draft f (Ok x)) → HasClosed holds old.draft f (next_at shorter) middle
+    → GoesOn f.slot shorter new.frames.open.items result → new.draft ≡ middle → IsStep holds new (Ok result) (moved j place at rest)
+element_closed holds old shorter f middle new place marks at rest j result stands end frames last apart checks closed goes draft =
     let o = end.innermost in
     let path = end.outer in
-    let h : HasEnded old shorter middle f o path (Ok (Some v)) = has_ended old shorter middle f place marks j (Ok (Some v)) stands end short ends in
-    let e : IsEnded middle o h.popped.below (Ok (Some v)) = h.ended in
-    let due : IsDueIn o.tag (next_at middle.frames.items) (due_with f.slot f.alternative f.element) =
-    subst (λ fs. IsDueIn o.tag (next_at fs) (due_with f.slot f.alternative f.element)) (sym frames) h.popped.framed.is_due in
-    let outer : AreFrames path middle.frames.items middle.values.held.items = subst (AreFrames path middle.frames.items) (sym e.2) (subst (λ fs. AreFrames path fs h.popped.below) (sym frames) h.popped.outer) in
-    let value : IsValueOf (element_is f.element) (content_of v) (constructed o.tag o.trees) = subst (λ x. IsValueOf x (content_of v) (constructed o.tag o.trees)) (sym h.popped.framed.element) e.1 in
-    let apart : next_at middle.frames.items ≡ Segments → ⊥ = λ s. value_apart (element_is f.element) (content_of v) (constructed o.tag o.trees) value (due_segment o.tag _ (due_with f.slot f.alternative f.element) due s) in
-    let text : middle.text.items ≡ text_so_far path = e.3 ∙ sym (no_text path middle.frames.items middle.values.held.items outer apart) in
-    subst (IsStep new result) (sym (ending place marks at rest j end ∙ closing o path marks at rest e.0))
-    (delivers path f.element (constructed o.tag o.trees) (at + marks) (drop marks rest) (outer, text) due value)
+    let here : HoldsAt holds old (o ∷ path) = subst (HoldsAt holds old) end.is_path stands in
+    let p = popped old.frames.open.items shorter here.0 f o path here.1 frames last in
+    let text = text_so_far (o ∷ path) in
+    let ends = frame_ended f o path shorter p.entries p.framed apart (ap (λ x. missing profile_two (next_in profile_two x)) (sym end.is_path) ∙ end.complete) in
+    let held = subst (λ ls. holds old.draft ls text) (p.held ∙ pushed_apart (level_of f o.tag p.entries) p.below apart) here.2 in
+    let right = checks tt o.tag p.entries p.below text held in
+    let none : element_fault profile_two o.element (text_all o.trees) ≡ None =
+    ap (λ x. element_fault profile_two x (text_all o.trees)) (sym p.framed.element) ∙ ends.fault ∙ right_text f.element text right in
+    let added = entry_added holds shorter p.below new path f.slot f.alternative f.element ends.content (constructed o.tag o.trees) (at + marks) (drop marks rest) result p.outer p.framed.is_due
+    (λ s. apart (only_segment f.element s)) goes
+    (λ l below e d. (
+      ends.value right,
+      subst (λ x. holds x (with_entry l f.slot (with_alternative f.alternative ends.content) ∷ below) []) (sym draft)
+          (closed o.tag p.entries o.trees l below text ends.content (subst (λ ls. holds old.draft (level_of f o.tag p.entries ∷ ls) text) e held) p.framed.held right ends.is (constructed o.tag o.trees, refl, ends.value right) d),
+    )) in
+    subst (IsStep holds new (Ok result)) (sym (ending place marks at rest j end ∙ closing o path marks at rest none)) added
 
--- its text is at fault, or memory is wanting
-pub value_refused : (old shorter middle new : Path) (f : Frame) (place : List Open) (marks at : ℕ) (rest : List ℕ) (j : Judgement) (failure : Failure) → StandsAt old place → IsEnd place marks j
-    → IsShorter old shorter f → EndsExactly shorter f middle (Err failure) → IsStep new (Err failure) (moved j place at rest)
-value_refused old shorter middle new f place marks at rest j Failure.OutOfMemory stands end short ends = tt
-value_refused old shorter middle new f place marks at rest j (Failure.Refused r) stands end short ends =
+-- or its text is at fault, or memory runs out
+pub element_refused : {D : Type 0} (holds : D → List Level → List ℕ → Type 0) (old : Path D) (shorter : List Frame) (f : Frame) (new : Path D) (place : List Open) (marks at : ℕ) (rest : List ℕ)
+    (j : Judgement) (failure : Failure) → HoldsAt holds old place → IsEnd place marks j → shorter ≡ take (length old.frames.open.items - 1) old.frames.open.items
+    → slice_get old.frames.open.items (length old.frames.open.items - 1) ≡ Some f → (f.element ≡ Segment → ⊥) → ChecksText holds old.draft f (Err failure) → IsStep holds new (Err failure) (moved j place at rest)
+element_refused holds old shorter f new place marks at rest j Failure.OutOfMemory stands end frames last apart checks = tt
+element_refused holds old shorter f new place marks at rest j (Failure.Refused r) stands end frames last apart checks =
     let o = end.innermost in
-    let h : HasEnded old shorter middle f o end.outer (Err (Failure.Refused r)) = has_ended old shorter middle f place marks j (Err (Failure.Refused r)) stands end short ends in
-    let e : IsEnded middle o h.popped.below (Err (Failure.Refused r)) = h.ended in
-    subst (IsStep new (Err (Failure.Refused r))) (sym (ending place marks at rest j end ∙ refusing o end.outer marks at rest e.0 e.1)) e.2
-
--- it has a value
-pub value_there : (old shorter middle : Path) (f : Frame) (place : List Open) (marks : ℕ) (j : Judgement) → StandsAt old place → IsEnd place marks j
-    → IsShorter old shorter f → EndsExactly shorter f middle (Ok None) → ⊥
-value_there old shorter middle f place marks j stands end short ends =
-    let h : HasEnded old shorter middle f end.innermost end.outer (Ok None) = has_ended old shorter middle f place marks j (Ok None) stands end short ends in
-    h.ended
+    let path = end.outer in
+    let here : HoldsAt holds old (o ∷ path) = subst (HoldsAt holds old) end.is_path stands in
+    let p = popped old.frames.open.items shorter here.0 f o path here.1 frames last in
+    let text = text_so_far (o ∷ path) in
+    let ends = frame_ended f o path shorter p.entries p.framed apart (ap (λ x. missing profile_two (next_in profile_two x)) (sym end.is_path) ∙ end.complete) in
+    let held = subst (λ ls. holds old.draft ls text) (p.held ∙ pushed_apart (level_of f o.tag p.entries) p.below apart) here.2 in
+    let wrong = checks o.tag p.entries p.below text held in
+    let found : element_fault profile_two o.element (text_all o.trees) ≡ Some wrong.0 =
+    ap (λ x. element_fault profile_two x (text_all o.trees)) (sym p.framed.element) ∙ ends.fault ∙ wrong.1 in
+    subst (IsStep holds new (Err (Failure.Refused r))) (sym (ending place marks at rest j end ∙ refusing o path marks at rest wrong.0 found))
+    (ap (fault (cause_of wrong.0)) (sym p.framed.start) ∙ wrong.2)
 
 -- a failure is handed on
-pub handed_on : (P : Result (Option Body) Failure → Type 0) (r : Result ⊤ Failure) (body : Option Body) (failure : Failure) → IsErrAnd r (λ e. e ≡ failure) → P (Err failure) → P (with_body r body)
-handed_on P (Ok x) body failure h p = absurd h
-handed_on P (Err e) body failure h p = subst (λ x. P (Err x)) (sym h) p
+pub handed_on : {T : Type 0} (P : Result T Failure → Type 0) (r : Result T Failure) (failure : Failure) → IsErrAnd r (λ e. e ≡ failure) → P (Err failure) → P r
+handed_on P (Ok x) failure h p = absurd h
+handed_on P (Err e) failure h p = subst (λ x. P (Err x)) (sym h) p

@@ -1,29 +1,31 @@
 -- Where the decoder stands after a step.
-use Rattle.std.proofs.Common.{◌≡◌, ℕ, ◌+◌, ◌-◌, ◌≤◌, List, [], ◌∷◌, ◌++◌, length, take, drop, Option, Some, None, Ok, Err, refl, sym, ap, subst, ◌∙◌, inl, arith}
+use Rattle.std.proofs.Common.{◌≡◌, ℕ, ◌+◌, ◌-◌, ◌≤◌, List, [], ◌∷◌, ◌++◌, length, take, drop, Option, Some, None, Ok, Err, true, false, refl, sym, ap, subst, ◌∙◌, inl, arith}
 use Rattle.std.proofs.lemmas.List.{length-drop, length-take-le}
+use Rattle.ber_core.specs.Id.{tag_of_id}
 use Rattle.ber_core.specs.Tree.{Tree}
 use Rattle.ber_leaf.specs.declared.fault.LeafFault.{LeafFault}
 use Rattle.ber_leaf.specs.Profile.{profile_two}
 use Rattle.ill_schema.specs.declared.node.NodeId.TheVariants.{IllApdu}
 use Rattle.ill_schema.specs.declared.refusal.Cause.{Cause}
-use Rattle.ill_schema.specs.Apdu.{Encodes, MeansApdu}
-use Rattle.ill_schema.specs.Content.{alternative}
+use Rattle.ill_schema.specs.Apdu.{Apdu, choice_of, Encodes, MeansApdu}
+use Rattle.ill_schema.specs.declared.node.Kind.{Kind}
+use Rattle.ill_schema.specs.Content.{Content, simple, alternative}
+use Rattle.ill_schema.specs.Content as content
 use Rattle.ill_schema.specs.Meaning.{Means}
 use Rattle.ill_schema.specs.Tagging.{untagged}
-use Rattle.ill_schema.specs.Value.{content_of}
 use Rattle.ill_refusals.specs.Fault.{Fault, fault_of}
 use Rattle.ill_refusals.specs.code.Judge.{Judgement, closes, reads, judge, or_faulty}
 use Rattle.ill_read.specs.Answers.{IsRefused}
-use Rattle.ill_read.specs.Standing.{StandsBefore}
-use Rattle.ill_read.specs.code.DecoderCode.{body_apdu}
-use Rattle.ill_read.specs.code.Judged.{IsJudgement, IsBody, IsStep}
+use Rattle.ill_read.specs.Standing.{Level, whole_level, HoldsAt, StandsBefore}
+use Rattle.ill_read.specs.code.Drafts.{HoldsApdu}
+use Rattle.ill_read.specs.code.Judged.{IsJudgement, IsStep}
 use Rattle.ill_refusals.specs.Place.{Open}
 use Rattle.ill_read.specs.code.Progress.{size_of, depth_of, IsProgress}
 use Rattle.ill_refusals.specs.code.Step.{Step, refused, goes, whole, stuck, with_tree, close, moved}
 use Rattle.ill_read.specs.declared.failure.Failure.{Failure}
 use Rattle.ill_read.specs.declared.judge.Judgement.{Judgement as CodeJudgement}
 use Rattle.ill_read.specs.declared.judge.Judgement.TheVariants as code
-use Rattle.ill_read.specs.declared.path.Body.{Body}
+use Rattle.ill_read.specs.declared.frames.Frames.{Frames}
 use Rattle.ill_read.specs.declared.path.Path.{Path}
 use Rattle.ill_read.proofs.MessageEnds.{refuses_alone}
 use Rattle.ill_refusals.proofs.OneOutcome.{message_encodes}
@@ -45,42 +47,52 @@ or_end : (c : Option LeafFault) (at : ℕ) (j : Judgement) (place : List Open) (
 or_end None at j place k l rest after h = h
 or_end (Some c) at j place k l rest after h = leaf_cause c
 
-moved_end : (path : Path) (place : List Open) (at : ℕ) (rest : List ℕ) (judgement : CodeJudgement) (j : Judgement) → IsProgress (depth_of path) (length rest) judgement
-    → IsJudgement path place at rest judgement j → EndsAt (at + size_of judgement) (drop (size_of judgement) rest) (moved j place at rest)
-moved_end path place at rest (code.Closes m) j p h =
+moved_end : (frames : Frames) (place : List Open) (at : ℕ) (rest : List ℕ) (judgement : CodeJudgement) (j : Judgement) → IsProgress (depth_of frames) (length rest) judgement
+    → IsJudgement frames place at rest judgement j → EndsAt (at + size_of judgement) (drop (size_of judgement) rest) (moved j place at rest)
+moved_end frames place at rest (code.Closes m) j p h =
     subst (λ x. EndsAt (at + m) (drop m rest) (moved x place at rest)) (sym h.is)
     (or_end _ _ (closes m) place (at + m) at rest (drop m rest)
     (subst (λ x. EndsAt (at + m) (drop m rest) (close x (at + m) (drop m rest))) (sym h.is_path) (with_end h.outer _ (at + m) (at + m) (drop m rest) (drop m rest) refl refl)))
-moved_end path place at rest (code.Opens o) j p h = subst (λ x. EndsAt (at + o.header) (drop o.header rest) (moved x place at rest)) (sym h.2) (refl, refl)
-moved_end path place at rest (code.Reads r) j p h =
+moved_end frames place at rest (code.Opens o) j p h = subst (λ x. EndsAt (at + o.header) (drop o.header rest) (moved x place at rest)) (sym h.1) (refl, refl)
+moved_end frames place at rest (code.Reads r) j p h =
     let content = take r.size (drop r.header rest) in
     let le = p.1 in
     let n : length content ≡ r.size = length-take-le r.size (drop r.header rest) (omega (arith, length-drop r.header rest)) in
-    subst (λ x. EndsAt (at + (r.header + r.size)) (drop (r.header + r.size) rest) (moved x place at rest)) (sym h.2)
-    (or_end _ at (reads h.0 r.header content) place (at + (r.header + r.size)) at rest (drop (r.header + r.size) rest)
+    subst (λ x. EndsAt (at + (r.header + r.size)) (drop (r.header + r.size) rest) (moved x place at rest)) (sym h.1)
+    (or_end _ at (reads (tag_of_id r.id) r.header content) place (at + (r.header + r.size)) at rest (drop (r.header + r.size) rest)
     (with_end place _ (at + (r.header + r.size)) (at + r.header + length content) (drop (r.header + r.size) rest) (drop (r.header + length content) rest)
     (omega (arith, n)) (ap (λ k. drop (r.header + k) rest) n)))
 
--- the step of a path that stands there
-record IsMade (path new : Path) (at : ℕ) (s rest : List ℕ) (judgement : CodeJudgement) (st : Step) : Type 0 where
+-- what means a value of ILL-APDU means an APDU
+means_apdu : (c : Content) (T : Tree) → Means profile_two c IllApdu untagged T → (a : Apdu) × (c ≡ choice_of a) × MeansApdu profile_two a T
+means_apdu (alternative n d) T h =
+    let e : n ≡ n + 1 - 1 = omega arith in
+    (record { number = n + 1; body = d }, ap (λ m. alternative m d) e, (omega arith, subst (λ m. Means profile_two (alternative m d) IllApdu untagged T) e h))
+means_apdu (simple v) T h = absurd (let q : None ≡ Some h.0 = h.1 in cc)
+means_apdu (content.sequence es) T h = absurd (let q : Kind.Choice ≡ Kind.Seq = h.0 in cc)
+means_apdu (content.list is) T h = absurd (let q : Kind.Choice ≡ Kind.SeqOf = h.0 in cc)
+
+-- the step of what stands there
+record IsMade (at : ℕ) (s rest : List ℕ) (judgement : CodeJudgement) (st : Step) : Type 0 where
   placed : Placed profile_two s st
   ends : EndsAt (at + size_of judgement) (drop (size_of judgement) rest) st
 
-made : (path new : Path) (at : ℕ) (s rest : List ℕ) (judgement : CodeJudgement) → (b : StandsBefore path at s rest) → IsProgress (depth_of path) (length rest) judgement
-    → IsJudgement path b.place at rest judgement (judge profile_two b.place at rest)
-    → IsMade path new at s rest judgement (moved (judge profile_two b.place at rest) b.place at rest)
-made path new at s rest judgement b p h = record {
+made : (Stands : List Open → Type 0) (frames : Frames) (at : ℕ) (s rest : List ℕ) (judgement : CodeJudgement) → (b : StandsBefore Stands at s rest) → IsProgress (depth_of frames) (length rest) judgement
+    → IsJudgement frames b.place at rest judgement (judge profile_two b.place at rest)
+    → IsMade at s rest judgement (moved (judge profile_two b.place at rest) b.place at rest)
+made Stands frames at s rest judgement b p h = record {
   placed = step_placed profile_two s b.place at rest b.octets (b.before, b.joined, b.offset, b.is_place);
-  ends = moved_end path b.place at rest judgement (judge profile_two b.place at rest) p h;
+  ends = moved_end frames b.place at rest judgement (judge profile_two b.place at rest) p h;
 }
 
 -- it stands at the next place
-pub goes_on : (path new : Path) (at : ℕ) (s rest : List ℕ) (judgement : CodeJudgement) → (b : StandsBefore path at s rest) → IsProgress (depth_of path) (length rest) judgement
-    → IsJudgement path b.place at rest judgement (judge profile_two b.place at rest) → IsStep new (Ok None) (moved (judge profile_two b.place at rest) b.place at rest)
-    → StandsBefore new (at + size_of judgement) s (drop (size_of judgement) rest)
-goes_on path new at s rest judgement b p h is = go (moved (judge profile_two b.place at rest) b.place at rest) (made path new at s rest judgement b p h) is
+pub goes_on : {D : Type 0} (holds : D → List Level → List ℕ → Type 0) (path new : Path D) (at : ℕ) (s rest : List ℕ) (judgement : CodeJudgement) → (b : StandsBefore (HoldsAt holds path) at s rest)
+    → IsProgress (depth_of path.frames) (length rest) judgement → IsJudgement path.frames b.place at rest judgement (judge profile_two b.place at rest)
+    → IsStep holds new (Ok false) (moved (judge profile_two b.place at rest) b.place at rest)
+    → StandsBefore (HoldsAt holds new) (at + size_of judgement) s (drop (size_of judgement) rest)
+goes_on holds path new at s rest judgement b p h is = go (moved (judge profile_two b.place at rest) b.place at rest) (made (HoldsAt holds path) path.frames at s rest judgement b p h) is
   where
-    go : (st : Step) → IsMade path new at s rest judgement st → IsStep new (Ok None) st → StandsBefore new (at + size_of judgement) s (drop (size_of judgement) rest)
+    go : (st : Step) → IsMade at s rest judgement st → IsStep holds new (Ok false) st → StandsBefore (HoldsAt holds new) (at + size_of judgement) s (drop (size_of judgement) rest)
     go (goes place l after) m i = record {
       place = place;
       before = m.placed.0;
@@ -94,33 +106,32 @@ goes_on path new at s rest judgement b p h is = go (moved (judge profile_two b.p
     go (refused f) m i = absurd i
     go stuck m i = absurd i
 
-means_apdu : (body : Body) (T : Tree) → IsBody body T → MeansApdu profile_two (body_apdu body) T
-means_apdu body T h =
-    let e : body.row ≡ body.row + 1 - 1 = omega arith in
-    (omega arith, subst (λ n. Means profile_two (alternative n (content_of body.value)) IllApdu untagged T) e h)
-
--- the message is whole
-pub is_whole : (path new : Path) (at : ℕ) (s rest : List ℕ) (judgement : CodeJudgement) (body : Body) → (b : StandsBefore path at s rest) → IsProgress (depth_of path) (length rest) judgement
-    → IsJudgement path b.place at rest judgement (judge profile_two b.place at rest) → IsStep new (Ok (Some body)) (moved (judge profile_two b.place at rest) b.place at rest)
-    → (at + size_of judgement ≤ length s) × Encodes profile_two (body_apdu body) (take (at + size_of judgement) s)
-is_whole path new at s rest judgement body b p h is = go (moved (judge profile_two b.place at rest) b.place at rest) (made path new at s rest judgement b p h) is
+-- the message is whole: its octets encode what the draft holds
+pub is_whole : {D : Type 0} (holds : D → List Level → List ℕ → Type 0) (path new : Path D) (at : ℕ) (s rest : List ℕ) (judgement : CodeJudgement) → (b : StandsBefore (HoldsAt holds path) at s rest)
+    → IsProgress (depth_of path.frames) (length rest) judgement → IsJudgement path.frames b.place at rest judgement (judge profile_two b.place at rest)
+    → IsStep holds new (Ok true) (moved (judge profile_two b.place at rest) b.place at rest)
+    → (at + size_of judgement ≤ length s) × ((a : Apdu) × HoldsApdu holds new.draft a (take (at + size_of judgement) s))
+is_whole holds path new at s rest judgement b p h is = go (moved (judge profile_two b.place at rest) b.place at rest) (made (HoldsAt holds path) path.frames at s rest judgement b p h) is
   where
-    go : (st : Step) → IsMade path new at s rest judgement st → IsStep new (Ok (Some body)) st
-        → (at + size_of judgement ≤ length s) × Encodes profile_two (body_apdu body) (take (at + size_of judgement) s)
+    go : (st : Step) → IsMade at s rest judgement st → IsStep holds new (Ok true) st
+        → (at + size_of judgement ≤ length s) × ((a : Apdu) × HoldsApdu holds new.draft a (take (at + size_of judgement) s))
     go (whole T n) m i =
-        let message : IsMessage profile_two s T n = record m.placed { apdu = body_apdu body; means = means_apdu body T i } in
-        subst (λ k. (k ≤ length s) × Encodes profile_two (body_apdu body) (take k s)) m.ends (message_encodes profile_two s T n message)
+        let apdu = means_apdu i.0 T i.2 in
+        let message : IsMessage profile_two s T n = record m.placed { apdu = apdu.0; means = apdu.2 } in
+        let encoded = subst (λ k. (k ≤ length s) × Encodes profile_two apdu.0 (take k s)) m.ends (message_encodes profile_two s T n message) in
+        (encoded.0, (apdu.0, (subst (λ c. holds new.draft (whole_level c ∷ []) []) apdu.1 i.1, apdu.2.0, encoded.1)))
     go (goes place l after) m i = absurd i
     go (refused f) m i = absurd i
     go stuck m i = absurd i
 
--- a text is at fault, or memory is wanting
-pub is_refused : (path new : Path) (at : ℕ) (s rest : List ℕ) (judgement : CodeJudgement) (failure : Failure) → (b : StandsBefore path at s rest) → IsProgress (depth_of path) (length rest) judgement
-    → IsJudgement path b.place at rest judgement (judge profile_two b.place at rest) → IsStep new (Err failure) (moved (judge profile_two b.place at rest) b.place at rest)
+-- a text is at fault, or memory runs out
+pub is_refused : {D : Type 0} (holds : D → List Level → List ℕ → Type 0) (path new : Path D) (at : ℕ) (s rest : List ℕ) (judgement : CodeJudgement) (failure : Failure)
+    → (b : StandsBefore (HoldsAt holds path) at s rest) → IsProgress (depth_of path.frames) (length rest) judgement
+    → IsJudgement path.frames b.place at rest judgement (judge profile_two b.place at rest) → IsStep holds new (Err failure) (moved (judge profile_two b.place at rest) b.place at rest)
     → IsRefused s failure
-is_refused path new at s rest judgement failure b p h is = go failure (moved (judge profile_two b.place at rest) b.place at rest) (made path new at s rest judgement b p h) is
+is_refused holds path new at s rest judgement failure b p h is = go failure (moved (judge profile_two b.place at rest) b.place at rest) (made (HoldsAt holds path) path.frames at s rest judgement b p h) is
   where
-    go : (failure : Failure) (st : Step) → IsMade path new at s rest judgement st → IsStep new (Err failure) st → IsRefused s failure
+    go : (failure : Failure) (st : Step) → IsMade at s rest judgement st → IsStep holds new (Err failure) st → IsRefused s failure
     go (Failure.Refused r) (refused f) m i =
         (refuses_alone s (fault_of r) (inl (subst (λ (g : Fault). Placed profile_two s (refused g)) i m.placed)), subst (λ (g : Fault). g.cause ≡ Cause.Truncated → ⊥) i m.ends)
     go (Failure.Refused r) (goes place l after) m i = absurd i

@@ -1,19 +1,17 @@
 -- The entries of a sequence grow row by row, the items of a list one by one.
 use Rattle.std.proofs.Common.{◌≡◌, ℕ, zero, suc, ◌+◌, ◌<◌, ◌≤◌, List, [], ◌∷◌, ◌++◌, take, drop, map, Option, Some, None, refl, sym, ap, subst, ◌∙◌, inl, inr, arith, slice_get, append_assoc}
-use Rattle.std.specs.Prelude.{option_map}
-use Rattle.std.proofs.lemmas.List.{map-append, take-append-drop}
+use Rattle.std.proofs.lemmas.List.{take-append-drop}
 use Rattle.ber_core.specs.Tree.{Tree, Trees, none, more}
 use Rattle.ber_leaf.specs.Profile.{profile_two}
 use Rattle.ill_schema.specs.declared.node.NodeId.{NodeId}
 use Rattle.ill_schema.specs.declared.part.Presence.{Presence}
 use Rattle.ill_schema.specs.declared.part.Row.{Row}
-use Rattle.ill_schema.specs.declared.value.Value.{Value}
 use Rattle.ill_schema.specs.Content.{Content}
 use Rattle.ill_schema.specs.Meaning.{Means, Matches, MatchItems}
 use Rattle.ill_schema.specs.Presence.{IsCarried}
 use Rattle.ill_schema.specs.Table.{kind_of, rows_of}
 use Rattle.ill_schema.specs.Tagging.{tagging}
-use Rattle.ill_schema.specs.Value.{content_of, entries_of, entries_content, items_of, items_content}
+use Rattle.ill_schema.specs.Value.{entries_of, items_of}
 use Rattle.ill_read.specs.Elements.{component_at}
 use Rattle.ill_read.specs.DueCode.{MayAllLack}
 use Rattle.ill_refusals.specs.Element.{components, components_from}
@@ -91,25 +89,20 @@ row_behind (y ∷ ys) zero x e = let q : y ≡ x = cc in ap (λ z. z ∷ []) q
 row_behind (y ∷ ys) (suc r) x e = ap (λ z. y ∷ z) (row_behind ys r x e)
 
 -- an element of a row, where those passed over may be absent
-pub row_added : (node : NodeId) (n r : ℕ) (row : Row) (held passed : List (Option Value)) (v : Value) (ts : Trees) (T : Tree) → n ≤ r → MayAllLack node n r
-    → slice_get (rows_of node) r ≡ Some row → IsCarried row.presence → Means profile_two (content_of v) row.node (tagging profile_two row) T
-    → Matches profile_two (entries_content held) (take n (rows_of node)) ts → map (option_map content_of) passed ≡ map absent_content (drop n (take r (rows_of node)))
-    → Matches profile_two (entries_content (held ++ (passed ++ Some v ∷ []))) (take (r + 1) (rows_of node)) (snoc ts T)
-row_added node n r row held passed v ts T le lack is carried m h e =
-    let f : Option Value → Option Content = option_map content_of in
+pub row_added : (node : NodeId) (n r : ℕ) (row : Row) (held : List (Option Content)) (c : Content) (ts : Trees) (T : Tree) → n ≤ r → MayAllLack node n r
+    → slice_get (rows_of node) r ≡ Some row → IsCarried row.presence → Means profile_two c row.node (tagging profile_two row) T → Matches profile_two (entries_of held) (take n (rows_of node)) ts
+    → Matches profile_two (entries_of (held ++ (map absent_content (drop n (take r (rows_of node))) ++ Some c ∷ []))) (take (r + 1) (rows_of node)) (snoc ts T)
+row_added node n r row held c ts T le lack is carried m h =
     let rs = rows_of node in
     let mid = drop n (take r rs) in
-    let first = matches_joined (map f held) (map absent_content mid) (take n rs) mid ts none h (absent_matches node n r lack) in
-    let one : Matches profile_two (entries_of (Some (content_of v) ∷ [])) (row ∷ []) (more T none) = (carried, inl (T, none, refl, m, refl)) in
-    let all = matches_joined (map f held ++ map absent_content mid) (Some (content_of v) ∷ []) (take n rs ++ mid) (row ∷ []) (joined ts none) (more T none) first one in
-    let entries : map f (held ++ (passed ++ Some v ∷ [])) ≡ (map f held ++ map absent_content mid) ++ Some (content_of v) ∷ [] =
-    map-append f held (passed ++ Some v ∷ []) ∙ ap (λ z. map f held ++ z) (map-append f passed (Some v ∷ []) ∙ ap (λ z. z ++ Some (content_of v) ∷ []) e)
-    ∙ sym (append_assoc (map f held) (map absent_content mid) (Some (content_of v) ∷ [])) in
+    let first = matches_joined held (map absent_content mid) (take n rs) mid ts none h (absent_matches node n r lack) in
+    let one : Matches profile_two (entries_of (Some c ∷ [])) (row ∷ []) (more T none) = (carried, inl (T, none, refl, m, refl)) in
+    let all = matches_joined (held ++ map absent_content mid) (Some c ∷ []) (take n rs ++ mid) (row ∷ []) (joined ts none) (more T none) first one in
     let n1 : r + 1 ≡ suc r = omega arith in
     let upto : take (r + 1) rs ≡ (take n rs ++ mid) ++ row ∷ [] = ap (λ k. take k rs) n1 ∙ row_behind rs r row is ∙ ap (λ z. z ++ row ∷ []) (rows_before rs n r le) in
-    subst (λ es. Matches profile_two (entries_of es) (take (r + 1) rs) (snoc ts T)) (sym entries)
-    (subst (λ xs. Matches profile_two (entries_of ((map f held ++ map absent_content mid) ++ Some (content_of v) ∷ [])) xs (snoc ts T)) (sym upto)
-    (subst (λ us. Matches profile_two (entries_of ((map f held ++ map absent_content mid) ++ Some (content_of v) ∷ [])) ((take n rs ++ mid) ++ row ∷ []) us) (joined_one ts T) all))
+    subst (λ es. Matches profile_two (entries_of es) (take (r + 1) rs) (snoc ts T)) (append_assoc held (map absent_content mid) (Some c ∷ []))
+    (subst (λ xs. Matches profile_two (entries_of ((held ++ map absent_content mid) ++ Some c ∷ [])) xs (snoc ts T)) (sym upto)
+    (subst (λ us. Matches profile_two (entries_of ((held ++ map absent_content mid) ++ Some c ∷ [])) ((take n rs ++ mid) ++ row ∷ []) us) (joined_one ts T) all))
 
 -- where nothing is missing, none of the rows left is mandatory
 none_missing : (node : NodeId) (k n : ℕ) (rs : List Row) → first_mandatory (drop n (components_from profile_two node k rs)) ≡ None
@@ -123,26 +116,16 @@ none_missing node k zero (r ∷ rs) h (suc i) row e must = none_missing node (k 
 none_missing node k (suc n) (r ∷ rs) h i row e must = none_missing node (k + 1) n rs h i row e must
 
 -- a sequence ends, where the rows left may be absent
-pub rows_ended : (node : NodeId) (n : ℕ) (held passed : List (Option Value)) (ts : Trees) → missing profile_two (rows (drop n (components profile_two node))) ≡ None
-    → Matches profile_two (entries_content held) (take n (rows_of node)) ts → map (option_map content_of) passed ≡ map absent_content (drop n (rows_of node))
-    → Matches profile_two (entries_content (held ++ passed)) (rows_of node) ts
-rows_ended node n held passed ts none_left h e =
-    let f : Option Value → Option Content = option_map content_of in
+pub rows_ended : (node : NodeId) (n : ℕ) (held : List (Option Content)) (ts : Trees) → missing profile_two (rows (drop n (components profile_two node))) ≡ None
+    → Matches profile_two (entries_of held) (take n (rows_of node)) ts → Matches profile_two (entries_of (held ++ map absent_content (drop n (rows_of node)))) (rows_of node) ts
+rows_ended node n held ts none_left h =
     let rest = drop n (rows_of node) in
-    let all = matches_joined (map f held) (map absent_content rest) (take n (rows_of node)) rest ts none h (lacking_matches rest (none_missing node 0 n (rows_of node) none_left)) in
-    subst (λ es. Matches profile_two (entries_of es) (rows_of node) ts) (sym (map-append f held passed ∙ ap (λ z. map f held ++ z) e))
-    (subst (λ us. Matches profile_two (entries_of (map f held ++ map absent_content rest)) (rows_of node) us) (joined-none ts)
-    (subst (λ xs. Matches profile_two (entries_of (map f held ++ map absent_content rest)) xs (joined ts none)) (take-append-drop n (rows_of node)) all))
+    let all = matches_joined held (map absent_content rest) (take n (rows_of node)) rest ts none h (lacking_matches rest (none_missing node 0 n (rows_of node) none_left)) in
+    subst (λ us. Matches profile_two (entries_of (held ++ map absent_content rest)) (rows_of node) us) (joined-none ts)
+    (subst (λ xs. Matches profile_two (entries_of (held ++ map absent_content rest)) xs (joined ts none)) (take-append-drop n (rows_of node)) all)
 
-items_joined : (cs : List Content) (c : Content) (rs : List Row) (row : Row) (ts : Trees) (T : Tree) → slice_get rs 0 ≡ Some row → Means profile_two c row.node (tagging profile_two row) T
+-- an item after others
+pub item_added : (cs : List Content) (c : Content) (rs : List Row) (row : Row) (ts : Trees) (T : Tree) → slice_get rs 0 ≡ Some row → Means profile_two c row.node (tagging profile_two row) T
     → MatchItems profile_two (items_of cs) rs ts → MatchItems profile_two (items_of (cs ++ c ∷ [])) rs (snoc ts T)
-items_joined [] c rs row ts T is m h = (row, T, none, is, ap (λ z. snoc z T) h, m, refl)
-items_joined (d ∷ cs) c rs row ts T is m h = (h.0, h.1, snoc h.2 T, h.3, ap (λ z. snoc z T) h.4, h.5, items_joined cs c rs row h.2 T is m h.6)
-
--- an item behind others
-pub item_added : (node : NodeId) (row : Row) (values : List Value) (v : Value) (ts : Trees) (T : Tree) → slice_get (rows_of node) 0 ≡ Some row
-    → Means profile_two (content_of v) row.node (tagging profile_two row) T → MatchItems profile_two (items_content values) (rows_of node) ts
-    → MatchItems profile_two (items_content (values ++ v ∷ [])) (rows_of node) (snoc ts T)
-item_added node row values v ts T is m h =
-    subst (λ cs. MatchItems profile_two (items_of cs) (rows_of node) (snoc ts T)) (sym (map-append content_of values (v ∷ [])))
-    (items_joined (map content_of values) (content_of v) (rows_of node) row ts T is m h)
+item_added [] c rs row ts T is m h = (row, T, none, is, ap (λ z. snoc z T) h, m, refl)
+item_added (d ∷ cs) c rs row ts T is m h = (h.0, h.1, snoc h.2 T, h.3, ap (λ z. snoc z T) h.4, h.5, item_added cs c rs row h.2 T is m h.6)

@@ -30,9 +30,9 @@ use Rattle.ill_read.specs.declared.element.Found.TheVariants as found
 use Rattle.ill_read.specs.declared.judge.Judgement.{Judgement as CodeJudgement}
 use Rattle.ill_read.specs.declared.judge.Judgement.TheVariants as code
 use Rattle.ill_read.specs.declared.judge.Started.{Started}
-use Rattle.ill_read.specs.declared.path.Path.{Path}
+use Rattle.ill_read.specs.declared.frames.Frames.{Frames}
 use Rattle.ill_read.proofs.DueElements.{due_element_is}
-use Rattle.ill_read.proofs.Frames.{next_open}
+use Rattle.ill_read.proofs.OpenFrames.{next_open}
 use Rattle.ill_refusals.proofs.Judgements.{form_judged, length_body}
 use Rattle.ill_refusals.proofs.Headers.{read_is_length}
 
@@ -73,26 +73,26 @@ shallow_judged : (place : List Open) (tag : Tag) (f : Bool) (at i : ℕ) (want :
 shallow_judged place tag f at i want w h = let q : nat_le 32 (length place) ≡ false = grind (arith, h) in ap (depth_body place tag f at i want w) q
 
 -- nothing is due with the tag
-pub unexpected_judged : (path : Path) (place : List Open) (tag : Tag) (f : Bool) (at i : ℕ) (want : Fault) (w : List ℕ) → StandsAt path place → length place < 32
-    → due profile_two tag (next_is (next_at path.frames.items)) ≡ None → judge_identified place tag f at i want w ≡ faulty (fault Cause.UnexpectedTag at)
-unexpected_judged path place tag f at i want w h s e =
-    shallow_judged place tag f at i want w s ∙ ap (tag_body place tag f at i want w) (ap (due profile_two tag) (sym (next_open place _ _ h.0)) ∙ e)
+pub unexpected_judged : (frames : Frames) (place : List Open) (tag : Tag) (f : Bool) (at i : ℕ) (want : Fault) (w : List ℕ) → StandsAt frames place → length place < 32
+    → due profile_two tag (next_is (next_at frames.open.items)) ≡ None → judge_identified place tag f at i want w ≡ faulty (fault Cause.UnexpectedTag at)
+unexpected_judged frames place tag f at i want w h s e =
+    shallow_judged place tag f at i want w s ∙ ap (tag_body place tag f at i want w) (ap (due profile_two tag) (sym (next_open place _ _ h.1)) ∙ e)
 
 -- what is due with the tag is judged by its form
-due_judged : (path : Path) (place : List Open) (tag : Tag) (f : Bool) (d : CodeDue) (at i : ℕ) (want : Fault) (w : List ℕ) → StandsAt path place → length place < 32
-    → IsDueIn tag (next_at path.frames.items) d → judge_identified place tag f at i want w ≡ judge_form profile_two place (found_is d.found) tag f at i want w
-due_judged path place tag f d at i want w h s k =
-    let e = due_element_is tag (next_at path.frames.items) d k in
+due_judged : (frames : Frames) (place : List Open) (tag : Tag) (f : Bool) (d : CodeDue) (at i : ℕ) (want : Fault) (w : List ℕ) → StandsAt frames place → length place < 32
+    → IsDueIn tag (next_at frames.open.items) d → judge_identified place tag f at i want w ≡ judge_form profile_two place (found_is d.found) tag f at i want w
+due_judged frames place tag f d at i want w h s k =
+    let e = due_element_is tag (next_at frames.open.items) d k in
     shallow_judged place tag f at i want w s
-    ∙ ap (tag_body place tag f at i want w) (ap (due profile_two tag) (sym (next_open place _ _ h.0)) ∙ e.1)
+    ∙ ap (tag_body place tag f at i want w) (ap (due profile_two tag) (sym (next_open place _ _ h.1)) ∙ e.1)
     ∙ ap (λ x. judge_form profile_two place x tag f at i want w) e.2
 
-pub identified_judged : (path : Path) (place : List Open) (at : ℕ) (id : Id) (d : CodeDue) (r : Result Started Refusal) → StandsAt path place → length place < 32
-    → IsDueIn (tag_of_id id) (next_at path.frames.items) d → IsFormed d at (form_of_id id) r → IsIdentified path place at id r
-identified_judged path place at id d (Ok started) h s k f =
-    (record { is_due = subst (IsDueIn (tag_of_id id) (next_at path.frames.items)) f.0 k; allowed = ap (allows (element_is started.element)) f.1 ∙ f.2; shallow = s }, f.1)
-identified_judged path place at id d (Err refusal) h s k f = λ i want w.
-    due_judged path place (tag_of_id id) (form_of_id id) d at i want w h s k ∙ f profile_two place (tag_of_id id) i want w
+pub identified_judged : (frames : Frames) (place : List Open) (at : ℕ) (id : Id) (d : CodeDue) (r : Result Started Refusal) → StandsAt frames place → length place < 32
+    → IsDueIn (tag_of_id id) (next_at frames.open.items) d → IsFormed d at id r → IsIdentified frames place at id r
+identified_judged frames place at id d (Ok started) h s k f =
+    (record { is_due = subst (IsDueIn (tag_of_id id) (next_at frames.open.items)) f.0 k; allowed = ap (allows (element_is started.element)) f.2 ∙ f.3; shallow = s }, f.2, f.1)
+identified_judged frames place at id d (Err refusal) h s k f = λ i want w.
+    due_judged frames place (tag_of_id id) (form_of_id id) d at i want w h s k ∙ f profile_two place (tag_of_id id) i want w
 
 abbrev element_body : List Open → ℕ → Fault → List ℕ → IdentifierRead → Judgement
 element_body place at want w x = elim x as (λ _. Judgement) [
@@ -109,11 +109,11 @@ behind_identifier place at want w front behind tag f e r =
     ap (element_body place at want w) r ∙ ap (λ i. judge_identified place tag f at i want behind) n
 
 -- an element that may begin there is judged by its length
-pub begun_judged : (path : Path) (place : List Open) (tag : Tag) (slot : Slot) (alternative : Option ℕ) (element : CodeElement) (f : Bool) (at i : ℕ) (want : Fault) (w : List ℕ)
-    → StandsAt path place → IsBegin path place tag slot alternative element f
+pub begun_judged : (frames : Frames) (place : List Open) (tag : Tag) (slot : Slot) (alternative : Option ℕ) (element : CodeElement) (f : Bool) (at i : ℕ) (want : Fault) (w : List ℕ)
+    → StandsAt frames place → IsBegin frames place tag slot alternative element f
     → judge_identified place tag f at i want w ≡ judge_length profile_two place (element_is element) tag f at i want w
-begun_judged path place tag slot alternative element f at i want w h b =
-    due_judged path place tag f (record { slot = slot; alternative = alternative; found = found.Element element }) at i want w h b.shallow b.is_due
+begun_judged frames place tag slot alternative element f at i want w h b =
+    due_judged frames place tag f (record { slot = slot; alternative = alternative; found = found.Element element }) at i want w h b.shallow b.is_due
     ∙ form_judged profile_two place (element_is element) tag f at i want w b.allowed
 
 -- an element of definite length, whose header has so many octets
@@ -131,14 +131,14 @@ content_further header size w y h =
     sym (ap (take size) (drop-append-le header w y (omega (arith, h))) ∙ take-append-le size (drop header w) y (omega (arith, h, length-drop header w)))
 
 -- what is judged in the octets before the bound is judged where the others follow
-pub judged_further : (path : Path) (place : List Open) (at depth : ℕ) (w y : List ℕ) (r : Result CodeJudgement Refusal) (j : Judgement)
-    → IfOk r (λ judgement. IsProgress depth (length w) judgement) → IsJudged path place at w r j → IsJudged path place at (w ++ y) r j
-judged_further path place at depth w y (Err refusal) j k h = h
-judged_further path place at depth w y (Ok (code.Closes marks)) j k h = h
-judged_further path place at depth w y (Ok (code.Opens opening)) j k h = h
-judged_further path place at depth w y (Ok (code.Reads reading)) j k h =
+pub judged_further : (frames : Frames) (place : List Open) (at depth : ℕ) (w y : List ℕ) (r : Result CodeJudgement Refusal) (j : Judgement)
+    → IfOk r (λ judgement. IsProgress depth (length w) judgement) → IsJudged frames place at w r j → IsJudged frames place at (w ++ y) r j
+judged_further frames place at depth w y (Err refusal) j k h = h
+judged_further frames place at depth w y (Ok (code.Closes marks)) j k h = h
+judged_further frames place at depth w y (Ok (code.Opens opening)) j k h = h
+judged_further frames place at depth w y (Ok (code.Reads reading)) j k h =
     let c = content_further reading.header reading.size w y k.1 in
-    (h.0, h.1, h.2 ∙ ap (λ x. or_faulty (element_fault profile_two (element_is reading.element) x) at (reads h.0 reading.header x)) c)
+    (h.0, h.1 ∙ ap (λ x. or_faulty (element_fault profile_two (element_is reading.element) x) at (reads (tag_of_id reading.id) reading.header x)) c)
 
 abbrev place_body : List Open → ℕ → List ℕ → Bool → Judgement
 place_body place at rest b = elim b as (λ _. Judgement) [
@@ -147,13 +147,13 @@ place_body place at rest b = elim b as (λ _. Judgement) [
 ]
 
 -- no definite element ends there
-pub octets_judged : (path : Path) (place : List Open) (at depth : ℕ) (rest window : List ℕ) (want : Fault) (r : Result CodeJudgement Refusal) → ends_at place at ≡ false
+pub octets_judged : (frames : Frames) (place : List Open) (at depth : ℕ) (rest window : List ℕ) (want : Fault) (r : Result CodeJudgement Refusal) → ends_at place at ≡ false
     → window ≡ take (bound profile_two place - at) rest → want ≡ wanting profile_two place at rest
-    → IfOk r (λ judgement. IsProgress depth (length window) judgement) → IsJudged path place at window r (judge_octets profile_two place at want window)
-    → IsJudged path place at rest r (judge profile_two place at rest)
-octets_judged path place at depth rest window want r e s f k h =
+    → IfOk r (λ judgement. IsProgress depth (length window) judgement) → IsJudged frames place at window r (judge_octets profile_two place at want window)
+    → IsJudged frames place at rest r (judge profile_two place at rest)
+octets_judged frames place at depth rest window want r e s f k h =
     let m = bound profile_two place - at in
     let same : judge_octets profile_two place at want window ≡ judge profile_two place at rest = ap₂ (judge_octets profile_two place at) f s ∙ sym (ap (place_body place at rest) e) in
     let whole : window ++ drop m rest ≡ rest = ap (λ x. x ++ drop m rest) s ∙ take-append-drop m rest in
-    subst (λ x. IsJudged path place at x r (judge profile_two place at rest)) whole
-    (judged_further path place at depth window (drop m rest) r _ k (subst (IsJudged path place at window r) same h))
+    subst (λ x. IsJudged frames place at x r (judge profile_two place at rest)) whole
+    (judged_further frames place at depth window (drop m rest) r _ k (subst (IsJudged frames place at window r) same h))

@@ -3,12 +3,12 @@ pub mod Components
 pub mod DueRows
 pub mod Enumerated
 pub mod HeadersRead
-pub mod Frames
+pub mod OpenFrames
 pub mod HeldEntries
 pub mod Segments
-pub mod AddedValues
+pub mod AddedEntries
 pub mod MoreTrees
-pub mod DeliveredValues
+pub mod DeliveredEntries
 pub mod EndedElements
 pub mod Strings
 pub mod ClosedElements
@@ -26,3 +26,10 @@ pub mod NeededOctets
 pub mod SourceReads
 pub mod NextRead
 pub mod LookedOctets
+pub mod ValueDrafts
+pub mod WrittenElements
+pub mod DueTags
+pub mod OctetDrafts
+pub mod NormalLeaves
+pub mod NormalElements
+pub mod NormalEntries

@@ -6,11 +6,10 @@ use Rattle.std.proofs.lemmas.Bool.{cases_lt}
 use Rattle.std.proofs.lemmas.List.{append_cancel_right, length-take-le, take-append-drop, take-append-le, take_all}
 use Rattle.ber_core.specs.Octets.{are_octets}
 use Rattle.ber_leaf.specs.Profile.{Profile, profile_two}
-use Rattle.ill_schema.specs.declared.message.Message.{Message}
 use Rattle.ill_schema.specs.declared.refusal.Cause.{Cause}
-use Rattle.ill_schema.specs.Apdu.{Encodes}
-use Rattle.ill_schema.specs.Message.{apdu_of, octets_of}
+use Rattle.ill_schema.specs.Apdu.{Apdu, Encodes}
 use Rattle.ill_refusals.specs.Fault.{Fault, fault, fault_at, Finding, passes, finds, sound, first_fault, definite_end, conditions, wanting, past_end}
+use Rattle.ill_refusals.specs.Outcome.{OnlyAccepts}
 use Rattle.ill_refusals.specs.Place.{Open, bound}
 use Rattle.ill_refusals.specs.code.Judge.{faulty, judge}
 use Rattle.ill_refusals.proofs.Continuations.{refused_at}
@@ -19,14 +18,14 @@ use Rattle.ill_refusals.proofs.Headers.{octets_left}
 use Rattle.ill_refusals.proofs.OneOutcome.{accepted_alone, truncated_size}
 use Rattle.ill_refusals.proofs.Truncation.{truncated_at}
 use Rattle.ill_schema.specs.declared.refusal.Refusal.{Refusal}
-use Rattle.ill_read.specs.Answers.{IsRead, IsRefused}
-use Rattle.ill_read.specs.Standing.{StandsBefore, StandsLast}
-use Rattle.ill_read.specs.code.DecoderCode.{HasStopped, InState, IsFed, IsRunning}
+use Rattle.ill_read.specs.Answers.{IsRefused}
+use Rattle.ill_read.specs.Standing.{HoldsAt, Level, StandsLast}
+use Rattle.ill_read.specs.code.ReaderCode.{HasRead, HasStopped, InState, IsFed, IsRunning}
 use Rattle.ill_read.specs.code.Filling.{HasLooked, NoneEndsWithin}
-use Rattle.ill_read.specs.declared.decoder.Decoder.{Decoder}
-use Rattle.ill_read.specs.declared.decoder.State.TheVariants as state
+use Rattle.ill_read.specs.declared.reader.Reader.{Reader}
+use Rattle.ill_read.specs.declared.reader.State.{State}
+use Rattle.ill_read.specs.declared.reader.State.TheVariants as state
 use Rattle.ill_read.specs.declared.failure.Failure.{Failure}
-use Rattle.ill_read.specs.declared.path.Path.{Path}
 use Rattle.ill_read.proofs.MessageEnds.{is_open, last_size, running_longer, stands_part}
 
 first_when : (d e : Finding) (more : List Finding) → d ≡ e → first_fault (d ∷ more) ≡ first_fault (e ∷ more)
@@ -52,8 +51,8 @@ ends_here p path k rest f e c lt = go (definite_end p path k) refl
     go sound q = absurd (let none : None ≡ Some f = sym (first_when _ _ _ q) ∙ e in cc)
 
 -- a path that the octets at hand don't take further stands at the end of those that were passed
-pub last_here : (path : Path) (at : ℕ) (s rest u : List ℕ) → s ≡ u ++ rest → StandsLast path at s rest → StandsLast path at u []
-last_here path at s rest u e h =
+pub last_here : (Stands : List Open → Type 0) (at : ℕ) (s rest u : List ℕ) → s ≡ u ++ rest → StandsLast Stands at s rest → StandsLast Stands at u []
+last_here Stands at s rest u e h =
     let b = h.0 in
     let same : u ≡ b.before = append_cancel_right u b.before rest (sym e ∙ b.joined) in
     let lt = (truncated_at profile_two b.place at rest _ (is_judged profile_two b.place at rest _ h.1) refl).0 in
@@ -67,74 +66,78 @@ last_here path at s rest u e h =
     )
 
 -- a message ends at the end of the octets that it is read of, or they go on after it
-pub read_front : (m : Message) (u rest : List ℕ) → IsRead (u ++ rest) m → octets_of m ≤ length u → IsRead u m
-read_front m u rest h le =
-    accepted_alone profile_two u (apdu_of m) (octets_of m) le (subst (Encodes profile_two (apdu_of m)) (take-append-le (octets_of m) u rest le) h.0.1.encodes) h.0.1.normal_short
+read_front : (a : Apdu) (n : ℕ) (u rest : List ℕ) → OnlyAccepts profile_two (u ++ rest) a n → n ≤ length u → OnlyAccepts profile_two u a n
+read_front a n u rest h le = accepted_alone profile_two u a n le (subst (Encodes profile_two a) (take-append-le n u rest le) h.0.1.encodes) h.0.1.normal_short
 
 -- it doesn't end within octets in which none does
-pub ends_after : (m : Message) (b octets : List ℕ) → IsRead (b ++ octets) m → NoneEndsWithin b → length b ≤ octets_of m
-ends_after m b octets h none = elim (cases_lt (octets_of m) (length b)) [
-  | inl lt ↦ let within = read_front m b octets h (omega (arith, lt)) in none (apdu_of m) (octets_of m) within.0
+ends_after : (a : Apdu) (n : ℕ) (b octets : List ℕ) → OnlyAccepts profile_two (b ++ octets) a n → NoneEndsWithin b → length b ≤ n
+ends_after a n b octets h none = elim (cases_lt n (length b)) [
+  | inl lt ↦ let within = read_front a n b octets h (omega (arith, lt)) in none a n within.0
   | inr le ↦ le
 ]
 
 -- nor within its own
-pub whole_exact : (m : Message) (u : List ℕ) → IsRead u m → octets_of m ≡ length u → NoneEndsWithin u
-whole_exact m u h e a k accepted = let one = h.1 a k accepted in omega (arith, one.1, e)
+whole_exact : (a : Apdu) (n : ℕ) (u : List ℕ) → OnlyAccepts profile_two u a n → n ≡ length u → NoneEndsWithin u
+whole_exact a n u h e b k accepted = let one = h.1 b k accepted in omega (arith, one.1, e)
 
--- the octets at hand begin after those that a decoder was fed
-pub started : (d : Decoder) (b octets : List ℕ) → d.pending.items ≡ [] → IsTrue (are_octets octets) → IsFed d b → IsRunning d (b ++ octets) octets
-started d b octets none ok h =
-    subst (λ z. InState d.state (b ++ octets) (StandsBefore d.path d.at (b ++ octets) (z ++ octets))) none (running_longer d.state d.path d.at b d.pending.items octets ok h)
+-- the octets at hand begin after those that a reader was fed
+pub started : {D : Type 0} (holds : D → List Level → List ℕ → Type 0) (has : D → Apdu → ℕ → Type 0) (r : Reader D) (b octets : List ℕ) → r.pending.items ≡ [] → IsTrue (are_octets octets) → IsFed holds has r b → IsRunning holds has r (b ++ octets) octets
+started holds has r b octets none ok h =
+    subst (λ z. IsRunning holds has r (b ++ octets) (z ++ octets)) none (running_longer holds has r b r.pending.items octets ok h)
 
-pub starts_at : (d : Decoder) (b : List ℕ) → d.state ≡ state.Open → d.pending.items ≡ [] → IsFed d b → d.at ≡ length b
-starts_at d b e none h =
-    let size = (last_size d.path d.at b d.pending.items (is_open d b h e).1).0 in omega (arith, size, ap length none)
+pub starts_at : {D : Type 0} (holds : D → List Level → List ℕ → Type 0) (has : D → Apdu → ℕ → Type 0) (r : Reader D) (b : List ℕ) → r.state ≡ state.Open → r.pending.items ≡ [] → IsFed holds has r b → r.at ≡ length b
+starts_at holds has r b e none h =
+    let size = (last_size (HoldsAt holds r.path) r.at b r.pending.items (is_open holds has r b h e).1).0 in omega (arith, size, ap length none)
 
 parts : (b octets : List ℕ) (n : ℕ) → b ++ octets ≡ (b ++ take n octets) ++ drop n octets
 parts b octets n = ap (λ z. b ++ z) (sym (take-append-drop n octets)) ∙ sym (append_assoc b (take n octets) (drop n octets))
 
-pub looked_open : (d : Decoder) (b octets : List ℕ) (n : ℕ) → d.state ≡ state.Open → d.pending.items ≡ [] → HasStopped d (b ++ octets) (drop n octets) → HasLooked d (b ++ take n octets)
-looked_open d b octets n e none h =
+abbrev IsFedIn : {D : Type 0} → (D → List Level → List ℕ → Type 0) → (D → Apdu → ℕ → Type 0) → Reader D → List ℕ → State → Type 0
+IsFedIn holds has r s st = InState st s (HasRead has r s) (StandsLast (HoldsAt holds r.path) r.at s r.pending.items)
+
+pub looked_open : {D : Type 0} (holds : D → List Level → List ℕ → Type 0) (has : D → Apdu → ℕ → Type 0) (r : Reader D) (b octets : List ℕ) (n : ℕ) → r.state ≡ state.Open → r.pending.items ≡ [] → HasStopped holds has r (b ++ octets) (drop n octets)
+    → HasLooked holds has r (b ++ take n octets)
+looked_open holds has r b octets n e none h =
     let u = b ++ take n octets in
-    let last = subst (λ st. InState st (b ++ octets) (StandsLast d.path d.at (b ++ octets) (drop n octets))) e h in
-    let here = last_here d.path d.at (b ++ octets) (drop n octets) u (parts b octets n) last in
-    let part = stands_part d.path d.at u [] here in
+    let last = subst (λ st. InState st (b ++ octets) (HasRead has r (b ++ octets)) (StandsLast (HoldsAt holds r.path) r.at (b ++ octets) (drop n octets))) e h in
+    let here = last_here (HoldsAt holds r.path) r.at (b ++ octets) (drop n octets) u (parts b octets n) last in
+    let part = stands_part (HoldsAt holds r.path) r.at u [] here in
     record {
-      fed = subst (λ st. InState st u (StandsLast d.path d.at u d.pending.items)) (sym e) (subst (StandsLast d.path d.at u) (sym none) here);
+      fed = subst (IsFedIn holds has r u) (sym e) (subst (StandsLast (HoldsAt holds r.path) r.at u) (sym none) here);
       exact = λ a k accepted. absurd (part.2 a k accepted);
     }
 
-pub looked_whole : (d : Decoder) (m : Message) (b octets : List ℕ) (n : ℕ) → d.state ≡ state.Whole m → n ≡ min (length octets) (octets_of m - length b) → NoneEndsWithin b → IsRead (b ++ octets) m
-    → HasLooked d (b ++ take n octets)
-looked_whole d m b octets n e is none h =
+pub looked_whole : {D : Type 0} (holds : D → List Level → List ℕ → Type 0) (has : D → Apdu → ℕ → Type 0) (r : Reader D) (b octets : List ℕ) (n : ℕ) → r.state ≡ state.Whole → n ≡ min (length octets) (r.at - length b) → NoneEndsWithin b → HasRead has r (b ++ octets)
+    → HasLooked holds has r (b ++ take n octets)
+looked_whole holds has r b octets n e is none h =
     let u = b ++ take n octets in
-    let after = ends_after m b octets h none in
-    let within = h.0.0 in
+    let after = ends_after h.0 r.at b octets h.1 none in
+    let within = h.1.0.0 in
     let le : n ≤ length octets = omega (arith, is) in
-    let size : octets_of m ≡ length u = omega (arith, is, after, within, length-append b octets, length-append b (take n octets), length-take-le n octets le) in
-    let read = read_front m u (drop n octets) (subst (λ z. IsRead z m) (parts b octets n) h) (omega (arith, size)) in
+    let size : r.at ≡ length u = omega (arith, is, after, within, length-append b octets, length-append b (take n octets), length-take-le n octets le) in
+    let read = read_front h.0 r.at u (drop n octets) (subst (λ z. OnlyAccepts profile_two z h.0 r.at) (parts b octets n) h.1) (omega (arith, size)) in
     record {
-      fed = subst (λ st. InState st u (StandsLast d.path d.at u d.pending.items)) (sym e) read;
-      exact = whole_exact m u read size;
+      fed = subst (IsFedIn holds has r u) (sym e) (h.0, read, h.2);
+      exact = whole_exact h.0 r.at u read size;
     }
 
-pub looked_refused : (d : Decoder) (r : Refusal) (b octets : List ℕ) → d.state ≡ state.Failed (Failure.Refused r) → IsRefused (b ++ octets) (Failure.Refused r) → HasLooked d (b ++ take (length octets) octets)
-looked_refused d r b octets e h =
+pub looked_refused : {D : Type 0} (holds : D → List Level → List ℕ → Type 0) (has : D → Apdu → ℕ → Type 0) (r : Reader D) (q : Refusal) (b octets : List ℕ) → r.state ≡ state.Failed (Failure.Refused q) → IsRefused (b ++ octets) (Failure.Refused q)
+    → HasLooked holds has r (b ++ take (length octets) octets)
+looked_refused holds has r q b octets e h =
     let all : b ++ octets ≡ b ++ take (length octets) octets = ap (λ z. b ++ z) (sym (take_all (length octets) octets (omega arith))) in
     let u = b ++ take (length octets) octets in
-    let refused = subst (λ z. IsRefused z (Failure.Refused r)) all h in
+    let refused = subst (λ z. IsRefused z (Failure.Refused q)) all h in
     record {
-      fed = subst (λ st. InState st u (StandsLast d.path d.at u d.pending.items)) (sym e) refused;
+      fed = subst (IsFedIn holds has r u) (sym e) refused;
       exact = λ a k accepted. absurd (refused.0.2 a k accepted);
     }
 
-pub looked_without_memory : (d : Decoder) (b : List ℕ) → d.state ≡ state.Failed Failure.OutOfMemory → NoneEndsWithin b → HasLooked d (b ++ [])
-looked_without_memory d b e none = record {
-  fed = subst (λ st. InState st (b ++ []) (StandsLast d.path d.at (b ++ []) d.pending.items)) (sym e) tt;
+pub looked_without_memory : {D : Type 0} (holds : D → List Level → List ℕ → Type 0) (has : D → Apdu → ℕ → Type 0) (r : Reader D) (b : List ℕ) → r.state ≡ state.Failed Failure.OutOfMemory → NoneEndsWithin b → HasLooked holds has r (b ++ [])
+looked_without_memory holds has r b e none = record {
+  fed = subst (IsFedIn holds has r (b ++ [])) (sym e) tt;
   exact = subst NoneEndsWithin (sym (append-nil b)) none;
 }
 
 -- where none was taken, it was fed what it was fed before
-pub looked_nothing : (d : Decoder) (b octets : List ℕ) (n : ℕ) → n ≡ 0 → HasLooked d (b ++ take n octets) → HasLooked d b
-looked_nothing d b octets n e h = subst (HasLooked d) (ap (λ k. b ++ take k octets) e ∙ append-nil b) h
+pub looked_nothing : {D : Type 0} (holds : D → List Level → List ℕ → Type 0) (has : D → Apdu → ℕ → Type 0) (r : Reader D) (b octets : List ℕ) (n : ℕ) → n ≡ 0 → HasLooked holds has r (b ++ take n octets) → HasLooked holds has r b
+looked_nothing holds has r b octets n e h = subst (HasLooked holds has r) (ap (λ k. b ++ take k octets) e ∙ append-nil b) h

@@ -4,7 +4,7 @@ use Rattle.std.proofs.Math.Bridge.{le_prop}
 use Rattle.std.proofs.lemmas.List.{set_at, get_or_at}
 use Rattle.ber_core.specs.Tree.{Tree, Trees, none, more, tag_of}
 use Rattle.ber_leaf.specs.Profile.{profile_two}
-use Rattle.ill_schema.specs.declared.value.Value.{Value}
+use Rattle.ill_schema.specs.Content.{Content}
 use Rattle.ill_read.specs.DueCode.{IsDueIn, behind}
 use Rattle.ill_refusals.specs.Next.{due, next_of, next_after, opening}
 use Rattle.ill_refusals.specs.Next as following
@@ -28,11 +28,10 @@ next-added n (more U ts) T d h e =
 abbrev pub with_one : Open → Tree → Open
 with_one o T = record o { trees = snoc o.trees T }
 
--- the frame of an open element, behind a tree that was due
-pub frame_added : (f : Frame) (o : Open) (path : List Open) (outer : List Frame) (below : ℕ) (entries added : List (Option Value)) (T : Tree) (d : Due) → IsFrame f o path outer below entries
-    → IsDueIn (tag_of T) f.next d → IsHeld f.element (behind f.next d.slot) (entries ++ added) (snoc o.trees T)
-    → IsFrame (record f { next = behind f.next d.slot }) (with_one o T) path outer below (entries ++ added)
-frame_added f o path outer below entries added T d h is held =
+-- the frame of an open element, after a tree that was due
+pub frame_added : (f : Frame) (o : Open) (path : List Open) (outer : List Frame) (entries new : List (Option Content)) (T : Tree) (d : Due) → IsFrame f o path outer entries
+    → IsDueIn (tag_of T) f.next d → IsHeld f.element (behind f.next d.slot) new (snoc o.trees T) → IsFrame (record f { next = behind f.next d.slot }) (with_one o T) path outer new
+frame_added f o path outer entries new T d h is held =
     let D = due_element_is (tag_of T) f.next d is in
     let e : due profile_two (tag_of T) (next_after profile_two (opening profile_two o.element) o.trees) ≡ Some D.0 = ap (due profile_two (tag_of T)) (sym h.next) ∙ D.1 in
     let more = next-added (opening profile_two o.element) o.trees T D.0 h.were_due e in
@@ -41,7 +40,6 @@ frame_added f o path outer below entries added T d h is held =
       start = h.start;
       end = h.end;
       bound = h.bound;
-      base = h.base;
       next = sym D.3 ∙ sym more.0;
       is_due = h.is_due;
       held = held;

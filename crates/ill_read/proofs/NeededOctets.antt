@@ -19,7 +19,8 @@ use Rattle.ill_schema.specs.Apdu.{Apdu, Accepts}
 use Rattle.ill_refusals.proofs.FirstFault.{is_judged}
 use Rattle.ill_refusals.specs.Fault.{fault, is_indefinite, fault_at}
 use Rattle.ill_refusals.specs.code.Judge.{Judgement, faulty, closes, opens, reads, judge}
-use Rattle.ill_read.specs.Standing.{StandsLast}
+use Rattle.ill_read.specs.declared.frames.Frames.{Frames}
+use Rattle.ill_read.specs.Standing.{StandsLast, StandsAt}
 use Rattle.ill_read.specs.HeaderCode.{Lacks, IsHeaderRead, IsLengthRead, IsWholeLength, need_read}
 use Rattle.ill_read.specs.code.JudgeCode.{outermost_end}
 use Rattle.ill_read.specs.Need.{NeedsAfter, outermost, begins_zero, in_mark, NeedsOfLength, NeedsOfElement, NeedsAfterMark, NeedsBefore, IsNeed}
@@ -30,9 +31,8 @@ use Rattle.ill_read.specs.declared.header.HeaderRead.{HeaderRead}
 use Rattle.ill_read.specs.declared.header.HeaderRead.TheVariants.{NoIdentifier, PartIdentifier, Identified}
 use Rattle.ill_read.specs.declared.header.LengthRead.{LengthRead as Length}
 use Rattle.ill_read.specs.declared.header.LengthRead.TheVariants.{NoLength, PartLength, Whole}
-use Rattle.ill_read.specs.declared.path.Path.{Path}
 use Rattle.ill_refusals.proofs.Continuations.{HasEnd, Keeps, with_keeps, due_at, ends_before, reads_before}
-use Rattle.ill_read.proofs.Frames.{outermost_open}
+use Rattle.ill_read.proofs.OpenFrames.{outermost_open}
 use Rattle.ill_read.proofs.HeadersRead.{whole_header_read}
 use Rattle.ill_refusals.proofs.Judgements.{Judged, judged, bound_some}
 use Rattle.ill_refusals.proofs.Headers.{identifier_longer, length_longer, identifier_read, length_read, octets_right, take-all, drop-all}
@@ -59,15 +59,15 @@ bound_small p [] u h = omega arith
 bound_small p (o ∷ path) u h = let i = h.4.inside in let r = bound_small p path h.0 h.3 in omega arith
 
 -- the octets end before the bound, in the midst of something
-short : (path : Path) (at : ℕ) (s octets : List ℕ) → (l : StandsLast path at s octets) → (at + length octets < bound profile_two l.0.place) × Wants profile_two l.0.place octets
-short path at s octets l =
+short : (Stands : List Open → Type 0) (at : ℕ) (s octets : List ℕ) → (l : StandsLast Stands at s octets) → (at + length octets < bound profile_two l.0.place) × Wants profile_two l.0.place octets
+short Stands at s octets l =
     let judged = is_judged profile_two l.0.place at octets _ l.1 in
     ((truncated_at profile_two l.0.place at octets _ judged refl).0, truncated_in profile_two l.0.place at octets _ judged refl)
 
 -- and they are no more than a message may have
-pub few : (path : Path) (at : ℕ) (s octets : List ℕ) → StandsLast path at s octets → length octets ≤ 1_048_576
-few path at s octets l =
-    let near = (short path at s octets l).0 in
+pub few : (Stands : List Open → Type 0) (at : ℕ) (s octets : List ℕ) → StandsLast Stands at s octets → length octets ≤ 1_048_576
+few Stands at s octets l =
+    let near = (short Stands at s octets l).0 in
     let b = bound_small profile_two l.0.place l.0.before l.0.is_place in
     omega arith
 
@@ -113,28 +113,28 @@ element_needs place octets (Identified id read) small (inr w) h =
     subst (λ x. NeedsOfElement x octets (need_read (Identified id read) (length octets))) (sym h.1) (length_needs place (form_of_id id) h.0 octets id read small want h.2)
 
 -- where a definite element is open
-pub need_to_end : (path : Path) (at : ℕ) (s octets : List ℕ) (l : StandsLast path at s octets) (e : ℕ) → outermost_end path.frames.items ≡ Some e → IsNeed l.0.place at octets (e - at - length octets)
-need_to_end path at s octets l e h =
+pub need_to_end : (frames : Frames) (at : ℕ) (s octets : List ℕ) (l : StandsLast (StandsAt frames) at s octets) (e : ℕ) → outermost_end frames.open.items ≡ Some e → IsNeed l.0.place at octets (e - at - length octets)
+need_to_end frames at s octets l e h =
     let b = l.0 in
-    let q : outermost b.place ≡ Some e = sym (outermost_open b.place _ _ b.stands.0) ∙ h in
-    let near = (short path at s octets l).0 in
+    let q : outermost b.place ≡ Some e = sym (outermost_open b.place _ _ b.stands.1) ∙ h in
+    let near = (short (StandsAt frames) at s octets l).0 in
     let le = bound_before profile_two b.place b.before e b.is_place (has_outermost b.place e q) in
     subst (λ x. NeedsBefore x b.place at octets (e - at - length octets)) (sym q) (omega arith)
 
 -- where none is
-need_inside : (path : Path) (at : ℕ) (s octets : List ℕ) (l : StandsLast path at s octets) (n : ℕ) → outermost_end path.frames.items ≡ None → NeedsAfterMark (in_mark l.0.place octets) octets n → IsNeed l.0.place at octets n
-need_inside path at s octets l n h k =
-    subst (λ x. NeedsBefore x l.0.place at octets n) (sym (sym (outermost_open l.0.place _ _ l.0.stands.0) ∙ h)) k
+need_inside : (frames : Frames) (at : ℕ) (s octets : List ℕ) (l : StandsLast (StandsAt frames) at s octets) (n : ℕ) → outermost_end frames.open.items ≡ None → NeedsAfterMark (in_mark l.0.place octets) octets n → IsNeed l.0.place at octets n
+need_inside frames at s octets l n h k =
+    subst (λ x. NeedsBefore x l.0.place at octets n) (sym (sym (outermost_open l.0.place _ _ l.0.stands.1) ∙ h)) k
 
-pub need_in_mark : (path : Path) (at : ℕ) (s octets : List ℕ) (l : StandsLast path at s octets) → outermost_end path.frames.items ≡ None → in_mark l.0.place octets ≡ true → IsNeed l.0.place at octets 1
-need_in_mark path at s octets l h m = need_inside path at s octets l 1 h (subst (λ x. NeedsAfterMark x octets 1) (sym m) refl)
+pub need_in_mark : (frames : Frames) (at : ℕ) (s octets : List ℕ) (l : StandsLast (StandsAt frames) at s octets) → outermost_end frames.open.items ≡ None → in_mark l.0.place octets ≡ true → IsNeed l.0.place at octets 1
+need_in_mark frames at s octets l h m = need_inside frames at s octets l 1 h (subst (λ x. NeedsAfterMark x octets 1) (sym m) refl)
 
-pub need_in_element : (path : Path) (at : ℕ) (s octets : List ℕ) (l : StandsLast path at s octets) (read : HeaderRead) → outermost_end path.frames.items ≡ None → in_mark l.0.place octets ≡ false
+pub need_in_element : (frames : Frames) (at : ℕ) (s octets : List ℕ) (l : StandsLast (StandsAt frames) at s octets) (read : HeaderRead) → outermost_end frames.open.items ≡ None → in_mark l.0.place octets ≡ false
     → IsHeaderRead read octets → IsNeed l.0.place at octets (need_read read (length octets))
-need_in_element path at s octets l read h m is =
+need_in_element frames at s octets l read h m is =
     let n = need_read read (length octets) in
-    need_inside path at s octets l n h (subst (λ x. NeedsAfterMark x octets n) (sym m)
-    (element_needs l.0.place octets read (bound_small profile_two l.0.place l.0.before l.0.is_place) (wants_element l.0.place octets (short path at s octets l).1 m) is))
+    need_inside frames at s octets l n h (subst (λ x. NeedsAfterMark x octets n) (sym m)
+    (element_needs l.0.place octets read (bound_small profile_two l.0.place l.0.before l.0.is_place) (wants_element l.0.place octets (short (StandsAt frames) at s octets l).1 m) is))
 
 -- of two fronts of a list the shorter is a front of the longer
 longer_front : (a x b y : List ℕ) → a ++ x ≡ b ++ y → length b ≤ length a → a ≡ b ++ drop (length b) a
@@ -318,9 +318,9 @@ inside_reaches place k n w more lt want true m one = mark_needs place k n w more
 inside_reaches place k n w more lt want false m need = element_reaches place k n w more lt m (wants_element place w want m) need
 
 -- what each judgement reaches, a message does
-reaches_at_least : (path : Path) (at : ℕ) (s octets : List ℕ) (l : StandsLast path at s octets) (n : ℕ) (more : List ℕ) → ReachesNeed l.0.place (length l.0.before) octets more n
+reaches_at_least : (Stands : List Open → Type 0) (at : ℕ) (s octets : List ℕ) (l : StandsLast Stands at s octets) (n : ℕ) (more : List ℕ) → ReachesNeed l.0.place (length l.0.before) octets more n
     → (a : Apdu) (m : ℕ) → IsTrue (are_octets (s ++ more)) → Accepts profile_two (s ++ more) a m → length s + n ≤ m
-reaches_at_least path at s octets l n more reaches a m ok h =
+reaches_at_least Stands at s octets l n more reaches a m ok h =
     let b = l.0 in
     let u = b.before in
     let w = octets ++ more in
@@ -336,12 +336,12 @@ reaches_at_least path at s octets l n more reaches a m ok h =
     omega (arith, ap length b.joined, length-append u octets)
 
 -- so many octets at least still belong to the message
-pub need_at_least : (path : Path) (at : ℕ) (s octets : List ℕ) (l : StandsLast path at s octets) (n : ℕ) → IsNeed l.0.place at octets n
+pub need_at_least : (Stands : List Open → Type 0) (at : ℕ) (s octets : List ℕ) (l : StandsLast Stands at s octets) (n : ℕ) → IsNeed l.0.place at octets n
     → (more : List ℕ) (a : Apdu) (m : ℕ) → IsTrue (are_octets (s ++ more)) → Accepts profile_two (s ++ more) a m → length s + n ≤ m
-need_at_least path at s octets l n need more a m ok h =
+need_at_least Stands at s octets l n need more a m ok h =
     let b = l.0 in
     let u = b.before in
-    let near = short path at s octets l in
+    let near = short Stands at s octets l in
     let reach : (x : Option ℕ) → outermost b.place ≡ x → NeedsBefore x b.place at octets n → length s + n ≤ m = λ x. elim x as (λ x. outermost b.place ≡ x → NeedsBefore x b.place at octets n → length s + n ≤ m) [
       | Some e ↦ λ q is.
           let is_due : IsDue profile_two (s ++ more) (length u) b.place =
@@ -350,7 +350,7 @@ need_at_least path at s octets l n need more a m ok h =
           omega (arith, b.offset, ap length b.joined, length-append u octets)
       | None ↦ λ q is.
           let lt : length u < bound profile_two b.place = omega (arith, b.offset, near.0) in
-          reaches_at_least path at s octets l n more (inside_reaches b.place (length u) n octets more lt near.1 (in_mark b.place octets) refl is) a m ok h
+          reaches_at_least Stands at s octets l n more (inside_reaches b.place (length u) n octets more lt near.1 (in_mark b.place octets) refl is) a m ok h
     ] in
     reach (outermost b.place) refl need
 
@@ -385,11 +385,11 @@ two_reach p path k rest (reads tag h content) lt r =
     omega (arith, length-append (identifier tag false) r.octets)
 
 -- so two octets at least belong to the message where no definite element is open
-pub two_at_least : (path : Path) (at : ℕ) (s : List ℕ) (l : StandsLast path at s []) → (more : List ℕ) (a : Apdu) (m : ℕ) → IsTrue (are_octets (s ++ more)) → Accepts profile_two (s ++ more) a m → length s + 2 ≤ m
-two_at_least path at s l more a m ok h =
-    let lt : length l.0.before < bound profile_two l.0.place = omega (arith, l.0.offset, (short path at s [] l).0) in
+pub two_at_least : (Stands : List Open → Type 0) (at : ℕ) (s : List ℕ) (l : StandsLast Stands at s []) → (more : List ℕ) (a : Apdu) (m : ℕ) → IsTrue (are_octets (s ++ more)) → Accepts profile_two (s ++ more) a m → length s + 2 ≤ m
+two_at_least Stands at s l more a m ok h =
+    let lt : length l.0.before < bound profile_two l.0.place = omega (arith, l.0.offset, (short Stands at s [] l).0) in
     let size : length l.0.before + 2 ≡ length l.0.before + 0 + 2 = omega arith in
-    reaches_at_least path at s [] l 2 more (λ j r. subst (λ z. Reaches z (length l.0.before) j) size (two_reach profile_two l.0.place (length l.0.before) more j lt r)) a m ok h
+    reaches_at_least Stands at s [] l 2 more (λ j r. subst (λ z. Reaches z (length l.0.before) j) size (two_reach profile_two l.0.place (length l.0.before) more j lt r)) a m ok h
 
 -- of a part of a length, or of a content, octets are wanting
 length_open : (place : List Open) (octets r : List ℕ) (f : Bool) (n : ℕ) → LengthWants profile_two place f r → (tag : Tag) → read_identifier octets ≡ identified tag f r → NeedsOfLength (read_length f r) octets n → 0 < n
@@ -410,8 +410,8 @@ length_open place octets r f n (inl l) tag q h =
     ]
 
 -- and in the words of the octets alone
-pub needs_after : (path : Path) (at : ℕ) (fed octets : List ℕ) (l : StandsLast path at fed octets) (n : ℕ) → IsNeed l.0.place at octets n → NeedsAfter fed n
-needs_after path at fed octets l n need =
+pub needs_after : (Stands : List Open → Type 0) (at : ℕ) (fed octets : List ℕ) (l : StandsLast Stands at fed octets) (n : ℕ) → IsNeed l.0.place at octets n → NeedsAfter fed n
+needs_after Stands at fed octets l n need =
     let b = l.0 in
     record {
       place = b.place;
@@ -424,8 +424,8 @@ needs_after path at fed octets l n need =
     }
 
 -- and there are some
-pub need_open : (path : Path) (at : ℕ) (s octets : List ℕ) (l : StandsLast path at s octets) (n : ℕ) → IsNeed l.0.place at octets n → 0 < n
-need_open path at s octets l n need = go (outermost l.0.place) refl need
+pub need_open : (Stands : List Open → Type 0) (at : ℕ) (s octets : List ℕ) (l : StandsLast Stands at s octets) (n : ℕ) → IsNeed l.0.place at octets n → 0 < n
+need_open Stands at s octets l n need = go (outermost l.0.place) refl need
   where
     element : InElement l.0.place octets → NeedsOfElement (read_identifier octets) octets n → 0 < n
     element (inl q) is = let one : n ≡ 1 = subst (λ x. NeedsOfElement x octets n) q is in omega arith
@@ -433,11 +433,11 @@ need_open path at s octets l n need = go (outermost l.0.place) refl need
 
     inside : (b : Bool) → in_mark l.0.place octets ≡ b → NeedsAfterMark b octets n → 0 < n
     inside true m is = omega arith
-    inside false m is = element (wants_element l.0.place octets (short path at s octets l).1 m) is
+    inside false m is = element (wants_element l.0.place octets (short Stands at s octets l).1 m) is
 
     go : (x : Option ℕ) → outermost l.0.place ≡ x → NeedsBefore x l.0.place at octets n → 0 < n
     go (Some e) q is =
-        let near = (short path at s octets l).0 in
+        let near = (short Stands at s octets l).0 in
         let le = bound_before profile_two l.0.place l.0.before e l.0.is_place (has_outermost l.0.place e q) in
         omega arith
     go None q is = inside (in_mark l.0.place octets) refl is

@@ -1,7 +1,5 @@
 -- What holds of a call that reads the next message holds of a call that stands on it.
-use Rattle.std.proofs.Common.{◌≡◌, ℕ, Bool, List, Option, Some, None, Result, Ok, Err}
-use Rattle.std.specs.Prelude.{IfOk, IfSome}
-use Rattle.std.specs.Io.KnownBytes.{Consumes}
+use Rattle.std.proofs.Common.{ℕ, Bool, List, Option, Some, None, Result, Ok, Err}
 use Rattle.ill_read.specs.Answers.{ReadsNext}
 use Rattle.ill_read.specs.declared.failure.ReadFailure.{ReadFailure}
 

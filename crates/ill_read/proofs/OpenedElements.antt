@@ -1,5 +1,6 @@
 -- An element opens.
-use Rattle.std.proofs.Common.{◌≡◌, ℕ, List, [], ◌∷◌, ◌++◌, length, append-nil, Option, Some, None, unwrap_or, true, refl, sym, subst, ◌∙◌}
+use Rattle.std.proofs.Common.{◌≡◌, ℕ, List, [], ◌∷◌, ◌++◌, append-nil, Option, Some, None, unwrap_or, true, refl, sym, ap, subst, ◌∙◌}
+use Rattle.ber_core.specs.Id.{tag_of_id}
 use Rattle.ber_core.specs.Identifier.{Tag}
 use Rattle.ber_core.specs.Tree.{none}
 use Rattle.ber_leaf.specs.Profile.{profile_two}
@@ -8,25 +9,33 @@ use Rattle.ill_read.specs.DueCode.{IsDueIn, next_is}
 use Rattle.ill_refusals.specs.Element.{segment}
 use Rattle.ill_refusals.specs.Next.{opening}
 use Rattle.ill_refusals.specs.Place.{Open, allows, bound}
-use Rattle.ill_read.specs.Standing.{next_at, text_so_far, IsHeld, IsFrame, StandsAt}
+use Rattle.ill_read.specs.Standing.{Level, level_of, pushed, next_at, text_so_far, IsHeld, IsFrame, HoldsAt}
 use Rattle.ill_refusals.specs.code.Step.{opened}
-use Rattle.ill_read.specs.code.Stepping.{IsFirst}
+use Rattle.ill_read.specs.code.Drafts.{HasOpened, due_with, first_of}
 use Rattle.ill_read.specs.declared.due.Next.{Next}
 use Rattle.ill_read.specs.declared.element.Element.{Element as CodeElement}
 use Rattle.ill_read.specs.declared.element.Element.TheVariants.{Leaf, Sequence, List as ListOf, Wrapper, LooseWrapper, Segment}
 use Rattle.ill_read.specs.declared.frame.Frame.{Frame}
+use Rattle.ill_read.specs.declared.judge.Opening.{Opening}
 use Rattle.ill_read.specs.declared.path.Path.{Path}
-use Rattle.ill_read.proofs.AddedValues.{due_with}
 use Rattle.ill_read.proofs.Segments.{due_segment, text_with, no_text}
 
 -- an element that opens holds nothing
-holds_none : (e : CodeElement) (n : Next) → IsFirst e n → allows (element_is e) true ≡ true → IsHeld e n [] none
+holds_none : (e : CodeElement) (n : Next) → n ≡ first_of e → allows (element_is e) true ≡ true → IsHeld e n [] none
 holds_none (Leaf l) n f a = subst (λ x. IsHeld (Leaf l) x [] none) (sym f) (a, refl, tt)
 holds_none (Sequence node) n f a = subst (λ x. IsHeld (Sequence node) x [] none) (sym f) (refl, refl)
 holds_none (ListOf node) n f a = subst (λ x. IsHeld (ListOf node) x [] none) (sym f) (refl, [], refl, refl)
 holds_none (Wrapper w) n f a = subst (λ x. IsHeld (Wrapper w) x [] none) (sym f) (refl, refl, refl)
 holds_none (LooseWrapper w) n f a = subst (λ x. IsHeld (LooseWrapper w) x [] none) (sym f) (refl, refl, refl)
 holds_none Segment n f a = subst (λ x. IsHeld Segment x [] none) (sym f) (refl, tt)
+
+pub only_segment : (e : CodeElement) → element_is e ≡ segment → e ≡ Segment
+only_segment (Leaf l) s = cc
+only_segment (Sequence node) s = cc
+only_segment (ListOf node) s = cc
+only_segment (Wrapper w) s = cc
+only_segment (LooseWrapper w) s = cc
+only_segment Segment s = refl
 
 -- nor does it add text
 text_opened : (e : CodeElement) (before : List ℕ) → ((element_is e ≡ segment → ⊥) → before ≡ []) → before ≡ text_with (element_is e) before none
@@ -42,25 +51,38 @@ bound_opened : (end : Option ℕ) (round : ℕ) (e : CodeElement) (tag : Tag) (s
 bound_opened (Some n) round e tag start place h = refl
 bound_opened None round e tag start place h = h
 
-pub opens_at : (old new : Path) (f : Frame) (place : List Open) (tag : Tag) (round : ℕ) → StandsAt old place → IsDueIn tag (next_at old.frames.items) (due_with f.slot f.alternative f.element)
-    → allows (element_is f.element) true ≡ true → IsFirst f.element f.next → next_is f.next ≡ opening profile_two (element_is f.element) → round ≡ bound profile_two place → f.bound ≡ unwrap_or f.end round
-    → f.base ≡ length old.values.held.items → new.frames.items ≡ old.frames.items ++ f ∷ [] → new.values.held.items ≡ old.values.held.items → new.text.items ≡ old.text.items
-    → StandsAt new (opened (element_is f.element) tag f.start f.end ∷ place)
-opens_at old new f place tag round h due allowed first next r b base frames values text =
+pub first_opening : (e : CodeElement) → next_is (first_of e) ≡ opening profile_two (element_is e)
+first_opening (Leaf l) = refl
+first_opening (Sequence node) = refl
+first_opening (ListOf node) = refl
+first_opening (Wrapper w) = refl
+first_opening (LooseWrapper w) = refl
+first_opening Segment = refl
+
+pub opens_at : {D : Type 0} (holds : D → List Level → List ℕ → Type 0) (old new : Path D) (opening : Opening) (f : Frame) (place : List Open) (round : ℕ) → HoldsAt holds old place
+    → IsDueIn (tag_of_id opening.id) (next_at old.frames.open.items) (due_with f.slot f.alternative f.element) → allows (element_is f.element) true ≡ true → f.next ≡ first_of f.element
+    → round ≡ bound profile_two place → f.bound ≡ unwrap_or f.end round → HasOpened holds old.draft opening f.base new.draft → new.frames.open.items ≡ old.frames.open.items ++ f ∷ [] → f.element ≡ opening.element
+    → HoldsAt holds new (opened (element_is f.element) (tag_of_id opening.id) f.start f.end ∷ place)
+opens_at holds old new opening f place round h due allowed first r b has frames is =
+    let tag = tag_of_id opening.id in
     let o : Open = opened (element_is f.element) tag f.start f.end in
-    let framed : IsFrame f o place old.frames.items (length old.values.held.items) [] = record {
+    let framed : IsFrame f o place old.frames.open.items [] = record {
       element = refl;
       start = refl;
       end = refl;
       bound = b ∙ bound_opened f.end round f.element tag f.start place r;
-      base = base;
-      next = next;
+      next = ap next_is first ∙ first_opening f.element;
       is_due = due;
       held = holds_none f.element f.next first allowed;
       were_due = tt;
     } in
     let none_before : (element_is f.element ≡ segment → ⊥) → text_so_far place ≡ [] = λ apart.
-    no_text place old.frames.items old.values.held.items h.0 (λ s. apart (due_segment tag (next_at old.frames.items) (due_with f.slot f.alternative f.element) due s)) in (
-      (old.frames.items, f, old.values.held.items, [], frames, values ∙ sym (append-nil old.values.held.items), framed, h.0),
-      text ∙ h.1 ∙ text_opened f.element (text_so_far place) none_before,
+    no_text place old.frames.open.items h.0 h.1 (λ s. apart (due_segment tag (next_at old.frames.open.items) (due_with f.slot f.alternative f.element) due s)) in
+    let kept = has h.0 (text_so_far place) h.2 (λ apart. none_before (λ s. apart (sym is ∙ only_segment f.element s))) in
+    let opened_as : CodeElement → Level = λ e. record { element = e; tag = tag; next = first_of e; base = f.base; entries = [] } in
+    let level : opened_as opening.element ≡ level_of f tag [] =
+    ap opened_as (sym is) ∙ ap (λ n. let l : Level = record { element = f.element; tag = tag; next = n; base = f.base; entries = [] } in l) (sym first) in (
+      pushed (level_of f tag []) h.0,
+      (old.frames.open.items, f, h.0, [], frames, refl, framed, h.1),
+      subst (holds new.draft (pushed (level_of f tag []) h.0)) (text_opened f.element (text_so_far place) none_before) (subst (λ l. holds new.draft (pushed l h.0) (text_so_far place)) level kept),
     )

@@ -1,31 +1,38 @@
 -- A primitive element is read.
-use Rattle.std.proofs.Common.{◌≡◌, ℕ, ◌+◌, ◌-◌, ◌≤◌, List, ◌++◌, length, take, drop, min, Option, Some, None, Result, Ok, Err, true, false, refl, sym, ap, subst, ◌∙◌, arith}
+use Rattle.std.proofs.Common.{◌≡◌, ℕ, ◌+◌, ◌-◌, ◌≤◌, List, [], ◌∷◌, length, take, drop, min, Some, None, Result, Ok, Err, Bool, true, false, IsTrue, refl, sym, ap, subst, ◌∙◌, arith}
 use Rattle.std.proofs.lemmas.List.{drop-take, take_rest}
+use Rattle.ber_core.specs.Id.{tag_of_id}
 use Rattle.ber_core.specs.Identifier.{Tag}
+use Rattle.ber_core.specs.Octets.{are_octets}
 use Rattle.ber_core.specs.Tree.{primitive}
+use Rattle.ber_leaf.specs.Leaf.{value, content_fault}
 use Rattle.ber_leaf.specs.Profile.{profile_two}
-use Rattle.ill_schema.specs.declared.value.Value.{Value}
+use Rattle.ber_leaf.specs.declared.fault.LeafFault.{LeafFault}
+use Rattle.ill_schema.specs.Causes.{cause_of}
+use Rattle.ill_schema.specs.Content.{simple}
+use Rattle.ill_schema.specs.declared.refusal.Refusal.{Refusal}
+use Rattle.ill_refusals.specs.Element.{segment}
+use Rattle.ill_refusals.specs.Fault.{fault, fault_of, element_fault}
+use Rattle.ill_refusals.specs.Place.{Open, allows}
+use Rattle.ill_refusals.specs.code.Judge.{Judgement, or_faulty, reads}
+use Rattle.ill_refusals.specs.code.Step.{Step, moved}
 use Rattle.ill_read.specs.Elements.{element_is}
 use Rattle.ill_read.specs.DueCode.{IsDueIn}
-use Rattle.ill_refusals.specs.Fault.{element_fault}
-use Rattle.ill_refusals.specs.code.Judge.{Judgement, or_faulty, reads}
+use Rattle.ill_read.specs.LeafTypes.{leaf_is}
+use Rattle.ill_read.specs.code.Drafts.{HasLeaf, HasText, due_with}
 use Rattle.ill_read.specs.code.Judged.{IsBegin, IsJudgement, IsStep}
-use Rattle.ill_refusals.specs.Place.{Open, allows}
-use Rattle.ill_read.specs.Standing.{next_at, AreFrames, StandsAt}
-use Rattle.ill_refusals.specs.code.Step.{Step, moved}
-use Rattle.ill_read.specs.code.Stepping.{IsLeafValue, DeliversExactly, ReadsExactly}
+use Rattle.ill_read.specs.code.Stepping.{GoesOn, ReadsExactly}
+use Rattle.ill_read.specs.Standing.{Level, next_at, text_so_far, AreFrames, HoldsAt}
 use Rattle.ill_read.specs.declared.due.Next.TheVariants.{Segments}
-use Rattle.ill_read.specs.declared.due.Slot.{Slot}
 use Rattle.ill_read.specs.declared.element.Element.{Element as CodeElement}
 use Rattle.ill_read.specs.declared.element.Element.TheVariants.{Leaf, Sequence, List as ListOf, Wrapper, LooseWrapper, Segment}
 use Rattle.ill_read.specs.declared.failure.Failure.{Failure}
 use Rattle.ill_read.specs.declared.judge.Judgement.TheVariants.{Reads}
 use Rattle.ill_read.specs.declared.judge.Reading.{Reading}
 use Rattle.ill_read.specs.declared.leaf_type.LeafType.{LeafType}
-use Rattle.ill_read.specs.declared.path.Body.{Body}
 use Rattle.ill_read.specs.declared.path.Path.{Path}
-use Rattle.ill_read.proofs.AddedValues.{due_with}
-use Rattle.ill_read.proofs.Segments.{segment_due}
+use Rattle.ill_read.proofs.DeliveredEntries.{entry_added}
+use Rattle.ill_read.proofs.Segments.{segment_due, due_segment, no_text}
 use Rattle.ill_read.proofs.Strings.{segment_added}
 
 -- where the contents that were read lead
@@ -33,22 +40,28 @@ abbrev pub content_read : CodeElement → List Open → Tag → ℕ → List ℕ
 content_read e place tag header octets start at rest = moved (or_faulty (element_fault profile_two (element_is e) octets) start (reads tag header octets)) place at rest
 
 -- a leaf
-pub leaf_read : (old new : Path) (place : List Open) (slot : Slot) (alt : Option ℕ) (e : CodeElement) (l : LeafType) (start : ℕ) (octets : List ℕ) (v : Value) (result : Result (Option Body) Failure)
-    (tag : Tag) (header at : ℕ) (rest : List ℕ) → StandsAt old place → IsBegin old place tag slot alt e false → e ≡ Leaf l → IsLeafValue l start octets (Ok v)
-    → DeliversExactly old slot alt v new result → IsStep new result (content_read e place tag header octets start at rest)
-leaf_read old new place slot alt e l start octets v result tag header at rest stands begin is value delivers =
-    let due : IsDueIn tag (next_at old.frames.items) (due_with slot alt (Leaf l)) = subst (λ x. IsDueIn tag (next_at old.frames.items) (due_with slot alt x)) is begin.is_due in
-    let given = delivers place (Leaf l) (primitive tag octets) (at + header + length octets) (drop (header + length octets) rest) stands due (tt, value.0, value.1, value.2) in
-    let none : element_fault profile_two (element_is e) octets ≡ None = ap (λ x. element_fault profile_two (element_is x) octets) is ∙ value.1 in
-    subst (λ f. IsStep new result (moved (or_faulty f start (reads tag header octets)) place at rest)) (sym none) given
+pub leaf_read : {D : Type 0} (holds : D → List Level → List ℕ → Type 0) (old new : Path D) (place : List Open) (r : Reading) (l : LeafType) (start : ℕ) (octets : List ℕ) (result : Bool) (header at : ℕ) (rest : List ℕ)
+    → HoldsAt holds old place → IsBegin old.frames place (tag_of_id r.id) r.slot r.alternative r.element false → r.element ≡ Leaf l → IsTrue (are_octets octets)
+    → content_fault profile_two (leaf_is l) octets ≡ None → HasLeaf holds old.draft (next_at old.frames.open.items) r l octets new.draft
+    → GoesOn r.slot old.frames.open.items new.frames.open.items result → IsStep holds new (Ok result) (content_read r.element place (tag_of_id r.id) header octets start at rest)
+leaf_read holds old new place r l start octets result header at rest stands begin is ok right has goes =
+    let tag = tag_of_id r.id in
+    let due : IsDueIn tag (next_at old.frames.open.items) (due_with r.slot r.alternative (Leaf l)) = subst (λ x. IsDueIn tag (next_at old.frames.open.items) (due_with r.slot r.alternative x)) is begin.is_due in
+    let apart : element_is (Leaf l) ≡ segment → ⊥ = λ s. cc in
+    let no : text_so_far place ≡ [] = no_text place old.frames.open.items stands.0 stands.1 (λ s. apart (due_segment tag (next_at old.frames.open.items) (due_with r.slot r.alternative (Leaf l)) due s)) in
+    let added = entry_added holds old.frames.open.items stands.0 new place r.slot r.alternative (Leaf l) (simple (value (leaf_is l) octets)) (primitive tag octets)
+    (at + header + length octets) (drop (header + length octets) rest) result stands.1 due apart goes
+    (λ level below e d. ((tt, ok, right, refl), has level below (subst (λ t. holds old.draft (level ∷ below) t) no (subst (λ ls. holds old.draft ls (text_so_far place)) e stands.2)) d)) in
+    let none : element_fault profile_two (element_is r.element) octets ≡ None = ap (λ x. element_fault profile_two (element_is x) octets) is ∙ right in
+    subst (λ f. IsStep holds new (Ok result) (moved (or_faulty f start (reads tag header octets)) place at rest)) (sym none) added
 
 -- its contents are at fault
-pub leaf_refused : (new : Path) (place : List Open) (e : CodeElement) (l : LeafType) (start : ℕ) (octets : List ℕ) (failure : Failure) (tag : Tag) (header at : ℕ) (rest : List ℕ) → e ≡ Leaf l
-    → IsLeafValue l start octets (Err failure) → IsStep new (Err failure) (content_read e place tag header octets start at rest)
-leaf_refused new place e l start octets Failure.OutOfMemory tag header at rest is value = tt
-leaf_refused new place e l start octets (Failure.Refused r) tag header at rest is value =
-    let fault : element_fault profile_two (element_is e) octets ≡ Some value.0 = ap (λ x. element_fault profile_two (element_is x) octets) is ∙ value.1 in
-    subst (λ f. IsStep new (Err (Failure.Refused r)) (moved (or_faulty f start (reads tag header octets)) place at rest)) (sym fault) value.2
+pub leaf_refused : {D : Type 0} (holds : D → List Level → List ℕ → Type 0) (new : Path D) (place : List Open) (r : Reading) (l : LeafType) (start : ℕ) (octets : List ℕ) (fault' : LeafFault) (refusal : Refusal)
+    (header at : ℕ) (rest : List ℕ) → r.element ≡ Leaf l → content_fault profile_two (leaf_is l) octets ≡ Some fault' → fault (cause_of fault') start ≡ fault_of refusal
+    → IsStep holds new (Err (Failure.Refused refusal)) (content_read r.element place (tag_of_id r.id) header octets start at rest)
+leaf_refused holds new place r l start octets fault' refusal header at rest is wrong same =
+    let found : element_fault profile_two (element_is r.element) octets ≡ Some fault' = ap (λ x. element_fault profile_two (element_is x) octets) is ∙ wrong in
+    subst (λ f. IsStep holds new (Err (Failure.Refused refusal)) (moved (or_faulty f start (reads (tag_of_id r.id) header octets)) place at rest)) (sym found) same
 
 primitive_segment : (e : CodeElement) → allows (element_is e) false ≡ true → ((l : LeafType) → e ≡ Leaf l → ⊥) → e ≡ Segment
 primitive_segment (Leaf l) a h = absurd (h l refl)
@@ -59,17 +72,21 @@ primitive_segment (LooseWrapper w) a h = absurd cc
 primitive_segment Segment a h = refl
 
 -- a segment
-pub segment_read : (old new : Path) (place : List Open) (slot : Slot) (alt : Option ℕ) (e : CodeElement) (start : ℕ) (octets : List ℕ) (tag : Tag) (header at : ℕ) (rest : List ℕ) → StandsAt old place
-    → IsBegin old place tag slot alt e false → ((l : LeafType) → e ≡ Leaf l → ⊥) → new.frames.items ≡ old.frames.items → new.values.held.items ≡ old.values.held.items
-    → new.text.items ≡ old.text.items ++ octets → IsStep new (Ok None) (content_read e place tag header octets start at rest)
-segment_read old new place slot alt e start octets tag header at rest stands begin apart frames values text =
-    let is : e ≡ Segment = primitive_segment e begin.allowed apart in
-    let due : IsDueIn tag (next_at new.frames.items) (due_with slot alt e) = subst (λ fs. IsDueIn tag (next_at fs) (due_with slot alt e)) (sym frames) begin.is_due in
-    let string : next_at new.frames.items ≡ Segments = segment_due tag (next_at new.frames.items) (due_with slot alt e) due (ap element_is is) in
-    let outer : AreFrames place new.frames.items new.values.held.items = subst (AreFrames place new.frames.items) (sym values) (subst (λ fs. AreFrames place fs old.values.held.items) (sym frames) stands.0) in
-    let added = segment_added new place (due_with slot alt e) (primitive tag octets) (at + header + length octets) (drop (header + length octets) rest) outer due string tt (text ∙ ap (λ xs. xs ++ octets) stands.1) in
-    let none : element_fault profile_two (element_is e) octets ≡ None = ap (λ x. element_fault profile_two (element_is x) octets) is in
-    subst (λ f. IsStep new (Ok None) (moved (or_faulty f start (reads tag header octets)) place at rest)) (sym none) added
+pub segment_read : {D : Type 0} (holds : D → List Level → List ℕ → Type 0) (old new : Path D) (place : List Open) (r : Reading) (start : ℕ) (octets : List ℕ) (header at : ℕ) (rest : List ℕ)
+    → HoldsAt holds old place → IsBegin old.frames place (tag_of_id r.id) r.slot r.alternative r.element false → ((l : LeafType) → r.element ≡ Leaf l → ⊥)
+    → new.frames.open.items ≡ old.frames.open.items → HasText holds old.draft octets new.draft
+    → IsStep holds new (Ok false) (content_read r.element place (tag_of_id r.id) header octets start at rest)
+segment_read holds old new place r start octets header at rest stands begin apart frames has =
+    let tag = tag_of_id r.id in
+    let is : r.element ≡ Segment = primitive_segment r.element begin.allowed apart in
+    let due : IsDueIn tag (next_at new.frames.open.items) (due_with r.slot r.alternative r.element) =
+    subst (λ fs. IsDueIn tag (next_at fs) (due_with r.slot r.alternative r.element)) (sym frames) begin.is_due in
+    let string : next_at new.frames.open.items ≡ Segments = segment_due tag (next_at new.frames.open.items) (due_with r.slot r.alternative r.element) due (ap element_is is) in
+    let outer : AreFrames place new.frames.open.items stands.0 = subst (λ fs. AreFrames place fs stands.0) (sym frames) stands.1 in
+    let added = segment_added holds new place stands.0 (due_with r.slot r.alternative r.element) (primitive tag octets) (at + header + length octets) (drop (header + length octets) rest) outer due string tt
+    (has stands.0 (text_so_far place) stands.2) in
+    let none : element_fault profile_two (element_is r.element) octets ≡ None = ap (λ x. element_fault profile_two (element_is x) octets) is in
+    subst (λ f. IsStep holds new (Ok false) (moved (or_faulty f start (reads tag header octets)) place at rest)) (sym none) added
 
 -- the contents lie behind the header
 content_behind : (header size m : ℕ) (octets rest : List ℕ) → octets ≡ take (header + size) rest → header + size ≤ length octets → m ≡ min header (length octets) → take (length octets - m) (drop m octets) ≡ take size (drop header rest)
@@ -78,11 +95,10 @@ content_behind header size m octets rest e h is =
     take_rest octets m ∙ ap (λ i. drop i octets) q ∙ ap (drop header) e ∙ drop-take header size rest
 
 -- what was judged to be read is
-pub reads_judged : (old new : Path) (place : List Open) (r : Reading) (at m : ℕ) (octets rest : List ℕ) (j : Judgement) (result : Result (Option Body) Failure) → StandsAt old place
-    → IsJudgement old place at rest (Reads r) j → octets ≡ take (r.header + r.size) rest → r.header + r.size ≤ length octets → m ≡ min r.header (length octets)
-    → ReadsExactly old r at (take (length octets - m) (drop m octets)) new result → IsStep new result (moved j place at rest)
-reads_judged old new place r at m octets rest j result stands judged taken fits is reads_on =
-    let tag = judged.0 in
+pub reads_judged : {D : Type 0} (holds : D → List Level → List ℕ → Type 0) (old new : Path D) (place : List Open) (r : Reading) (at m : ℕ) (octets rest : List ℕ) (j : Judgement) (result : Result Bool Failure)
+    → HoldsAt holds old place → IsJudgement old.frames place at rest (Reads r) j → octets ≡ take (r.header + r.size) rest → r.header + r.size ≤ length octets → m ≡ min r.header (length octets)
+    → ReadsExactly holds old r at (take (length octets - m) (drop m octets)) new result → IsStep holds new result (moved j place at rest)
+reads_judged holds old new place r at m octets rest j result stands judged taken fits is reads_on =
     let content : take (length octets - m) (drop m octets) ≡ take r.size (drop r.header rest) = content_behind r.header r.size m octets rest taken fits is in
-    let read = reads_on place tag r.header at rest stands judged.1 in
-    subst (λ x. IsStep new result (moved x place at rest)) (sym judged.2) (subst (λ c. IsStep new result (content_read r.element place tag r.header c at at rest)) content read)
+    let read = reads_on place r.header at rest stands judged.0 in
+    subst (λ x. IsStep holds new result (moved x place at rest)) (sym judged.1) (subst (λ c. IsStep holds new result (content_read r.element place (tag_of_id r.id) r.header c at at rest)) content read)

@@ -7,7 +7,6 @@ use Rattle.ill_schema.specs.declared.node.LeafKind.{LeafKind}
 use Rattle.ill_schema.specs.declared.node.NodeId.{NodeId}
 use Rattle.ill_schema.specs.declared.part.PartId.{PartId}
 use Rattle.ill_schema.specs.declared.part.Presence.{Presence}
-use Rattle.ill_schema.specs.declared.value.Value.{Value}
 use Rattle.ill_schema.specs.Content.{Content}
 use Rattle.ill_schema.specs.Table.{kind_of}
 use Rattle.ill_schema.specs.Tagging.{Tagging, untagged, implicit, explicit, explicit_or_bare, same_tag}
@@ -15,7 +14,7 @@ use Rattle.ill_read.specs.Elements.{component_of, element_is, element_with, foun
 use Rattle.ill_read.specs.DueCode.{Begins, IsDueIn, IsDueInRows, IsRowDue}
 use Rattle.ill_refusals.specs.Element.{Component, Element, leaf, segment, Start, own_starts, retag, leave_out, tagged_starts, component_starts}
 use Rattle.ill_refusals.specs.Place.{Open}
-use Rattle.ill_read.specs.Standing.{next_at, text_so_far, IsValueOf, IsHeld, IsFrame, AreFrames}
+use Rattle.ill_read.specs.Standing.{Level, next_at, text_so_far, IsValueOf, IsHeld, IsFrame, AreFrames}
 use Rattle.ill_read.specs.declared.due.Due.{Due}
 use Rattle.ill_read.specs.declared.due.Next.{Next}
 use Rattle.ill_read.specs.declared.due.Next.TheVariants.{Rows, Inner, Items, Either, Segments, Nothing}
@@ -24,7 +23,7 @@ use Rattle.ill_read.specs.declared.due.Slot.TheVariants.{Row as AtRow, Item, Inn
 use Rattle.ill_read.specs.declared.element.Element.{Element as CodeElement}
 use Rattle.ill_read.specs.declared.element.Element.TheVariants.{Leaf, Sequence, List as ListOf, Wrapper, LooseWrapper, Segment}
 use Rattle.ill_read.specs.declared.frame.Frame.{Frame}
-use Rattle.ill_read.proofs.Frames.{next_behind}
+use Rattle.ill_read.proofs.OpenFrames.{next_behind}
 use Rattle.ill_refusals.proofs.Rows.{two_cases}
 
 abbrev NoSegment : List Start → Type 0
@@ -109,7 +108,7 @@ abbrev pub text_with : Element → List ℕ → Trees → List ℕ
 text_with e before ts = elim e as (λ _. List ℕ) [ leaf l ↦ text_all ts | segment ↦ before ++ text_all ts | _ ↦ [] ]
 
 -- an element that is no string holds no text
-pub text_apart : (e : CodeElement) (n : Next) (entries : List (Option Value)) (ts : Trees) → IsHeld e n entries ts → (n ≡ Segments → ⊥) → (before : List ℕ) (us : Trees) → text_with (element_is e) before us ≡ []
+pub text_apart : (e : CodeElement) (n : Next) (entries : List (Option Content)) (ts : Trees) → IsHeld e n entries ts → (n ≡ Segments → ⊥) → (before : List ℕ) (us : Trees) → text_with (element_is e) before us ≡ []
 text_apart (Leaf l) Segments entries ts h apart before us = absurd (apart refl)
 text_apart (Leaf l) _ entries ts h apart before us = absurd h
 text_apart Segment Segments entries ts h apart before us = absurd (apart refl)
@@ -120,10 +119,10 @@ text_apart (Wrapper w) n entries ts h apart before us = refl
 text_apart (LooseWrapper w) n entries ts h apart before us = refl
 
 -- nor do the elements round what is no segment
-pub no_text : (place : List Open) (frames : List Frame) (held : List (Option Value)) → AreFrames place frames held → (next_at frames ≡ Segments → ⊥) → text_so_far place ≡ []
-no_text [] frames held h apart = refl
-no_text (o ∷ path) frames held h apart =
+pub no_text : (place : List Open) (frames : List Frame) (levels : List Level) → AreFrames place frames levels → (next_at frames ≡ Segments → ⊥) → text_so_far place ≡ []
+no_text [] frames levels h apart = refl
+no_text (o ∷ path) frames levels h apart =
     let f = h.1 in
-    let k : IsFrame f o path h.0 _ _ = h.6 in
+    let k : IsFrame f o path h.0 _ = h.6 in
     ap (λ e. text_with e (text_so_far path) o.trees) (sym k.element)
     ∙ text_apart f.element f.next _ o.trees k.held (λ e. apart (ap next_at h.4 ∙ next_behind h.0 f ∙ e)) (text_so_far path) o.trees

@@ -1,15 +1,15 @@
 -- Strings in segments: a segment more, read or closed.
-use Rattle.std.proofs.Common.{◌≡◌, ℕ, List, [], ◌∷◌, ◌++◌, length, append_assoc, append-nil, Option, Some, None, Ok, sym, ap, subst, ◌∙◌}
+use Rattle.std.proofs.Common.{◌≡◌, ℕ, List, [], ◌∷◌, ◌++◌, append_assoc, append-nil, Option, Some, Ok, false, sym, ap, subst, ◌∙◌}
 use Rattle.ber_core.specs.Identifier.{Tag}
 use Rattle.ber_core.specs.Tree.{Tree, Trees, none, more, tag_of, octet_string, IsString, text, text_all, AreSegments}
 use Rattle.ber_leaf.specs.Profile.{profile_two}
-use Rattle.ill_schema.specs.declared.value.Value.{Value}
+use Rattle.ill_schema.specs.Content.{Content}
 use Rattle.ill_read.specs.Elements.{element_is}
 use Rattle.ill_read.specs.DueCode.{IsDueIn, next_is, behind}
 use Rattle.ill_read.specs.code.Judged.{IsStep}
 use Rattle.ill_refusals.specs.Next.{due, next_after, opening}
 use Rattle.ill_refusals.specs.Place.{Open}
-use Rattle.ill_read.specs.Standing.{next_at, top, text_so_far, IsHeld, IsFrame, AreFrames}
+use Rattle.ill_read.specs.Standing.{Level, next_at, top, text_so_far, IsHeld, IsFrame, AreFrames}
 use Rattle.ill_refusals.specs.code.Step.{snoc, with_tree}
 use Rattle.ill_read.specs.declared.due.Due.{Due}
 use Rattle.ill_read.specs.declared.due.Next.{Next}
@@ -19,7 +19,7 @@ use Rattle.ill_read.specs.declared.element.Element.TheVariants.{Leaf, Sequence, 
 use Rattle.ill_read.specs.declared.frame.Frame.{Frame}
 use Rattle.ill_read.specs.declared.path.Path.{Path}
 use Rattle.ill_read.proofs.DueElements.{due_element_is}
-use Rattle.ill_read.proofs.Frames.{next_behind}
+use Rattle.ill_read.proofs.OpenFrames.{next_behind}
 use Rattle.ill_read.proofs.MoreTrees.{next-added, with_one}
 use Rattle.ill_read.proofs.Segments.{text_with}
 use Rattle.ill_refusals.proofs.Rows.{same_tag-is}
@@ -33,7 +33,7 @@ text_more none T = append-nil (text T)
 text_more (more U ts) T = ap (λ xs. text U ++ xs) (text_more ts T) ∙ sym (append_assoc (text U) (text_all ts) (text T))
 
 -- what a string holds, with a segment more
-string_held : (e : CodeElement) (entries : List (Option Value)) (ts : Trees) (T : Tree) → IsHeld e Segments entries ts → tag_of T ≡ octet_string → IsString T → IsHeld e Segments entries (snoc ts T)
+string_held : (e : CodeElement) (entries : List (Option Content)) (ts : Trees) (T : Tree) → IsHeld e Segments entries ts → tag_of T ≡ octet_string → IsString T → IsHeld e Segments entries (snoc ts T)
 string_held (Leaf l) entries ts T h e s = (h.0, h.1, segments_more ts T h.2 e s)
 string_held Segment entries ts T h e s = (h.0, segments_more ts T h.1 e s)
 string_held (Sequence node) entries ts T h e s = absurd h
@@ -41,7 +41,7 @@ string_held (ListOf node) entries ts T h e s = absurd h
 string_held (Wrapper w) entries ts T h e s = absurd h
 string_held (LooseWrapper w) entries ts T h e s = absurd h
 
-string_text : (e : CodeElement) (entries : List (Option Value)) (ts : Trees) (T : Tree) (before : List ℕ) → IsHeld e Segments entries ts
+string_text : (e : CodeElement) (entries : List (Option Content)) (ts : Trees) (T : Tree) (before : List ℕ) → IsHeld e Segments entries ts
     → text_with (element_is e) before (snoc ts T) ≡ text_with (element_is e) before ts ++ text T
 string_text (Leaf l) entries ts T before h = text_more ts T
 string_text Segment entries ts T before h = ap (λ xs. before ++ xs) (text_more ts T) ∙ sym (append_assoc before (text_all ts) (text T))
@@ -53,9 +53,9 @@ string_text (LooseWrapper w) entries ts T before h = absurd h
 segment_tag : (t : Tag) (n : Next) (d : Due) → IsDueIn t n d → n ≡ Segments → t ≡ octet_string
 segment_tag t n d h e = let k : IsDueIn t Segments d = subst (λ x. IsDueIn t x d) e h in same_tag-is t octet_string k.tag
 
-string_frame : (f : Frame) (o : Open) (path : List Open) (outer : List Frame) (below : ℕ) (entries : List (Option Value)) (T : Tree) (d : Due) → IsFrame f o path outer below entries
-    → IsDueIn (tag_of T) f.next d → f.next ≡ Segments → IsString T → IsFrame f (with_one o T) path outer below entries
-string_frame f o path outer below entries T d h is e s =
+string_frame : (f : Frame) (o : Open) (path : List Open) (outer : List Frame) (entries : List (Option Content)) (T : Tree) (d : Due) → IsFrame f o path outer entries
+    → IsDueIn (tag_of T) f.next d → f.next ≡ Segments → IsString T → IsFrame f (with_one o T) path outer entries
+string_frame f o path outer entries T d h is e s =
     let D = due_element_is (tag_of T) f.next d is in
     let found : due profile_two (tag_of T) (next_after profile_two (opening profile_two o.element) o.trees) ≡ Some D.0 = ap (due profile_two (tag_of T)) (sym h.next) ∙ D.1 in
     let one_more = next-added (opening profile_two o.element) o.trees T D.0 h.were_due found in
@@ -66,7 +66,6 @@ string_frame f o path outer below entries T d h is e s =
       start = h.start;
       end = h.end;
       bound = h.bound;
-      base = h.base;
       next = ap next_is (sym stays) ∙ sym D.3 ∙ sym one_more.0;
       is_due = h.is_due;
       held = subst (λ n. IsHeld f.element n entries (snoc o.trees T)) (sym e) (string_held f.element entries o.trees T held (segment_tag (tag_of T) f.next d is e) s);
@@ -74,18 +73,18 @@ string_frame f o path outer below entries T d h is e s =
     }
 
 -- a segment in the string round it
-pub segment_added : (path : Path) (place : List Open) (d : Due) (T : Tree) (at : ℕ) (rest : List ℕ) → AreFrames place path.frames.items path.values.held.items
-    → IsDueIn (tag_of T) (next_at path.frames.items) d → next_at path.frames.items ≡ Segments → IsString T → path.text.items ≡ text_so_far place ++ text T → IsStep path (Ok None) (with_tree place T at rest)
-segment_added path [] d T at rest h is e s t = absurd (let q : top ≡ Segments = sym (ap next_at h.0) ∙ e in cc)
-segment_added path (o ∷ outside) d T at rest h is e s t =
+pub segment_added : {D : Type 0} (holds : D → List Level → List ℕ → Type 0) (path : Path D) (place : List Open) (levels : List Level) (d : Due) (T : Tree) (at : ℕ) (rest : List ℕ)
+    → AreFrames place path.frames.open.items levels → IsDueIn (tag_of T) (next_at path.frames.open.items) d → next_at path.frames.open.items ≡ Segments → IsString T
+    → holds path.draft levels (text_so_far place ++ text T) → IsStep holds path (Ok false) (with_tree place T at rest)
+segment_added holds path [] levels d T at rest h is e s t = absurd (let q : top ≡ Segments = sym (ap next_at h.0) ∙ e in cc)
+segment_added holds path (o ∷ outside) levels d T at rest h is e s t =
     let f = h.1 in
-    let k : IsFrame f o outside h.0 (length h.2) h.3 = h.6 in
-    let here : next_at path.frames.items ≡ f.next = ap next_at h.4 ∙ next_behind h.0 f in
+    let k : IsFrame f o outside h.0 h.3 = h.6 in
+    let here : next_at path.frames.open.items ≡ f.next = ap next_at h.4 ∙ next_behind h.0 f in
     let due : IsDueIn (tag_of T) f.next d = subst (λ n. IsDueIn (tag_of T) n d) here is in
     let string : f.next ≡ Segments = sym here ∙ e in
     let held : IsHeld f.element Segments h.3 o.trees = subst (λ n. IsHeld f.element n h.3 o.trees) string k.held in
     let joined = string_text f.element h.3 o.trees T (text_so_far outside) held in
-    let as_element = λ (us : Trees). ap (λ x. text_with x (text_so_far outside) us) k.element in (
-      (h.0, f, h.2, h.3, h.4, h.5, string_frame f o outside h.0 (length h.2) h.3 T d k due string s, h.7),
-      t ∙ ap (λ xs. xs ++ text T) (sym (as_element o.trees)) ∙ sym joined ∙ as_element (snoc o.trees T),
-    )
+    let as_element = λ (us : Trees). ap (λ x. text_with x (text_so_far outside) us) k.element in
+    let text_is : text_so_far (o ∷ outside) ++ text T ≡ text_so_far (with_one o T ∷ outside) = ap (λ xs. xs ++ text T) (sym (as_element o.trees)) ∙ sym joined ∙ as_element (snoc o.trees T) in
+    (levels, (h.0, f, h.2, h.3, h.4, h.5, string_frame f o outside h.0 h.3 T d k due string s, h.7), subst (λ x. holds path.draft levels x) text_is t)

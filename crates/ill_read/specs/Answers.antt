@@ -4,12 +4,13 @@ use Rattle.std.specs.Io.KnownBytes.{Consumes, IsAtEnd}
 use Rattle.ber_leaf.specs.Profile.{profile_two}
 use Rattle.ill_schema.specs.declared.message.Message.{Message}
 use Rattle.ill_schema.specs.declared.refusal.Cause.{Cause}
-use Rattle.ill_schema.specs.Apdu.{Apdu, SpellsApdu, Accepts}
+use Rattle.ill_schema.specs.Apdu.{Apdu, SpellsApdu, Accepts, normal_form}
 use Rattle.ill_schema.specs.Message.{apdu_of, octets_of}
 use Rattle.ill_refusals.specs.Fault.{Fault, fault, fault_of}
 use Rattle.ill_refusals.specs.Outcome.{OnlyAccepts, OnlyRefuses}
 use Rattle.ill_read.specs.declared.failure.Failure.{Failure}
 use Rattle.ill_read.specs.declared.failure.ReadFailure.{ReadFailure}
+use Rattle.ill_read.specs.declared.normal.Normal.{Normal}
 
 -- the octets begin with the message and no other, and aren't refused
 abbrev pub IsRead : List ℕ → Message → Type 0
@@ -28,6 +29,10 @@ IsRefused s Failure.OutOfMemory = Unit {0}
 pub record IsSpelled (m : Message) (b : List ℕ) : Type 0 where
   pub spells : SpellsApdu profile_two (apdu_of m) b
   pub octets : octets_of m ≡ length b
+
+-- the octets spell an APDU, and this is its normal form, and how many they are
+abbrev pub IsNormalOf : Normal → List ℕ → Type 0
+IsNormalOf n b = (a : Apdu) × SpellsApdu profile_two a b × (n.octets.items ≡ normal_form a) × (n.read ≡ length b)
 
 -- no message is at the front of the octets
 abbrev pub IsUnfinished : List ℕ → Type 0
@@ -78,6 +83,11 @@ abbrev pub DecodeAnswers : List ℕ → Result Message Failure → Type 0
 DecodeAnswers s (Ok m) = IsSpelled m s
 DecodeAnswers s (Err (Failure.Refused refusal)) = RefusesWhole s (fault_of refusal)
 DecodeAnswers s (Err Failure.OutOfMemory) = Unit {0}
+
+abbrev pub NormalAnswers : List ℕ → Result Normal Failure → Type 0
+NormalAnswers s (Ok n) = IsNormalOf n s
+NormalAnswers s (Err (Failure.Refused refusal)) = RefusesWhole s (fault_of refusal)
+NormalAnswers s (Err Failure.OutOfMemory) = Unit {0}
 
 -- memory or the source failed
 abbrev pub IsReadFault : ReadFailure → Type 0

@@ -1,25 +1,30 @@
 -- The three states of a decoder, of which no two hold at once, and what each call makes of them.
-use Rattle.std.specs.Prelude.{◌≡◌, ℕ, List, [], ◌∷◌, length, Option, None, Result, Ok, Err}
+use Rattle.std.specs.Prelude.{◌≡◌, ℕ, List, [], ◌∷◌, length, Option, Some, None, Result, Ok, Err}
 use Rattle.ill_schema.specs.declared.message.Message.{Message}
 use Rattle.ill_schema.specs.declared.refusal.Cause.{Cause}
 use Rattle.ill_read.specs.Answers.{IsPart, IsRead, IsRefused}
-use Rattle.ill_read.specs.Standing.{StandsLast}
+use Rattle.ill_read.specs.Standing.{AreValues, HoldsAt, Level, StandsLast}
 use Rattle.ill_read.specs.declared.decoder.Decoder.{Decoder}
 use Rattle.ill_read.specs.declared.decoder.Progress.{Progress}
-use Rattle.ill_read.specs.declared.decoder.State.TheVariants as state
+use Rattle.ill_read.specs.declared.reader.Reader.{Reader}
+use Rattle.ill_read.specs.declared.reader.State.TheVariants as state
 use Rattle.ill_read.specs.declared.failure.Failure.{Failure}
+
+-- a reader is open, and stands at the last place of the octets that it was fed
+abbrev pub IsOpenAt : {D : Type 0} → (D → List Level → List ℕ → Type 0) → Reader D → List ℕ → Type 0
+IsOpenAt holds r fed = (r.state ≡ state.Open) × StandsLast (HoldsAt holds r.path) r.at fed r.pending.items
 
 -- open: these octets were fed, and more of them may still make a message (how the path stands for them is the code's business)
 abbrev pub IsOpenAfter : Decoder → List ℕ → Type 0
-IsOpenAfter d fed = (d.state ≡ state.Open) × StandsLast d.path d.at fed d.pending.items
+IsOpenAfter d fed = IsOpenAt AreValues d.reader fed
 
 -- whole, with this message
 abbrev pub IsWholeWith : Decoder → Message → Type 0
-IsWholeWith d m = d.state ≡ state.Whole m
+IsWholeWith d m = (d.reader.state ≡ state.Whole) × (d.reader.path.draft.message ≡ Some m)
 
 -- failed, with this failure
 abbrev pub HasFailedWith : Decoder → Failure → Type 0
-HasFailedWith d f = d.state ≡ state.Failed f
+HasFailedWith d f = d.reader.state ≡ state.Failed f
 
 -- where a piece leads, of all the octets that were fed, and what is returned for it
 abbrev pub FeedsTo : Decoder → List ℕ → Result Progress Failure → Type 0

@@ -1,5 +1,5 @@
 -- How the decoder's path stands for the elements that are open at a place.
-use Rattle.std.specs.Prelude.{◌≡◌, ◌⊎◌, ℕ, List, [], ◌∷◌, ◌++◌, length, take, map, Option, Some, None, IsTrue}
+use Rattle.std.specs.Prelude.{◌≡◌, ◌⊎◌, ℕ, List, [], ◌∷◌, ◌++◌, length, take, map, Option, Some, None, IsTrue, option_map}
 use Rattle.ber_core.specs.Tree.{Tree, Trees, constructed, none, more, tag_of, text, text_all, AreSegments}
 use Rattle.ber_core.specs.Identifier.{Tag}
 use Rattle.ber_core.specs.Octets.{are_octets}
@@ -8,12 +8,15 @@ use Rattle.ber_leaf.specs.Profile.{profile_two}
 use Rattle.ill_schema.specs.declared.node.NodeId.TheVariants.{IllApdu}
 use Rattle.ill_schema.specs.declared.part.Presence.{Presence}
 use Rattle.ill_schema.specs.declared.part.Row.{Row}
-use Rattle.ill_schema.specs.declared.value.Value.{Value}
 use Rattle.ill_schema.specs.Meaning.{Means, Matches, MatchItems, IsLeaf}
 use Rattle.ill_schema.specs.Presence.{default_value}
 use Rattle.ill_schema.specs.Table.{kind_of, rows_of}
-use Rattle.ill_schema.specs.Tagging.{untagged}
-use Rattle.ill_schema.specs.Value.{content_of, entries_content, items_content}
+use Rattle.ill_schema.specs.Tagging.{untagged, sequence_tag}
+use Rattle.ill_schema.specs.Apdu.{Apdu}
+use Rattle.ill_schema.specs.Message.{apdu_of, octets_of}
+use Rattle.ill_schema.specs.declared.message.Message.{Message}
+use Rattle.ill_schema.specs.declared.value.Value.{Value}
+use Rattle.ill_schema.specs.Value.{content_of, entries_of, items_of}
 use Rattle.ill_schema.specs.Content.{Content, simple, alternative, Entries, Items as Contents}
 use Rattle.ill_schema.specs.Content as content
 use Rattle.ill_refusals.specs.Element.{Element, leaf, sequence, list, wrapper, loose_wrapper, segment, left_out}
@@ -30,7 +33,9 @@ use Rattle.ill_read.specs.declared.element.Element.TheVariants.{Leaf, Sequence, 
 use Rattle.ill_read.specs.declared.element.Found.TheVariants as found
 use Rattle.ill_read.specs.declared.element.Wrapped.{Wrapped}
 use Rattle.ill_read.specs.declared.frame.Frame.{Frame}
+use Rattle.ill_read.specs.declared.frames.Frames.{Frames}
 use Rattle.ill_read.specs.declared.path.Path.{Path}
+use Rattle.ill_read.specs.declared.values.Values.{Values}
 use Rattle.ill_refusals.specs.Fault.{fault, fault_at}
 use Rattle.ill_schema.specs.declared.refusal.Cause.{Cause}
 
@@ -44,8 +49,11 @@ text_so_far (o ∷ path) = elim o.element as (λ _. List ℕ) [
 ]
 
 -- what is due where no element is open
+abbrev pub top_part : Wrapped
+top_part = record { part = record { node = IllApdu; row = 0 }; node = IllApdu }
+
 abbrev pub top : Next
-top = Inner (record { part = record { node = IllApdu; row = 0 }; node = IllApdu })
+top = Inner top_part
 
 -- what may come next in the last frame
 abbrev pub next_at : List Frame → Next
@@ -73,61 +81,100 @@ with_alternative (Some n) c = alternative n c
 abbrev pub absent_content : Row → Option Content
 absent_content row = elim row.presence as (λ _. Option Content) [ Presence.Default d ↦ Some (simple (default_value (kind_of row.node) d)) | _ ↦ None ]
 
+-- what an open element has in it, in a draft of the message: its tag, what may come next, where its contents begin in the draft, and the entries
+pub record Level : Type 0 where
+  pub element : CodeElement
+  pub tag : Tag
+  pub next : Next
+  pub base : ℕ
+  pub entries : List (Option Content)
+
 -- a wrapper holds its one part
-abbrev pub HoldsPart : Wrapped → List (Option Value) → Trees → Type 0
-HoldsPart w entries ts = (v : Value) × (U : Tree) × (entries ≡ Some v ∷ []) × (ts ≡ more U none) × Means profile_two (content_of v) w.node untagged U
+abbrev pub HoldsPart : Wrapped → List (Option Content) → Trees → Type 0
+HoldsPart w entries ts = (c : Content) × (U : Tree) × (entries ≡ Some c ∷ []) × (ts ≡ more U none) × Means profile_two c w.node untagged U
 
 -- the entries are what the trees in an element mean so far
-abbrev pub IsHeld : CodeElement → Next → List (Option Value) → Trees → Type 0
+abbrev pub IsHeld : CodeElement → Next → List (Option Content) → Trees → Type 0
 IsHeld (Leaf l) Segments entries ts = IsTrue (is_string (leaf_is l)) × (entries ≡ []) × AreSegments ts
 IsHeld Segment Segments entries ts = (entries ≡ []) × AreSegments ts
-IsHeld (Sequence node) (Rows same n) entries ts = (same ≡ node) × Matches profile_two (entries_content entries) (take n (rows_of node)) ts
+IsHeld (Sequence node) (Rows same n) entries ts = (same ≡ node) × Matches profile_two (entries_of entries) (take n (rows_of node)) ts
 IsHeld (ListOf node) (Items same) entries ts =
-    (same ≡ node) × (values : List Value) × (entries ≡ map Some values) × MatchItems profile_two (items_content values) (rows_of node) ts
+    (same ≡ node) × (items : List Content) × (entries ≡ map Some items) × MatchItems profile_two (items_of items) (rows_of node) ts
 IsHeld (Wrapper w) (Inner same) entries ts = (same ≡ w) × (entries ≡ []) × (ts ≡ none)
 IsHeld (Wrapper w) Nothing entries ts = HoldsPart w entries ts
 IsHeld (LooseWrapper w) (Either same) entries ts = (same ≡ w) × (entries ≡ []) × (ts ≡ none)
-IsHeld (LooseWrapper w) (Rows same n) entries ts = (same ≡ w.node) × Matches profile_two (entries_content entries) (take n (rows_of w.node)) ts
+IsHeld (LooseWrapper w) (Rows same n) entries ts = (same ≡ w.node) × Matches profile_two (entries_of entries) (take n (rows_of w.node)) ts
 IsHeld (LooseWrapper w) Nothing entries ts = HoldsPart w entries ts
 IsHeld _ _ _ _ = ⊥
+
+-- a message stands in no element
+abbrev pub top_level : Level
+top_level = record { element = Wrapper top_part; tag = sequence_tag; next = top; base = 0; entries = [] }
+
+abbrev pub whole_level : Content → Level
+whole_level c = record top_level { next = Nothing; entries = Some c ∷ [] }
+
+abbrev pub level_of : Frame → Tag → List (Option Content) → Level
+level_of f tag entries = record { element = f.element; tag = tag; next = f.next; base = f.base; entries = entries }
+
+-- segments have nothing of their own
+abbrev pub pushed : Level → List Level → List Level
+pushed l below = elim l.element as (λ _. List Level) [ Segment ↦ below | _ ↦ l ∷ below ]
 
 -- each of the trees was due behind those before it
 abbrev pub AreDue : following.Next → Trees → Type 0
 AreDue n none = Unit {0}
 AreDue n (more T ts) = (d : following.Due) × (due profile_two (tag_of T) n ≡ Some d) × AreDue (next_of d) ts
 
--- a frame is an open element in a path, where the frames of the path are these and hold so many entries
-pub record IsFrame (f : Frame) (o : Open) (path : List Open) (outer : List Frame) (below : ℕ) (entries : List (Option Value)) : Type 0 where
+-- a frame is an open element in a path, where the frames of the path are these and it has these entries
+pub record IsFrame (f : Frame) (o : Open) (path : List Open) (outer : List Frame) (entries : List (Option Content)) : Type 0 where
   pub element : element_is f.element ≡ o.element
   pub start : f.start ≡ o.start
   pub end : f.end ≡ o.end
   pub bound : f.bound ≡ bound profile_two (o ∷ path)
-  pub base : f.base ≡ below
   pub next : next_is f.next ≡ next_in profile_two (o ∷ path)
   pub is_due : IsDueIn o.tag (next_at outer) (record { slot = f.slot; alternative = f.alternative; found = found.Element f.element })
   pub held : IsHeld f.element f.next entries o.trees
   pub were_due : AreDue (opening profile_two o.element) o.trees
 
--- the frames are the open elements, outermost first, and hold these entries
-abbrev pub AreFrames : List Open → List Frame → List (Option Value) → Type 0
-AreFrames [] frames held = (frames ≡ []) × (held ≡ [])
-AreFrames (o ∷ path) frames held = (outer : List Frame) × (f : Frame) × (below : List (Option Value)) × (entries : List (Option Value))
-    × (frames ≡ outer ++ f ∷ []) × (held ≡ below ++ entries) × IsFrame f o path outer (length below) entries × AreFrames path outer below
+-- the frames are the open elements, outermost first, and have this in them, innermost first
+abbrev pub AreFrames : List Open → List Frame → List Level → Type 0
+AreFrames [] frames levels = (frames ≡ []) × (levels ≡ top_level ∷ [])
+AreFrames (o ∷ path) frames levels = (outer : List Frame) × (f : Frame) × (below : List Level) × (entries : List (Option Content))
+    × (frames ≡ outer ++ f ∷ []) × (levels ≡ pushed (level_of f o.tag entries) below) × IsFrame f o path outer entries × AreFrames path outer below
 
--- the path stands at a place where these elements are open
-abbrev pub StandsAt : Path → List Open → Type 0
-StandsAt path opens = AreFrames opens path.frames.items path.values.held.items × (path.text.items ≡ text_so_far opens)
+-- the frames stand at a place where these elements are open
+abbrev pub StandsAt : Frames → List Open → Type 0
+StandsAt frames opens = (levels : List Level) × AreFrames opens frames.open.items levels
 
--- a path that stands at a place of the octets, with the rest of them after it
-pub record StandsBefore (path : Path) (at : ℕ) (s rest : List ℕ) : Type 0 where
+-- so does a path, and its draft holds what is in the elements
+abbrev pub HoldsAt : {D : Type 0} → (D → List Level → List ℕ → Type 0) → Path D → List Open → Type 0
+HoldsAt holds path opens = (levels : List Level) × AreFrames opens path.frames.open.items levels × holds path.draft levels (text_so_far opens)
+
+-- the values of the levels, outermost first
+abbrev pub AreHeld : List Level → List (Option Value) → Type 0
+AreHeld [] held = held ≡ []
+AreHeld (l ∷ levels) held = (below : List (Option Value)) × (entries : List (Option Value))
+    × (held ≡ below ++ entries) × (l.base ≡ length below) × (map (option_map content_of) entries ≡ l.entries) × AreHeld levels below
+
+pub record AreValues (values : Values) (levels : List Level) (joined : List ℕ) : Type 0 where
+  pub held : AreHeld levels values.held.entries.items
+  pub text : values.text.items ≡ joined
+
+-- a draft that is a message has this APDU, read of as many octets
+abbrev pub AreMessage : Values → Apdu → ℕ → Type 0
+AreMessage values a n = (m : Message) × (values.message ≡ Some m) × (apdu_of m ≡ a) × (octets_of m ≡ n)
+
+-- what stands at a place of the octets, with the rest of them after it
+pub record StandsBefore (Stands : List Open → Type 0) (at : ℕ) (s rest : List ℕ) : Type 0 where
   pub place : List Open
   pub before : List ℕ
   pub joined : s ≡ before ++ rest
   pub octets : IsTrue (are_octets s)
   pub offset : at ≡ length before
-  pub stands : StandsAt path place
+  pub stands : Stands place
   pub is_place : IsPlace profile_two before place
 
 -- the rest doesn't reach the next place
-abbrev pub StandsLast : Path → ℕ → List ℕ → List ℕ → Type 0
-StandsLast path at s rest = (b : StandsBefore path at s rest) × (fault_at profile_two b.place at rest ≡ Some (fault Cause.Truncated (length s)))
+abbrev pub StandsLast : (List Open → Type 0) → ℕ → List ℕ → List ℕ → Type 0
+StandsLast Stands at s rest = (b : StandsBefore Stands at s rest) × (fault_at profile_two b.place at rest ≡ Some (fault Cause.Truncated (length s)))

@@ -1,7 +1,10 @@
 pub mod Progress
+pub mod Drafts
 pub mod Held
 pub mod Judged
 pub mod Stepping
-pub mod DecoderCode
+pub mod ReaderCode
 pub mod JudgeCode
 pub mod Filling
+pub mod Written
+pub mod OctetDrafts

@@ -10,7 +10,7 @@ ghost use Rattle.ill_refusals.specs.Element.{components, component_starts, start
 ghost use Rattle.ill_refusals.specs.Next.{due, due_in, first_mandatory, missing};
 ghost use Rattle.ill_read.specs.Elements.{element_with, component_at, component_of, alternative_starts, found_is};
 ghost use Rattle.ill_read.specs.DueCode.{IsAlternativeOf, IsBegun, IsDueIn, IsDueInRows, IsInnerDue, IsItemDue, IsSegmentDue, behind, next_is};
-ghost use Rattle.ill_read.specs.code.Held.{HasNext};
+ghost use Rattle.ill_read.specs.code.Drafts.{HasNext};
 
 use crate::element::{
     Element, Found, Tagging, Wrapped, component_element, is_universal, own_element, tagging_of,

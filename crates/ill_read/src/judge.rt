@@ -1,11 +1,12 @@
 //! What is done at a place: the conditions in their one order, of which the first that holds gives the fault.
-ghost use Rattle.std.specs.Prelude.{◌≡◌, ◌≤◌, IfOk, length};
+ghost use Rattle.std.specs.Prelude.{◌≡◌, ◌≤◌, false, IfOk, length};
+ghost use Rattle.ber_core.specs.Id.{form_of_id};
 ghost use Rattle.std.specs.Option.{ForSome};
 
 use crate::due::{Due, Slot};
 use crate::element::{Element, Found};
+use crate::frames::{DEPTH, Frames};
 use crate::header::{HeaderRead, LengthRead, read_header};
-use crate::path::{DEPTH, Path};
 use ber_core::{Id, Len};
 use ill_schema::{Cause, Refusal};
 
@@ -40,6 +41,7 @@ pub struct Opening {
     pub slot: Slot,
     pub alternative: Option<u8>,
     pub element: Element,
+    pub id: Id,
     pub header: u32,
     pub end: Option<u32>,
     ghost within: { ForSome end (λ e. e ≤ 1_048_576) },
@@ -51,8 +53,10 @@ pub struct Reading {
     pub slot: Slot,
     pub alternative: Option<u8>,
     pub element: Element,
+    pub id: Id,
     pub header: u32,
     pub size: u32,
+    ghost form: { form_of_id id ≡ false },
 }
 
 /// An element that is due and has the form that it may have.
@@ -60,18 +64,21 @@ pub struct Reading {
 #[derive(Clone, Copy)]
 struct Started {
     constructed: bool,
+    id: Id,
     slot: Slot,
     element: Element,
     alternative: Option<u8>,
+    ghost form: { constructed ≡ form_of_id id },
 }
 
 impl Started {
     ghost use Rattle.ill_read.specs.code.JudgeCode.{IsFormed};
 
     /// The form of an element that is due.
-    fn judge_form(at: u32, due: Due, constructed: bool) -> Result<Started, Refusal>
-        ensures { IsFormed due at constructed result }
+    fn judge_form(at: u32, due: Due, id: Id) -> Result<Started, Refusal>
+        ensures { IsFormed due at id result }
     {
+        let constructed = id.constructed();
         match due.found {
             Found::LeftOut(part) => Err(Refusal {
                 at,
@@ -85,6 +92,7 @@ impl Started {
                     });
                 }
                 Ok(Started {
+                    id,
                     slot: due.slot,
                     alternative: due.alternative,
                     element,
@@ -95,7 +103,7 @@ impl Started {
     }
 }
 
-impl Path {
+impl Frames {
     ghost use Rattle.std.specs.Prelude.{◌+◌, ◌<◌, ℕ, List, ◌++◌, min, drop};
     ghost use Rattle.ill_read.specs.code.Progress.{depth_of, size_of, IsProgress, HeaderIsIn};
     ghost use Rattle.ill_refusals.specs.Fault.{fault_of, wanting};
@@ -228,7 +236,7 @@ impl Path {
                 cause: Cause::UnexpectedTag,
             });
         };
-        Started::judge_form(at, due, id.constructed())
+        Started::judge_form(at, due, id)
     }
 
     /// The length of an element.
@@ -258,6 +266,7 @@ impl Path {
                 slot: started.slot,
                 alternative: started.alternative,
                 element: started.element,
+                id: started.id,
                 header,
                 end: None,
             })),
@@ -296,6 +305,7 @@ impl Path {
                 slot: started.slot,
                 alternative: started.alternative,
                 element: started.element,
+                id: started.id,
                 header,
                 end: Some(at.saturating_add(header).saturating_add(size)),
             }));
@@ -307,6 +317,7 @@ impl Path {
             slot: started.slot,
             alternative: started.alternative,
             element: started.element,
+            id: started.id,
             header,
             size,
         }))

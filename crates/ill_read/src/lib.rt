@@ -2,18 +2,24 @@
 #![tactic(auto)]
 
 mod decoder;
+mod draft;
 mod due;
 mod element;
 mod failure;
 mod frame;
+mod frames;
 mod header;
+mod held;
 mod judge;
 mod keep;
 mod laws;
 mod leaf_type;
 mod need;
+mod normal;
+mod octets;
 mod path;
 mod read;
+mod reader;
 mod values;
 mod whole;
 
@@ -23,4 +29,5 @@ pub use ill_refusals::{
     one_outcome, one_place, refusals_stay, truncated_at_the_end, values_are_small,
 };
 pub use laws::decoders_are_apart;
+pub use normal::{Normal, decode_normal, read_kept_normal_by, read_normal_by};
 pub use read::{decode, read_kept, read_kept_by, read_message, read_message_by};

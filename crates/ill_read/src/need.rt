@@ -1,23 +1,23 @@
 //! How many octets at least still belong to a message.
 ghost use Rattle.std.specs.Prelude.{◌≡◌, ℕ, ◌≤◌, List, length};
-ghost use Rattle.ill_read.specs.Standing.{StandsLast};
+ghost use Rattle.ill_read.specs.Standing.{StandsAt, StandsLast};
 ghost use Rattle.ill_read.specs.HeaderCode.{need_read};
 ghost use Rattle.ill_read.specs.Need.{IsNeed, begins_zero};
 
+use crate::frames::Frames;
 use crate::header::{HeaderRead, LengthRead, read_header};
-use crate::path::Path;
 use ber_core::Len;
 
 /// How many octets at least still belong to a message, after octets that don't reach the next place.
-pub fn need_at(path: &Path, at: u32, octets: &[u8]) -> u32
+pub fn need_at(frames: &Frames, at: u32, octets: &[u8]) -> u32
     requires { length octets.now ≤ 1_048_576 }
-    ensures { (s : List ℕ) (stands : StandsLast path.now at s octets.now) → IsNeed stands.0.place at octets.now result }
+    ensures { (s : List ℕ) (stands : StandsLast (StandsAt frames.now) at s octets.now) → IsNeed stands.0.place at octets.now result }
 {
     let count = octets.len() as u32;
-    if let Some(end) = path.outermost_end() {
+    if let Some(end) = frames.outermost_end() {
         return end.saturating_sub(at).saturating_sub(count);
     }
-    if path.awaits_end_mark() && begins_with_zero(octets) {
+    if frames.awaits_end_mark() && begins_with_zero(octets) {
         return 1;
     }
     need_in_element(read_header(octets), count)

@@ -1,13 +1,16 @@
 //! Messages out of sources and slices.
-ghost use Rattle.std.specs.Prelude.{◌≡◌, ℕ, ◌<◌, ◌≤◌, List, ◌++◌, length, take, IfOk, IfErr, IsErr, IsErrOf, IsTrue};
+ghost use Rattle.std.specs.Prelude.{◌≡◌, ℕ, ◌<◌, ◌≤◌, List, [], ◌++◌, length, take, IfOk, IfErr, IsErr, IsErrOf, IsTrue};
 ghost use Rattle.std.specs.Io.KnownBytes.{Appends, Consumes, Keeps};
 ghost use Rattle.ill_read.specs.Answers.{DecodeAnswers, IsRead, IsSpelled, IsUnfinished, ReadsNext, TakesFront, TakesNoMessage};
 ghost use Rattle.ill_read.specs.code.Filling.{HasKept, HasPulled, HasTaken, NoneEndsWithin};
-ghost use Rattle.ill_read.specs.code.DecoderCode.{HasOutcome, IsFed};
+ghost use Rattle.ill_read.specs.Feeding.{IsOpenAt};
+ghost use Rattle.ill_read.specs.code.ReaderCode.{HasBegun, IsFed, IsReadOf};
 
-use crate::decoder::Decoder;
+use crate::draft::Draft;
 use crate::failure::{Failure, ReadFailure};
 use crate::keep::{Forget, Keep};
+use crate::reader::Reader;
+use crate::values::Values;
 use ber_core::{Broken, Look, Source, Unseen};
 use ill_schema::{Cause, LIMIT, Message};
 use std::alloc::Global;
@@ -86,9 +89,29 @@ fn read_into<R: Source, L: Look<R>, K: Keep>(
     ensures { ReadsNext (R.left source.old) (R.left source.new) (R.is_broken source.old) (R.is_broken source.new)
         (λ m octets. IsSpelled m octets × Appends (K.kept keep.old) (K.kept keep.new) octets) result }
 {
-    match fill::<R, L, K>(alloc, source, keep) {
-        Ok(decoder) => match decoder.finish() {
-            Ok(message) => Ok(message),
+    let mut reader = Reader::new(alloc, Values::new(alloc));
+    match read_draft::<Values, R, L, K>(&mut reader, source, keep) {
+        Ok(Some(_)) => Ok(reader.into_draft().into_message()),
+        Ok(None) => Ok(None),
+        Err(failure) => Err(failure),
+    }
+}
+
+/// Reads a message with a reader that nothing was fed. Where its draft has it, returns how many octets it had.
+#[inline(always)]
+pub(crate) fn read_draft<D: Draft, R: Source, L: Look<R>, K: Keep>(
+    reader: &mut Reader<D>,
+    source: &mut R,
+    keep: &mut K,
+) -> Result<Option<u32>, ReadFailure>
+    requires { IsOpenAt D.holds reader.old [] }
+    ensures { ReadsNext (R.left source.old) (R.left source.new) (R.is_broken source.old) (R.is_broken source.new)
+        (λ n octets. (n ≡ length octets) × IsReadOf D.has reader.new.path.draft octets × Appends (K.kept keep.old) (K.kept keep.new) octets) result }
+{
+    match fill::<D, R, L, K>(reader, source, keep) {
+        Ok(()) => match reader.ended() {
+            Ok(true) => Ok(Some(reader.at())),
+            Ok(false) => Ok(None),
             Err(failure) => Err(ReadFailure::from(failure)),
         },
         Err(Unfilled::Broken) => Err(ReadFailure::ReadFault),
@@ -96,44 +119,44 @@ fn read_into<R: Source, L: Look<R>, K: Keep>(
     }
 }
 
-/// Why a decoder isn't filled.
+/// Why a reader isn't filled.
 enum Unfilled {
     Broken,
     OutOfMemory,
 }
 
-/// Feeds a decoder until nothing is needed any more or the source ends, and hands on what it is fed to what keeps it.
+/// Feeds a reader until nothing is needed any more or the source ends, and hands on what it is fed to what keeps it.
 #[inline(always)]
-fn fill<R: Source, L: Look<R>, K: Keep>(
-    alloc: Global,
+fn fill<D: Draft, R: Source, L: Look<R>, K: Keep>(
+    reader: &mut Reader<D>,
     source: &mut R,
     keep: &mut K,
-) -> Result<Decoder, Unfilled>
-    ensures filled { IfOk result (λ decoder. HasKept (R.left source.old) (R.left source.new) decoder (K.kept keep.old) (K.kept keep.new)) }
+) -> Result<(), Unfilled>
+    requires { IsOpenAt D.holds reader.old [] }
+    ensures filled { IfOk result (λ _. HasKept D.holds D.has (R.left source.old) (R.left source.new) reader.new (K.kept keep.old) (K.kept keep.new)) }
     ensures taken { TakesFront (R.left source.old) (R.left source.new) }
     ensures broken { IsErrOf result Unfilled.Broken → IsTrue (R.is_broken source.new) }
     ensures unfinished { IsErrOf result Unfilled.Broken → TakesNoMessage (R.left source.old) (R.left source.new) }
     ensures stays { IsTrue (R.is_broken source.old) → IsTrue (R.is_broken source.new) }
 {
-    let mut decoder = Decoder::new(alloc);
     let mut buffer = [0; CHUNK];
     let mut room = LIMIT;
     while room > 0 {
-        let count = match more::<R, L, K>(&mut decoder, source, keep, &mut buffer, room) {
-            Ok(0) => return Ok(decoder),
+        let count = match more::<D, R, L, K>(reader, source, keep, &mut buffer, room) {
+            Ok(0) => return Ok(()),
             Ok(count) => count,
             Err(failure) => return Err(failure),
         };
         room -= count as u32;
     }
-    Ok(decoder)
+    Ok(())
 }
 
-/// Feeds the decoder with octets that the source has at hand, or else with some that it needs, at most `room`, and returns how many they
+/// Feeds the reader with octets that the source has at hand, or else with some that it needs, at most `room`, and returns how many they
 /// are; 0 where nothing is needed or the source is at its end.
 #[inline(always)]
-fn more<R: Source, L: Look<R>, K: Keep>(
-    decoder: &mut Decoder,
+fn more<D: Draft, R: Source, L: Look<R>, K: Keep>(
+    reader: &mut Reader<D>,
     source: &mut R,
     keep: &mut K,
     buffer: &mut [u8],
@@ -142,17 +165,17 @@ fn more<R: Source, L: Look<R>, K: Keep>(
     requires space { 0 < length buffer.old }
     requires room { 0 < room }
     ensures taken { IfOk result (λ n. (n ≤ room)
-        × HasTaken (R.left source.old) (R.left source.new) (K.kept keep.old) (K.kept keep.new) decoder.old decoder.new n) }
+        × HasTaken D.holds D.has (R.left source.old) (R.left source.new) (K.kept keep.old) (K.kept keep.new) reader.old reader.new n) }
     ensures front { IfErr result (λ _. (octets : List ℕ) × Consumes (R.left source.old) (R.left source.new) octets × (length octets ≤ room)) }
     ensures broken { IsErrOf result Unfilled.Broken → IsTrue (R.is_broken source.new) }
     ensures kept { IsErrOf result Unfilled.Broken → Keeps (R.left source.old) (R.left source.new) }
-    ensures unfinished { IsErrOf result Unfilled.Broken → (b : List ℕ) → IsFed decoder.old b → NoneEndsWithin b → IsUnfinished b }
+    ensures unfinished { IsErrOf result Unfilled.Broken → (b : List ℕ) → IsFed D.holds D.has reader.old b → NoneEndsWithin b → IsUnfinished b }
     ensures stays { IsTrue (R.is_broken source.old) → IsTrue (R.is_broken source.new) }
     ensures space { length buffer.new ≡ length buffer.old }
 {
     let hand = L::at_hand(source);
     let most = hand.len().min(room as usize);
-    let seen = decoder.look(&hand[..most]);
+    let seen = reader.look(&hand[..most]);
     if seen > 0 {
         if let Err(_) = keep.keep(&hand[..seen]) {
             return Err(Unfilled::OutOfMemory);
@@ -160,7 +183,7 @@ fn more<R: Source, L: Look<R>, K: Keep>(
         L::pass(source, seen);
         return Ok(seen);
     }
-    match pull(decoder, source, buffer, room) {
+    match pull(reader, source, buffer, room) {
         Ok(count) => match keep.keep(&buffer[..count]) {
             Ok(()) => Ok(count),
             Err(_) => Err(Unfilled::OutOfMemory),
@@ -169,11 +192,11 @@ fn more<R: Source, L: Look<R>, K: Keep>(
     }
 }
 
-/// Feeds the decoder with some octets that it needs, at most `room`, and returns how many they are at the front of the buffer; 0 where
+/// Feeds the reader with some octets that it needs, at most `room`, and returns how many they are at the front of the buffer; 0 where
 /// nothing is needed or the source is at its end.
 #[inline(always)]
-fn pull<R: Source>(
-    decoder: &mut Decoder,
+fn pull<D: Draft, R: Source>(
+    reader: &mut Reader<D>,
     source: &mut R,
     buffer: &mut [u8],
     room: u32,
@@ -183,17 +206,17 @@ fn pull<R: Source>(
     ensures count { IfOk result (λ n. (n ≤ room) × (n ≤ length buffer.new)) }
     ensures taken { IfOk result (λ n. Consumes (R.left source.old) (R.left source.new) (take n buffer.new)) }
     ensures kept { IsErr result → Keeps (R.left source.old) (R.left source.new) }
-    ensures unfinished { IsErr result → (b : List ℕ) → IsFed decoder.old b → IsUnfinished b }
-    ensures fed { IfOk result (λ n. (b : List ℕ) → IsFed decoder.old b → NoneEndsWithin b → HasPulled (R.left source.new) decoder.new b (take n buffer.new)) }
+    ensures unfinished { IsErr result → (b : List ℕ) → IsFed D.holds D.has reader.old b → IsUnfinished b }
+    ensures fed { IfOk result (λ n. (b : List ℕ) → IsFed D.holds D.has reader.old b → NoneEndsWithin b → HasPulled D.holds D.has (R.left source.new) reader.new b (take n buffer.new)) }
     ensures broken { IsErr result → IsTrue (R.is_broken source.new) }
     ensures stays { IsTrue (R.is_broken source.old) → IsTrue (R.is_broken source.new) }
 {
-    let wanted = (decoder.ask().min(room) as usize).min(buffer.len());
+    let wanted = (reader.ask().min(room) as usize).min(buffer.len());
     if wanted == 0 {
         return Ok(0);
     }
     let count = source.take(&mut buffer[..wanted])?;
-    decoder.take(&buffer[..count]);
+    reader.take(&buffer[..count]);
     Ok(count)
 }
 
@@ -214,11 +237,15 @@ pub fn decode(alloc: Global, octets: &[u8]) -> Result<Message, Failure>
 
 /// The message that the octets begin with, None where they end before it is whole.
 fn begun(alloc: Global, octets: &[u8]) -> Result<Option<Message>, Failure>
-    ensures { HasOutcome octets.now result }
+    ensures { HasBegun octets.now result }
 {
-    let mut decoder = Decoder::new(alloc);
-    let _ = decoder.run(octets);
-    decoder.outcome()
+    let mut reader = Reader::new(alloc, Values::new(alloc));
+    let _ = reader.run(octets);
+    match reader.outcome() {
+        Ok(true) => Ok(reader.into_draft().into_message()),
+        Ok(false) => Ok(None),
+        Err(failure) => Err(failure),
+    }
 }
 
 /// The message, if it has as many octets.

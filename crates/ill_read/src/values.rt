@@ -1,120 +1,173 @@
-//! The values of the elements that have been read, until those round them are whole.
-ghost use Rattle.std.specs.Prelude.{◌≡◌, ◌++◌, [], ◌∷◌, Some, length, take, drop, option_map, IfOk, OnOk};
-ghost use Rattle.ill_schema.specs.Content.{simple};
-ghost use Rattle.ill_schema.specs.Presence.{default_value};
-ghost use Rattle.ill_schema.specs.Table.{kind_of, rows_of};
+//! The draft that is the message's value: the values of the elements that have been read, until those round them are whole.
+ghost use Rattle.std.specs.Prelude.{◌≡◌, ℕ, List, [], ◌∷◌, IfOk};
+ghost use Rattle.ill_schema.specs.Content.{Content};
 ghost use Rattle.ill_schema.specs.Value.{content_of};
-ghost use Rattle.ill_read.specs.code.Held.{HasPassed, HasAdded, IsSequence, IsList, IsLast, rows_before, rows_left};
-ghost use Rattle.ill_read.specs.Standing.{absent_content};
+ghost use Rattle.ill_read.specs.code.Held.{EndsExactly, IsBodyOf};
+ghost use Rattle.ill_schema.specs.Apdu.{Apdu};
+ghost use Rattle.ill_read.specs.code.Drafts.{HoldsApdu};
+ghost use Rattle.ill_read.specs.code.ReaderCode.{IsMessageOf};
+ghost use Rattle.ill_read.specs.Standing.{AreMessage, AreValues, top_level, whole_level, with_alternative};
 
-use crate::due::{Next, Slot};
-use ill_schema::{Kind, LeafKind, NodeId, PartId, Presence, Row, Value, kind, row, rows, rows_of};
+use crate::draft::Draft;
+use crate::due::Next;
+use crate::element::Element;
+use crate::failure::Failure;
+use crate::frame::Frame;
+use crate::held::Held;
+use crate::judge::{Opening, Reading};
+use crate::leaf_type::LeafType;
+use crate::whole::message_of;
+use ill_schema::{Cause, Message, Value};
 use std::alloc::{AllocError, Global};
+use std::mem;
 
-/// The values in the open elements, those of the innermost last. A sequence has an entry for each row up to that of its last element.
+/// The values in the open elements, and the text of the string that is open.
 #[derive(Drop)]
 pub struct Values {
-    held: Vec<Option<Value>>,
+    alloc: Global,
+    held: Held,
+    text: Vec<u8>,
+    /// Once it is whole.
+    message: Option<Message>,
 }
 
-/// The entry of a row that has no element: its default, or none.
-fn absent(row: Row) -> Option<Value>
-    ensures { option_map content_of result ≡ absent_content row }
-{
-    match row.presence {
-        Presence::Default(number) => Some(default_value(row.node, number)),
-        _ => None,
-    }
-}
-
-fn default_value(node: NodeId, number: i64) -> Value
-    ensures { content_of result ≡ simple (default_value (kind_of node) number) }
-{
-    match kind(node) {
-        Kind::Leaf(LeafKind::Boolean) => Value::Flag(number == 1),
-        _ => Value::Whole(number),
-    }
+/// The value of a message, with the row of ILL-APDU that it is of.
+#[derive(Drop)]
+pub struct Body {
+    pub row: u8,
+    pub value: Value,
 }
 
 impl Values {
+    /// Holds nothing.
     pub fn new(alloc: Global) -> Values
-        ensures { result.held.items ≡ [] }
+        ensures { AreValues result (top_level ∷ []) [] }
     {
         Values {
-            held: Vec::new(alloc),
+            alloc,
+            held: Held::new(alloc),
+            text: Vec::new(alloc),
+            message: None,
         }
     }
 
-    pub fn len(&self) -> usize
-        ensures { result ≡ length self.now.held.items }
+    /// The message, once it is whole.
+    pub fn into_message(self) -> Option<Message>
+        ensures { result ≡ self.message }
     {
-        self.held.len()
+        let Values {
+            alloc: _,
+            held: _,
+            text: _,
+            message,
+        } = self;
+        message
     }
 
-    /// Adds the value of an element at the slot, where this may come next in the element round it.
-    pub fn add(&mut self, next: Next, slot: Slot, value: Value) -> Result<(), AllocError>
-        ensures { OnOk result (HasAdded (rows_before next slot) value self.old.held.items self.new.held.items) }
+    /// The message that is held, of as many octets, unless its normal form passes the limit.
+    fn made(&mut self, octets: u32) -> Option<Message>
+        ensures { (a : Apdu) (b : List ℕ) → HoldsApdu AreValues self.old a b → IsMessageOf a octets result }
     {
-        match (next, slot) {
-            (Next::Rows(node, position), Slot::Row(row)) => self.pass(node, position, row)?,
-            (Next::Either(wrapped), Slot::Row(row)) => self.pass(wrapped.node, 0, row)?,
-            _ => {}
+        message_of(self.body()?, octets)
+    }
+
+    /// The value of a message that is whole.
+    fn body(&mut self) -> Option<Body>
+        ensures { (c : Content) → AreValues self.old (whole_level c ∷ []) [] → IsBodyOf result c }
+    {
+        match self.held.last()? {
+            Value::Alt(row, value) => Some(Body {
+                row,
+                value: Box::into_inner(value),
+            }),
+            Value::Flag(_)
+            | Value::Whole(_)
+            | Value::Date(_)
+            | Value::Time(_)
+            | Value::Print(_)
+            | Value::Str(_)
+            | Value::Seq(_)
+            | Value::List(_) => None,
         }
-        self.held.push(Some(value))?;
-        Ok(())
     }
 
-    /// Passes the rows that are still to come.
-    fn pass_last(&mut self, next: Next) -> Result<(), AllocError>
-        ensures { OnOk result (HasPassed (rows_left next) self.old.held.items self.new.held.items) }
+    /// The value of an element that has ended.
+    fn ended(&mut self, frame: Frame) -> Result<Option<Value>, Failure>
+        ensures { EndsExactly self.old frame self.new result }
     {
-        match next {
-            Next::Rows(node, position) => self.pass(node, position, rows(node)),
-            Next::Either(wrapped) => self.pass(wrapped.node, 0, rows(wrapped.node)),
-            _ => Ok(()),
-        }
-    }
-
-    /// Passes rows that have no element.
-    fn pass(&mut self, node: NodeId, from: u8, until: u8) -> Result<(), AllocError>
-        ensures { OnOk result (HasPassed (drop from (take until (rows_of node))) self.old.held.items self.new.held.items) }
-    {
-        for number in from..until {
-            if let Some(row) = row(PartId { node, row: number }) {
-                self.held.push(absent(row))?;
+        match frame.element {
+            Element::Segment => Ok(None),
+            Element::Leaf(leaf) => {
+                let text = mem::replace(&mut self.text, Vec::new(self.alloc));
+                match leaf.fault(&text) {
+                    Some(fault) => Err(Failure::refused(frame.start, Cause::from(fault))),
+                    None => Ok(Some(leaf.value(text))),
+                }
             }
+            Element::Sequence(_) => Ok(Some(self.held.sequence(frame.next, frame.base)?)),
+            Element::List(_) => Ok(Some(self.held.list(self.alloc, frame.base)?)),
+            Element::Wrapper(_) => Ok(self.held.last()),
+            Element::LooseWrapper(_) => match frame.next {
+                Next::Nothing => Ok(self.held.last()),
+                _ => Ok(Some(self.held.sequence(frame.next, frame.base)?)),
+            },
         }
+    }
+}
+
+impl Draft for Values {
+    ghost holds = { λ values levels text. AreValues values levels text };
+
+    ghost has = { λ values a octets. AreMessage values a octets };
+
+    fn open(&mut self, _opening: Opening) -> Result<usize, AllocError> {
+        Ok(self.held.len())
+    }
+
+    fn text(&mut self, octets: &[u8]) -> Result<(), AllocError> {
+        self.text.extend_from_slice(octets)?;
         Ok(())
     }
 
-    /// The sequence whose entries are held from a base on, where this may come next in it.
-    pub fn sequence(&mut self, next: Next, base: usize) -> Result<Value, AllocError>
-        ensures { IfOk result (λ v. IsSequence (rows_left next) base v self.old.held.items self.new.held.items) }
-    {
-        self.pass_last(next)?;
-        let base = base.min(self.len());
-        Ok(Value::Seq(self.held.split_off(base)?))
+    fn leaf(
+        &mut self,
+        next: Next,
+        reading: Reading,
+        leaf: LeafType,
+        content: &[u8],
+    ) -> Result<(), AllocError> {
+        let value = leaf.value(Vec::from_slice(self.alloc, content)?);
+        let value = chosen(self.alloc, reading.alternative, value)?;
+        self.held.add(next, reading.slot, value)?;
+        Ok(())
     }
 
-    /// The list whose items are held from a base on.
-    pub fn list(&mut self, alloc: Global, base: usize) -> Result<Value, AllocError>
-        ensures { IfOk result (λ v. IsList base v self.old.held.items self.new.held.items) }
-    {
-        let base = base.min(self.len());
-        let mut items = Vec::with_capacity(alloc, self.len() - base)?;
-        for held in self.held.drain(base..) {
-            let Some(item) = held else {
-                continue;
-            };
-            items.push(item)?;
+    fn close(&mut self, frame: Frame, next: Next) -> Result<(), Failure> {
+        let Some(value) = self.ended(frame)? else {
+            return Ok(());
+        };
+        let value = chosen(self.alloc, frame.alternative, value)?;
+        self.held.add(next, frame.slot, value)?;
+        Ok(())
+    }
+
+    fn end(&mut self, octets: u32) -> bool {
+        match self.made(octets) {
+            Some(message) => {
+                self.message = Some(message);
+                true
+            }
+            None => false,
         }
-        Ok(Value::List(items))
     }
+}
 
-    /// The value that is held last.
-    pub fn last(&mut self) -> Option<Value>
-        ensures { IsLast result self.old.held.items self.new.held.items }
-    {
-        self.held.pop().flatten()
+/// The value as the alternative of a choice that it is.
+fn chosen(alloc: Global, alternative: Option<u8>, value: Value) -> Result<Value, AllocError>
+    ensures { IfOk result (λ v. content_of v ≡ with_alternative alternative (content_of value)) }
+{
+    match alternative {
+        Some(row) => Ok(Value::Alt(row, Box::new(alloc, value)?)),
+        None => Ok(value),
     }
 }

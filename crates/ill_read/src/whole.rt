@@ -2,9 +2,9 @@
 ghost use Rattle.std.specs.Prelude.{ℕ, List};
 ghost use Rattle.ber_leaf.specs.Profile.{profile_two};
 ghost use Rattle.ill_schema.specs.Apdu.{Encodes};
-ghost use Rattle.ill_read.specs.code.DecoderCode.{body_apdu, IsMessageOf};
+ghost use Rattle.ill_read.specs.code.ReaderCode.{body_apdu, IsMessageOf};
 
-use crate::path::Body;
+use crate::values::Body;
 use ill_schema::{Message, apdu_node, fits, normal_size};
 
 /// The message of a body, unless its normal form passes the limit.

@@ -1,5 +1,5 @@
-//! Tests of `ber_core` and `ber_leaf`. They stand in a crate of their own, so that these are proved once, not a second time with
-//! their tests.
+//! Tests of `ber_core`, `ber_buffer` and `ber_leaf`. They stand in a crate of their own, so that these are proved once, not a second
+//! time with their tests.
 #![tactic(auto)]
 
 #[cfg(test)]

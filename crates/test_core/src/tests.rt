@@ -2,6 +2,7 @@
 mod ahead;
 mod buffers;
 mod contracts;
+mod der_buffers;
 mod fake;
 mod headers;
 mod leaves;

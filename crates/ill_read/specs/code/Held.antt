@@ -1,15 +1,18 @@
 -- How the values that are held grow, and what is taken from them.
-use Rattle.std.specs.Prelude.{◌≡◌, ℕ, ◌<◌, List, [], ◌∷◌, ◌++◌, length, take, drop, map, Option, Some, option_map}
+use Rattle.std.specs.Prelude.{◌≡◌, ℕ, List, [], ◌∷◌, ◌++◌, length, map, Option, Some, None, Result, Ok, Err, option_map}
+use Rattle.ber_core.specs.Identifier.{Tag}
+use Rattle.ber_core.specs.Tree.{Trees}
+use Rattle.ill_schema.specs.Content.{Content, alternative}
 use Rattle.ill_schema.specs.Content as content
-use Rattle.ill_schema.specs.Table.{rows_of}
 use Rattle.ill_schema.specs.Value.{content_of, entries_content, items_content}
 use Rattle.ill_schema.specs.declared.part.Row.{Row}
 use Rattle.ill_schema.specs.declared.value.Value.{Value}
-use Rattle.ill_read.specs.Standing.{absent_content}
-use Rattle.ill_read.specs.declared.due.Next.{Next}
-use Rattle.ill_read.specs.declared.due.Next.TheVariants.{Rows, Either}
-use Rattle.ill_read.specs.declared.due.Slot.{Slot}
-use Rattle.ill_read.specs.declared.due.Slot.TheVariants.{Row as AtRow}
+use Rattle.ill_read.specs.Standing.{Level, level_of, absent_content, AreValues, IsHeld}
+use Rattle.ill_read.specs.code.Drafts.{IsContentOf, IsRightText, IsTextFault}
+use Rattle.ill_read.specs.declared.failure.Failure.{Failure}
+use Rattle.ill_read.specs.declared.frame.Frame.{Frame}
+use Rattle.ill_read.specs.declared.values.Body.{Body}
+use Rattle.ill_read.specs.declared.values.Values.{Values}
 
 -- the entries of rows that have no element
 abbrev pub ArePassed : List (Option Value) → List Row → Type 0
@@ -20,18 +23,6 @@ pub record HasPassed (rows : List Row) (old new : List (Option Value)) : Type 0 
   pub entries : List (Option Value)
   pub added : new ≡ old ++ entries
   pub are : ArePassed entries rows
-
--- the rows between a position and the row of an element
-abbrev pub rows_before : Next → Slot → List Row
-rows_before (Rows node n) (AtRow r) = drop n (take r (rows_of node))
-rows_before (Either w) (AtRow r) = drop 0 (take r (rows_of w.node))
-rows_before _ _ = []
-
--- the rows that are still to come
-abbrev pub rows_left : Next → List Row
-rows_left (Rows node n) = drop n (rows_of node)
-rows_left (Either w) = rows_of w.node
-rows_left _ = []
 
 -- a value was added, behind the entries of the rows before it
 pub record HasAdded (rows : List Row) (v : Value) (old new : List (Option Value)) : Type 0 where
@@ -53,7 +44,22 @@ IsList base v old new = (below : List (Option Value)) (items : List Value) → o
 abbrev pub IsLast : Option Value → List (Option Value) → List (Option Value) → Type 0
 IsLast v old new = (below : List (Option Value)) (last : Option Value) → old ≡ below ++ last ∷ [] → (v ≡ last) × (new ≡ below)
 
--- a row number that has a next one
-abbrev pub HasNext : Slot → Type 0
-HasNext (AtRow r) = r < 255
-HasNext _ = Unit {0}
+-- what was found is the content
+abbrev pub IsFound : Option Value → Content → Type 0
+IsFound (Some v) c = content_of v ≡ c
+IsFound None c = ⊥
+
+-- the value of an element that has ended, with these levels round it, where its text is right
+abbrev pub IsEnded : Frame → List (Option Content) → List Level → List ℕ → Values → Result (Option Value) Failure → Type 0
+IsEnded f entries below text new (Ok found) = IsRightText f.element text × ((trees : Trees) (c : Content)
+    → IsHeld f.element f.next entries trees → IsContentOf f.element f.next entries text c → IsFound found c × AreValues new below [])
+IsEnded f entries below text new (Err failure) = IsTextFault f.element f.start text failure
+
+abbrev pub EndsExactly : Values → Frame → Values → Result (Option Value) Failure → Type 0
+EndsExactly old f new result = (tag : Tag) (entries : List (Option Content)) (below : List Level) (text : List ℕ)
+    → AreValues old (level_of f tag entries ∷ below) text → IsEnded f entries below text new result
+
+-- the body of a message, where the content is an APDU's
+abbrev pub IsBodyOf : Option Body → Content → Type 0
+IsBodyOf (Some body) c = c ≡ alternative body.row (content_of body.value)
+IsBodyOf None c = (n : ℕ) (d : Content) → c ≡ alternative n d → ⊥

@@ -17,11 +17,11 @@ use Rattle.ill_read.specs.declared.element.Found.TheVariants as found
 use Rattle.ill_read.specs.declared.frame.Frame.{Frame}
 use Rattle.ill_read.specs.declared.judge.Judgement.{Judgement as CodeJudgement}
 use Rattle.ill_read.specs.declared.judge.Started.{Started}
-use Rattle.ill_read.specs.declared.path.Path.{Path}
+use Rattle.ill_read.specs.declared.frames.Frames.{Frames}
 
 -- a fact of the place that the path stands at
-abbrev pub WhereItStands : Path → (List Open → Type 0) → Type 0
-WhereItStands path P = (place : List Open) → StandsAt path place → P place
+abbrev pub WhereItStands : Frames → (List Open → Type 0) → Type 0
+WhereItStands frames P = (place : List Open) → StandsAt frames place → P place
 
 -- the end of the outermost element of definite length
 abbrev pub outermost_end : List Frame → Option ℕ
@@ -33,21 +33,21 @@ abbrev pub end_at : Option ℕ → ℕ → Bool
 end_at end at = elim end as (λ _. Bool) [ Some e ↦ nat_eq e at | None ↦ false ]
 
 -- the judgement is the definitions', where these are the octets
-abbrev pub Judges : Path → ℕ → List ℕ → Result CodeJudgement Refusal → (List Open → Judgement) → Type 0
-Judges path at octets result judged = (place : List Open) → StandsAt path place → IsJudged path place at octets result (judged place)
+abbrev pub Judges : Frames → ℕ → List ℕ → Result CodeJudgement Refusal → (List Open → Judgement) → Type 0
+Judges frames at octets result judged = (place : List Open) → StandsAt frames place → IsJudged frames place at octets result (judged place)
 
 -- the same where the octets lie before the bound
-abbrev pub JudgesWithin : Path → ℕ → List ℕ → Result CodeJudgement Refusal → (List Open → Judgement) → Type 0
-JudgesWithin path at octets result judged =
-    (place : List Open) → StandsAt path place → length octets ≤ bound profile_two place - at → IsJudged path place at octets result (judged place)
+abbrev pub JudgesWithin : Frames → ℕ → List ℕ → Result CodeJudgement Refusal → (List Open → Judgement) → Type 0
+JudgesWithin frames at octets result judged =
+    (place : List Open) → StandsAt frames place → length octets ≤ bound profile_two place - at → IsJudged frames place at octets result (judged place)
 
 -- what is due may have the form, or is at fault
-abbrev pub IsFormed : Due → ℕ → Bool → Result Started Refusal → Type 0
-IsFormed due at constructed (Ok started) =
+abbrev pub IsFormed : Due → ℕ → Id → Result Started Refusal → Type 0
+IsFormed due at id (Ok started) =
     (due ≡ record { slot = started.slot; alternative = started.alternative; found = found.Element started.element })
-    × (started.constructed ≡ constructed) × (allows (element_is started.element) constructed ≡ true)
-IsFormed due at constructed (Err refusal) =
-    (p : Profile) (place : List Open) (tag : Tag) (i : ℕ) (want : Fault) (w : List ℕ) → judge_form p place (found_is due.found) tag constructed at i want w ≡ faulty (fault_of refusal)
+    × (started.id ≡ id) × (started.constructed ≡ form_of_id id) × (allows (element_is started.element) (form_of_id id) ≡ true)
+IsFormed due at id (Err refusal) =
+    (p : Profile) (place : List Open) (tag : Tag) (i : ℕ) (want : Fault) (w : List ℕ) → judge_form p place (found_is due.found) tag (form_of_id id) at i want w ≡ faulty (fault_of refusal)
 
 -- what is judged behind an identifier of i octets
 abbrev pub judge_identified : List Open → Tag → Bool → ℕ → ℕ → Fault → List ℕ → Judgement
@@ -55,14 +55,14 @@ judge_identified place tag constructed at i want w =
     if nat_le 32 (length place) then faulty (fault Cause.TooDeep at) else judge_tag profile_two place tag constructed at i want w
 
 -- an element with the identifier may begin there, or is at fault
-abbrev pub IsIdentified : Path → List Open → ℕ → Id → Result Started Refusal → Type 0
-IsIdentified path place at id (Ok started) =
-    IsBegin path place (tag_of_id id) started.slot started.alternative started.element started.constructed × (started.constructed ≡ form_of_id id)
-IsIdentified path place at id (Err refusal) =
+abbrev pub IsIdentified : Frames → List Open → ℕ → Id → Result Started Refusal → Type 0
+IsIdentified frames place at id (Ok started) =
+    IsBegin frames place (tag_of_id id) started.slot started.alternative started.element started.constructed × (started.constructed ≡ form_of_id id) × (started.id ≡ id)
+IsIdentified frames place at id (Err refusal) =
     (i : ℕ) (want : Fault) (w : List ℕ) → judge_identified place (tag_of_id id) (form_of_id id) at i want w ≡ faulty (fault_of refusal)
 
 -- the judgement is the definitions', of an element that may begin there
-abbrev pub JudgesStarted : Path → Started → ℕ → List ℕ → Result CodeJudgement Refusal → (List Open → Tag → Judgement) → Type 0
-JudgesStarted path started at octets result judged =
-    (place : List Open) (tag : Tag) → StandsAt path place → IsBegin path place tag started.slot started.alternative started.element started.constructed
-    → length octets ≤ bound profile_two place - at → IsJudged path place at octets result (judged place tag)
+abbrev pub JudgesStarted : Frames → Started → ℕ → List ℕ → Result CodeJudgement Refusal → (List Open → Tag → Judgement) → Type 0
+JudgesStarted frames started at octets result judged =
+    (place : List Open) → StandsAt frames place → IsBegin frames place (tag_of_id started.id) started.slot started.alternative started.element started.constructed
+    → length octets ≤ bound profile_two place - at → IsJudged frames place at octets result (judged place (tag_of_id started.id))

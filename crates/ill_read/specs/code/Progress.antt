@@ -5,10 +5,10 @@ use Rattle.ill_read.specs.declared.header.LengthRead.{LengthRead}
 use Rattle.ill_read.specs.declared.header.LengthRead.TheVariants.{Whole}
 use Rattle.ill_read.specs.declared.judge.Judgement.{Judgement}
 use Rattle.ill_read.specs.declared.judge.Judgement.TheVariants.{Closes, Opens, Reads}
-use Rattle.ill_read.specs.declared.path.Path.{Path}
+use Rattle.ill_read.specs.declared.frames.Frames.{Frames}
 
-abbrev pub depth_of : Path → ℕ
-depth_of path = array_vec_len path.frames
+abbrev pub depth_of : Frames → ℕ
+depth_of frames = array_vec_len frames.open
 
 -- what was judged takes octets, or closes an element
 abbrev pub IsProgress : ℕ → ℕ → Judgement → Type 0

@@ -1,11 +1,12 @@
 //! Contracts that leave one result. Each function here makes calls on any arguments, and what they return is proved of their
 //! contracts alone. So a body that returns anything else doesn't meet its contract.
-ghost use Rattle.std.specs.Prelude.{◌≡◌, ℕ, ◌≤◌, List, ◌++◌, IfOk, IfSome, length, take, drop};
+ghost use Rattle.std.specs.Prelude.{◌≡◌, ℕ, ◌≤◌, List, ◌++◌, IfOk, IfSome, OnOk, length, take, drop};
 ghost use Rattle.std.specs.Io.KnownBytes.{Consumes};
 ghost use Rattle.ber_core.specs.HeaderState.{Fed, IsOpen};
 ghost use Rattle.ber_leaf.specs.Content.{IsContent};
 ghost use Rattle.ber_leaf.specs.Leaf.{normal_content};
 
+use ber_buffer::DerBuffer;
 use ber_core::{
     Ahead, AtHand, Broken, Class, FromBuffer, FromRead, FromSlice, Header, HeaderFault,
     HeaderState, Id, Look, Pieces, Room, Sink, Source, ToWrite, Unseen, header_size, put_header,
@@ -42,6 +43,89 @@ fn headers_are_written_in_one_way(id: Id, len: u32) {
     prove!(first == size);
     prove!(second == size);
     prove!(one == other);
+}
+
+/// A buffer shows what was appended to it, up to where it is cut.
+fn der_buffers_keep_what_they_took(
+    octets: &[u8],
+    base: usize,
+    alloc: Global,
+) -> Result<(), AllocError>
+    requires { base ≤ length octets.now }
+{
+    let mut buffer = DerBuffer::new(alloc);
+    prove!(buffer.is_empty());
+    buffer.append(octets)?;
+    prove!(buffer.octets() == octets);
+    prove!(buffer.len() == octets.len());
+    prove!(buffer.is_empty() == octets.is_empty());
+    buffer.cut(base);
+    prove!(buffer.octets() == &octets[..base]);
+    buffer.clear();
+    prove!(buffer.len() == 0);
+    Ok(())
+}
+
+/// An element begins in one way behind the same octets.
+fn elements_begin_in_one_way(
+    one: &mut DerBuffer,
+    other: &mut DerBuffer,
+    id: Id,
+) -> Result<(usize, usize), AllocError>
+    requires same { one.old ≡ other.old }
+    ensures bases { IfOk result (λ bases. bases.0 ≡ bases.1) }
+    ensures octets { OnOk result (one.new ≡ other.new) }
+{
+    Ok((one.open(id)?, other.open(id)?))
+}
+
+/// An element ends in one way. Where none was opened, nothing happens.
+fn elements_end_in_one_way(
+    one: &mut DerBuffer,
+    other: &mut DerBuffer,
+    base: usize,
+) -> Result<(), AllocError>
+    requires same { one.old ≡ other.old }
+    ensures { OnOk result (one.new ≡ other.new) }
+{
+    one.close(base)?;
+    other.close(base)
+}
+
+/// Octets become the contents of an element in one way.
+fn octets_are_enclosed_in_one_way(
+    one: &mut DerBuffer,
+    other: &mut DerBuffer,
+    base: usize,
+    id: Id,
+) -> Result<(), AllocError>
+    requires same { one.old ≡ other.old }
+    ensures { OnOk result (one.new ≡ other.new) }
+{
+    one.enclose(base, id)?;
+    other.enclose(base, id)
+}
+
+/// An element is the same octets, whether it is written whole, in pieces, or around octets that are there.
+fn elements_are_written_in_one_way(
+    whole: &mut DerBuffer,
+    pieces: &mut DerBuffer,
+    around: &mut DerBuffer,
+    id: Id,
+    content: &[u8],
+) -> Result<(), AllocError>
+    requires pieces { whole.old ≡ pieces.old }
+    requires around { whole.old ≡ around.old }
+    ensures pieces { OnOk result (whole.new ≡ pieces.new) }
+    ensures around { OnOk result (whole.new ≡ around.new) }
+{
+    whole.primitive(id, content)?;
+    let base = pieces.open(id)?;
+    pieces.append(content)?;
+    pieces.close(base)?;
+    let base = around.len();
+    around.append(content)?;
+    around.enclose(base, id)
 }
 
 /// States that were fed the same octets return the same for the next one.

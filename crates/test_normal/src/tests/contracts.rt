@@ -9,9 +9,9 @@ ghost use Rattle.ill_normal.specs.Messages.{AreSpelled, Spelling};
 
 use ber_core::{AtHand, FromSlice, Pieces, Room, Sink, Source, Unseen};
 use ill_normal::{
-    Checked, Failure, Message, NormalFailure, NormalForms, Passed, ReadFailure, Refusal, Side,
-    Stopped, StreamFailure, check_one, decode, each_message, is_normal, normalise,
-    normalise_stream, read_message, read_message_by, same_message,
+    Checked, Failure, Message, Normal, NormalFailure, NormalForms, Passed, ReadFailure, Refusal,
+    Side, Stopped, StreamFailure, check_one, decode, decode_normal, each_message, is_normal,
+    normalise, normalise_stream, read_kept_normal_by, read_message, read_message_by, same_message,
 };
 use std::alloc::Global;
 
@@ -26,6 +26,20 @@ fn slices_have_one_answer(
     ensures apart { (m : Message) (y : Refusal) → result.0 ≡ Ok m → result.1 ≡ Err (Failure.Refused y) → ⊥ }
 {
     (decode(alloc, octets), decode(alloc, octets))
+}
+
+/// A slice has a normal form exactly where it is a message, and it is the normal form of that message; else both calls refuse it alike.
+fn slices_have_the_normal_form_of_their_message(
+    octets: &[u8],
+    alloc: Global,
+) -> (Result<Message, Failure>, Result<Normal, Failure>)
+    ensures form { (m : Message) (n : Normal) → result.0 ≡ Ok m → result.1 ≡ Ok n → n.octets.items ≡ normal_form (apdu_of m) }
+    ensures read { (n : Normal) → result.1 ≡ Ok n → n.read ≡ length octets.now }
+    ensures refusal { (x y : Refusal) → result.0 ≡ Err (Failure.Refused x) → result.1 ≡ Err (Failure.Refused y) → x ≡ y }
+    ensures message { (m : Message) (y : Refusal) → result.0 ≡ Ok m → result.1 ≡ Err (Failure.Refused y) → ⊥ }
+    ensures normal { (x : Refusal) (n : Normal) → result.0 ≡ Err (Failure.Refused x) → result.1 ≡ Ok n → ⊥ }
+{
+    (decode(alloc, octets), decode_normal(alloc, octets))
 }
 
 /// Two slices are the same exactly where they spell one APDU, and exactly where the normal forms of what they spell are equal.
@@ -74,6 +88,22 @@ fn messages_at_hand_are_taken_whole(
     ]) }
 {
     read_message_by::<FromSlice, AtHand>(alloc, source)
+}
+
+/// What is read is the normal form of the message at the front, and no octet after that message is taken; the octets that it had are kept.
+fn normal_forms_are_of_the_message_at_the_front(
+    source: &mut Pieces,
+    kept: &mut Vec<u8>,
+    alloc: Global,
+) -> Result<Option<Normal>, ReadFailure>
+    ensures { (a : Apdu) (n : ℕ) → Accepts profile_two source.old.octets a n
+        → IfOk result (λ found. elim found as (λ _. Type 0) [
+          | Some x ↦ (x.octets.items ≡ normal_form a) × (x.read ≡ n) × (source.new.octets ≡ drop n source.old.octets)
+              × (kept.new.items ≡ kept.old.items ++ take n source.old.octets)
+          | None ↦ ⊥
+        ]) }
+{
+    read_kept_normal_by::<Pieces, Unseen>(alloc, source, kept)
 }
 
 /// What is checked is the message at the front, and the result describes it.

@@ -8,13 +8,13 @@ pub returns-in-Some : goal.returns-in-Some
 returns-in-Some c s stands =
     let size = c.saturating_sub-in-Some.ensures ∙ ap (λ n. n - length c.args.octets.now) c.saturating_sub.ensures in
     subst (IsNeed stands.0.place c.args.at c.args.octets.now) (sym size)
-    (need_to_end c.args.path.now c.args.at s c.args.octets.now stands c.in-Some.end (sym c.outermost_end.ensures ∙ c.in-Some.is))
+    (need_to_end c.args.frames.now c.args.at s c.args.octets.now stands c.in-Some.end (sym c.outermost_end.ensures ∙ c.in-Some.is))
 
 pub returns-then-begins_with_zero : goal.returns-then-begins_with_zero
 returns-then-begins_with_zero c s stands =
     let awaits = sym (c.awaits_end_mark.ensures.exact stands.0.place stands.0.stands) ∙ c.if-awaits_end_mark.true in
     let zero = sym c.begins_with_zero.ensures ∙ c.if-begins_with_zero.true in
-    need_in_mark c.args.path.now c.args.at s c.args.octets.now stands (sym c.outermost_end.ensures ∙ c.in_default.is) (ap₂ ◌&&◌ awaits zero)
+    need_in_mark c.args.frames.now c.args.at s c.args.octets.now stands (sym c.outermost_end.ensures ∙ c.in_default.is) (ap₂ ◌&&◌ awaits zero)
 
 pub returns : goal.returns
 returns c s stands =
@@ -27,4 +27,4 @@ returns c s stands =
           ap (λ b. b && begins_zero c.args.octets.now) shut
     ] in
     subst (IsNeed stands.0.place c.args.at c.args.octets.now) (sym c.need_in_element.ensures)
-    (need_in_element c.args.path.now c.args.at s c.args.octets.now stands c.read_header.result (sym c.outermost_end.ensures ∙ c.in_default.is) marked c.read_header.ensures)
+    (need_in_element c.args.frames.now c.args.at s c.args.octets.now stands c.read_header.result (sym c.outermost_end.ensures ∙ c.in_default.is) marked c.read_header.ensures)

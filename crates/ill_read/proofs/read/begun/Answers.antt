@@ -1,16 +1,32 @@
-use Rattle.std.proofs.Common.{◌<◌, ◌++◌, [], get_or, IsTrue, drop, subst, arith}
+use Rattle.std.proofs.Common.{◌<◌, Bool, Result, get_or, IsTrue, Ok, drop, sym, ap, subst, ◌∙◌, arith}
 use Rattle.ber_core.specs.Octets.{are_octets}
 use Rattle.ber_leaf.proofs.Leaves.{octets_fit}
-use Rattle.ill_read.specs.code.DecoderCode.{IsRunning}
-use Rattle.ill_read.proofs.MessageEnds.{is_fed, nothing_waits, running_longer}
+use Rattle.ill_read.specs.Standing.{AreMessage, AreValues}
+use Rattle.ill_read.specs.code.ReaderCode.{HasBegun, HasOutcome}
+use Rattle.ill_read.specs.declared.failure.Failure.{Failure}
+use Rattle.ill_read.specs.declared.values.Values.{Values}
+use Rattle.ill_read.proofs.MessageEnds.{message_is, runs}
 use Rattle.ill_read.proofs.read.begun.Goals as goal
 
-pub returns : goal.returns
-returns c =
+pub returns-in-Ok-true : goal.returns-in-Ok-true
+returns-in-Ok-true c =
     let w = c.args.octets.now in
-    let d = c.new-decoder.result in
     let ok : IsTrue (are_octets w) = octets_fit w (λ k. let small : get_or w k 0 < 256 = omega (arith, c.type_inv.octets k) in small) in
-    let fed = c.new-decoder.ensures.«open» in
-    let running : IsRunning d w w =
-    subst (λ z. IsRunning d w (z ++ w)) (nothing_waits d fed) (running_longer d.state d.path d.at [] d.pending.items w ok (is_fed d [] fed)) in
-    c.outcome.ensures w (drop c.run.result w) (c.run.ensures.stopped w running)
+    let came = c.outcome.ensures w (drop c.run.result w) (c.run.ensures.stopped w (runs AreValues AreMessage c.new-reader.result w ok (c.new-reader.ensures c.new.ensures))) in
+    let read = subst (λ (e : Result Bool Failure). HasOutcome AreMessage c.run.new.self w e) (c.in-Ok-true.is ∙ ap Ok c.in-Ok-true.field-0-test) came in
+    let m = message_is c.run.new.self w read in
+    subst (λ x. HasBegun w (Ok x)) (sym (c.into_message.ensures ∙ ap (λ (v : Values). v.message) c.into_draft.ensures ∙ m.1)) m.2
+
+pub returns-in-Ok-false : goal.returns-in-Ok-false
+returns-in-Ok-false c =
+    let w = c.args.octets.now in
+    let ok : IsTrue (are_octets w) = octets_fit w (λ k. let small : get_or w k 0 < 256 = omega (arith, c.type_inv.octets k) in small) in
+    let came = c.outcome.ensures w (drop c.run.result w) (c.run.ensures.stopped w (runs AreValues AreMessage c.new-reader.result w ok (c.new-reader.ensures c.new.ensures))) in
+    subst (λ (e : Result Bool Failure). HasOutcome AreMessage c.run.new.self w e) (c.in-Ok-false.is ∙ ap Ok c.in-Ok-false.field-0-test) came
+
+pub returns-in-Err : goal.returns-in-Err
+returns-in-Err c =
+    let w = c.args.octets.now in
+    let ok : IsTrue (are_octets w) = octets_fit w (λ k. let small : get_or w k 0 < 256 = omega (arith, c.type_inv.octets k) in small) in
+    let came = c.outcome.ensures w (drop c.run.result w) (c.run.ensures.stopped w (runs AreValues AreMessage c.new-reader.result w ok (c.new-reader.ensures c.new.ensures))) in
+    subst (λ (e : Result Bool Failure). HasOutcome AreMessage c.run.new.self w e) c.in-Err.is came

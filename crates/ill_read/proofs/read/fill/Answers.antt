@@ -1,4 +1,4 @@
-use Rattle.std.proofs.Common.{◌≡◌, [], ◌++◌, Err, length, length-append, ap, ◌∙◌, inl, arith}
+use Rattle.std.proofs.Common.{◌≡◌, [], ◌++◌, Err, length-append, ap, ◌∙◌, inl, arith}
 use Rattle.std.proofs.KnownBytes.{Appends-trans, Consumes-trans, Consumes-kept}
 use Rattle.std.proofs.lemmas.List.{nil_from_length}
 use Rattle.ill_read.specs.declared.read.Unfilled.TheVariants.{Broken}
@@ -53,6 +53,6 @@ returns-clause-filled g c =
     let i = c.loop-room.invariant.0 in
     let size = i.2 in let none = c.loop-room-test.false in
     record {
-      filled = record { octets = i.0; taken = i.1; fed = i.3; exact = i.4; ended = inl (full_closed c.loop-room.decoder i.0 i.3 (omega (arith, size, none))) };
+      filled = record { octets = i.0; taken = i.1; fed = i.3; exact = i.4; ended = inl (full_closed g.D.Draft.holds g.D.Draft.has c.loop-room.reader i.0 i.3 (omega (arith, size, none))) };
       kept = i.5;
     }

@@ -1,13 +1,13 @@
 use Rattle.std.proofs.Common.{◌≡◌, ℕ, ◌+◌, List, length, IsTrue}
 use Rattle.std.specs.Io.KnownBytes.{Appends, Consumes}
-use Rattle.ill_read.specs.code.DecoderCode.{IsFed}
+use Rattle.ill_read.specs.code.ReaderCode.{IsFed}
 use Rattle.ill_read.specs.code.Filling.{NoneEndsWithin}
 use Rattle.ill_read.proofs.read.fill.Given as goal
 
--- What was taken is what the decoder was fed, and what was kept.
+-- What was taken is what the reader was fed, and what was kept.
 abbrev pub invariant-loop-room : goal.invariant-loop-room
 invariant-loop-room g l =
-    ((b : List ℕ) × Consumes (g.R.Source.left l.fn.source) (g.R.Source.left l.source) b × (length b + l.room ≡ 1_048_576) × IsFed l.decoder b × NoneEndsWithin b
+    ((b : List ℕ) × Consumes (g.R.Source.left l.fn.source) (g.R.Source.left l.source) b × (length b + l.room ≡ 1_048_576) × IsFed g.D.Draft.holds g.D.Draft.has l.reader b × NoneEndsWithin b
     × Appends (g.K.Keep.kept l.fn.keep) (g.K.Keep.kept l.keep) b)
     × (IsTrue (g.R.Source.is_broken l.fn.source) → IsTrue (g.R.Source.is_broken l.source))
 

@@ -1,18 +1,18 @@
 use Rattle.std.proofs.Common.{rules, ◌≡◌, ◌≤◌, [], ◌++◌, length, append-nil, take, drop, refl, sym, subst, ap, ◌∙◌, arith}
 use Rattle.std.proofs.lemmas.List.{length-take-le, take-append-le}
-use Rattle.ill_read.specs.code.DecoderCode.{IsFed}
+use Rattle.ill_read.specs.code.ReaderCode.{IsFed}
 use Rattle.ill_read.specs.code.Filling.{NoneEndsWithin}
 use Rattle.ill_read.proofs.SourceReads.{none_yet, pulled_exact, pulled_ended}
 use Rattle.ill_read.proofs.read.pull.Goals as goal
 
 pub returns-then-wanted-eq0-clause-fed : goal.returns-then-wanted-eq0-clause-fed
 returns-then-wanted-eq0-clause-fed g c b h exact =
-    let d = c.args.decoder.now in
+    let d = c.args.reader.now in
     let none : b ++ [] ≡ b = append-nil b in
     let zero = c.if-wanted-eq0.true in
     let space = c.requires.space in let room = c.requires.room in
     record {
-      fed = subst (IsFed d) (sym none) h;
+      fed = subst (IsFed g.D.Draft.holds g.D.Draft.has d) (sym none) h;
       exact = subst NoneEndsWithin (sym none) exact;
       ended = λ e. pulled_ended d d _ c.ask.result c.min-wanted.result (λ closed. refl) (λ is_open. c.ask.ensures.some b h is_open)
           (λ z. omega (arith, z, c.min-wanted.ensures, c.min.ensures, space, room))
@@ -22,12 +22,12 @@ returns-then-wanted-eq0-clause-fed g c b h exact =
 pub returns-in_err-count-clause-unfinished : goal.returns-in_err-count-clause-unfinished
 returns-in_err-count-clause-unfinished g c is_err b h a n accepted =
     let wanted = c.if-wanted-eq0.false in
-    none_yet c.args.decoder.now b c.ask.result h c.ask.ensures.closed (λ zero. wanted (omega (arith, zero, c.min-wanted.ensures, c.min.ensures)))
+    none_yet g.D.Draft.holds g.D.Draft.has c.args.reader.now b c.ask.result h c.ask.ensures.closed (λ zero. wanted (omega (arith, zero, c.min-wanted.ensures, c.min.ensures)))
     (λ x k is_open octets spelled. c.ask.ensures.at_least b [] x k h octets is_open spelled) a n accepted
 
 pub returns-clause-fed : goal.returns-clause-fed
 returns-clause-fed g c b h exact =
-    let d = c.args.decoder.now in
+    let d = c.args.reader.now in
     let n = c.in_ok-count.count in
     let given = c.take.new.buffer in
     let piece = take n (given ++ drop c.min-wanted.result c.args.buffer.now) in
@@ -36,7 +36,7 @@ returns-clause-fed g c b h exact =
     let long : length piece ≡ n = ap length (take-append-le n given (drop c.min-wanted.result c.args.buffer.now) le) ∙ length-take-le n given le in
     let needed : length piece ≤ c.ask.result = omega (arith, long, len, le, c.min-wanted.ensures, c.min.ensures) in
     let space = c.requires.space in let room = c.requires.room in
-    let ends : NoneEndsWithin (b ++ piece) = pulled_exact d b piece c.ask.result h c.take-2.ensures.octets exact c.ask.ensures.closed
+    let ends : NoneEndsWithin (b ++ piece) = pulled_exact g.D.Draft.holds g.D.Draft.has d b piece c.ask.result h c.take-2.ensures.octets exact c.ask.ensures.closed
     (λ a k is_open ok accepted. c.ask.ensures.at_least b piece a k h ok is_open accepted) needed in
     record {
       fed = c.take-2.ensures.fed b h;

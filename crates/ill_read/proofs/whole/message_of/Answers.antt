@@ -5,7 +5,7 @@ use Rattle.ill_schema.specs.Fits.{Fits}
 use Rattle.ill_schema.specs.Names.{apdu_node_of}
 use Rattle.ill_schema.specs.Value.{apdu_with, content_of}
 use Rattle.ill_schema.proofs.Carried.{node_form-apdu}
-use Rattle.ill_read.specs.code.DecoderCode.{body_apdu, IsMessageOf}
+use Rattle.ill_read.specs.code.ReaderCode.{body_apdu, IsMessageOf}
 use Rattle.ill_read.proofs.Bodies.{encoded_fits, encoded_number}
 use Rattle.ill_read.proofs.whole.message_of.Goals as goal
 

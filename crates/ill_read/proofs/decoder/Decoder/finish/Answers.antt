@@ -1,11 +1,12 @@
-use Rattle.std.proofs.Common.{◌≡◌, length, Err, sym, ap, ◌∙◌, arith}
-use Rattle.ill_read.proofs.MessageEnds.{last_size, ended_some}
+use Rattle.std.proofs.Common.{◌∙◌, Ok, sym, ap}
+use Rattle.ill_read.proofs.MessageEnds.{ended_whole, ended_none, ended_failed}
 use Rattle.ill_read.proofs.decoder.Decoder.finish.Goals as goal
 
-pub returns-clause-open : goal.returns-clause-open
-returns-clause-open c fed is =
-    let d = c.args.self in
-    let size = last_size d.path d.at fed d.pending.items is.1 in
-    let all : length fed ≡ c.saturating_add-size.result = omega (arith, size.0, size.1, c.len.ensures, c.min.ensures, c.saturating_add-size.ensures) in
-    let some = c.if-size-eq0.false in
-    ap Err c.refused.ensures ∙ sym (ended_some fed c.saturating_add-size.result all some)
+pub returns-in-Ok-true-clause-open : goal.returns-in-Ok-true-clause-open
+returns-in-Ok-true-clause-open c fed h = absurd (ended_whole fed (sym (c.ended.ensures.«open» fed h) ∙ c.in-Ok-true.is ∙ ap Ok c.in-Ok-true.field-0-test))
+
+pub returns-in-Ok-false-clause-open : goal.returns-in-Ok-false-clause-open
+returns-in-Ok-false-clause-open c fed h = ended_none fed (sym (c.ended.ensures.«open» fed h) ∙ c.in-Ok-false.is ∙ ap Ok c.in-Ok-false.field-0-test)
+
+pub returns-in-Err-clause-open : goal.returns-in-Err-clause-open
+returns-in-Err-clause-open c fed h = ended_failed fed c.in-Err.failure (sym (c.ended.ensures.«open» fed h) ∙ c.in-Err.is)

@@ -1,18 +1,20 @@
-use Rattle.std.proofs.Common.{Option, Ok, refl, sym, subst}
-use Rattle.ill_read.specs.code.Judged.{IsStep}
-use Rattle.ill_read.specs.declared.path.Body.{Body}
-use Rattle.ill_read.specs.declared.path.Path.{Path}
-use Rattle.ill_read.proofs.PrimitiveElements.{content_read, leaf_read, segment_read}
+use Rattle.std.proofs.Common.{refl, sym, subst}
+use Rattle.ber_leaf.proofs.Leaves.{content_holds}
+use Rattle.ill_read.specs.LeafTypes.{leaf_is}
+use Rattle.ill_read.specs.code.Drafts.{HasLeaf}
+use Rattle.ill_read.proofs.PrimitiveElements.{leaf_read, segment_read}
 use Rattle.ill_read.proofs.path.Path.take.Goals as goal
 
-pub returns-in_ok-deliver-in-Leaf-clause-exact : goal.returns-in_ok-deliver-in-Leaf-clause-exact
-returns-in_ok-deliver-in-Leaf-clause-exact c place tag header at rest stands begin =
-    leaf_read c.args.self.now c.deliver.new.self place c.args.reading.slot c.args.reading.alternative c.args.reading.element c.in-Leaf.leaf c.args.start c.args.content.now c.in_ok-value-in-Leaf.value (Ok c.deliver.new.whole)
-    tag header at rest stands begin c.in-Leaf.is c.in_ok-value-in-Leaf.ensures c.in_ok-deliver-in-Leaf.ensures.exact
+pub returns-in_default-clause-exact : goal.returns-in_default-clause-exact
+returns-in_default-clause-exact g c place header at rest stands begin =
+    segment_read g.D.Draft.holds c.args.self.now (record { frames = c.args.self.now.frames; draft = c.text.new.self }) place c.args.reading c.args.start c.args.content.now header at rest stands begin
+    c.in_default.not-Leaf refl c.in_ok-text.ensures
 
-pub returns-in_ok-extend_from_slice-in_default-clause-exact : goal.returns-in_ok-extend_from_slice-in_default-clause-exact
-returns-in_ok-extend_from_slice-in_default-clause-exact c place tag header at rest stands begin =
-    let longer : Path = record c.args.self.now { text = c.extend_from_slice.new.self } in
-    subst (λ (body : Option Body). IsStep longer (Ok body) (content_read c.args.reading.element place tag header c.args.content.now c.args.start at rest)) (sym c.requires)
-    (segment_read c.args.self.now longer place c.args.reading.slot c.args.reading.alternative c.args.reading.element c.args.start c.args.content.now
-    tag header at rest stands begin c.in_default.not-Leaf refl refl c.in_ok-extend_from_slice-in_default.ensures.items)
+pub returns-clause-exact : goal.returns-clause-exact
+returns-clause-exact g c place header at rest stands begin =
+    let leaf = c.in-Leaf.leaf in
+    let content = c.args.content.now in
+    let right = content_holds (leaf_is leaf) content (c.in_default-fault.ensures.none.0 refl) in
+    let has = subst (λ d. HasLeaf g.D.Draft.holds c.args.self.now.draft c.next.result c.args.reading leaf content d) (sym c.pass.ensures.draft) c.in_ok-leaf.ensures in
+    leaf_read g.D.Draft.holds c.args.self.now c.pass.new.self place c.args.reading leaf c.args.start content c.pass.result header at rest stands begin c.in-Leaf.is right.0 right.1
+    (subst (λ n. HasLeaf g.D.Draft.holds c.args.self.now.draft n c.args.reading leaf content c.pass.new.self.draft) c.next.ensures has) c.pass.ensures.passed

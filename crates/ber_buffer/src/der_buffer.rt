@@ -1,0 +1,263 @@
+ghost use Rattle.std.specs.Prelude.{◌≡◌, ℕ, ◌+◌, ◌-◌, ◌<◌, ◌≤◌, Bool, false, List, [], ◌∷◌, ◌++◌, Ok, IfOk, OnOk, length, take, drop, nat_eq};
+ghost use Rattle.ber_core.specs.Identifier.{Tag, identifier};
+ghost use Rattle.ber_core.specs.Id.{tag_of_id, form_of_id, id_octets};
+ghost use Rattle.ber_core.specs.Length.{shortest_length};
+ghost use Rattle.ber_core.specs.Header.{shortest_header};
+ghost use Rattle.ber_core.specs.Der.{encoding};
+ghost use Rattle.ber_core.specs.Tree.{primitive};
+
+use ber_core::{Class, Id, put_header, universal};
+use std::alloc::{AllocError, Global};
+use std::marker::Model;
+
+/// Octets in DER that grow at their end: the length of an open element is set when it closes (X.690, 10.1).
+///
+/// In contracts it is the octets that were written.
+///
+/// # Errors
+///
+/// A call that may need memory returns [`AllocError`] where memory runs out, or where the contents of an element are longer than
+/// 4,294,967,295 octets. What the buffer holds after an error is not said; [`DerBuffer::clear`] makes it usable again.
+///
+/// # Examples
+///
+/// ```
+/// // A SEQUENCE that holds the INTEGER 5: 30 03 02 01 05.
+/// let mut buffer = DerBuffer::new(alloc);
+/// let base = buffer.open(sequence)?;
+/// buffer.primitive(integer, &[5])?;
+/// buffer.close(base)?;
+/// ```
+#[derive(Debug, Drop)]
+pub struct DerBuffer {
+    octets: Vec<u8>,
+}
+
+impl Model for DerBuffer {
+    ghost use Rattle.std.specs.Prelude.{ℕ, List};
+
+    ghost Value = { List ℕ };
+
+    ghost view = { λ s. s.octets.items };
+}
+
+impl DerBuffer {
+    /// An empty buffer, which takes no memory yet.
+    pub fn new(alloc: Global) -> DerBuffer
+        ensures { result ≡ [] }
+    {
+        DerBuffer {
+            octets: Vec::new(alloc),
+        }
+    }
+
+    /// Takes all octets back, and keeps the memory.
+    pub fn clear(&mut self)
+        ensures { self.new ≡ [] }
+    {
+        self.octets.clear();
+    }
+
+    /// Takes back what was written from `base` octets on. Where `base` is beyond the end, nothing happens.
+    pub fn cut(&mut self, base: usize)
+        ensures { self.new ≡ take base self.old }
+    {
+        self.octets.truncate(base);
+    }
+
+    /// The octets that were written.
+    #[inline(always)]
+    pub fn octets(&self) -> &[u8]
+        ensures { result.now ≡ self.now }
+    {
+        self.octets.as_slice()
+    }
+
+    /// The octets that were written, in their memory.
+    pub fn into_octets(self) -> Vec<u8>
+        ensures { result.items ≡ self }
+    {
+        let DerBuffer { octets } = self;
+        octets
+    }
+
+    /// How many octets were written.
+    #[inline(always)]
+    pub fn len(&self) -> usize
+        ensures { result ≡ length self.now }
+    {
+        self.octets.len()
+    }
+
+    /// Whether no octet was written.
+    #[inline(always)]
+    pub fn is_empty(&self) -> bool
+        ensures { result ≡ nat_eq (length self.now) 0 }
+    {
+        self.octets.is_empty()
+    }
+
+    /// Appends octets as they are, as a piece of a string's contents.
+    #[inline(always)]
+    pub fn append(&mut self, octets: &[u8]) -> Result<(), AllocError>
+        ensures { OnOk result (self.new ≡ self.old ++ octets.now) }
+    {
+        self.octets.extend_from_slice(octets)
+    }
+
+    /// Begins an element: writes its identifier (X.690, 8.1.2), and one octet for the length, which [`DerBuffer::close`] sets. Returns
+    /// how many octets stand before its contents.
+    #[inline(always)]
+    pub fn open(&mut self, id: Id) -> Result<usize, AllocError>
+        ensures octets { OnOk result (self.new ≡ self.old ++ (id_octets id ++ 0 ∷ [])) }
+        ensures base { IfOk result (λ base. base ≡ length self.new) }
+    {
+        if id.number() < 31 {
+            append_short_header(&mut self.octets, id, 0)?;
+        } else {
+            append_whole(&mut self.octets, id, &[])?;
+        }
+        Ok(self.octets.len())
+    }
+
+    /// Writes a whole element: identifier, length in the fewest octets (X.690, 10.1), and these contents.
+    #[inline(always)]
+    pub fn primitive(&mut self, id: Id, content: &[u8]) -> Result<(), AllocError>
+        ensures octets { OnOk result (self.new ≡ self.old ++ (shortest_header id (length content.now) ++ content.now)) }
+        ensures encoding { form_of_id id ≡ false → OnOk result (self.new ≡ self.old ++ encoding (primitive (tag_of_id id) content.now)) }
+    {
+        if id.number() < 31 && content.len() < 128 {
+            append_short_header(&mut self.octets, id, content.len())?;
+            self.octets.extend_from_slice(content)
+        } else {
+            append_whole(&mut self.octets, id, content)
+        }
+    }
+
+    /// Ends the element whose contents began at `base`, which [`DerBuffer::open`] returned, and run to the end: sets its length, in the
+    /// fewest octets (X.690, 10.1). Where `base` is 0 or beyond the end, nothing was opened there, and nothing happens.
+    ///
+    /// Contents of 128 octets or more are moved by 1 to 4 octets.
+    #[inline(always)]
+    pub fn close(&mut self, base: usize) -> Result<(), AllocError>
+        ensures octets { 0 < base → base ≤ length self.old
+            → OnOk result (self.new ≡ take (base - 1) self.old ++ (shortest_length (length self.old - base) ++ drop base self.old)) }
+        ensures front { base ≡ 0 → (result ≡ Ok tt) × (self.new ≡ self.old) }
+        ensures beyond { length self.old < base → (result ≡ Ok tt) × (self.new ≡ self.old) }
+        ensures element { (before body : List ℕ) (tag : Tag) (form : Bool) (x : ℕ)
+            → self.old ≡ before ++ (identifier tag form ++ x ∷ body) → base ≡ length (before ++ (identifier tag form ++ x ∷ []))
+            → OnOk result (self.new ≡ before ++ (identifier tag form ++ (shortest_length (length body) ++ body))) }
+    {
+        if base == 0 || base > self.octets.len() {
+            return Ok(());
+        }
+        set_length(&mut self.octets, base)
+    }
+
+    /// Makes the octets from `base` on the contents of an element: puts its identifier and length before them, and moves them by as much.
+    /// Where `base` is beyond the end, the element is empty.
+    #[inline(never)]
+    pub fn enclose(&mut self, base: usize, id: Id) -> Result<(), AllocError>
+        ensures octets { OnOk result (self.new ≡ take base self.old ++ (shortest_header id (length self.old - base) ++ drop base self.old)) }
+        ensures element { (before body : List ℕ) → self.old ≡ before ++ body → base ≡ length before
+            → OnOk result (self.new ≡ before ++ (shortest_header id (length body) ++ body)) }
+    {
+        let base = base.min(self.octets.len());
+        let Ok(size) = u32::try_from(self.octets.len() - base) else {
+            return Err(AllocError);
+        };
+        let mut header = [0; 10];
+        let end = put_header(id, size, &mut header) as usize;
+        insert(&mut self.octets, base, &header[..end])
+    }
+}
+
+// The one octet of an identifier whose number is below 31 (X.690, 8.1.2.2 to 8.1.2.5).
+#[inline(always)]
+fn identifier_octet(id: Id) -> u8
+    requires { (tag_of_id id).number < 31 }
+    ensures { id_octets id ≡ result ∷ [] }
+{
+    let class = match id.class() {
+        Class::Universal => 0,
+        Class::Application => 64,
+        Class::Context => 128,
+        Class::Private => 192,
+    };
+    let form = if id.constructed() { 32 } else { 0 };
+    class + form + id.number() as u8
+}
+
+// A header whose identifier and length are of one octet each. Room for the contents is made at once.
+#[inline(always)]
+fn append_short_header(octets: &mut Vec<u8>, id: Id, size: usize) -> Result<(), AllocError>
+    requires number { (tag_of_id id).number < 31 }
+    requires size { size < 128 }
+    ensures { OnOk result (octets.new.items ≡ octets.old.items ++ shortest_header id size) }
+{
+    octets.reserve(size + 2)?;
+    octets.push_reserved(identifier_octet(id));
+    octets.push_reserved(size as u8);
+    Ok(())
+}
+
+// An element whose header is of any size.
+#[inline(never)]
+fn append_whole(octets: &mut Vec<u8>, id: Id, content: &[u8]) -> Result<(), AllocError>
+    ensures { OnOk result (octets.new.items ≡ octets.old.items ++ (shortest_header id (length content.now) ++ content.now)) }
+{
+    let Ok(size) = u32::try_from(content.len()) else {
+        return Err(AllocError);
+    };
+    let mut header = [0; 10];
+    let end = put_header(id, size, &mut header) as usize;
+    octets.extend_from_slice(&header[..end])?;
+    octets.extend_from_slice(content)
+}
+
+// The octet before `base` becomes the length of what follows.
+#[inline(always)]
+fn set_length(octets: &mut Vec<u8>, base: usize) -> Result<(), AllocError>
+    requires opened { 0 < base }
+    requires within { base ≤ length octets.old.items }
+    ensures { OnOk result (octets.new.items ≡ take (base - 1) octets.old.items
+        ++ (shortest_length (length octets.old.items - base) ++ drop base octets.old.items)) }
+{
+    let size = octets.len() - base;
+    if size < 128 {
+        octets[base - 1] = size as u8;
+        return Ok(());
+    }
+    set_long_length(octets, base)
+}
+
+// The same where the length may take more than one octet. It is that of a header whose identifier is of one octet.
+#[inline(never)]
+fn set_long_length(octets: &mut Vec<u8>, base: usize) -> Result<(), AllocError>
+    requires opened { 0 < base }
+    requires within { base ≤ length octets.old.items }
+    ensures { OnOk result (octets.new.items ≡ take (base - 1) octets.old.items
+        ++ (shortest_length (length octets.old.items - base) ++ drop base octets.old.items)) }
+{
+    let Ok(size) = u32::try_from(octets.len() - base) else {
+        return Err(AllocError);
+    };
+    let Some(sequence) = Id::new(Class::Universal, true, universal::SEQUENCE) else {
+        return Err(AllocError);
+    };
+    let mut header = [0; 10];
+    let end = put_header(sequence, size, &mut header) as usize;
+    octets[base - 1] = header[1];
+    insert(octets, base, &header[2..end])
+}
+
+// Puts octets before those from `at` on, which are moved.
+#[inline(never)]
+fn insert(octets: &mut Vec<u8>, at: usize, part: &[u8]) -> Result<(), AllocError>
+    requires { at ≤ length octets.old.items }
+    ensures { OnOk result (octets.new.items ≡ take at octets.old.items ++ (part.now ++ drop at octets.old.items)) }
+{
+    octets.extend_from_slice(part)?;
+    octets[at..].rotate_right(part.len());
+    Ok(())
+}

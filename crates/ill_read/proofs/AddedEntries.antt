@@ -1,0 +1,104 @@
+-- An element's content among the entries of the element round it.
+use Rattle.std.proofs.Common.{◌≡◌, ℕ, ◌+◌, List, [], ◌∷◌, ◌++◌, take, drop, map, Option, Some, refl, sym, ap, subst, ◌∙◌, inl, inr}
+use Rattle.ber_core.specs.Tree.{Tree, Trees, none, more, tag_of}
+use Rattle.ber_leaf.specs.Profile.{profile_two}
+use Rattle.ill_schema.specs.declared.node.NodeId.{NodeId}
+use Rattle.ill_schema.specs.Content.{Content}
+use Rattle.ill_schema.specs.Meaning.{Matches, MatchItems}
+use Rattle.ill_schema.specs.Table.{rows_of}
+use Rattle.ill_schema.specs.Value.{entries_of, items_of}
+use Rattle.ill_read.specs.Elements.{component_of, component_at, element_is, found_is}
+use Rattle.ill_read.specs.DueCode.{IsDueIn, IsRowDue, IsInnerDue, IsItemDue, behind}
+use Rattle.ill_read.specs.code.Drafts.{due_with, rows_before}
+use Rattle.ill_read.specs.Standing.{with_alternative, absent_content, IsValueOf, HoldsPart, IsHeld}
+use Rattle.ill_refusals.specs.code.Step.{snoc}
+use Rattle.ill_read.specs.declared.due.Due.{Due}
+use Rattle.ill_read.specs.declared.due.Next.{Next}
+use Rattle.ill_read.specs.declared.due.Next.TheVariants.{Rows, Inner, Items, Either, Segments, Nothing}
+use Rattle.ill_read.specs.declared.due.Slot.{Slot}
+use Rattle.ill_read.specs.declared.due.Slot.TheVariants.{Row as AtRow, Item, Inner as Inside, Segment as InString}
+use Rattle.ill_read.specs.declared.element.Element.{Element as CodeElement}
+use Rattle.ill_read.specs.declared.element.Element.TheVariants.{Leaf, Sequence, List as ListOf, Wrapper, LooseWrapper, Segment}
+use Rattle.ill_read.specs.declared.element.Found.{Found}
+use Rattle.ill_read.specs.declared.element.Wrapped.{Wrapped}
+use Rattle.ill_read.proofs.Entries.{row_added, item_added}
+use Rattle.ill_read.proofs.Meanings.{begun_means, row_means}
+use Rattle.ill_refusals.proofs.OpenElements.{inner_proper, row_proper}
+
+-- in the rows of a sequence
+in_row : (T : Tree) (node : NodeId) (n r : ℕ) (alt : Option ℕ) (f : Found) (c : Content) (held : List (Option Content)) (ts : Trees) → IsRowDue (tag_of T) node n r alt f → IsValueOf (found_is f) c T
+    → Matches profile_two (entries_of held) (take n (rows_of node)) ts
+    → Matches profile_two (entries_of (held ++ (map absent_content (drop n (take r (rows_of node))) ++ Some (with_alternative alt c) ∷ []))) (take (r + 1) (rows_of node)) (snoc ts T)
+in_row T node n r alt f c held ts h m k =
+    let q = row_means T node n r alt f c h m in
+    row_added node n r h.row held (with_alternative alt c) ts T h.behind h.lacking h.is_row q.0 q.1 k
+
+-- in a wrapper
+in_wrapper : (T : Tree) (w : Wrapped) (d : Due) (c : Content) → IsInnerDue (tag_of T) w d → IsValueOf (found_is d.found) c T → HoldsPart w (Some (with_alternative d.alternative c) ∷ []) (more T none)
+in_wrapper T w d c h m =
+    let q = begun_means (component_of w) d.alternative d.found c T (inner_proper profile_two (component_of w) refl refl) h.begun m in
+    (with_alternative d.alternative c, T, refl, refl, q.1)
+
+some-append : (cs : List Content) (c : Content) → map Some cs ++ Some c ∷ [] ≡ map Some (cs ++ c ∷ [])
+some-append [] c = refl
+some-append (d ∷ cs) c = ap (λ xs. Some d ∷ xs) (some-append cs c)
+
+-- in a list
+in_list : (T : Tree) (node : NodeId) (d : Due) (c : Content) (items : List Content) (ts : Trees) → IsItemDue (tag_of T) node d → IsValueOf (found_is d.found) c T
+    → MatchItems profile_two (items_of items) (rows_of node) ts → MatchItems profile_two (items_of (items ++ with_alternative d.alternative c ∷ [])) (rows_of node) (snoc ts T)
+in_list T node d c items ts h m k =
+    let q = begun_means (component_at (record { node = node; row = 0 }) h.row) d.alternative d.found c T (row_proper node 0 h.row h.is_row) h.begun m in
+    item_added items (with_alternative d.alternative c) (rows_of node) h.row ts T h.is_row q.1 k
+
+-- what an open element holds with one element more
+pub held_added : (e : CodeElement) (n : Next) (entries : List (Option Content)) (ts : Trees) (T : Tree) (slot : Slot) (alt : Option ℕ) (el : CodeElement) (c : Content)
+    → IsHeld e n entries ts → IsDueIn (tag_of T) n (due_with slot alt el) → IsValueOf (element_is el) c T
+    → IsHeld e (behind n slot) (entries ++ (map absent_content (rows_before n slot) ++ Some (with_alternative alt c) ∷ [])) (snoc ts T)
+held_added (Leaf l) Segments entries ts T slot alt el c h d m = absurd (subst (λ x. IsValueOf x c T) d.found m)
+held_added (Leaf l) _ entries ts T slot alt el c h d m = absurd h
+held_added Segment Segments entries ts T slot alt el c h d m = absurd (subst (λ x. IsValueOf x c T) d.found m)
+held_added Segment _ entries ts T slot alt el c h d m = absurd h
+held_added (Sequence node) (Rows own n) entries ts T (AtRow r) alt el c h d m = (
+  h.0,
+  subst (λ x. Matches profile_two (entries_of (entries ++ (map absent_content (drop n (take r (rows_of own))) ++ Some (with_alternative alt c) ∷ []))) (take (r + 1) (rows_of x)) (snoc ts T)) h.0
+      (in_row T own n r alt (Found.Element el) c entries ts d m (subst (λ x. Matches profile_two (entries_of entries) (take n (rows_of x)) ts) (sym h.0) h.1)),
+)
+held_added (Sequence node) (Rows own n) entries ts T _ alt el c h d m = absurd d
+held_added (Sequence node) _ entries ts T slot alt el c h d m = absurd h
+held_added (ListOf node) (Items own) entries ts T slot alt el c h d m = (
+  h.0,
+  h.1 ++ with_alternative alt c ∷ [],
+  ap (λ xs. xs ++ Some (with_alternative alt c) ∷ []) h.2 ∙ some-append h.1 (with_alternative alt c),
+  in_list T node (due_with slot alt el) c h.1 ts (subst (λ x. IsItemDue (tag_of T) x (due_with slot alt el)) h.0 d) m h.3,
+)
+held_added (ListOf node) _ entries ts T slot alt el c h d m = absurd h
+held_added (Wrapper w) (Inner own) entries ts T slot alt el c h d m =
+    let part = in_wrapper T w (due_with slot alt el) c (subst (λ x. IsInnerDue (tag_of T) x (due_with slot alt el)) h.0 d) m in
+    subst (λ us. HoldsPart w (entries ++ Some (with_alternative alt c) ∷ []) (snoc us T)) (sym h.2)
+    (subst (λ xs. HoldsPart w (xs ++ Some (with_alternative alt c) ∷ []) (more T none)) (sym h.1) part)
+held_added (Wrapper w) Nothing entries ts T slot alt el c h d m = absurd d
+held_added (Wrapper w) _ entries ts T slot alt el c h d m = absurd h
+held_added (LooseWrapper w) (Either own) entries ts T (AtRow r) alt el c h (inl d) m = absurd (let q : AtRow r ≡ Inside = d.1.slot in cc)
+held_added (LooseWrapper w) (Either own) entries ts T (AtRow r) alt el c h (inr d) m = (
+  ap (λ (x : Wrapped). x.node) h.0,
+  let same : own.node ≡ w.node = ap (λ (x : Wrapped). x.node) h.0 in
+      subst (λ xs. Matches profile_two (entries_of (xs ++ (map absent_content (drop 0 (take r (rows_of own.node))) ++ Some (with_alternative alt c) ∷ []))) (take (r + 1) (rows_of w.node)) (snoc ts T)) (sym h.1)
+      (subst (λ us. Matches profile_two (entries_of (map absent_content (drop 0 (take r (rows_of own.node))) ++ Some (with_alternative alt c) ∷ [])) (take (r + 1) (rows_of w.node)) (snoc us T)) (sym h.2)
+      (subst (λ x. Matches profile_two (entries_of (map absent_content (drop 0 (take r (rows_of own.node))) ++ Some (with_alternative alt c) ∷ [])) (take (r + 1) (rows_of x)) (snoc none T)) same
+      (in_row T own.node 0 r alt (Found.Element el) c [] none d.1 m refl))),
+)
+held_added (LooseWrapper w) (Either own) entries ts T Inside alt el c h (inl d) m =
+    let part = in_wrapper T w (due_with Inside alt el) c (subst (λ x. IsInnerDue (tag_of T) x (due_with Inside alt el)) h.0 d.1) m in
+    subst (λ us. HoldsPart w (entries ++ Some (with_alternative alt c) ∷ []) (snoc us T)) (sym h.2)
+    (subst (λ xs. HoldsPart w (xs ++ Some (with_alternative alt c) ∷ []) (more T none)) (sym h.1) part)
+held_added (LooseWrapper w) (Either own) entries ts T Item alt el c h (inl d) m = absurd (let q : Item ≡ Inside = d.1.slot in cc)
+held_added (LooseWrapper w) (Either own) entries ts T InString alt el c h (inl d) m = absurd (let q : InString ≡ Inside = d.1.slot in cc)
+held_added (LooseWrapper w) (Either own) entries ts T _ alt el c h (inr d) m = absurd d.1
+held_added (LooseWrapper w) (Rows own n) entries ts T (AtRow r) alt el c h d m = (
+  h.0,
+  subst (λ x. Matches profile_two (entries_of (entries ++ (map absent_content (drop n (take r (rows_of own))) ++ Some (with_alternative alt c) ∷ []))) (take (r + 1) (rows_of x)) (snoc ts T)) h.0
+      (in_row T own n r alt (Found.Element el) c entries ts d m (subst (λ x. Matches profile_two (entries_of entries) (take n (rows_of x)) ts) (sym h.0) h.1)),
+)
+held_added (LooseWrapper w) (Rows own n) entries ts T _ alt el c h d m = absurd d
+held_added (LooseWrapper w) Nothing entries ts T slot alt el c h d m = absurd d
+held_added (LooseWrapper w) _ entries ts T slot alt el c h d m = absurd h

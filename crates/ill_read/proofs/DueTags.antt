@@ -1,0 +1,240 @@
+-- The tags of leaves are no end mark's, and rows with a default hold leaves that are no strings.
+use Rattle.std.proofs.Common.{◌≡◌, ℕ, Bool, true, false, List, [], ◌∷◌, Option, Some, None, IsTrue, refl, sym, ap, subst, ◌∙◌, inl, inr, slice_get}
+use Rattle.std.specs.List.{list_all}
+use Rattle.ber_core.specs.Identifier.{Tag}
+use Rattle.ber_core.specs.declared.id.Class.{Class}
+use Rattle.ber_core.specs.declared.id.Class.TheVariants.{Universal}
+use Rattle.ber_leaf.specs.Leaf.{is_string}
+use Rattle.ber_leaf.specs.Profile.{profile_two}
+use Rattle.ill_schema.specs.Content.{Content, alternative}
+use Rattle.ill_schema.specs.Presence.{is_default, is_default_of}
+use Rattle.ill_schema.specs.Table.{kind_of, rows_of}
+use Rattle.ill_schema.specs.Tagging.{Tagging, untagged, implicit, explicit, explicit_or_bare, tagging, same_tag}
+use Rattle.ill_schema.specs.declared.node.Kind.{Kind}
+use Rattle.ill_schema.specs.declared.node.LeafKind.{LeafKind}
+use Rattle.ill_schema.specs.declared.node.NodeId.{NodeId}
+use Rattle.ill_schema.specs.declared.node.NodeId.TheVariants.{Boolean}
+use Rattle.ill_schema.specs.declared.part.Mode.{Mode}
+use Rattle.ill_schema.specs.declared.part.PartId.{PartId}
+use Rattle.ill_schema.specs.declared.part.Presence.{Presence}
+use Rattle.ill_schema.specs.declared.part.Row.{Row}
+use Rattle.ill_schema.proofs.Tags.{at_row}
+use Rattle.ill_refusals.specs.Element.{Component, Element, leaf, segment, Start, own_starts, retag, leave_out, tagged_starts, component_starts}
+use Rattle.ill_refusals.proofs.Rows.{same_tag-is, two_cases}
+use Rattle.ill_read.specs.Elements.{component_of, component_at, element_is, element_with}
+use Rattle.ill_read.specs.DueCode.{Begins, IsDueIn}
+use Rattle.ill_read.specs.Standing.{with_alternative}
+use Rattle.ill_read.specs.code.Drafts.{due_with}
+use Rattle.ill_read.specs.code.OctetDrafts.{left_away}
+use Rattle.ill_read.specs.declared.due.Next.{Next}
+use Rattle.ill_read.specs.declared.due.Next.TheVariants.{Rows, Inner, Items, Either, Segments, Nothing}
+use Rattle.ill_read.specs.declared.due.Slot.{Slot}
+use Rattle.ill_read.specs.declared.due.Slot.TheVariants.{Row as AtRow, Item, Inner as Inside, Segment as InString}
+use Rattle.ill_read.specs.declared.element.Element.{Element as CodeElement}
+
+-- what holds of a start where this holds of its tag and its element
+abbrev AllStarts : (Tag → Element → Type 0) → List Start → Type 0
+AllStarts P [] = Unit {0}
+AllStarts P (s ∷ ss) = P s.tag s.element × AllStarts P ss
+
+found_start : (P : Tag → Element → Type 0) (t : Tag) (ss : List Start) (e : Element) → AllStarts P ss → element_with t ss ≡ Some e → P t e
+found_start P t [] e h k = absurd cc
+found_start P t (s ∷ ss) e h k = elim (two_cases (same_tag s.tag t)) [
+  | inl y ↦
+      let is : s.element ≡ e = (let q : element_with t (s ∷ ss) ≡ Some s.element = rw y refl in let r : Some s.element ≡ Some e = sym q ∙ k in cc) in
+      let tag : s.tag ≡ t = same_tag-is s.tag t y in
+      subst (P t) is (subst (λ x. P x s.element) tag h.0)
+  | inr n ↦ found_start P t ss e h.1 (let q : element_with t (s ∷ ss) ≡ element_with t ss = rw n refl in sym q ∙ k)
+]
+
+-- a leaf's tag is no end mark's
+abbrev NoEnd : Tag → Element → Type 0
+NoEnd t e = t.class ≡ Universal → t.number ≡ 0 → ⊥
+
+own_apart : (k : Kind) (node : NodeId) → AllStarts NoEnd (own_starts k node)
+own_apart Kind.Seq node = (λ c n. cc, tt)
+own_apart Kind.SeqOf node = (λ c n. cc, tt)
+own_apart Kind.Choice node = tt
+own_apart (Kind.Leaf LeafKind.Boolean) node = (λ c n. cc, tt)
+own_apart (Kind.Leaf LeafKind.Integer) node = (λ c n. cc, tt)
+own_apart (Kind.Leaf LeafKind.Enumerated) node = (λ c n. cc, tt)
+own_apart (Kind.Leaf LeafKind.Date) node = (λ c n. cc, tt)
+own_apart (Kind.Leaf LeafKind.Time) node = (λ c n. cc, tt)
+own_apart (Kind.Leaf LeafKind.Printable) node = (λ c n. cc, tt)
+own_apart Kind.IllString node = (λ c n. cc, (λ c n. cc, tt))
+
+retag_apart : (t : Tag) (ss : List Start) → (t.class ≡ Universal → t.number ≡ 0 → ⊥) → AllStarts NoEnd (retag t ss)
+retag_apart t [] h = tt
+retag_apart t (s ∷ ss) h = (h, retag_apart t ss h)
+
+left_apart : (part : PartId) (ss : List Start) → AllStarts NoEnd ss → AllStarts NoEnd (leave_out part ss)
+left_apart part [] h = tt
+left_apart part (s ∷ ss) h = (h.0, left_apart part ss h.1)
+
+abbrev TaggingApart : Tagging → Type 0
+TaggingApart untagged = Unit {0}
+TaggingApart (implicit t) = t.class ≡ Universal → t.number ≡ 0 → ⊥
+TaggingApart (explicit t) = t.class ≡ Universal → t.number ≡ 0 → ⊥
+TaggingApart (explicit_or_bare t) = t.class ≡ Universal → t.number ≡ 0 → ⊥
+
+tagged_apart : (g : Tagging) (c : Component) → TaggingApart g → AllStarts NoEnd (tagged_starts g c)
+tagged_apart untagged c h = own_apart (kind_of c.node) c.node
+tagged_apart (implicit t) c h = retag_apart t _ h
+tagged_apart (explicit t) c h = (h, tt)
+tagged_apart (explicit_or_bare t) c h = (h, tt)
+
+component_apart : (c : Component) → TaggingApart c.tagging → AllStarts NoEnd (component_starts c)
+component_apart c h = go c.presence
+  where
+    go : (pr : Presence) → AllStarts NoEnd (elim pr as (λ _. List Start) [ Presence.LeftOut ↦ leave_out c.part (tagged_starts c.tagging c) | _ ↦ tagged_starts c.tagging c ])
+    go Presence.Must = tagged_apart c.tagging c h
+    go Presence.May = tagged_apart c.tagging c h
+    go (Presence.Default d) = tagged_apart c.tagging c h
+    go Presence.LeftOut = left_apart c.part _ (tagged_apart c.tagging c h)
+
+abbrev is_universal : Class → Bool
+is_universal Class.Universal = true
+is_universal _ = false
+
+-- no row's tag is universal, and a row with a default has an implicit tag on what is no string
+abbrev is_plain : Presence → Mode → Kind → Bool
+is_plain (Presence.Default d) Mode.Implicit (Kind.Leaf LeafKind.Boolean) = true
+is_plain (Presence.Default d) Mode.Implicit (Kind.Leaf LeafKind.Integer) = true
+is_plain (Presence.Default d) Mode.Implicit (Kind.Leaf LeafKind.Enumerated) = true
+is_plain (Presence.Default d) _ _ = false
+is_plain _ _ _ = true
+
+abbrev is_apart : Row → Bool
+is_apart row = elim row.tag as (λ _. Bool) [ None ↦ true | Some t ↦ elim (is_universal t.0) as (λ _. Bool) [ true ↦ false | false ↦ true ] ]
+
+abbrev has_plain_default : Row → Bool
+has_plain_default row = elim row.tag as (λ _. Bool) [ None ↦ elim row.presence as (λ _. Bool) [ Presence.Default d ↦ false | _ ↦ true ] | Some t ↦ is_plain row.presence row.mode (kind_of row.node) ]
+
+all_apart : (node : NodeId) → IsTrue (list_all is_apart (rows_of node))
+all_apart Boolean = refl
+all_apart _ = refl
+
+all_plain : (node : NodeId) → IsTrue (list_all has_plain_default (rows_of node))
+all_plain Boolean = refl
+all_plain _ = refl
+
+apart : (c : Class) → (elim (is_universal c) as (λ _. Bool) [ true ↦ false | false ↦ true ]) ≡ true → c ≡ Universal → ⊥
+apart c h e = let q : (elim (is_universal Universal) as (λ _. Bool) [ true ↦ false | false ↦ true ]) ≡ true = subst (λ x. (elim (is_universal x) as (λ _. Bool) [ true ↦ false | false ↦ true ]) ≡ true) e h in cc
+
+row_apart : (tag : Option (Class × ℕ)) (m : Mode) (pr : Presence) (node : NodeId) → IsTrue (is_apart (record { tag = tag; mode = m; presence = pr; node = node }))
+    → TaggingApart (tagging profile_two (record { tag = tag; mode = m; presence = pr; node = node }))
+row_apart None m pr node h = tt
+row_apart (Some t) Mode.Untagged pr node h = tt
+row_apart (Some t) Mode.Implicit pr node h = λ c n. (let q : (elim (is_universal t.0) as (λ _. Bool) [ true ↦ false | false ↦ true ]) ≡ true = h in apart t.0 q c)
+row_apart (Some t) Mode.Explicit pr node h = λ c n. (let q : (elim (is_universal t.0) as (λ _. Bool) [ true ↦ false | false ↦ true ]) ≡ true = h in apart t.0 q c)
+row_apart (Some t) Mode.ExplicitOrBare pr node h = λ c n. (let q : (elim (is_universal t.0) as (λ _. Bool) [ true ↦ false | false ↦ true ]) ≡ true = h in apart t.0 q c)
+
+at_apart : (node : NodeId) (n : ℕ) (row : Row) → slice_get (rows_of node) n ≡ Some row → TaggingApart (tagging profile_two row)
+at_apart node n row e = row_apart row.tag row.mode row.presence row.node (at_row is_apart (rows_of node) n row (all_apart node) e)
+
+begins_apart : (t : Tag) (c : Component) (alt : Option ℕ) (e : Element) → TaggingApart c.tagging → Begins t c alt e → NoEnd t e
+begins_apart t c None e h b = found_start NoEnd t (component_starts c) e (component_apart c h) b
+begins_apart t c (Some n) e h b = found_start NoEnd t _ e (component_apart (component_at (record { node = c.node; row = n }) b.2.0) (at_apart c.node n b.2.0 b.2.1)) b.2.2
+
+-- the tag of what is due, but of a segment
+pub due_apart : (t : Tag) (n : Next) (slot : Slot) (alt : Option ℕ) (el : CodeElement) → IsDueIn t n (due_with slot alt el) → (element_is el ≡ segment → ⊥) → t.class ≡ Universal → t.number ≡ 0 → ⊥
+due_apart t (Rows node k) (AtRow r) alt el d s = begins_apart t _ alt (element_is el) (at_apart node r d.row d.is_row) d.begins
+due_apart t (Rows node k) _ alt el d s = absurd d
+due_apart t (Inner w) slot alt el d s = begins_apart t (component_of w) alt (element_is el) tt d.begun.begins
+due_apart t (Items node) slot alt el d s = begins_apart t _ alt (element_is el) (at_apart node 0 d.row d.is_row) d.begun.begins
+due_apart t (Either w) slot alt el (inl d) s = begins_apart t (component_of w) alt (element_is el) tt d.1.begun.begins
+due_apart t (Either w) (AtRow r) alt el (inr d) s = begins_apart t _ alt (element_is el) (at_apart w.node r d.1.row d.1.is_row) d.1.begins
+due_apart t (Either w) _ alt el (inr d) s = absurd d.1
+due_apart t Segments slot alt el d s = absurd (s d.found)
+due_apart t Nothing slot alt el d s = absurd d
+
+-- an element that may be constructed
+abbrev pub MayOpen : Element → Type 0
+MayOpen (leaf l) = IsTrue (is_string l)
+MayOpen _ = Unit {0}
+
+-- is no leaf of the kinds that have defaults
+abbrev PlainLeaf : Tag → Element → Type 0
+PlainLeaf t e = MayOpen e → ⊥
+
+plain_own : (d : _) (k : Kind) (node : NodeId) → IsTrue (is_plain (Presence.Default d) Mode.Implicit k) → AllStarts PlainLeaf (own_starts k node)
+plain_own d (Kind.Leaf LeafKind.Boolean) node h = (λ m. cc, tt)
+plain_own d (Kind.Leaf LeafKind.Integer) node h = (λ m. cc, tt)
+plain_own d (Kind.Leaf LeafKind.Enumerated) node h = (λ m. cc, tt)
+plain_own d Kind.Seq node h = absurd cc
+plain_own d Kind.SeqOf node h = absurd cc
+plain_own d Kind.Choice node h = absurd cc
+plain_own d Kind.IllString node h = absurd cc
+plain_own d (Kind.Leaf LeafKind.Date) node h = absurd cc
+plain_own d (Kind.Leaf LeafKind.Time) node h = absurd cc
+plain_own d (Kind.Leaf LeafKind.Printable) node h = absurd cc
+
+plain_retag : (t : Tag) (ss : List Start) → AllStarts PlainLeaf ss → AllStarts PlainLeaf (retag t ss)
+plain_retag t [] h = tt
+plain_retag t (s ∷ ss) h = (h.0, plain_retag t ss h.1)
+
+plain_row : (tag : Option (Class × ℕ)) (m : Mode) (d : _) (node : NodeId) (part : PartId) → IsTrue (has_plain_default (record { tag = tag; mode = m; presence = Presence.Default d; node = node }))
+    → AllStarts PlainLeaf (component_starts (component_at part (record { tag = tag; mode = m; presence = Presence.Default d; node = node })))
+plain_row None m d node part h = absurd cc
+plain_row (Some t) Mode.Implicit d node part h = plain_retag _ _ (plain_own d (kind_of node) node h)
+plain_row (Some t) Mode.Explicit d node part h = absurd (never (kind_of node) h)
+  where
+    never : (k : Kind) → IsTrue (is_plain (Presence.Default d) Mode.Explicit k) → ⊥
+    never Kind.Seq h = cc
+    never _ h = cc
+plain_row (Some t) Mode.ExplicitOrBare d node part h = absurd (never (kind_of node) h)
+  where
+    never : (k : Kind) → IsTrue (is_plain (Presence.Default d) Mode.ExplicitOrBare k) → ⊥
+    never Kind.Seq h = cc
+    never _ h = cc
+plain_row (Some t) Mode.Untagged d node part h = absurd (never (kind_of node) h)
+  where
+    never : (k : Kind) → IsTrue (is_plain (Presence.Default d) Mode.Untagged k) → ⊥
+    never Kind.Seq h = cc
+    never _ h = cc
+
+-- what may be constructed is no default
+row_kept : (node : NodeId) (r : ℕ) (row : Row) (t : Tag) (alt : Option ℕ) (e : Element) (c : Content) → slice_get (rows_of node) r ≡ Some row → Begins t (component_at (record { node = node; row = r }) row) alt e → MayOpen e
+    → is_default row (with_alternative alt c) ≡ false
+row_kept node r row t (Some n) e c is b m = go row.presence
+  where
+    go : (pr : Presence) → is_default_of pr (kind_of row.node) (alternative n c) ≡ false
+    go Presence.Must = refl
+    go Presence.May = refl
+    go Presence.LeftOut = refl
+    go (Presence.Default d) = refl
+row_kept node r row t None e c is b m = go row.presence refl
+  where
+    as_row : (pr : Presence) → row.presence ≡ pr → row ≡ record { tag = row.tag; mode = row.mode; presence = pr; node = row.node }
+    as_row pr q = ap (λ x. let y : Row = record { tag = row.tag; mode = row.mode; presence = x; node = row.node } in y) q
+
+    go : (pr : Presence) → row.presence ≡ pr → is_default_of row.presence (kind_of row.node) c ≡ false
+    go Presence.Must q = ap (λ x. is_default_of x (kind_of row.node) c) q
+    go Presence.May q = ap (λ x. is_default_of x (kind_of row.node) c) q
+    go Presence.LeftOut q = ap (λ x. is_default_of x (kind_of row.node) c) q
+    go (Presence.Default d) q =
+        let same = as_row (Presence.Default d) q in
+        let plain = subst (λ x. IsTrue (has_plain_default x)) same (at_row has_plain_default (rows_of node) r row (all_plain node) is) in
+        let starts = plain_row row.tag row.mode d row.node (record { node = node; row = r }) plain in
+        let here = subst (λ x. element_with t (component_starts (component_at (record { node = node; row = r }) x)) ≡ Some e) same b in
+        absurd (found_start PlainLeaf t _ e starts here m)
+
+-- what may be constructed has octets
+pub kept : (t : Tag) (n : Next) (slot : Slot) (alt : Option ℕ) (el : CodeElement) (c : Content) → IsDueIn t n (due_with slot alt el) → MayOpen (element_is el) → left_away n slot (with_alternative alt c) ≡ false
+kept t (Rows node k) (AtRow r) alt el c d m = at_slot (slice_get (rows_of node) r) d.is_row (row_kept node r d.row t alt (element_is el) c d.is_row d.begins m)
+  where
+    at_slot : (o : Option Row) → o ≡ Some d.row → is_default d.row (with_alternative alt c) ≡ false → (elim o as (λ _. Bool) [ Some row ↦ is_default row (with_alternative alt c) | None ↦ false ]) ≡ false
+    at_slot o e h = ap (λ x. elim x as (λ _. Bool) [ Some row ↦ is_default row (with_alternative alt c) | None ↦ false ]) e ∙ h
+kept t (Rows node k) _ alt el c d m = absurd d
+kept t (Either w) (AtRow r) alt el c (inr d) m = at_slot (slice_get (rows_of w.node) r) d.1.is_row (row_kept w.node r d.1.row t alt (element_is el) c d.1.is_row d.1.begins m)
+  where
+    at_slot : (o : Option Row) → o ≡ Some d.1.row → is_default d.1.row (with_alternative alt c) ≡ false → (elim o as (λ _. Bool) [ Some row ↦ is_default row (with_alternative alt c) | None ↦ false ]) ≡ false
+    at_slot o e h = ap (λ x. elim x as (λ _. Bool) [ Some row ↦ is_default row (with_alternative alt c) | None ↦ false ]) e ∙ h
+kept t (Either w) (AtRow r) alt el c (inl d) m = absurd (let q : AtRow r ≡ Inside = d.1.slot in cc)
+kept t (Either w) Item alt el c d m = refl
+kept t (Either w) Inside alt el c d m = refl
+kept t (Either w) InString alt el c d m = refl
+kept t (Inner w) slot alt el c d m = refl
+kept t (Items node) slot alt el c d m = refl
+kept t Segments slot alt el c d m = refl
+kept t Nothing slot alt el c d m = refl

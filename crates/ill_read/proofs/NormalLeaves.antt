@@ -1,0 +1,29 @@
+-- The normal content of a leaf that was read.
+use Rattle.std.proofs.Common.{◌≡◌, ℕ, zero, suc, false, List, [], ◌∷◌, None, IsTrue, refl, arith}
+use Rattle.std.specs.Prelude.{nat_eq, if◌then◌else◌}
+use Rattle.ber_core.specs.Octets.{are_octets}
+use Rattle.ber_leaf.specs.Leaf.{Leaf, boolean, integer, enumerated, general_string, visible_string, printable_string, iso_date, iso_time, value, normal_content, content_fault}
+use Rattle.ber_leaf.specs.Profile.{Profile}
+use Rattle.ber_leaf.proofs.Integers.{integer_same}
+
+-- any content but that of a boolean is normal
+pub normal_as_read : (p : Profile) (l : Leaf) (o : List ℕ) → (l ≡ boolean → ⊥) → IsTrue (are_octets o) → content_fault p l o ≡ None → normal_content (value l o) ≡ o
+normal_as_read p boolean o n h e = absurd (n refl)
+normal_as_read p integer o n h e = integer_same o h p e
+normal_as_read p enumerated o n h e = integer_same o h p e
+normal_as_read p general_string o n h e = refl
+normal_as_read p visible_string o n h e = refl
+normal_as_read p printable_string o n h e = refl
+normal_as_read p iso_date o n h e = refl
+normal_as_read p iso_time o n h e = refl
+
+-- a boolean's content is one octet, and its normal content is 00 or FF as that is 0 or not
+pub normal_boolean : (p : Profile) (o : List ℕ) → content_fault p boolean o ≡ None
+    → (a : ℕ) × (o ≡ a ∷ []) × (normal_content (value boolean o) ≡ (if nat_eq a 0 then 0 ∷ [] else 0xFF ∷ []))
+normal_boolean p [] e = absurd cc
+normal_boolean p (zero ∷ []) e = (zero, refl, refl)
+normal_boolean p (suc a ∷ []) e =
+    let left : nat_eq 0 (suc a) ≡ false = grind arith in
+    let right : nat_eq (suc a) 0 ≡ false = grind arith in
+    (suc a, refl, rw (left, right) refl)
+normal_boolean p (a ∷ b ∷ o) e = absurd (grind arith)

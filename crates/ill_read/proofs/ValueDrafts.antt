@@ -1,0 +1,203 @@
+-- The values that a draft holds, as elements open, are read and end.
+use Rattle.std.proofs.Common.{◌≡◌, ℕ, List, [], ◌∷◌, ◌++◌, length, map, append_assoc, append-nil, Option, Some, None, Ok, Err, IsTrue, refl, sym, ap, ap₂, subst, ◌∙◌, option_map}
+use Rattle.std.proofs.lemmas.List.{map-append}
+use Rattle.ber_core.specs.Id.{tag_of_id}
+use Rattle.ber_core.specs.Identifier.{Tag}
+use Rattle.ber_core.specs.Octets.{are_octets}
+use Rattle.ber_core.specs.Tree.{Trees}
+use Rattle.ber_leaf.specs.Leaf.{value, content_fault}
+use Rattle.ber_leaf.specs.Profile.{profile_two}
+use Rattle.ber_leaf.specs.declared.fault.LeafFault.{LeafFault}
+use Rattle.ill_schema.specs.Causes.{cause_of}
+use Rattle.ill_schema.specs.Content.{Content, simple, alternative}
+use Rattle.ill_schema.specs.Content as content
+use Rattle.ill_schema.specs.Value.{content_of, entries_of, items_of}
+use Rattle.ill_schema.specs.declared.node.NodeId.{NodeId}
+use Rattle.ill_schema.specs.declared.refusal.Refusal.{Refusal}
+use Rattle.ill_schema.specs.declared.value.Value.{Value}
+use Rattle.ill_refusals.specs.Fault.{fault, element_fault, fault_of}
+use Rattle.ill_read.specs.Elements.{element_is}
+use Rattle.ill_read.specs.LeafTypes.{leaf_is}
+use Rattle.ill_read.specs.code.Drafts.{HasOpened, IsContentOf, IsRightText, first_of, rows_before, rows_left, with_entry}
+use Rattle.ill_read.specs.code.Held.{EndsExactly, HasAdded, IsFound, IsLast, IsList, IsSequence}
+use Rattle.ill_read.specs.Standing.{Level, level_of, whole_level, absent_content, AreHeld, AreValues, IsHeld}
+use Rattle.ill_read.specs.declared.due.Next.{Next}
+use Rattle.ill_read.specs.declared.due.Next.TheVariants.{Rows, Inner, Items, Either, Segments, Nothing}
+use Rattle.ill_read.specs.declared.due.Slot.{Slot}
+use Rattle.ill_read.specs.declared.element.Element.{Element as CodeElement}
+use Rattle.ill_read.specs.declared.element.Element.TheVariants.{Leaf, Sequence, List as ListOf, Wrapper, LooseWrapper, Segment}
+use Rattle.ill_read.specs.declared.element.Wrapped.{Wrapped}
+use Rattle.ill_read.specs.declared.failure.Failure.{Failure}
+use Rattle.ill_read.specs.declared.frame.Frame.{Frame}
+use Rattle.ill_read.specs.declared.judge.Opening.{Opening}
+use Rattle.ill_read.specs.declared.leaf_type.LeafType.{LeafType}
+use Rattle.ill_read.specs.declared.values.Values.{Values}
+
+-- an element that opens has no entries
+pub values_opened : (v : Values) (opening : Opening) (base : ℕ) → base ≡ length v.held.entries.items → HasOpened AreValues v opening base v
+values_opened v opening base e levels text h apart = go opening.element
+  where
+    l : Level
+    l = record { element = opening.element; tag = tag_of_id opening.id; next = first_of opening.element; base = base; entries = [] }
+
+    more : AreValues v (l ∷ levels) text
+    more = record { held = (v.held.entries.items, [], sym (append-nil v.held.entries.items), e, refl, h.held); text = h.text }
+
+    go : (x : CodeElement) → AreValues v (elim x as (λ _. List Level) [ Segment ↦ levels | _ ↦ l ∷ levels ]) text
+    go Segment = h
+    go (Leaf x) = more
+    go (Sequence node) = more
+    go (ListOf node) = more
+    go (Wrapper w) = more
+    go (LooseWrapper w) = more
+
+-- an element's value is one entry more
+pub values_added : (old new : Values) (l : Level) (below : List Level) (next : Next) (slot : Slot) (v : Value) (c : Content) → AreHeld (l ∷ below) old.held.entries.items → l.next ≡ next
+    → content_of v ≡ c → HasAdded (rows_before next slot) v old.held.entries.items new.held.entries.items → new.text.items ≡ [] → AreValues new (with_entry l slot c ∷ below) []
+values_added old new l below next slot v c h e is added text =
+    let f : Option Value → Option Content = option_map content_of in
+    let more = added.entries ++ Some v ∷ [] in
+    let passed : map f more ≡ map absent_content (rows_before l.next slot) ++ Some c ∷ [] =
+    map-append f added.entries (Some v ∷ []) ∙ ap₂ (λ (xs : List (Option Content)) (x : Content). xs ++ Some x ∷ []) (added.are ∙ ap (λ n. map absent_content (rows_before n slot)) (sym e)) is in
+    record {
+      held = (
+        h.0,
+        h.1 ++ more,
+        added.added ∙ ap (λ xs. xs ++ more) h.2 ∙ append_assoc h.0 h.1 more,
+        h.3,
+        map-append f h.1 more ∙ ap₂ (λ (xs ys : List (Option Content)). xs ++ ys) h.4 passed,
+        h.5,
+      );
+      text = text;
+    }
+
+-- the entries that were taken leave those below
+left : (new : Values) (below : List Level) (under : List (Option Value)) → AreHeld below under → new.held.entries.items ≡ under → new.text.items ≡ [] → AreValues new below []
+left new below under h e text = record { held = subst (AreHeld below) (sym e) h; text = text }
+
+sequence_left : (old new : Values) (f : Frame) (tag : Tag) (entries : List (Option Content)) (below : List Level) (text : List ℕ) (v : Value) (c : Content)
+    → AreValues old (level_of f tag entries ∷ below) text → IsSequence (rows_left f.next) f.base v old.held.entries.items new.held.entries.items → new.text.items ≡ old.text.items
+    → text ≡ [] → c ≡ content.sequence (entries_of (entries ++ map absent_content (rows_left f.next))) → (content_of v ≡ c) × AreValues new below []
+sequence_left old new f tag entries below text v c h s same empty is =
+    let g : Option Value → Option Content = option_map content_of in
+    let x = h.held in
+    let taken = s.is x.0 x.1 x.2 (sym x.3) in
+    let all : map g (x.1 ++ s.entries) ≡ entries ++ map absent_content (rows_left f.next) = map-append g x.1 s.entries ∙ ap₂ (λ (xs ys : List (Option Content)). xs ++ ys) x.4 s.are in
+    (taken.1 ∙ ap (λ es. content.sequence (entries_of es)) all ∙ sym is, left new below x.0 x.5 taken.0 (same ∙ h.text ∙ empty))
+
+pub sequence_ends : (old new : Values) (f : Frame) (v : Value) (node : NodeId) → f.element ≡ Sequence node → IsSequence (rows_left f.next) f.base v old.held.entries.items new.held.entries.items
+    → new.text.items ≡ old.text.items → EndsExactly old f new (Ok (Some v))
+sequence_ends old new f v node is s same tag entries below text h =
+    subst (λ x. IsRightText x text × ((trees : Trees) (c : Content) → IsHeld x f.next entries trees → IsContentOf x f.next entries text c → IsFound (Some v) c × AreValues new below [])) (sym is)
+    (tt, λ trees c held k. sequence_left old new f tag entries below text v c h s same k.0 k.1)
+
+loose_content : (w : Wrapped) (n : Next) (entries : List (Option Content)) (text : List ℕ) (c : Content) → (n ≡ Nothing → ⊥) → IsContentOf (LooseWrapper w) n entries text c
+    → (text ≡ []) × (c ≡ content.sequence (entries_of (entries ++ map absent_content (rows_left n))))
+loose_content w Nothing entries text c apart k = absurd (apart refl)
+loose_content w (Rows node n) entries text c apart k = k
+loose_content w (Inner x) entries text c apart k = k
+loose_content w (Items node) entries text c apart k = k
+loose_content w (Either x) entries text c apart k = k
+loose_content w Segments entries text c apart k = k
+
+pub loose_ends : (old new : Values) (f : Frame) (v : Value) (w : Wrapped) → f.element ≡ LooseWrapper w → (f.next ≡ Nothing → ⊥)
+    → IsSequence (rows_left f.next) f.base v old.held.entries.items new.held.entries.items → new.text.items ≡ old.text.items → EndsExactly old f new (Ok (Some v))
+loose_ends old new f v w is apart s same tag entries below text h =
+    subst (λ x. IsRightText x text × ((trees : Trees) (c : Content) → IsHeld x f.next entries trees → IsContentOf x f.next entries text c → IsFound (Some v) c × AreValues new below [])) (sym is)
+    (tt, λ trees c held k. let q = loose_content w f.next entries text c apart k in sequence_left old new f tag entries below text v c h s same q.0 q.1)
+
+-- entries that are all there are values
+all_there : (es : List (Option Value)) (cs : List Content) → map (option_map content_of) es ≡ map Some cs → (vs : List Value) × (es ≡ map Some vs) × (map content_of vs ≡ cs)
+all_there [] [] e = ([], refl, refl)
+all_there [] (c ∷ cs) e = absurd cc
+all_there (x ∷ es) [] e = absurd cc
+all_there (None ∷ es) (c ∷ cs) e = absurd cc
+all_there (Some v ∷ es) (c ∷ cs) e =
+    let r = all_there es cs (let q : map (option_map content_of) es ≡ map Some cs = cc in q) in
+    let is : content_of v ≡ c = cc in
+    (v ∷ r.0, ap (λ xs. Some v ∷ xs) r.1, ap₂ (λ (x : Content) (xs : List Content). x ∷ xs) is r.2)
+
+pub list_ends : (old new : Values) (f : Frame) (v : Value) (node : NodeId) → f.element ≡ ListOf node → IsList f.base v old.held.entries.items new.held.entries.items → new.text.items ≡ old.text.items
+    → EndsExactly old f new (Ok (Some v))
+list_ends old new f v node is s same tag entries below text h =
+    subst (λ x. IsRightText x text × ((trees : Trees) (c : Content) → IsHeld x f.next entries trees → IsContentOf x f.next entries text c → IsFound (Some v) c × AreValues new below [])) (sym is) (
+      tt,
+      λ trees c held k.
+          let x = h.held in
+          let there = all_there x.1 k.1 (x.4 ∙ k.2) in
+          let taken = s x.0 there.0 (x.2 ∙ ap (λ xs. x.0 ++ xs) there.1) (sym x.3) in
+          (taken.1 ∙ ap (λ cs. content.list (items_of cs)) there.2 ∙ sym k.3, left new below x.0 x.5 taken.0 (same ∙ h.text ∙ k.0)),
+    )
+
+-- the one entry is a value
+one_there : (es : List (Option Value)) (c : Content) → map (option_map content_of) es ≡ Some c ∷ [] → (v : Value) × (es ≡ Some v ∷ []) × (content_of v ≡ c)
+one_there [] c e = absurd cc
+one_there (None ∷ es) c e = absurd cc
+one_there (Some v ∷ []) c e = (v, refl, let q : content_of v ≡ c = cc in q)
+one_there (Some v ∷ x ∷ es) c e = absurd cc
+
+last_left : (old new : Values) (f : Frame) (tag : Tag) (entries : List (Option Content)) (below : List Level) (text : List ℕ) (found : Option Value) (c : Content)
+    → AreValues old (level_of f tag entries ∷ below) text → IsLast found old.held.entries.items new.held.entries.items → new.text.items ≡ old.text.items → text ≡ [] → entries ≡ Some c ∷ []
+    → IsFound found c × AreValues new below []
+last_left old new f tag entries below text found c h s same empty is =
+    let x = h.held in
+    let there = one_there x.1 c (x.4 ∙ is) in
+    let taken = s x.0 (Some there.0) (x.2 ∙ ap (λ xs. x.0 ++ xs) there.1) in
+    (subst (λ y. IsFound y c) (sym taken.0) there.2, left new below x.0 x.5 taken.1 (same ∙ h.text ∙ empty))
+
+pub wrapper_ends : (old new : Values) (f : Frame) (found : Option Value) (w : Wrapped) → f.element ≡ Wrapper w → IsLast found old.held.entries.items new.held.entries.items
+    → new.text.items ≡ old.text.items → EndsExactly old f new (Ok found)
+wrapper_ends old new f found w is s same tag entries below text h =
+    subst (λ x. IsRightText x text × ((trees : Trees) (c : Content) → IsHeld x f.next entries trees → IsContentOf x f.next entries text c → IsFound found c × AreValues new below [])) (sym is)
+    (tt, λ trees c held k. last_left old new f tag entries below text found c h s same k.0 k.1)
+
+pub loose_wrapper_ends : (old new : Values) (f : Frame) (found : Option Value) (w : Wrapped) → f.element ≡ LooseWrapper w → f.next ≡ Nothing
+    → IsLast found old.held.entries.items new.held.entries.items → new.text.items ≡ old.text.items → EndsExactly old f new (Ok found)
+loose_wrapper_ends old new f found w is nothing s same tag entries below text h =
+    subst (λ x. IsRightText x text × ((trees : Trees) (c : Content) → IsHeld x f.next entries trees → IsContentOf x f.next entries text c → IsFound found c × AreValues new below [])) (sym is) (
+      tt,
+      λ trees c held k.
+          let q : (text ≡ []) × (entries ≡ Some c ∷ []) = subst (λ n. IsContentOf (LooseWrapper w) n entries text c) nothing k in
+          last_left old new f tag entries below text found c h s same q.0 q.1,
+    )
+
+-- a string has no entries
+string_none : (l : LeafType) (n : Next) (entries : List (Option Content)) (ts : Trees) → IsHeld (Leaf l) n entries ts → entries ≡ []
+string_none l Segments entries ts h = h.1
+string_none l _ entries ts h = absurd h
+
+no_entries : (es : List (Option Value)) (entries : List (Option Content)) → map (option_map content_of) es ≡ entries → entries ≡ [] → es ≡ []
+no_entries [] entries e n = refl
+no_entries (x ∷ es) entries e n = absurd (let q : map (option_map content_of) (x ∷ es) ≡ [] = e ∙ n in cc)
+
+pub string_ends : (old new : Values) (f : Frame) (v : Value) (l : LeafType) (octets : List ℕ) → f.element ≡ Leaf l → octets ≡ old.text.items → IsTrue (are_octets octets)
+    → content_fault profile_two (leaf_is l) octets ≡ None → content_of v ≡ simple (value (leaf_is l) octets) → new.held.entries.items ≡ old.held.entries.items → new.text.items ≡ []
+    → EndsExactly old f new (Ok (Some v))
+string_ends old new f v l octets is same ok right value_is kept empty tag entries below text h =
+    let joined : octets ≡ text = same ∙ h.text in
+    subst (λ x. IsRightText x text × ((trees : Trees) (c : Content) → IsHeld x f.next entries trees → IsContentOf x f.next entries text c → IsFound (Some v) c × AreValues new below [])) (sym is) (
+      (subst (λ o. IsTrue (are_octets o)) joined ok, subst (λ o. content_fault profile_two (leaf_is l) o ≡ None) joined right),
+      λ trees c held k.
+          let x = h.held in
+          let none = no_entries x.1 entries x.4 (string_none l f.next entries trees held) in
+          (value_is ∙ ap (λ o. simple (value (leaf_is l) o)) joined ∙ sym k, left new below x.0 x.5 (kept ∙ x.2 ∙ ap (λ xs. x.0 ++ xs) none ∙ append-nil x.0) empty),
+    )
+
+pub string_fails : (old new : Values) (f : Frame) (l : LeafType) (octets : List ℕ) (wrong : LeafFault) (r : Refusal) → f.element ≡ Leaf l → octets ≡ old.text.items
+    → content_fault profile_two (leaf_is l) octets ≡ Some wrong → fault (cause_of wrong) f.start ≡ fault_of r → EndsExactly old f new (Err (Failure.Refused r))
+string_fails old new f l octets wrong r is same e at tag entries below text h =
+    (wrong, ap (λ x. element_fault profile_two (element_is x) text) is ∙ ap (content_fault profile_two (leaf_is l)) (sym (same ∙ h.text)) ∙ e, at)
+
+pub segment_ends : (old new : Values) (f : Frame) → f.element ≡ Segment → EndsExactly old f new (Ok None)
+segment_ends old new f is tag entries below text h =
+    subst (λ x. IsRightText x text × ((trees : Trees) (c : Content) → IsHeld x f.next entries trees → IsContentOf x f.next entries text c → IsFound None c × AreValues new below [])) (sym is)
+    (tt, λ trees c held k. absurd k)
+
+-- the value of a message
+pub body_there : (old new : Values) (found : Option Value) (c : Content) → AreValues old (whole_level c ∷ []) [] → IsLast found old.held.entries.items new.held.entries.items
+    → (v : Value) × (found ≡ Some v) × (content_of v ≡ c)
+body_there old new found c h s =
+    let x = h.held in
+    let there = one_there x.1 c x.4 in
+    let taken = s x.0 (Some there.0) (x.2 ∙ ap (λ xs. x.0 ++ xs) there.1) in
+    (there.0, taken.0, there.2)

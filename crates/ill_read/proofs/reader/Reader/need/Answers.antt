@@ -1,0 +1,40 @@
+use Rattle.std.proofs.Common.{◌≡◌, ◌≤◌, ℕ, List, length, take, ap, subst, ◌∙◌, arith}
+use Rattle.std.proofs.lemmas.List.{take_all}
+use Rattle.ill_read.specs.Standing.{HoldsAt, Level, StandsAt, StandsLast}
+use Rattle.ill_read.specs.Need.{IsNeed}
+use Rattle.ill_read.specs.declared.path.Path.{Path}
+use Rattle.ill_read.specs.declared.reader.Reader.{Reader}
+use Rattle.ill_read.proofs.NeededOctets.{few, needs_after, need_open, need_at_least}
+use Rattle.ill_read.proofs.reader.Reader.need.Goals as goal
+
+-- The frames of a path stand where it does.
+abbrev frames_stand : {D : Type 0} (holds : D → List Level → List ℕ → Type 0) (path : Path D) (at : ℕ) (s rest : List ℕ) → StandsLast (HoldsAt holds path) at s rest → StandsLast (StandsAt path.frames) at s rest
+frames_stand holds path at s rest l =
+    let b = l.0 in
+    (record { place = b.place; before = b.before; joined = b.joined; octets = b.octets; offset = b.offset; stands = (b.stands.0, b.stands.1); is_place = b.is_place }, l.1)
+
+-- The pending octets are few, so all of them are looked at.
+needed : {D : Type 0} (holds : D → List Level → List ℕ → Type 0) (d : Reader D) (fed front : List ℕ) (room result : ℕ) → (length d.pending.items ≤ 1_048_576 → length d.pending.items ≤ room) → front ≡ d.pending.items
+    → ((s : List ℕ) (stands : StandsLast (StandsAt d.path.frames) d.at s (take room front)) → IsNeed stands.0.place d.at (take room front) result)
+    → (stands : StandsLast (HoldsAt holds d.path) d.at fed d.pending.items) → IsNeed stands.0.place d.at d.pending.items result
+needed holds d fed front room result fits is need stands =
+    let items = d.pending.items in
+    let le = fits (few (HoldsAt holds d.path) d.at fed items stands) in
+    let whole : take room front ≡ items = ap (take room) is ∙ take_all room items le in
+    let P : List ℕ → Type 0 = λ z. (l : StandsLast (HoldsAt holds d.path) d.at fed z) → IsNeed l.0.place d.at z result in
+    subst P whole (λ l. need fed (frames_stand holds d.path d.at fed _ l)) stands
+
+pub returns-clause-exact : goal.returns-clause-exact
+returns-clause-exact g c fed is =
+    let d = c.args.self.now in
+    needs_after (HoldsAt g.D.Draft.holds d.path) d.at fed d.pending.items is.1 c.need_at.result (needed g.D.Draft.holds d fed c.deref.result.now c.min-room.result c.need_at.result (λ few. omega (arith, few, c.min-room.ensures, c.len.ensures)) c.deref.ensures.value c.need_at.ensures is.1)
+
+pub returns-clause-some : goal.returns-clause-some
+returns-clause-some g c fed is =
+    let d = c.args.self.now in
+    need_open (HoldsAt g.D.Draft.holds d.path) d.at fed d.pending.items is.1 c.need_at.result (needed g.D.Draft.holds d fed c.deref.result.now c.min-room.result c.need_at.result (λ few. omega (arith, few, c.min-room.ensures, c.len.ensures)) c.deref.ensures.value c.need_at.ensures is.1)
+
+pub returns-clause-at_least : goal.returns-clause-at_least
+returns-clause-at_least g c fed more a n is ok h =
+    let d = c.args.self.now in
+    need_at_least (HoldsAt g.D.Draft.holds d.path) d.at fed d.pending.items is.1 c.need_at.result (needed g.D.Draft.holds d fed c.deref.result.now c.min-room.result c.need_at.result (λ few. omega (arith, few, c.min-room.ensures, c.len.ensures)) c.deref.ensures.value c.need_at.ensures is.1) more a n ok h

@@ -1,0 +1,10 @@
+use Rattle.std.proofs.Common.{[], refl, sym, subst}
+use Rattle.ill_read.specs.Standing.{HoldsAt, StandsLast}
+use Rattle.ill_read.proofs.reader.Reader.new.Goals as goal
+
+pub returns : goal.returns
+returns g c h = (
+  refl,
+  subst (StandsLast (HoldsAt g.D.Draft.holds c.new.result) 0 []) (sym c.new-2.ensures.items)
+      (record { place = []; before = []; joined = refl; octets = refl; offset = refl; stands = c.new.ensures h; is_place = refl }, refl),
+)

@@ -1,0 +1,133 @@
+-- What a draft holds of the elements that have been read, and what each call does to it.
+use Rattle.std.specs.Prelude.{◌≡◌, ℕ, ◌<◌, ◌≤◌, Bool, true, false, length, List, [], ◌∷◌, ◌++◌, take, drop, map, Option, Some, None, Result, Ok, Err, ⊤, IsTrue}
+use Rattle.ber_core.specs.Id.{tag_of_id}
+use Rattle.ber_core.specs.Identifier.{Tag}
+use Rattle.ber_core.specs.Octets.{are_octets}
+use Rattle.ber_core.specs.Tree.{Tree, Trees, tag_of}
+use Rattle.ber_leaf.specs.Leaf.{value, content_fault}
+use Rattle.ber_leaf.specs.Profile.{profile_two}
+use Rattle.ber_leaf.specs.declared.fault.LeafFault.{LeafFault}
+use Rattle.ill_schema.specs.Apdu.{Apdu, choice_of, Encodes, normal_form}
+use Rattle.ill_schema.specs.Causes.{cause_of}
+use Rattle.ill_schema.specs.Content.{Content, simple}
+use Rattle.ill_schema.specs.Content as content
+use Rattle.ill_schema.specs.Table.{rows_of}
+use Rattle.ill_schema.specs.Value.{entries_of, items_of}
+use Rattle.ill_schema.specs.declared.part.Row.{Row}
+use Rattle.ill_refusals.specs.Fault.{fault, element_fault, fault_of}
+use Rattle.ill_read.specs.DueCode.{IsDueIn, behind}
+use Rattle.ill_read.specs.Elements.{element_is}
+use Rattle.ill_read.specs.LeafTypes.{leaf_is}
+use Rattle.ill_read.specs.Standing.{Level, IsHeld, IsValueOf, absent_content, level_of, pushed, whole_level, with_alternative}
+use Rattle.ill_read.specs.declared.due.Due.{Due}
+use Rattle.ill_read.specs.declared.due.Next.{Next}
+use Rattle.ill_read.specs.declared.due.Next.TheVariants.{Rows, Inner, Items, Either, Segments, Nothing}
+use Rattle.ill_read.specs.declared.due.Slot.{Slot}
+use Rattle.ill_read.specs.declared.due.Slot.TheVariants.{Row as AtRow}
+use Rattle.ill_read.specs.declared.element.Element.{Element as CodeElement}
+use Rattle.ill_read.specs.declared.element.Element.TheVariants.{Leaf, Sequence, List as ListOf, Wrapper, LooseWrapper, Segment}
+use Rattle.ill_read.specs.declared.element.Found.TheVariants as found
+use Rattle.ill_read.specs.declared.failure.Failure.{Failure}
+use Rattle.ill_read.specs.declared.frame.Frame.{Frame}
+use Rattle.ill_read.specs.declared.judge.Opening.{Opening}
+use Rattle.ill_read.specs.declared.judge.Reading.{Reading}
+use Rattle.ill_read.specs.declared.leaf_type.LeafType.{LeafType}
+
+-- what may come in an element when it opens
+abbrev pub first_of : CodeElement → Next
+first_of (Leaf l) = Segments
+first_of (Sequence node) = Rows node 0
+first_of (ListOf node) = Items node
+first_of (Wrapper w) = Inner w
+first_of (LooseWrapper w) = Either w
+first_of Segment = Segments
+
+-- the rows between a position and the row of an element
+abbrev pub rows_before : Next → Slot → List Row
+rows_before (Rows node n) (AtRow r) = drop n (take r (rows_of node))
+rows_before (Either w) (AtRow r) = drop 0 (take r (rows_of w.node))
+rows_before _ _ = []
+
+-- the rows that are still to come
+abbrev pub rows_left : Next → List Row
+rows_left (Rows node n) = drop n (rows_of node)
+rows_left (Either w) = rows_of w.node
+rows_left _ = []
+
+-- a row number that has a next one
+abbrev pub HasNext : Slot → Type 0
+HasNext (AtRow r) = r < 255
+HasNext _ = Unit {0}
+
+abbrev pub due_with : Slot → Option ℕ → CodeElement → Due
+due_with slot alternative element = record { slot = slot; alternative = alternative; found = found.Element element }
+
+-- the content of an element that has ended, by what it had in it
+abbrev pub IsContentOf : CodeElement → Next → List (Option Content) → List ℕ → Content → Type 0
+IsContentOf (Leaf l) n entries text c = c ≡ simple (value (leaf_is l) text)
+IsContentOf (Sequence node) n entries text c = (text ≡ []) × (c ≡ content.sequence (entries_of (entries ++ map absent_content (rows_left n))))
+IsContentOf (ListOf node) n entries text c = (text ≡ []) × (items : List Content) × (entries ≡ map Some items) × (c ≡ content.list (items_of items))
+IsContentOf (Wrapper w) n entries text c = (text ≡ []) × (entries ≡ Some c ∷ [])
+IsContentOf (LooseWrapper w) Nothing entries text c = (text ≡ []) × (entries ≡ Some c ∷ [])
+IsContentOf (LooseWrapper w) n entries text c = (text ≡ []) × (c ≡ content.sequence (entries_of (entries ++ map absent_content (rows_left n))))
+IsContentOf Segment n entries text c = ⊥
+
+-- the level with an entry more, of an element at the slot
+abbrev pub with_entry : Level → Slot → Content → Level
+with_entry l slot c = record l { next = behind l.next slot; entries = l.entries ++ (map absent_content (rows_before l.next slot) ++ Some c ∷ []) }
+
+-- the element is due in the level
+pub record IsDueAt (l : Level) (expected : Next) (tag : Tag) (slot : Slot) (alternative : Option ℕ) (element : CodeElement) : Type 0 where
+  pub trees : Trees
+  pub held : IsHeld l.element l.next l.entries trees
+  pub next : l.next ≡ expected
+  pub is_due : IsDueIn tag l.next (due_with slot alternative element)
+
+-- a text that is at fault, or no memory
+abbrev pub IsTextFault : CodeElement → ℕ → List ℕ → Failure → Type 0
+IsTextFault element start text (Failure.Refused r) = (c : LeafFault) × (element_fault profile_two (element_is element) text ≡ Some c) × (fault (cause_of c) start ≡ fault_of r)
+IsTextFault element start text Failure.OutOfMemory = Unit {0}
+
+-- the text is right, where the element is a leaf
+abbrev pub IsRightText : CodeElement → List ℕ → Type 0
+IsRightText (Leaf l) text = IsTrue (are_octets text) × (content_fault profile_two (leaf_is l) text ≡ None)
+IsRightText _ text = Unit {0}
+
+-- the text is right, or at fault, or there is no memory
+abbrev pub IsChecked : Frame → List ℕ → Result ⊤ Failure → Type 0
+IsChecked f text (Ok _) = IsRightText f.element text
+IsChecked f text (Err failure) = IsTextFault f.element f.start text failure
+
+-- an element opened
+abbrev pub HasOpened : {D : Type 0} → (D → List Level → List ℕ → Type 0) → D → Opening → ℕ → D → Type 0
+HasOpened holds old o base new = (levels : List Level) (text : List ℕ) → holds old levels text → ((o.element ≡ Segment → ⊥) → text ≡ [])
+    → holds new (pushed (record { element = o.element; tag = tag_of_id o.id; next = first_of o.element; base = base; entries = [] }) levels) text
+
+-- the text grew
+abbrev pub HasText : {D : Type 0} → (D → List Level → List ℕ → Type 0) → D → List ℕ → D → Type 0
+HasText holds old octets new = (levels : List Level) (text : List ℕ) → holds old levels text → holds new levels (text ++ octets)
+
+-- a leaf was added
+abbrev pub HasLeaf : {D : Type 0} → (D → List Level → List ℕ → Type 0) → D → Next → Reading → LeafType → List ℕ → D → Type 0
+HasLeaf holds old next r leaf octets new = (l : Level) (below : List Level) → holds old (l ∷ below) [] → IsDueAt l next (tag_of_id r.id) r.slot r.alternative (Leaf leaf)
+    → holds new (with_entry l r.slot (with_alternative r.alternative (simple (value (leaf_is leaf) octets))) ∷ below) []
+
+-- the text of the innermost element was checked
+abbrev pub ChecksText : {D : Type 0} → (D → List Level → List ℕ → Type 0) → D → Frame → Result ⊤ Failure → Type 0
+ChecksText holds old f result = (tag : Tag) (entries : List (Option Content)) (below : List Level) (text : List ℕ) → holds old (level_of f tag entries ∷ below) text → IsChecked f text result
+
+-- an element ended, and its content is in the level round it
+abbrev pub HasClosed : {D : Type 0} → (D → List Level → List ℕ → Type 0) → D → Frame → Next → D → Type 0
+HasClosed holds old f next new = (tag : Tag) (entries : List (Option Content)) (trees : Trees) (l : Level) (below : List Level) (text : List ℕ) (c : Content)
+    → holds old (level_of f tag entries ∷ l ∷ below) text → IsHeld f.element f.next entries trees → IsRightText f.element text → IsContentOf f.element f.next entries text c
+    → ((T : Tree) × (tag_of T ≡ tag) × IsValueOf (element_is f.element) c T)
+    → IsDueAt l next tag f.slot f.alternative f.element → holds new (with_entry l f.slot (with_alternative f.alternative c) ∷ below) []
+
+-- the draft holds the whole APDU, whose octets these are
+abbrev pub HoldsApdu : {D : Type 0} → (D → List Level → List ℕ → Type 0) → D → Apdu → List ℕ → Type 0
+HoldsApdu holds draft a b = holds draft (whole_level (choice_of a) ∷ []) [] × (1 ≤ a.number) × Encodes profile_two a b
+
+-- it has it, if the normal form is within the limit
+abbrev pub HasEnded : {D : Type 0} → (D → Apdu → ℕ → Type 0) → D → Apdu → ℕ → Bool → Type 0
+HasEnded has draft a n true = has draft a n × (length (normal_form a) ≤ profile_two.limit)
+HasEnded has draft a n false = profile_two.limit < length (normal_form a)

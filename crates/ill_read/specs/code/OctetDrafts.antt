@@ -1,0 +1,93 @@
+-- What a draft of octets holds of the elements that have been read.
+use Rattle.std.specs.Prelude.{◌≡◌, ℕ, Bool, true, false, List, [], ◌∷◌, ◌++◌, length, Option, Some, None, slice_get}
+use Rattle.ber_core.specs.Der.{encoding, encodings}
+use Rattle.ber_core.specs.Id.{tag_of_id}
+use Rattle.ber_core.specs.Identifier.{identifier}
+use Rattle.ber_core.specs.declared.id.Class.TheVariants.{Universal}
+use Rattle.ber_core.specs.Length.{shortest_length}
+use Rattle.ill_schema.specs.Apdu.{Apdu, normal_form}
+use Rattle.ill_schema.specs.Content.{Content}
+use Rattle.ill_schema.specs.Normal.{normal_tree, normal_trees, normal_items}
+use Rattle.ill_schema.specs.Presence.{is_default}
+use Rattle.ill_schema.specs.Table.{rows_of}
+use Rattle.ill_schema.specs.Tagging.{untagged, sequence_tag}
+use Rattle.ill_schema.specs.Value.{entries_of, items_of}
+use Rattle.ill_schema.specs.declared.part.Row.{Row}
+use Rattle.ill_read.specs.Standing.{Level}
+use Rattle.ill_read.specs.declared.due.Next.{Next}
+use Rattle.ill_read.specs.declared.due.Next.TheVariants.{Rows, Either, Nothing}
+use Rattle.ill_read.specs.declared.due.Slot.{Slot}
+use Rattle.ill_read.specs.declared.due.Slot.TheVariants.{Row as AtRow}
+use Rattle.ill_read.specs.declared.element.Element.{Element as CodeElement}
+use Rattle.ill_read.specs.declared.element.Element.TheVariants.{Leaf, Sequence, List as ListOf, Wrapper, LooseWrapper}
+use Rattle.ill_read.specs.declared.element.Wrapped.{Wrapped}
+use Rattle.ill_read.specs.declared.judge.Opening.{Opening}
+use Rattle.ill_read.specs.declared.octets.Octets.{Octets}
+
+-- the items that are there
+abbrev pub items_in : List (Option Content) → List Content
+items_in [] = []
+items_in (None ∷ es) = items_in es
+items_in (Some c ∷ es) = c ∷ items_in es
+
+-- the part of a wrapper
+abbrev pub part_octets : Wrapped → List (Option Content) → List ℕ
+part_octets w [] = []
+part_octets w (None ∷ es) = []
+part_octets w (Some c ∷ es) = encoding (normal_tree c w.node untagged)
+
+-- the octets of the entries in an element
+abbrev pub written : CodeElement → Next → List (Option Content) → List ℕ
+written (Sequence node) n es = encodings (normal_trees (entries_of es) (rows_of node))
+written (ListOf node) n es = encodings (normal_items (items_of (items_in es)) (rows_of node))
+written (Wrapper w) n es = part_octets w es
+written (LooseWrapper w) (Rows own k) es = encodings (normal_trees (entries_of es) (rows_of w.node))
+written (LooseWrapper w) n es = part_octets w es
+written _ n es = []
+
+-- the row of an element at a slot
+abbrev pub row_slot : Next → Slot → Option Row
+row_slot (Rows node k) (AtRow r) = slice_get (rows_of node) r
+row_slot (Either w) (AtRow r) = slice_get (rows_of w.node) r
+row_slot _ _ = None
+
+-- an entry that has no octets, since it is its row's default
+abbrev pub left_away : Next → Slot → Content → Bool
+left_away n slot c = elim (row_slot n slot) as (λ _. Bool) [ Some row ↦ is_default row c | None ↦ false ]
+
+abbrev pub unless_left : Next → Slot → Content → List ℕ → List ℕ
+unless_left n slot c octets = elim (left_away n slot c) as (λ _. List ℕ) [ true ↦ [] | false ↦ octets ]
+
+-- a string is primitive
+abbrev pub form_of : CodeElement → Bool
+form_of (Leaf l) = false
+form_of _ = true
+
+-- the tag isn't that of an end mark, where the element is primitive
+abbrev pub IsApart : Level → Type 0
+IsApart l = l.tag.class ≡ Universal → l.tag.number ≡ 0 → form_of l.element ≡ true
+
+abbrev pub IsApartAs : Opening → Type 0
+IsApartAs o = (tag_of_id o.id).class ≡ Universal → (tag_of_id o.id).number ≡ 0 → form_of o.element ≡ true
+
+-- the octets are those of the levels, outermost first: each has its identifier, an octet for its length, and its entries; the message stands in no element
+abbrev pub AreWritten : List Level → List ℕ → Type 0
+AreWritten [] octets = ⊥
+AreWritten (l ∷ []) octets = (octets ≡ written l.element l.next l.entries) × (l.base ≡ 0)
+AreWritten (l ∷ (k ∷ below)) octets = (before : List ℕ) × (header : List ℕ) × (octets ≡ before ++ (header ++ written l.element l.next l.entries))
+    × (l.base ≡ length (before ++ header)) × (IsApart l → header ≡ identifier l.tag (form_of l.element) ++ 0 ∷ []) × AreWritten (k ∷ below) before
+
+-- the contents of an element that has ended: a loose wrapper without its SEQUENCE gets one
+abbrev pub enclosed : CodeElement → Next → List ℕ → List ℕ
+enclosed (LooseWrapper w) Nothing octets = octets
+enclosed (LooseWrapper w) n octets = identifier sequence_tag true ++ (shortest_length (length octets) ++ octets)
+enclosed _ n octets = octets
+
+pub record AreOctets (draft : Octets) (levels : List Level) (text : List ℕ) : Type 0 where
+  pub front : List ℕ
+  pub joined : draft.octets ≡ front ++ text
+  pub are : AreWritten levels front
+
+-- the octets are the APDU's normal form
+abbrev pub AreNormal : Octets → Apdu → ℕ → Type 0
+AreNormal draft a n = draft.octets ≡ normal_form a

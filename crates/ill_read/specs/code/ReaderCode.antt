@@ -1,0 +1,104 @@
+-- What a reader's functions say: how it stands for the octets that it has been fed.
+use Rattle.std.specs.Prelude.{◌≡◌, ℕ, ◌+◌, ◌<◌, ◌≤◌, Bool, true, false, List, [], ◌∷◌, length, drop, Option, Some, None, Result, Ok, Err}
+use Rattle.ber_leaf.specs.Profile.{profile_two}
+use Rattle.ill_schema.specs.declared.message.Message.{Message}
+use Rattle.ill_schema.specs.declared.refusal.Cause.{Cause}
+use Rattle.ill_schema.specs.declared.refusal.Refusal.{Refusal}
+use Rattle.ill_schema.specs.Apdu.{Apdu, SpellsApdu, normal_form}
+use Rattle.ill_schema.specs.Message.{apdu_of, octets_of}
+use Rattle.ill_schema.specs.Value.{apdu_with}
+use Rattle.ill_refusals.specs.Fault.{fault_of}
+use Rattle.ill_refusals.specs.Outcome.{OnlyAccepts, OnlyRefuses}
+use Rattle.ill_refusals.specs.code.Judge.{faulty, judge}
+use Rattle.ill_read.specs.Answers.{IsPart, IsRead, IsRefused}
+use Rattle.ill_read.specs.Standing.{HoldsAt, Level, StandsBefore, StandsLast}
+use Rattle.ill_read.specs.code.Judged.{IsJudgement}
+use Rattle.ill_read.specs.Failures.{read_failure}
+use Rattle.ill_read.specs.declared.failure.Failure.{Failure}
+use Rattle.ill_read.specs.declared.failure.ReadFailure.{ReadFailure}
+use Rattle.ill_read.specs.declared.judge.Judgement.{Judgement}
+use Rattle.ill_read.specs.declared.reader.Reader.{Reader}
+use Rattle.ill_read.specs.declared.reader.State.{State}
+use Rattle.ill_read.specs.declared.reader.State.TheVariants as state
+use Rattle.ill_read.specs.declared.values.Body.{Body}
+
+-- a message was read of the octets, or they are refused, or else this holds
+abbrev pub InState : State → List ℕ → Type 0 → Type 0 → Type 0
+InState state.Open s IsWhole IfOpen = IfOpen
+InState state.Whole s IsWhole IfOpen = IsWhole
+InState (state.Failed f) s IsWhole IfOpen = IsRefused s f
+
+-- the octets begin with the message that the draft has, and no other
+abbrev pub HasRead : {D : Type 0} → (D → Apdu → ℕ → Type 0) → Reader D → List ℕ → Type 0
+HasRead has r s = (a : Apdu) × OnlyAccepts profile_two s a r.at × has r.path.draft a r.at
+
+abbrev pub IsRunning : {D : Type 0} → (D → List Level → List ℕ → Type 0) → (D → Apdu → ℕ → Type 0) → Reader D → List ℕ → List ℕ → Type 0
+IsRunning holds has r s rest = InState r.state s (HasRead has r s) (StandsBefore (HoldsAt holds r.path) r.at s rest)
+
+abbrev pub HasStopped : {D : Type 0} → (D → List Level → List ℕ → Type 0) → (D → Apdu → ℕ → Type 0) → Reader D → List ℕ → List ℕ → Type 0
+HasStopped holds has r s rest = InState r.state s (HasRead has r s) (StandsLast (HoldsAt holds r.path) r.at s rest)
+
+-- the reader has been fed these octets
+abbrev pub IsFed : {D : Type 0} → (D → List Level → List ℕ → Type 0) → (D → Apdu → ℕ → Type 0) → Reader D → List ℕ → Type 0
+IsFed holds has r s = HasStopped holds has r s r.pending.items
+
+-- the judgement is the definitions' one at its place
+abbrev pub CanStep : {D : Type 0} → (D → List Level → List ℕ → Type 0) → Reader D → List ℕ → List ℕ → Judgement → Type 0
+CanStep holds r s rest judgement =
+    (b : StandsBefore (HoldsAt holds r.path) r.at s rest) × IsJudgement r.path.frames b.place r.at rest judgement (judge profile_two b.place r.at rest)
+
+-- the refusal is the definitions' judgement there
+abbrev pub CanRefuse : {D : Type 0} → (D → List Level → List ℕ → Type 0) → Reader D → List ℕ → List ℕ → Refusal → Type 0
+CanRefuse holds r s rest refusal = (b : StandsBefore (HoldsAt holds r.path) r.at s rest) × (judge profile_two b.place r.at rest ≡ faulty (fault_of refusal))
+
+-- it went on after so many octets, or stopped
+abbrev pub HasAdvanced : {D : Type 0} → (D → List Level → List ℕ → Type 0) → (D → Apdu → ℕ → Type 0) → Reader D → List ℕ → List ℕ → Option ℕ → Type 0
+HasAdvanced holds has r s rest (Some size) = IsRunning holds has r s (drop size rest)
+HasAdvanced holds has r s rest None = HasStopped holds has r s rest
+
+-- nothing is open any more
+abbrev pub HasClosed : {D : Type 0} → (D → Apdu → ℕ → Type 0) → Reader D → List ℕ → Type 0
+HasClosed has r s = InState r.state s (HasRead has r s) ⊥
+
+-- what has come of the octets
+abbrev pub HasOutcome : {D : Type 0} → (D → Apdu → ℕ → Type 0) → Reader D → List ℕ → Result Bool Failure → Type 0
+HasOutcome has r s (Ok true) = HasRead has r s
+HasOutcome has r s (Ok false) = IsPart s × (length s < 1_048_576)
+HasOutcome has r s (Err failure) = IsRefused s failure
+
+-- what is returned after the last octet
+abbrev pub EndsAs : {D : Type 0} → (D → Apdu → ℕ → Type 0) → Reader D → List ℕ → Result Bool Failure → Type 0
+EndsAs has r s (Ok true) = HasRead has r s
+EndsAs has r s (Ok false) = s ≡ []
+EndsAs has r s (Err (Failure.Refused refusal)) = OnlyRefuses profile_two s (fault_of refusal) × (0 < length s)
+EndsAs has r s (Err Failure.OutOfMemory) = Unit {0}
+
+-- of a reader that is open
+abbrev pub ended : List ℕ → Result Bool Failure
+ended [] = Ok false
+ended (octet ∷ fed) = Err (Failure.Refused (record { at = length (octet ∷ fed); cause = Cause.Truncated }))
+
+-- the APDU of a body
+abbrev pub body_apdu : Body → Apdu
+body_apdu body = apdu_with (body.row + 1) body.value
+
+-- the message of an APDU that was read from so many octets, None where its normal form passes the limit
+abbrev pub IsMessageOf : Apdu → ℕ → Option Message → Type 0
+IsMessageOf a octets None = profile_two.limit < length (normal_form a)
+IsMessageOf a octets (Some m) = (apdu_of m ≡ a) × (octets_of m ≡ octets) × (length (normal_form a) ≤ profile_two.limit)
+
+-- what has come of the octets of a slice
+abbrev pub HasBegun : List ℕ → Result (Option Message) Failure → Type 0
+HasBegun s (Ok (Some m)) = IsRead s m
+HasBegun s (Ok None) = IsPart s × (length s < 1_048_576)
+HasBegun s (Err failure) = IsRefused s failure
+
+-- the draft has the APDU that the octets spell
+abbrev pub IsReadOf : {D : Type 0} → (D → Apdu → ℕ → Type 0) → D → List ℕ → Type 0
+IsReadOf has draft b = (a : Apdu) × SpellsApdu profile_two a b × has draft a (length b)
+
+-- what is read, by how a reader ends
+abbrev pub read_result : ℕ → Result Bool Failure → Result (Option ℕ) ReadFailure
+read_result at (Ok true) = Ok (Some at)
+read_result at (Ok false) = Ok None
+read_result at (Err failure) = Err (read_failure failure)

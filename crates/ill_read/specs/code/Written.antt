@@ -1,0 +1,28 @@
+-- The normal form of one element, as the decoder writes it.
+use Rattle.std.specs.Prelude.{ℕ, true, false, List, []}
+use Rattle.ber_core.specs.Der.{encoding}
+use Rattle.ber_core.specs.Identifier.{Tag}
+use Rattle.ber_core.specs.Tree.{Tree, primitive, constructed, none, more}
+use Rattle.ber_leaf.specs.Leaf.{normal_content}
+use Rattle.ber_leaf.specs.Profile.{profile_two}
+use Rattle.ill_schema.specs.declared.part.Row.{Row}
+use Rattle.ill_schema.specs.Content.{Content, simple}
+use Rattle.ill_schema.specs.Content as content
+use Rattle.ill_schema.specs.Normal.{normal_tree, normal_trees, normal_items}
+use Rattle.ill_schema.specs.Presence.{is_default}
+use Rattle.ill_schema.specs.Table.{rows_of}
+use Rattle.ill_schema.specs.Tagging.{untagged, tagging}
+use Rattle.ill_refusals.specs.Element.{Element, leaf, sequence, list, wrapper, loose_wrapper}
+
+-- the normal tree of an element with this tag that holds this content
+abbrev pub normal_element : Element → Tag → Content → Tree
+normal_element (leaf l) t (simple v) = primitive t (normal_content v)
+normal_element (sequence node) t (content.sequence es) = constructed t (normal_trees es (rows_of node))
+normal_element (list node) t (content.list is) = constructed t (normal_items is (rows_of node))
+normal_element (wrapper w) t c = constructed t (more (normal_tree c w.node untagged) none)
+normal_element (loose_wrapper w) t c = constructed t (more (normal_tree c w.node untagged) none)
+normal_element _ t c = constructed t none
+
+-- the octets of a row's entry: none for a default
+abbrev pub entry_octets : Row → Content → List ℕ
+entry_octets row c = elim (is_default row c) as (λ _. List ℕ) [ true ↦ [] | false ↦ encoding (normal_tree c row.node (tagging profile_two row)) ]

@@ -1,0 +1,134 @@
+//! The open elements of a message, innermost last.
+ghost use Rattle.std.specs.Prelude.{◌≡◌, ◌≤◌, ◌++◌, List, [], ◌∷◌, length};
+ghost use Rattle.ill_read.specs.Standing.{next_at};
+ghost use Rattle.ill_read.specs.declared.frame.Frame.{Frame};
+
+use crate::due::Next;
+use crate::element::Wrapped;
+use crate::frame::Frame;
+use arrayvec::ArrayVec;
+use ill_schema::{Cause, LIMIT, NodeId, PartId};
+
+/// How many elements may be open.
+pub const DEPTH: usize = 32;
+
+/// What is due where no element is open.
+const TOP: Next = Next::Inner(Wrapped {
+    part: PartId {
+        node: NodeId::IllApdu,
+        row: 0,
+    },
+    node: NodeId::IllApdu,
+});
+
+/// The open elements, innermost last.
+#[derive(Drop)]
+pub struct Frames {
+    pub open: ArrayVec<Frame, DEPTH>,
+}
+
+impl Frames {
+    ghost use Rattle.std.specs.Prelude.{◌+◌, ◌-◌, ◌<◌, ◌↔◌, IsNone, IsTrue, slice_get};
+    ghost use Rattle.ber_leaf.specs.Profile.{profile_two};
+    ghost use Rattle.ill_refusals.specs.Fault.{ends_at, is_indefinite, past_end};
+    ghost use Rattle.ill_refusals.specs.Place.{bound};
+    ghost use Rattle.ill_read.specs.code.JudgeCode.{WhereItStands, outermost_end};
+    ghost use Rattle.ill_read.specs.code.Progress.{depth_of};
+
+    pub fn new() -> Frames
+        ensures { result.open.items ≡ [] }
+    {
+        Frames {
+            open: ArrayVec::new(),
+        }
+    }
+
+    pub fn innermost(&self) -> Option<Frame>
+        ensures none { IsNone result ↔ (depth_of self.now ≡ 0) }
+        ensures last { result ≡ slice_get self.now.open.items (depth_of self.now - 1) }
+    {
+        self.open.as_slice().last().copied()
+    }
+
+    pub fn depth(&self) -> usize
+        ensures { result ≡ depth_of self.now }
+    {
+        self.open.len()
+    }
+
+    /// What may come next.
+    pub fn next(&self) -> Next
+        ensures { result ≡ next_at self.now.open.items }
+    {
+        match self.innermost() {
+            Some(frame) => frame.next,
+            None => TOP,
+        }
+    }
+
+    /// The offset that no octet may reach.
+    pub fn bound(&self) -> u32
+        ensures small { result ≤ 1_048_576 }
+        ensures exact { WhereItStands self.now (λ place. result ≡ bound profile_two place) }
+    {
+        match self.innermost() {
+            Some(frame) => frame.bound,
+            None => LIMIT,
+        }
+    }
+
+    /// The end of the outermost element of definite length.
+    pub fn outermost_end(&self) -> Option<u32>
+        ensures { result ≡ outermost_end self.now.open.items }
+    {
+        for frame in self.open.as_slice() {
+            if let Some(end) = frame.end {
+                return Some(end);
+            }
+        }
+        None
+    }
+
+    /// Why an octet at the bound can't be read.
+    pub fn past_end(&self) -> Cause
+        ensures { WhereItStands self.now (λ place. result ≡ past_end place) }
+    {
+        match self.outermost_end() {
+            Some(_) => Cause::Overrun,
+            None => Cause::TooLong,
+        }
+    }
+
+    /// Whether the innermost element is indefinite.
+    pub fn awaits_end_mark(&self) -> bool
+        ensures open { IsTrue result → 0 < depth_of self.now }
+        ensures exact { WhereItStands self.now (λ place. result ≡ is_indefinite place) }
+    {
+        match self.innermost() {
+            Some(frame) => frame.end.is_none(),
+            None => false,
+        }
+    }
+
+    /// Whether the innermost element is definite and ends there.
+    pub fn ends_at(&self, at: u32) -> bool
+        ensures open { IsTrue result → 0 < depth_of self.now }
+        ensures exact { WhereItStands self.now (λ place. result ≡ ends_at place at) }
+    {
+        match self.innermost() {
+            Some(frame) => frame.ends_at(at),
+            None => false,
+        }
+    }
+
+    /// Sets what may come next in the innermost element.
+    pub fn advance(&mut self, next: Next)
+        ensures frame { (outer : List Frame) (f : Frame) → self.old.open.items ≡ outer ++ f ∷ [] → self.new.open.items ≡ outer ++ record f { next = next } ∷ [] }
+        ensures depth { depth_of self.new ≡ depth_of self.old }
+    {
+        let last = self.open.len().saturating_sub(1);
+        if let Some(frame) = self.open.get_mut(last) {
+            frame.next = next;
+        }
+    }
+}

@@ -1,0 +1,196 @@
+//! The draft that is the message's normal form: each element is written as it is read.
+ghost use Rattle.std.specs.Prelude.{◌≡◌, ◌++◌, ℕ, List, [], ◌∷◌, length, drop, true, IfOk, OnOk};
+ghost use Rattle.ber_leaf.specs.Content.{IsContent};
+ghost use Rattle.ber_core.specs.Id.{id_octets, tag_of_id};
+ghost use Rattle.ber_core.specs.Identifier.{identifier};
+ghost use Rattle.ber_leaf.specs.Leaf.{normal_content, value};
+ghost use Rattle.ill_schema.specs.Content.{simple};
+ghost use Rattle.ill_read.specs.LeafTypes.{leaf_is};
+ghost use Rattle.ill_read.specs.declared.element.Wrapped.{Wrapped};
+ghost use Rattle.ill_read.specs.Standing.{top_level, with_alternative};
+ghost use Rattle.ill_read.specs.code.OctetDrafts.{AreNormal, AreOctets, IsApartAs, enclosed, form_of, left_away, row_slot};
+
+use crate::draft::Draft;
+use crate::due::{Next, Slot};
+use crate::element::Element;
+use crate::failure::Failure;
+use crate::frame::Frame;
+use crate::judge::{Opening, Reading};
+use crate::leaf_type::LeafType;
+use ber_buffer::DerBuffer;
+use ber_core::{Class, Id, universal};
+use ill_schema::{Cause, LIMIT, PartId, Presence, Row, is_default, row};
+use std::alloc::{AllocError, Global};
+
+/// The normal form of a message, as far as it has been read. A string that is open has its octets at the end.
+#[derive(Drop)]
+pub struct Octets {
+    alloc: Global,
+    octets: DerBuffer,
+}
+
+impl Octets {
+    /// Holds nothing.
+    pub fn new(alloc: Global) -> Octets
+        ensures { AreOctets result (top_level ∷ []) [] }
+    {
+        Octets {
+            alloc,
+            octets: DerBuffer::new(alloc),
+        }
+    }
+
+    /// What was written.
+    pub fn into_octets(self) -> Vec<u8>
+        ensures { result.items ≡ self.octets }
+    {
+        let Octets { alloc: _, octets } = self;
+        octets.into_octets()
+    }
+
+    /// What was written.
+    pub fn octets(&self) -> &[u8]
+        ensures { result.now ≡ self.now.octets }
+    {
+        self.octets.octets()
+    }
+
+    /// What was written from an offset on.
+    fn written_from(&self, base: usize) -> &[u8]
+        ensures { result.now ≡ drop base self.now.octets }
+    {
+        let octets = self.octets.octets();
+        &octets[base.min(octets.len())..]
+    }
+
+    /// Puts a SEQUENCE round the contents of a loose wrapper that has none, where this would come next in it (X.690, 8.14).
+    fn enclose(&mut self, next: Next, base: usize) -> Result<(), AllocError>
+        ensures { OnOk result ((w : Wrapped) (before contents : List ℕ) → self.old.octets ≡ before ++ contents → base ≡ length before
+            → self.new.octets ≡ before ++ enclosed (Element.LooseWrapper w) next contents) }
+    {
+        if let Next::Nothing = next {
+            return Ok(());
+        }
+        let Some(sequence) = Id::new(Class::Universal, true, universal::SEQUENCE) else {
+            return Err(AllocError);
+        };
+        self.octets.enclose(base, sequence)?;
+        Ok(())
+    }
+
+    /// Whether a leaf is its row's default, where this may come next.
+    fn is_left_away(
+        &self,
+        next: Next,
+        reading: Reading,
+        leaf: LeafType,
+        content: &[u8],
+    ) -> Result<bool, AllocError>
+        requires { IsContent (leaf_is leaf) content.now }
+        ensures { IfOk result (λ left. left ≡ left_away next reading.slot (with_alternative reading.alternative (simple (value (leaf_is leaf) content.now)))) }
+    {
+        let Some(row) = row_at(next, reading.slot) else {
+            return Ok(false);
+        };
+        if reading.alternative.is_some() || !matches!(row.presence, Presence::Default(_)) {
+            return Ok(false);
+        }
+        let value = leaf.value(Vec::from_slice(self.alloc, content)?);
+        Ok(is_default(row, &value))
+    }
+}
+
+impl Draft for Octets {
+    ghost holds = { λ draft levels text. AreOctets draft levels text };
+
+    ghost has = { λ draft a octets. AreNormal draft a octets };
+
+    #[inline(always)]
+    fn open(&mut self, opening: Opening) -> Result<usize, AllocError> {
+        if let Element::Segment = opening.element {
+            return Ok(self.octets.len());
+        }
+        let base = self.octets.open(opening_id(opening))?;
+        Ok(base)
+    }
+
+    fn text(&mut self, octets: &[u8]) -> Result<(), AllocError> {
+        self.octets.append(octets)?;
+        Ok(())
+    }
+
+    #[inline(always)]
+    fn leaf(
+        &mut self,
+        next: Next,
+        reading: Reading,
+        leaf: LeafType,
+        content: &[u8],
+    ) -> Result<(), AllocError> {
+        if self.is_left_away(next, reading, leaf, content)? {
+            return Ok(());
+        }
+        self.octets
+            .primitive(reading.id, normal_content(leaf, content))?;
+        Ok(())
+    }
+
+    fn close(&mut self, frame: Frame, _next: Next) -> Result<(), Failure> {
+        match frame.element {
+            Element::Segment => return Ok(()),
+            Element::Leaf(leaf) => {
+                if let Some(fault) = leaf.fault(self.written_from(frame.base)) {
+                    return Err(Failure::refused(frame.start, Cause::from(fault)));
+                }
+            }
+            Element::LooseWrapper(_) => self.enclose(frame.next, frame.base)?,
+            _ => {}
+        }
+        self.octets.close(frame.base)?;
+        Ok(())
+    }
+
+    fn end(&mut self, octets: u32) -> bool {
+        let _ = octets;
+        self.octets.len() <= LIMIT as usize
+    }
+}
+
+/// The identifier of an element that opens, as DER has it: a string is primitive (X.690, 10.2).
+#[inline(always)]
+fn opening_id(opening: Opening) -> Id
+    ensures { IsApartAs opening → id_octets result ≡ identifier (tag_of_id opening.id) (form_of opening.element) }
+{
+    let id = opening.id;
+    let constructed = !matches!(&opening.element, Element::Leaf(_));
+    Id::new(id.class(), constructed, id.number()).unwrap_or(id)
+}
+
+/// The content of a leaf as DER has it: TRUE is FF (X.690, 11.1).
+#[inline(always)]
+fn normal_content(leaf: LeafType, content: &[u8]) -> &[u8]
+    requires { IsContent (leaf_is leaf) content.now }
+    ensures { result.now ≡ normal_content (value (leaf_is leaf) content.now) }
+{
+    if let LeafType::Boolean = leaf {
+        if content != [0].as_slice() {
+            return &[0xFF];
+        }
+    }
+    content
+}
+
+/// The row of an element at the slot, where this may come next.
+#[inline(always)]
+fn row_at(next: Next, slot: Slot) -> Option<Row>
+    ensures { result ≡ row_slot next slot }
+{
+    match (next, slot) {
+        (Next::Rows(node, _), Slot::Row(number)) => row(PartId { node, row: number }),
+        (Next::Either(wrapped), Slot::Row(number)) => row(PartId {
+            node: wrapped.node,
+            row: number,
+        }),
+        _ => None,
+    }
+}

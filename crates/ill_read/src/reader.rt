@@ -1,0 +1,326 @@
+//! Goes through a message that comes in pieces, and makes a draft of it.
+ghost use Rattle.std.specs.Prelude.{◌≤◌};
+
+use crate::draft::Draft;
+use crate::failure::Failure;
+use crate::frames::Frames;
+use crate::judge::Judgement;
+use crate::need::need_at;
+use crate::path::Path;
+use ill_schema::{Cause, LIMIT, Refusal};
+use std::alloc::Global;
+use std::mem;
+
+/// Goes through a message that comes in pieces, and makes a draft of it.
+#[derive(Drop)]
+pub struct Reader<D: Drop> {
+    alloc: Global,
+    path: Path<D>,
+    /// The offset of the place that it is at.
+    at: u32,
+    /// The octets after that place that came so far.
+    pending: Vec<u8>,
+    state: State,
+    ghost within: { at ≤ 1_048_576 },
+}
+
+/// Whether a message is whole.
+#[derive(Clone, Copy)]
+pub enum State {
+    Open,
+    /// It ends where the reader is.
+    Whole,
+    Failed(Failure),
+}
+
+impl<D: Draft> Reader<D> {
+    ghost use Rattle.std.specs.Prelude.{◌≡◌, ◌≢◌, ℕ, ◌+◌, ◌-◌, ◌*◌, ◌<◌, List, [], ◌∷◌, ◌++◌, length, drop, take, true, IfSome, OnSome, IsTrue, Ok, Err, Some};
+    ghost use Rattle.ber_core.specs.Octets.{are_octets};
+    ghost use Rattle.ber_leaf.specs.Profile.{profile_two};
+    ghost use Rattle.ill_schema.specs.Apdu.{Apdu, Accepts};
+    ghost use Rattle.ill_read.specs.Need.{NeedsAfter};
+    ghost use Rattle.ill_read.specs.Feeding.{IsOpenAt};
+    ghost use Rattle.ill_read.specs.Standing.{top_level};
+    ghost use Rattle.ill_read.specs.code.Drafts.{HoldsApdu};
+    ghost use Rattle.ill_read.specs.code.Filling.{HasLooked, NoneEndsWithin};
+    ghost use Rattle.ill_read.specs.code.Progress.{depth_of, size_of, IsProgress, StepsTo};
+    ghost use Rattle.ill_read.specs.code.ReaderCode.{CanRefuse, CanStep, HasAdvanced, HasClosed, HasOutcome, HasStopped, IsFed, IsRunning, ended};
+
+    /// Begins with nothing.
+    pub fn new(alloc: Global, draft: D) -> Reader<D>
+        ensures { D.holds draft (top_level ∷ []) [] → IsOpenAt D.holds result [] }
+    {
+        Reader {
+            alloc,
+            path: Path::new(draft),
+            at: 0,
+            pending: Vec::new(alloc),
+            state: State::Open,
+        }
+    }
+
+    /// What was made.
+    pub fn into_draft(self) -> D
+        ensures { result ≡ self.path.draft }
+    {
+        let Reader {
+            alloc: _,
+            path,
+            at: _,
+            pending: _,
+            state: _,
+        } = self;
+        path.into_draft()
+    }
+
+    /// How far it is.
+    pub fn at(&self) -> u32
+        ensures { result ≡ self.now.at }
+    {
+        self.at
+    }
+
+    /// How many octets wait after that place.
+    pub fn waiting(&self) -> usize
+        ensures { result ≡ length self.now.pending.items }
+    {
+        self.pending.len()
+    }
+
+    /// Whether a message is whole.
+    pub fn state(&self) -> State
+        ensures { result ≡ self.now.state }
+    {
+        self.state
+    }
+
+    /// How many octets at least still belong to the message: 0 once it is whole, or has failed.
+    #[inline(always)]
+    pub fn need(&self) -> u32
+        ensures exact { (fed : List ℕ) → IsOpenAt D.holds self.now fed → NeedsAfter fed result }
+        ensures some { (fed : List ℕ) → IsOpenAt D.holds self.now fed → 0 < result }
+        ensures at_least { (fed more : List ℕ) (a : Apdu) (n : ℕ) → IsOpenAt D.holds self.now fed → IsTrue (are_octets (fed ++ more))
+            → Accepts profile_two (fed ++ more) a n → length fed + result ≤ n }
+        ensures closed { self.now.state ≢ State.Open → result ≡ 0 }
+    {
+        if !matches!(&self.state, State::Open) {
+            return 0;
+        }
+        let room = self.pending.len().min(LIMIT as usize);
+        need_at(&self.path.frames, self.at, &self.pending[..room])
+    }
+
+    /// How many octets a source is asked for: as many as are needed, and two where a header or an end mark begins, since neither has fewer.
+    #[inline(always)]
+    pub fn ask(&self) -> u32
+        ensures closed { self.now.state ≢ State.Open → result ≡ 0 }
+        ensures some { (fed : List ℕ) → IsFed D.holds D.has self.now fed → self.now.state ≡ State.Open → 0 < result }
+        ensures at_least { (fed more : List ℕ) (a : Apdu) (n : ℕ) → IsFed D.holds D.has self.now fed → IsTrue (are_octets (fed ++ more)) → self.now.state ≡ State.Open
+            → Accepts profile_two (fed ++ more) a n → length fed + result ≤ n }
+    {
+        match self.need() {
+            1 if self.pending.is_empty() => 2,
+            need => need,
+        }
+    }
+
+    /// Takes the next piece, and goes as far as the octets reach.
+    #[inline(always)]
+    pub fn take(&mut self, piece: &[u8])
+        ensures fed { (fed : List ℕ) → IsFed D.holds D.has self.old fed → IsFed D.holds D.has self.new (fed ++ piece.now) }
+        ensures stays { self.old.state ≢ State.Open → self.new ≡ self.old }
+        ensures octets { IsTrue (are_octets piece.now) }
+    {
+        if !matches!(&self.state, State::Open) {
+            return;
+        }
+        if self.pending.is_empty() {
+            let count = self.run(piece);
+            self.keep(&piece[count..]);
+            return;
+        }
+        let mut octets = mem::replace(&mut self.pending, Vec::new(self.alloc));
+        match octets.extend_from_slice(piece) {
+            Ok(()) => {
+                let count = self.run(&octets);
+                self.keep_after(octets, count);
+            }
+            Err(error) => self.state = State::Failed(Failure::from(error)),
+        }
+    }
+
+    /// Goes as far as octets reach that a source has at hand, where none is kept, and returns how many of them were taken: those of
+    /// elements that are passed; of a message, no octet after it; all, where they are refused.
+    #[inline(always)]
+    pub fn look(&mut self, octets: &[u8]) -> usize
+        ensures count { result ≤ length octets.now }
+        ensures looked { (b : List ℕ) → IsFed D.holds D.has self.old b → NoneEndsWithin b → HasLooked D.holds D.has self.new (b ++ take result octets.now) }
+    {
+        if !matches!(&self.state, State::Open) || !self.pending.is_empty() {
+            return 0;
+        }
+        let before = self.at;
+        let count = self.run(octets);
+        match self.state {
+            State::Open => count,
+            State::Whole => octets.len().min(self.at.saturating_sub(before) as usize),
+            State::Failed(Failure::Refused(_)) => octets.len(),
+            State::Failed(Failure::OutOfMemory) => 0,
+        }
+    }
+
+    /// Keeps the octets after those that were passed, in the memory that they have.
+    fn keep_after(&mut self, mut octets: Vec<u8>, count: usize)
+        requires within { count ≤ length octets.items }
+        ensures { (fed : List ℕ) → HasStopped D.holds D.has self.old fed (drop count octets.items) → IsFed D.holds D.has self.new fed }
+    {
+        // A large content that comes octet by octet stays where it is.
+        if count == 0 {
+            self.pending = octets;
+            return;
+        }
+        let left = octets.len() - count;
+        octets.copy_within(count.., 0);
+        octets.truncate(left);
+        self.pending = octets;
+    }
+
+    /// Keeps octets that the place needs more of.
+    #[inline(always)]
+    fn keep(&mut self, octets: &[u8])
+        requires { self.old.pending.items ≡ [] }
+        ensures { (fed : List ℕ) → HasStopped D.holds D.has self.old fed octets.now → IsFed D.holds D.has self.new fed }
+    {
+        if !matches!(&self.state, State::Open) {
+            return;
+        }
+        if let Err(error) = self.pending.extend_from_slice(octets) {
+            self.state = State::Failed(Failure::from(error));
+        }
+    }
+
+    /// Goes from place to place as far as the octets reach, and returns how many belong to the elements that were passed.
+    pub fn run(&mut self, octets: &[u8]) -> usize
+        ensures count { result ≤ length octets.now }
+        ensures pending { self.new.pending ≡ self.old.pending }
+        ensures stopped { (s : List ℕ) → IsRunning D.holds D.has self.old s octets.now → HasStopped D.holds D.has self.new s (drop result octets.now) }
+    {
+        let mut rest = octets;
+        while let Some(size) = self.advance(rest) {
+            rest = &rest[size..];
+        }
+        octets.len() - rest.len()
+    }
+
+    /// Goes on to the next place, and returns how many octets that took, or None where the rest doesn't reach it or nothing is open.
+    fn advance(&mut self, rest: &[u8]) -> Option<usize>
+        ensures pending { self.new.pending ≡ self.old.pending }
+        ensures progress { IfSome result (λ size. (size ≤ length rest.now)
+            × (2 * (length rest.now - size) + depth_of self.new.path.frames < 2 * length rest.now + depth_of self.old.path.frames)) }
+        ensures goes { (s : List ℕ) → IsRunning D.holds D.has self.old s rest.now → HasAdvanced D.holds D.has self.new s rest.now result }
+    {
+        if !matches!(&self.state, State::Open) {
+            return None;
+        }
+        match self.path.frames.judge(self.at, rest) {
+            Ok(judgement) => self.step(judgement, rest),
+            Err(refusal) => {
+                self.refuse(refusal);
+                None
+            }
+        }
+    }
+
+    /// Fails with a refusal, unless it is only that the octets end.
+    fn refuse(&mut self, refusal: Refusal)
+        requires open { self.old.state ≡ State.Open }
+        ensures pending { self.new.pending ≡ self.old.pending }
+        ensures stopped { (s rest : List ℕ) → CanRefuse D.holds self.old s rest refusal → HasStopped D.holds D.has self.new s rest }
+    {
+        if !matches!(&refusal.cause, Cause::Truncated) {
+            self.state = State::Failed(Failure::Refused(refusal));
+        }
+    }
+
+    /// Does what was judged, and returns how many octets that took, or None where it failed.
+    fn step(&mut self, judgement: Judgement, rest: &[u8]) -> Option<usize>
+        requires open { self.old.state ≡ State.Open }
+        requires progress { IsProgress (depth_of self.old.path.frames) (length rest.now) judgement }
+        requires small { self.old.at + size_of judgement ≤ 1_048_576 }
+        ensures pending { self.new.pending ≡ self.old.pending }
+        ensures size { IfSome result (λ size. size ≡ size_of judgement) }
+        ensures depth { OnSome result (StepsTo judgement (depth_of self.old.path.frames) (depth_of self.new.path.frames)) }
+        ensures goes { (s : List ℕ) → CanStep D.holds self.old s rest.now judgement → HasAdvanced D.holds D.has self.new s rest.now result }
+    {
+        let size = judgement.size() as usize;
+        match self.path.step(judgement, self.at, &rest[..size]) {
+            Ok(whole) => {
+                self.at += size as u32;
+                if whole {
+                    self.end();
+                }
+                Some(size)
+            }
+            Err(failure) => {
+                self.state = State::Failed(failure);
+                None
+            }
+        }
+    }
+
+    /// The message is whole.
+    fn end(&mut self)
+        ensures frames { self.new.path.frames ≡ self.old.path.frames }
+        ensures pending { self.new.pending ≡ self.old.pending }
+        ensures ended { (s : List ℕ) (a : Apdu) → self.old.at ≤ length s → HoldsApdu D.holds self.old.path.draft a (take self.old.at s)
+            → HasClosed D.has self.new s }
+    {
+        self.state = if self.path.draft.end(self.at) {
+            State::Whole
+        } else {
+            State::Failed(Failure::refused(0, Cause::NormalTooLong))
+        };
+    }
+
+    /// Whether the message is whole.
+    ///
+    /// # Errors
+    ///
+    /// The failure, once it has failed.
+    pub fn outcome(&self) -> Result<bool, Failure>
+        ensures { (s rest : List ℕ) → HasStopped D.holds D.has self.now s rest → HasOutcome D.has self.now s result }
+    {
+        match self.state {
+            State::Whole => Ok(true),
+            State::Failed(failure) => Err(failure),
+            State::Open => Ok(false),
+        }
+    }
+
+    /// Whether the message is whole, after the last octet; if not, nothing was fed.
+    ///
+    /// # Errors
+    ///
+    /// The failure, once it has failed; or, where some octets were fed and the message isn't whole, Truncated at their number.
+    #[inline(always)]
+    pub fn ended(&self) -> Result<bool, Failure>
+        ensures open { (fed : List ℕ) → IsOpenAt D.holds self.now fed → result ≡ ended fed }
+        ensures whole { self.now.state ≡ State.Whole → result ≡ Ok true }
+        ensures failed { (failure : Failure) → self.now.state ≡ State.Failed failure → result ≡ Err failure }
+    {
+        match self.state {
+            State::Whole => Ok(true),
+            State::Failed(failure) => Err(failure),
+            State::Open => {
+                let size = self
+                    .at
+                    .saturating_add(self.pending.len().min(LIMIT as usize) as u32);
+                if size == 0 {
+                    Ok(false)
+                } else {
+                    Err(Failure::refused(size, Cause::Truncated))
+                }
+            }
+        }
+    }
+}
