@@ -20,20 +20,23 @@ Row = namedtuple("Row", "presence default tag mode node")
 def read_tables():
     """The rows of each node."""
     source = (TOP / "crates/ill_schema/src/table.rt").read_text()
-    row = r"(row|apdu)!\((\w+)(?:\((\d+)\))?, (?:untagged|(\d+), (\w+)), (\w+)\)"
+    row = r"\((\w+)(?:\((\d+)\))?, (?:untagged|(\d+), (\w+)), (\w+)\)"
 
-    def rows(text):
+    def rows(text, class_of_tags):
         return [
-            Row(presence, default, ("application" if macro == "apdu" else "context", int(number)) if number else None, mode, node)
-            for macro, presence, default, number, mode, node in re.findall(row, text)
+            Row(presence, default, (class_of_tags, int(number)) if number else None, mode, node)
+            for presence, default, number, mode, node in re.findall(row, text)
         ]
 
-    head = rows(re.search(r"macro_rules! headed \{(.*?)\n\}", source, re.S).group(1))
-    constants = {}
-    for name, count, kind, text in re.findall(r"const ([A-Z_]+): \[Row; (\d+)\] = (headed!)?\[(.*?)\];\n", source, re.S):
-        constants[name] = (head if kind else []) + rows(text)
-        assert len(constants[name]) == int(count), name
-    return {node: constants[name] for node, name in re.findall(r"NodeId::(\w+) => &([A-Z_]+),", source)}
+    head = rows(re.search(r"macro_rules! headed \{(.*?)\n\}", source, re.S).group(1), "context")
+    arm = r"\((\w+), \$made:ident\) => \{\s*\$(made|crate::headed)!\[\w+, (?:(\w+)|\$made):(.*?)\]\s*\};"
+    tables = {
+        node: (head if kind == "crate::headed" else []) + rows(text, "application" if class_of_tags == "Application" else "context")
+        for node, kind, class_of_tags, text in re.findall(arm, source, re.S)
+    }
+    counts = {node: int(count) for count, node in re.findall(r"\[Row; (\d+)\] = table!\((\w+), rows\);", source)}
+    assert counts == {node: len(rows) for node, rows in tables.items()}
+    return tables
 
 
 ROWS = read_tables()

@@ -1,7 +1,7 @@
 #!/usr/bin/env python3
 """Time and memory of the program on messages of the greatest size: notes, lists of the smallest items of each kind, and a long text.
 
-Prints each, and fails where one takes more than a second of processor time for a megabyte of input, or more memory than BOUND. Wants the
+Prints each, and fails where one takes more than a second of processor time for a megabyte of input, or more memory than is said below. Wants the
 program built, and GNU time (Debian's package `time`). Usage: worst.py
 """
 import subprocess
@@ -13,8 +13,8 @@ from spellings import Writer
 from tables import CHOICES, LISTS, PROGRAM, ROWS
 
 LIMIT = 1_048_576
-# in kilobytes: of any input, and of those without lists, beyond the input
-BOUND, SMALL = 128 * 1024, 16 * 1024
+# in kilobytes, beyond the input: of check and canonicalise, of show, and of show where no list is large
+LEAN, SHOWN, SMALL = 8 * 1024, 128 * 1024, 16 * 1024
 LEAST = {"Boolean": False, "Integer": 0, "Enumerated": 0, "IsoDate": "20240229", "IsoTime": "000000", "PrintableString": ""}
 
 
@@ -112,7 +112,8 @@ def main():
                     seconds, kilobytes, status, said = run(command, words, folder)
                     most.append((kilobytes, title, command))
                     slow = seconds > max(1, len(message) / 1_000_000)
-                    large = kilobytes > (SMALL + len(message) // 1024 if small else BOUND)
+                    bound = LEAN if command != "show" else SMALL if small else SHOWN
+                    large = kilobytes > bound + len(message) // 1024
                     wrong = status not in ((0, 1) if command == "check" else (0,)) or said
                     failed += slow or large or bool(wrong)
                     print(f"{seconds:5.2f} s {kilobytes / 1024:6.1f} MB  {command:12} {title}{'  FAILED ' + said if slow or large or wrong else ''}")
