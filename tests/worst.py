@@ -1,7 +1,7 @@
 #!/usr/bin/env python3
 """Time and memory of the program on messages of the greatest size: notes, lists of the smallest items of each kind, and a long text.
 
-Prints each, and fails where one takes more than a second of processor time for a megabyte of input, or more memory than is said below. Wants the
+Prints each, and fails where one takes more than a second of processor time for a megabyte of input, or more memory than is said below. Needs the
 program built, and GNU time (Debian's package `time`). Usage: worst.py
 """
 import subprocess
@@ -66,16 +66,16 @@ class Filler(Writer):
         return self.octets if node == self.node else super().contents(node, value)
 
 
-def lists():
-    """For each list and each of its smallest items, the message with the most of them."""
+def lists(limit=LIMIT):
+    """For each list and each of its smallest items, the message of at most as many octets with the most of them."""
     for node in sorted(LISTS):
         row = ROWS[node][0]
         apdu = holding("IllApdu", node)
         for item in leasts(row.node):
             octets = Writer().row(row, item)
-            count = (LIMIT - len(Filler(node, bytes(LIMIT // 2)).value("IllApdu", apdu, None)) + LIMIT // 2) // len(octets)
+            count = (limit - len(Filler(node, bytes(limit // 2)).value("IllApdu", apdu, None)) + limit // 2) // len(octets)
             message = Filler(node, octets * count).value("IllApdu", apdu, None)
-            assert LIMIT - len(octets) < len(message) <= LIMIT, (node, item)
+            assert limit - len(octets) < len(message) <= limit, (node, item)
             yield f"{node} of {count} {octets.hex()}", message, []
 
 
