@@ -6,9 +6,10 @@ use Rattle.ill_schema.specs.declared.part.PartId.{PartId}
 use Rattle.ill_schema.specs.Table.{kind_of}
 use Rattle.ill_refusals.specs.Element.{Component, components, Element}
 use Rattle.ill_refusals.specs.Next.{rows, part}
-use Rattle.ill_cells.specs.Cells.{due_at, due_row, wrapped}
+use Rattle.ill_cells.specs.Cells.{due_at, due_row, is_placed, row_before, wrapped}
 use Rattle.ill_cells.specs.Places.{IsAtRow}
-use Rattle.ill_cells.specs.code.Meant.{is_placed, is_there, row_there}
+use Rattle.ill_cells.specs.code.Meant.{is_there, row_there}
+use Rattle.ill_cells.specs.declared.cell.Slot.{Slot}
 use Rattle.ill_cells.specs.declared.cell.Slot.TheVariants as slot
 
 at-row : (p : PartId) (node : NodeId) (row : ℕ) (e : Element) (cs : List Component) → drop row (components profile_two node) ≡ cs → is_there cs ≡ true
@@ -23,3 +24,16 @@ pub row-at : (p : PartId) (node : NodeId) (position : ℕ) (e : Element) → IsT
 row-at p node zero e h t = absurd cc
 row-at p node (suc row) e h t =
     let z : row ≡ suc row - 1 = omega arith in subst (λ (r : ℕ). IsAtRow node r (due_at p node (suc row) slot.Row e)) z (at-row p node row e _ refl t)
+
+pub row-number : (position : ℕ) → position - 1 ≡ row_before position
+row-number zero = refl
+row-number (suc row) = omega arith
+
+-- what stands in a row is due at it
+pub row-of : (p : PartId) (node : NodeId) (position : ℕ) (s : Slot) (e : Element) → IsTrue (is_placed (kind_of node) position s)
+    → IsTrue (row_there s position (components profile_two node)) → s ≡ slot.Row → IsAtRow node (row_before position) (due_at p node position s e)
+row-of p node position s e h t is =
+    subst (λ x. IsAtRow node (row_before position) (due_at p node position x e)) (sym is)
+    (subst (λ (r : ℕ). IsAtRow node r (due_at p node position slot.Row e)) (row-number position)
+    (row-at p node position e (subst (λ x. IsTrue (is_placed (kind_of node) position x)) is h)
+    (subst (λ x. IsTrue (row_there x position (components profile_two node))) is t)))

@@ -7,8 +7,8 @@ use Rattle.ill_schema.specs.declared.part.PartId.{PartId}
 use Rattle.ill_schema.specs.Table.{kind_of}
 use Rattle.ill_refusals.specs.Element.{Component, components, Element, leaf, sequence, list, wrapper, loose_wrapper, segment, left_out}
 use Rattle.ill_refusals.specs.Next.{Next, rows, items, either, segments, element_of, next_of, opening}
-use Rattle.ill_cells.specs.Cells.{due_at, due_item, due_row, due_segment, element_in, first_position, next_from, next_of_kind, wrapped}
-use Rattle.ill_cells.specs.code.Meant.{is_empty, is_leaf, is_list, is_other, is_placed, is_sequence, opens, opens_in}
+use Rattle.ill_cells.specs.Cells.{due_at, due_item, due_row, due_segment, element_in, first_position, is_leaf, is_list, is_placed, is_sequence, next_from, next_of_kind, wrapped}
+use Rattle.ill_cells.specs.code.Meant.{is_empty, is_other, opens, opens_in}
 use Rattle.ill_cells.specs.declared.cell.What.{What}
 use Rattle.ill_cells.specs.declared.cell.What.TheVariants as what
 use Rattle.ill_cells.specs.declared.cell.Slot.{Slot}

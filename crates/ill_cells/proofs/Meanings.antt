@@ -12,8 +12,8 @@ use Rattle.ill_schema.specs.Table.{kind_of}
 use Rattle.ill_schema.specs.Tagging.{Tagging, untagged, implicit, explicit, explicit_or_bare, same_tag}
 use Rattle.ill_refusals.specs.Element.{Component, component_starts, components, Element, segment, Start, start, starts}
 use Rattle.ill_refusals.specs.Next.{first_mandatory}
-use Rattle.ill_cells.specs.Cells.{Begins, BeginsDue, due_at, due_item, due_row, due_segment, element_with, presence_default, wrapped}
-use Rattle.ill_cells.specs.code.Meant.{Meant, cell_meant, cells_meant, component_choice, default_at, default_first, is_must, is_there, is_placed, item_meant, kind_meant, meant, node_choice, node_meant, node_starts, row_there, rows_meant, segment_meant}
+use Rattle.ill_cells.specs.Cells.{Begins, BeginsDue, due_at, due_item, due_row, due_segment, element_with, is_placed, presence_default, wrapped}
+use Rattle.ill_cells.specs.code.Meant.{Meant, cell_meant, cells_meant, component_choice, default_at, default_first, is_must, is_there, item_meant, kind_meant, meant, node_choice, node_meant, node_starts, row_there, rows_meant, segment_meant}
 use Rattle.ill_cells.specs.code.Starts.{BeginsIn, IsBegun}
 use Rattle.ill_cells.specs.declared.cell.Cell.{Cell}
 use Rattle.ill_cells.specs.declared.cell.Slot.TheVariants as slot

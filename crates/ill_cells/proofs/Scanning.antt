@@ -99,7 +99,7 @@ scan-segments t p node = at (same_tag octet_string t) ∙ ap (λ b. if b then So
     at true = refl
     at false = refl
 
-sequence_starts : (node : NodeId) → kind_of node ≡ Kind.Seq → node_starts node ≡ start sequence_tag (sequence node) ∷ []
+pub sequence_starts : (node : NodeId) → kind_of node ≡ Kind.Seq → node_starts node ≡ start sequence_tag (sequence node) ∷ []
 sequence_starts node e =
     ap (λ k. own_starts k node ++ elim k as (λ _. List Start) [ Kind.Choice ↦ flat_map component_starts (components profile_two node) | _ ↦ [] ]) e
 

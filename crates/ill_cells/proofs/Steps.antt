@@ -1,16 +1,18 @@
 -- The steps of a search through the cells of a node.
-use Rattle.std.proofs.Common.{◌≡◌, ℕ, suc, ◌+◌, ◌≤◌, true, false, List, drop, length, Option, Some, None, sym, ap, ◌∙◌, arith, slice_get}
+use Rattle.std.proofs.Common.{◌≡◌, ℕ, zero, suc, ◌+◌, ◌≤◌, true, false, List, ◌∷◌, drop, length, Option, Some, None, sym, ap, ◌∙◌, arith, slice_get}
 use Rattle.std.specs.Prelude.{if◌then◌else◌, is_some}
 use Rattle.ber_core.specs.Identifier.{Tag}
 use Rattle.ber_leaf.specs.Profile.{profile_two}
+use Rattle.ill_schema.specs.declared.node.Kind.{Kind}
 use Rattle.ill_schema.specs.declared.node.NodeId.{NodeId}
 use Rattle.ill_schema.specs.declared.part.PartId.{PartId}
 use Rattle.ill_schema.specs.Table.{kind_of}
-use Rattle.ill_refusals.specs.Element.{Element}
-use Rattle.ill_refusals.specs.Next.{Due, due, missing}
+use Rattle.ill_refusals.specs.Element.{components, Element}
+use Rattle.ill_refusals.specs.Next.{Due, due, first_mandatory, missing}
 use Rattle.ill_cells.specs.Cells.{due_at, element_with, next_from}
-use Rattle.ill_cells.specs.code.Meant.{cell_meant, cell_starts, cells_meant, node_meant}
+use Rattle.ill_cells.specs.code.Meant.{Meant, cell_meant, cell_starts, cells_meant, kind_meant, meant, node_choice, node_meant, node_starts}
 use Rattle.ill_cells.specs.declared.cell.Cell.{Cell}
+use Rattle.ill_cells.specs.declared.cell.Slot.TheVariants as slot
 use Rattle.ill_cells.proofs.Scanning.{lacking, lacking-node, scan, scan-node}
 use Rattle.ill_cells.proofs.Meanings.{IsSaid, cells-at, cells-end, said-node}
 
@@ -59,3 +61,31 @@ lacking-at node i cs c h = ap lacking (cells-at node i cs c h)
 
 pub lacking-end : (node : NodeId) (i : ℕ) (cs : List Cell) → length cs ≤ i → lacking (drop i (cells_meant node 0 cs)) ≡ false
 lacking-end node i cs h = ap lacking (cells-end node i cs h)
+
+-- the search is as far as this position or further, and the tag is not that of the wrapper round the node, if it began there
+pub record HasPassed (t : Tag) (node : NodeId) (from i : ℕ) : Type 0 where
+  pub later : from ≤ i
+  pub apart : from ≡ 0 → (i ≡ 0 → ⊥) → element_with t (node_starts node) ≡ None
+
+pub passed-none : (t : Tag) (node : NodeId) (from : ℕ) → HasPassed t node from from
+passed-none t node from = record { later = omega arith; apart = λ z n. absurd (n z); }
+
+around : (k : Kind) (node : NodeId) (m : Meant) (ms : List Meant) → kind_meant k node ≡ m ∷ ms → m.starts ≡ node_starts node
+around Kind.Seq node m ms e = let g : meant (node_starts node) slot.Inner false (is_some (first_mandatory (components profile_two node))) (node_choice node) None ≡ m = cc in ap (λ x. x.starts) (sym g)
+around Kind.SeqOf node m ms e = let g : meant (node_starts node) slot.Inner true true (node_choice node) None ≡ m = cc in ap (λ x. x.starts) (sym g)
+around Kind.Choice node m ms e = let g : meant (node_starts node) slot.Inner true true (node_choice node) None ≡ m = cc in ap (λ x. x.starts) (sym g)
+around (Kind.Leaf l) node m ms e = let g : meant (node_starts node) slot.Inner true true (node_choice node) None ≡ m = cc in ap (λ x. x.starts) (sym g)
+around Kind.IllString node m ms e = let g : meant (node_starts node) slot.Inner true true (node_choice node) None ≡ m = cc in ap (λ x. x.starts) (sym g)
+
+-- the first cell has the starts of the node
+around-cell : (node : NodeId) (cs : List Cell) (c : Cell) → cells_meant node 0 cs ≡ node_meant node → slice_get cs 0 ≡ Some c → cell_starts node 0 c ≡ node_starts node
+around-cell node cs c e h = around (kind_of node) node _ _ (sym e ∙ cells-at node 0 cs c h)
+
+pub passed-next : (t : Tag) (node : NodeId) (from i : ℕ) (cs : List Cell) (c : Cell) → cells_meant node 0 cs ≡ node_meant node → slice_get cs i ≡ Some c
+    → element_with t (cell_starts node i c) ≡ None → HasPassed t node from i → HasPassed t node from (i + 1)
+passed-next t node from i cs c e h f p = record { later = let q = p.later in omega arith; apart = λ z n. go i h f (λ m. p.apart z m); }
+  where
+    go : (j : ℕ) → slice_get cs j ≡ Some c → element_with t (cell_starts node j c) ≡ None → ((j ≡ 0 → ⊥) → element_with t (node_starts node) ≡ None)
+        → element_with t (node_starts node) ≡ None
+    go zero h f rest = ap (element_with t) (sym (around-cell node cs c e h)) ∙ f
+    go (suc j) h f rest = rest (λ z. cc)

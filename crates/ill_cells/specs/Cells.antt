@@ -1,5 +1,5 @@
 -- What an index and a cell that is found stand for.
-use Rattle.std.specs.Prelude.{◌≡◌, ℕ, ℤ, zero, suc, List, [], ◌∷◌, drop, Option, Some, None, find, option_map, slice_get}
+use Rattle.std.specs.Prelude.{◌≡◌, ℕ, ℤ, zero, suc, Bool, true, false, List, [], ◌∷◌, drop, Option, Some, None, find, option_map, slice_get}
 use Rattle.ber_core.specs.Identifier.{Tag}
 use Rattle.ber_leaf.specs.Leaf.{boolean, integer, enumerated, general_string, visible_string, printable_string, iso_date, iso_time}
 use Rattle.ber_leaf.specs.Profile.{profile_two}
@@ -65,6 +65,27 @@ first_position _ = 1
 abbrev pub row_before : ℕ → ℕ
 row_before zero = zero
 row_before (suc row) = row
+
+abbrev pub is_leaf : Kind → Bool
+is_leaf (Kind.Leaf _) = true
+is_leaf Kind.IllString = true
+is_leaf _ = false
+
+abbrev pub is_sequence : Kind → Bool
+is_sequence Kind.Seq = true
+is_sequence _ = false
+
+abbrev pub is_list : Kind → Bool
+is_list Kind.SeqOf = true
+is_list _ = false
+
+-- where an element may stand at a position of a node of this kind: in the wrapper round it at 0, from 1 on in the node itself
+abbrev pub is_placed : Kind → ℕ → Slot → Bool
+is_placed k (suc row) slot.Row = is_sequence k
+is_placed k zero slot.Inner = true
+is_placed k (suc zero) slot.Item = is_list k
+is_placed k (suc zero) slot.Segment = is_leaf k
+is_placed k position _ = false
 
 abbrev pub due_row : Component → Element → List Component → Due
 due_row other e [] = part other e (rows [])

@@ -1,15 +1,29 @@
 -- What an index and an element that is found stand for.
-use Rattle.std.specs.Prelude.{◌≡◌, ℕ, List, ◌∷◌, drop, Option, Some}
+use Rattle.std.specs.Prelude.{◌≡◌, ◌≤◌, ℕ, ◌+◌, List, ◌∷◌, drop, IsTrue, Option, Some, None}
 use Rattle.ber_core.specs.Identifier.{Tag}
 use Rattle.ber_leaf.specs.Profile.{profile_two}
 use Rattle.ill_schema.specs.declared.node.NodeId.{NodeId}
+use Rattle.ill_schema.specs.declared.node.NodeId.TheVariants.{Boolean, IllApdu, LeftOut}
 use Rattle.ill_schema.specs.declared.part.PartId.{PartId}
-use Rattle.ill_refusals.specs.Element.{Component, components, Element}
+use Rattle.ill_schema.specs.Table.{kind_of}
+use Rattle.ill_refusals.specs.Element.{Component, components, Element, starts}
 use Rattle.ill_refusals.specs.Next.{Next, rows, Due, part, due, element_of}
-use Rattle.ill_cells.specs.Cells.{next_from, element_in, due_at, BeginsDue}
+use Rattle.ill_cells.specs.Cells.{next_from, element_in, element_with, due_at, first_position, is_placed, row_before, wrapped, BeginsDue}
 use Rattle.ill_cells.specs.declared.cell.Slot.{Slot}
+use Rattle.ill_cells.specs.declared.cell.What.{What}
+use Rattle.ill_cells.specs.declared.cell.Slot.TheVariants as slot
 use Rattle.ill_cells.specs.declared.at.At.{At}
 use Rattle.ill_cells.specs.declared.at.Found.{Found}
+
+-- the part of the wrapper, the node, and the position in it
+abbrev pub part_in : At → PartId
+part_in at = at.part
+
+abbrev pub node_in : At → NodeId
+node_in at = at.node
+
+abbrev pub position_in : At → ℕ
+position_in at = at.position
 
 -- what may come next there
 abbrev pub next_at : At → Next
@@ -21,6 +35,9 @@ part_of f = f.part
 
 abbrev pub node_of : Found → NodeId
 node_of f = f.node
+
+abbrev pub what_of : Found → What
+what_of f = f.what
 
 abbrev pub alternative_of : Found → Option ℕ
 alternative_of f = f.alternative
@@ -38,11 +55,28 @@ element_found f = element_in f.part f.node f.what
 abbrev pub due_of : Found → Due
 due_of f = due_at f.at.part f.at.node f.at.position f.slot (element_found f)
 
--- what is due there with the tag
-pub record IsDue (t : Tag) (at : At) (f : Found) : Type 0 where
-  pub is : due profile_two t (next_at at) ≡ Some (due_of f)
-  pub begins : BeginsDue t (due_of f) (alternative_of f)
-  pub round : node_round f ≡ at.node
+-- the first place where the element that is found may begin inside
+abbrev pub first_place : Found → At
+first_place f = record { part = f.part; node = f.node; position = first_position f.what }
+
+-- where a message begins
+abbrev pub top : At
+top = record { part = record { node = IllApdu; row = 0 }; node = IllApdu; position = 0 }
+
+-- where nothing may come
+abbrev pub nowhere : At
+nowhere = record { part = record { node = LeftOut; row = 0 }; node = Boolean; position = 2 }
+
+-- the place after the element
+abbrev pub place_after : Found → Slot → At
+place_after f slot.Row = record f.at { position = f.at.position + 1 }
+place_after f slot.Inner = nowhere
+place_after f slot.Item = f.at
+place_after f slot.Segment = f.at
+
+-- the row at which it is due
+abbrev pub row_of : Found → ℕ
+row_of f = row_before f.at.position
 
 -- the component of this row of the node is due
 pub record IsAtRow (node : NodeId) (row : ℕ) (d : Due) : Type 0 where
@@ -50,3 +84,15 @@ pub record IsAtRow (node : NodeId) (row : ℕ) (d : Due) : Type 0 where
   pub behind : List Component
   pub is_row : drop row (components profile_two node) ≡ component ∷ behind
   pub is_due : d ≡ part component (element_of d) (rows behind)
+
+-- what is due there with the tag
+pub record IsDue (t : Tag) (at : At) (f : Found) : Type 0 where
+  pub is : due profile_two t (next_at at) ≡ Some (due_of f)
+  pub begins : BeginsDue t (due_of f) (alternative_of f)
+  pub round : node_round f ≡ at.node
+  -- at this position or a later one
+  pub later : at.position ≤ f.at.position
+  -- in a wrapper, the part itself comes first
+  pub passed : at.position ≡ 0 → (f.at.position ≡ 0 → ⊥) → element_with t (starts profile_two (wrapped at.part at.node)) ≡ None
+  pub placed : IsTrue (is_placed (kind_of f.at.node) f.at.position (slot_of f))
+  pub row : slot_of f ≡ slot.Row → IsAtRow (node_round f) (row_of f) (due_of f)

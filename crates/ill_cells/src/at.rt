@@ -5,8 +5,8 @@ ghost use Rattle.ber_core.specs.Id.{tag_of_id};
 ghost use Rattle.ber_leaf.specs.Profile.{profile_two};
 ghost use Rattle.ill_schema.specs.Table.{kind_of};
 ghost use Rattle.ill_schema.specs.Tagging.{same_tag};
-ghost use Rattle.ill_cells.specs.Cells.{element_in, element_with, first_position, part_at};
-ghost use Rattle.ill_cells.specs.code.Meant.{cell_choice, cell_opens, cell_starts, default_at, is_nested, is_placed, node_choice, node_starts, opens_in, row_there};
+ghost use Rattle.ill_cells.specs.Cells.{element_in, element_with, first_position, is_placed, part_at};
+ghost use Rattle.ill_cells.specs.code.Meant.{cell_choice, cell_opens, cell_starts, default_at, is_nested, node_choice, node_starts, opens_in, row_there};
 ghost use Rattle.ill_refusals.specs.Element.{components};
 ghost use Rattle.ill_cells.specs.code.Starts.{IsBegun};
 
@@ -151,13 +151,14 @@ fn start(cell: Cell, node: NodeId, position: u8, id: Id) -> Option<Begun>
 }
 
 impl At {
-    ghost use Rattle.ill_refusals.specs.Next.{due, missing, rows};
+    ghost use Rattle.ill_refusals.specs.Next.{due, missing};
     ghost use Rattle.ill_refusals.specs.Place.{next_in};
-    ghost use Rattle.ill_cells.specs.Places.{IsDue, next_at};
+    ghost use Rattle.ill_cells.specs.Places.{IsDue, next_at, node_in, nowhere, part_in, position_in, top};
 
     /// Where a message begins.
     pub fn top() -> At
-        ensures { next_at result ≡ next_in profile_two [] }
+        ensures place { result ≡ top }
+        ensures next { next_at result ≡ next_in profile_two [] }
     {
         At {
             part: PartId {
@@ -169,17 +170,38 @@ impl At {
         }
     }
 
+    /// The part that the wrapper round the node is.
+    pub fn part(self) -> PartId
+        ensures { result ≡ part_in self }
+    {
+        self.part
+    }
+
+    /// The node that is open, or that is in the wrapper.
+    pub fn node(self) -> NodeId
+        ensures { result ≡ node_in self }
+    {
+        self.node
+    }
+
+    /// The position in the cells of the node: 0 in the wrapper, from 1 on in the node itself.
+    pub fn position(self) -> u8
+        ensures { result ≡ position_in self }
+    {
+        self.position
+    }
+
     /// Where nothing may come.
     fn nowhere() -> At
-        ensures { next_at result ≡ rows [] }
+        ensures { result ≡ nowhere }
     {
         At {
             part: PartId {
                 node: NodeId::LeftOut,
                 row: 0,
             },
-            node: NodeId::LeftOut,
-            position: 1,
+            node: NodeId::Boolean,
+            position: 2,
         }
     }
 
@@ -236,14 +258,29 @@ impl At {
     }
 }
 
+/// In a wrapper round a BOOLEAN. Each field is the first of its type.
+impl Default for At {
+    fn default() -> At {
+        At {
+            part: PartId {
+                node: NodeId::Boolean,
+                row: 0,
+            },
+            node: NodeId::Boolean,
+            position: 0,
+        }
+    }
+}
+
 impl Found {
     ghost use Rattle.ill_refusals.specs.Next.{element_of, next_of, opening};
-    ghost use Rattle.ill_cells.specs.Places.{IsAtRow, alternative_of, due_of, next_at, node_of, node_round, part_of, slot_of};
+    ghost use Rattle.ill_cells.specs.Places.{IsAtRow, alternative_of, due_of, first_place, next_at, node_of, node_round, part_of, place_after, row_of, slot_of, what_of};
     ghost use Rattle.ill_cells.specs.Cells.{default_due};
 
     /// The place in the element, once it is open.
     pub fn first(self) -> At
-        ensures { next_at result ≡ opening profile_two (element_of (due_of self)) }
+        ensures place { result ≡ first_place self }
+        ensures next { next_at result ≡ opening profile_two (element_of (due_of self)) }
     {
         At {
             part: self.part,
@@ -252,9 +289,10 @@ impl Found {
         }
     }
 
-    /// The place behind the element.
+    /// The place after the element.
     pub fn after(self) -> At
-        ensures { next_at result ≡ next_of (due_of self) }
+        ensures place { result ≡ place_after self (slot_of self) }
+        ensures next { next_at result ≡ next_of (due_of self) }
     {
         match self.slot {
             Slot::Row => At {
@@ -268,7 +306,8 @@ impl Found {
 
     /// As what it is read.
     pub fn what(self) -> What
-        ensures { element_of (due_of self) ≡ element_in (part_of self) (node_of self) result }
+        ensures what { result ≡ what_of self }
+        ensures element { element_of (due_of self) ≡ element_in (part_of self) (node_of self) result }
     {
         self.what
     }
@@ -297,7 +336,8 @@ impl Found {
     /// The row of the sequence round it.
     pub fn row(self) -> u8
         requires { slot_of self ≡ Slot.Row }
-        ensures { IsAtRow (node_round self) result (due_of self) }
+        ensures row { result ≡ row_of self }
+        ensures component { IsAtRow (node_round self) result (due_of self) }
     {
         self.at.position - 1
     }

@@ -32,6 +32,7 @@ use Rattle.ill_read.proofs.OpenFrames.{last_open}
 use Rattle.ill_read.proofs.OpenedElements.{only_segment}
 use Rattle.ill_read.proofs.Segments.{segment_due, text_with}
 use Rattle.ill_read.proofs.Strings.{segment_added}
+use Rattle.ill_read.specs.DueCode.{shape}
 
 -- the frames without the last one
 record IsPopped (levels : List Level) (frames : List Frame) (f : Frame) (o : Open) (path : List Open) : Type 0 where
@@ -79,7 +80,7 @@ segment_closed holds old new f place marks at rest j stands end frames last is d
     let p = popped old.frames.open.items new.frames.open.items here.0 f o path here.1 frames last in
     let e : segment ≡ o.element = ap element_is (sym is) ∙ p.framed.element in
     let string : next_at new.frames.open.items ≡ Segments = segment_due o.tag (next_at new.frames.open.items) (due_with f.slot f.alternative f.element) p.framed.is_due (ap element_is is) in
-    let h = segment_holds f.next p.entries o.trees (subst (λ x. IsHeld x f.next p.entries o.trees) is p.framed.held) in
+    let h = segment_holds (shape f.place) p.entries o.trees (subst (λ x. IsHeld x (shape f.place) p.entries o.trees) is p.framed.held) in
     let levels : here.0 ≡ p.below = p.held ∙ pushed_segment (level_of f o.tag p.entries) p.below is in
     let joined : text_so_far (o ∷ path) ≡ text_so_far path ++ text_all o.trees = sym (ap (λ x. text_with x (text_so_far path) o.trees) e) in
     let held = subst (λ t. holds new.draft p.below t) joined (subst (λ ls. holds new.draft ls (text_so_far (o ∷ path))) levels (subst (λ d. holds d here.0 (text_so_far (o ∷ path))) (sym draft) here.2)) in
@@ -106,7 +107,7 @@ right_text Segment text h = refl
 pub element_closed : {D : Type 0} (holds : D → List Level → List ℕ → Type 0) (old : Path D) (shorter : List Frame) (f : Frame) (middle : D) (new : Path D) (place : List Open) (marks at : ℕ) (rest : List ℕ)
     (j : Judgement) (result : Bool) → HoldsAt holds old place → IsEnd place marks j → shorter ≡ take (length old.frames.open.items - 1) old.frames.open.items
     → slice_get old.frames.open.items (length old.frames.open.items - 1) ≡ Some f → (f.element ≡ Segment → ⊥) → ((x : ⊤) → ChecksText holds old.draft f (Ok x)) → HasClosed holds old.draft f (next_at shorter) middle
-    → GoesOn f.slot shorter new.frames.open.items result → new.draft ≡ middle → IsStep holds new (Ok result) (moved j place at rest)
+    → GoesOn f.after shorter new.frames.open.items result → new.draft ≡ middle → IsStep holds new (Ok result) (moved j place at rest)
 element_closed holds old shorter f middle new place marks at rest j result stands end frames last apart checks closed goes draft =
     let o = end.innermost in
     let path = end.outer in
@@ -119,7 +120,7 @@ element_closed holds old shorter f middle new place marks at rest j result stand
     let none : element_fault profile_two o.element (text_all o.trees) ≡ None =
     ap (λ x. element_fault profile_two x (text_all o.trees)) (sym p.framed.element) ∙ ends.fault ∙ right_text f.element text right in
     let added = entry_added holds shorter p.below new path f.slot f.alternative f.element ends.content (constructed o.tag o.trees) (at + marks) (drop marks rest) result p.outer p.framed.is_due
-    (λ s. apart (only_segment f.element s)) goes
+    (λ s. apart (only_segment f.element s)) f.after p.framed.after goes
     (λ l below e d. (
       ends.value right,
       subst (λ x. holds x (with_entry l f.slot (with_alternative f.alternative ends.content) ∷ below) []) (sym draft)

@@ -12,8 +12,9 @@ use Rattle.ill_refusals.specs.Element.{segment}
 use Rattle.ill_refusals.specs.Place.{Open}
 use Rattle.ill_refusals.specs.code.Step.{with_tree}
 use Rattle.ill_read.specs.Elements.{component_of, element_is}
-use Rattle.ill_read.specs.DueCode.{IsDueIn, IsDueInRows, IsRowDue, behind}
-use Rattle.ill_read.specs.code.Drafts.{HasNext, IsDueAt, due_with, with_entry}
+use Rattle.ill_cells.specs.declared.at.At.{At}
+use Rattle.ill_read.specs.DueCode.{IsDueIn, IsDueInRows, IsRowDue, behind, shape}
+use Rattle.ill_read.specs.code.Drafts.{IsDueAt, due_with, with_entry}
 use Rattle.ill_read.specs.code.Judged.{IsStep}
 use Rattle.ill_read.specs.code.Stepping.{GoesOn}
 use Rattle.ill_read.specs.Standing.{Level, level_of, pushed, top_level, top_part, next_at, text_so_far, top, with_alternative, IsValueOf, IsHeld, IsFrame, AreFrames}
@@ -33,37 +34,6 @@ use Rattle.ill_read.proofs.MoreTrees.{with_one, frame_added}
 use Rattle.ill_read.proofs.Meanings.{begun_means}
 use Rattle.ill_refusals.proofs.OpenElements.{inner_proper}
 use Rattle.ill_read.proofs.Segments.{due_segment, text_with, text_apart}
-
-few : (node : NodeId) → nat_le (length (rows_of node)) 255 ≡ true
-few Boolean = refl
-few _ = refl
-
-pub got_below : (rows : List Row) (r : ℕ) (row : Row) → slice_get rows r ≡ Some row → r < length rows
-got_below [] r row e = absurd cc
-got_below (x ∷ rows) zero row e = omega arith
-got_below (x ∷ rows) (suc r) row e = omega (arith, got_below rows r row e)
-
-row_small : (node : NodeId) (r : ℕ) (row : Row) → slice_get (rows_of node) r ≡ Some row → r < 255
-row_small node r row e = let h : length (rows_of node) ≤ 255 = grind (arith, few node) in omega (arith, h, got_below (rows_of node) r row e)
-
-rows_next : (t : Tag) (node : NodeId) (n : ℕ) (d : Due) → IsDueInRows t node n d → HasNext d.slot
-rows_next t node n d h = go d.slot h
-  where
-    go : (x : Slot) → (elim x as (λ _. Type 0) [ AtRow r ↦ IsRowDue t node n r d.alternative d.found | _ ↦ ⊥ ]) → HasNext x
-    go (AtRow r) k = row_small node r k.row k.is_row
-    go Item k = tt
-    go Inside k = tt
-    go InString k = tt
-
--- an element's slot has a next one
-pub has_next : (t : Tag) (n : Next) (d : Due) → IsDueIn t n d → HasNext d.slot
-has_next t (Rows node n) d h = rows_next t node n d h
-has_next t (Inner w) d h = subst HasNext (sym h.slot) tt
-has_next t (Items node) d h = subst HasNext (sym h.slot) tt
-has_next t (Either w) d (inl h) = subst HasNext (sym h.1.slot) tt
-has_next t (Either w) d (inr h) = rows_next t w.node 0 d h.1
-has_next t Segments d h = subst HasNext (sym h.slot) tt
-has_next t Nothing d h = absurd h
 
 -- an element that is no segment isn't due in a string
 next_apart : (t : Tag) (n : Next) (slot : Slot) (alt : Option ℕ) (el : CodeElement) → IsDueIn t n (due_with slot alt el) → (element_is el ≡ segment → ⊥) → n ≡ Segments → ⊥
@@ -95,48 +65,49 @@ pushed_apart l below apart = go l.element apart
 -- an element's content in the element round it, or in the message
 pub entry_added : {D : Type 0} (holds : D → List Level → List ℕ → Type 0) (frames : List Frame) (levels : List Level) (new : Path D) (place : List Open) (slot : Slot) (alt : Option ℕ) (el : CodeElement)
     (c : Content) (T : Tree) (at : ℕ) (rest : List ℕ) (result : Bool) → AreFrames place frames levels → IsDueIn (tag_of T) (next_at frames) (due_with slot alt el) → (element_is el ≡ segment → ⊥)
-    → GoesOn slot frames new.frames.open.items result
+    → (after : At) → shape after ≡ behind (next_at frames) slot → GoesOn after frames new.frames.open.items result
     → ((l : Level) (below : List Level) → levels ≡ l ∷ below → IsDueAt l (next_at frames) (tag_of T) slot alt el
     → IsValueOf (element_is el) c T × holds new.draft (with_entry l slot (with_alternative alt c) ∷ below) [])
     → IsStep holds new (Ok result) (with_tree place T at rest)
-entry_added holds frames levels new [] slot alt el c T at rest false h d apart goes given = absurd (goes.0 h.0)
-entry_added holds frames levels new [] slot alt el c T at rest true h d apart goes given =
+entry_added holds frames levels new [] slot alt el c T at rest false h d apart after on goes given = absurd (goes.0 h.0)
+entry_added holds frames levels new [] slot alt el c T at rest true h d apart after on goes given =
     let next : top ≡ next_at frames = sym (ap next_at h.0) in
     let due : IsDueIn (tag_of T) top (due_with slot alt el) = subst (λ n. IsDueIn (tag_of T) n (due_with slot alt el)) (sym next) d in
     let x = given top_level [] h.1 (record { trees = none; held = (refl, refl, refl); next = next; is_due = due }) in
     let q = begun_means (component_of top_part) alt (Found.Element el) c T (inner_proper profile_two (component_of top_part) refl refl) due.begun x.0 in
     (with_alternative alt c, x.1, q.1)
-entry_added holds frames levels new (o ∷ path) slot alt el c T at rest true h d apart goes given =
+entry_added holds frames levels new (o ∷ path) slot alt el c T at rest true h d apart after on goes given =
     absurd (let q : h.0 ++ h.1 ∷ [] ≡ [] = sym h.4 ∙ goes.0 in some_frame h.0 h.1 q)
   where
     some_frame : (outer : List Frame) (f : Frame) → outer ++ f ∷ [] ≡ [] → ⊥
     some_frame [] f e = cc
     some_frame (g ∷ outer) f e = cc
-entry_added holds frames levels new (o ∷ path) slot alt el c T at rest false h d apart goes given =
+entry_added holds frames levels new (o ∷ path) slot alt el c T at rest false h d apart after on goes given =
     let outer = h.0 in
     let f = h.1 in
     let below = h.2 in
     let entries = h.3 in
     let k : IsFrame f o path outer entries = h.6 in
-    let here : next_at frames ≡ f.next = ap next_at h.4 ∙ next_behind outer f in
-    let due : IsDueIn (tag_of T) f.next (due_with slot alt el) = subst (λ n. IsDueIn (tag_of T) n (due_with slot alt el)) here d in
-    let other : f.next ≡ Segments → ⊥ = next_apart (tag_of T) f.next slot alt el due apart in
-    let whole : f.element ≡ Segment → ⊥ = λ s. other (segment_next f.element f.next entries o.trees k.held s) in
+    let here : next_at frames ≡ (shape f.place) = ap next_at h.4 ∙ next_behind outer f in
+    let due : IsDueIn (tag_of T) (shape f.place) (due_with slot alt el) = subst (λ n. IsDueIn (tag_of T) n (due_with slot alt el)) here d in
+    let other : (shape f.place) ≡ Segments → ⊥ = next_apart (tag_of T) (shape f.place) slot alt el due apart in
+    let whole : f.element ≡ Segment → ⊥ = λ s. other (segment_next f.element (shape f.place) entries o.trees k.held s) in
     let l = level_of f o.tag entries in
     let x = given l below (h.5 ∙ pushed_apart l below whole) (record { trees = o.trees; held = k.held; next = sym here; is_due = due }) in
     let more = with_entry l slot (with_alternative alt c) in
-    let held = held_added f.element f.next entries o.trees T slot alt el c k.held due x.0 in
-    let framed = frame_added f o path outer entries more.entries T (due_with slot alt el) k due held in
+    let going : shape after ≡ behind (shape f.place) slot = on ∙ ap (λ n. behind n slot) here in
+    let held = held_added f.element (shape f.place) entries o.trees T slot alt el c k.held due x.0 in
+    let framed = frame_added f o path outer entries more.entries T (due_with slot alt el) k due after going held in
     let none : text_so_far (with_one o T ∷ path) ≡ [] =
-    ap (λ e. text_with e (text_so_far path) (with_one o T).trees) (sym k.element) ∙ text_apart f.element f.next entries o.trees k.held other (text_so_far path) (with_one o T).trees in (
+    ap (λ e. text_with e (text_so_far path) (with_one o T).trees) (sym k.element) ∙ text_apart f.element (shape f.place) entries o.trees k.held other (text_so_far path) (with_one o T).trees in (
       more ∷ below,
       (
         outer,
-        record f { next = behind f.next slot },
+        record f { place = after },
         below,
         more.entries,
-        goes.1 outer f h.4 (has_next (tag_of T) f.next (due_with slot alt el) due),
-        sym (pushed_apart more below whole),
+        goes.1 outer f h.4,
+        sym (pushed_apart more below whole) ∙ ap (λ (n : Next). pushed (record more { next = n }) below) (sym going),
         framed,
         h.7,
       ),

@@ -1,9 +1,12 @@
 -- What is due by the decoder's words is due by the definitions.
-use Rattle.std.proofs.Common.{◌≡◌, ℕ, ◌+◌, Bool, true, false, [], ◌∷◌, drop, Option, Some, None, option_map, refl, sym, ap, ◌∙◌, inl, inr, if◌then◌else◌}
+use Rattle.std.proofs.Common.{◌≡◌, ℕ, zero, suc, ◌+◌, Bool, true, false, List, [], ◌∷◌, drop, Option, Some, None, option_map, refl, sym, ap, ap₂, ◌∙◌, arith, inl, inr, if◌then◌else◌, slice_get}
 use Rattle.ber_core.specs.Identifier.{Tag}
 use Rattle.ber_leaf.specs.Profile.{profile_two}
 use Rattle.ill_schema.specs.declared.node.NodeId.{NodeId}
-use Rattle.ill_refusals.specs.Element.{Component, Element, Start, components, starts}
+use Rattle.ill_schema.specs.declared.part.Presence.{Presence}
+use Rattle.ill_schema.specs.declared.part.Row.{Row}
+use Rattle.ill_schema.specs.Table.{rows_of}
+use Rattle.ill_refusals.specs.Element.{Component, Element, Start, components, components_from, list, starts}
 use Rattle.ill_refusals.specs.Next as next
 use Rattle.ill_refusals.specs.Next.{part, octets, rows, items, element_of, next_of, due, due_in, opening, start_of}
 use Rattle.ill_read.specs.Elements.{component_of, component_at, element_with, found_is}
@@ -14,9 +17,48 @@ use Rattle.ill_read.specs.declared.due.Slot.TheVariants.{Row as AtRow, Item, Inn
 use Rattle.ill_read.specs.declared.due.Next.{Next}
 use Rattle.ill_read.specs.declared.due.Next.TheVariants.{Rows, Inner, Items, Either, Segments, Nothing}
 use Rattle.ill_read.specs.declared.element.Wrapped.{Wrapped}
-use Rattle.ill_read.proofs.DueRows.{due_in-found, items-at}
 
--- an element that is due, and what may come behind it
+here : (node : NodeId) (k i : ℕ) (rs : List Row) (row : Row) → slice_get rs i ≡ Some row
+    → drop i (components_from profile_two node k rs) ≡ component_at (record { node = node; row = k + i }) row ∷ drop (i + 1) (components_from profile_two node k rs)
+here node k zero [] row e = absurd cc
+here node k zero (r ∷ rs) row e =
+    let g : r ≡ row = cc in
+    let z : k ≡ k + zero = omega arith in
+    ap₂ (λ (m : ℕ) (x : Row). component_at (record { node = node; row = m }) x ∷ components_from profile_two node (k + 1) rs) z g
+here node k (suc i) [] row e = absurd cc
+here node k (suc i) (r ∷ rs) row e =
+    let z : k + 1 + i ≡ k + suc i = omega arith in
+    let n : suc (i + 1) ≡ suc i + 1 = omega arith in
+    here node (k + 1) i rs row e
+    ∙ ap₂ (λ (m d : ℕ). component_at (record { node = node; row = m }) row ∷ drop d (components_from profile_two node k (r ∷ rs))) z n
+
+-- the component of a row, and those behind it
+pub components-at : (node : NodeId) (i : ℕ) (row : Row) → slice_get (rows_of node) i ≡ Some row
+    → drop i (components profile_two node) ≡ component_at (record { node = node; row = i }) row ∷ drop (i + 1) (components profile_two node)
+components-at node i row e =
+    let z : 0 + i ≡ i = omega arith in
+    here node 0 i (rows_of node) row e ∙ ap (λ (m : ℕ). component_at (record { node = node; row = m }) row ∷ drop (i + 1) (components profile_two node)) z
+
+-- what due_in returns for a component before others
+abbrev pub first_due : Tag → Component → List Component → Option Start → Option next.Due
+first_due t c cs o = elim o as (λ _. Option next.Due) [
+  | Some s ↦ Some (part c s.element (rows cs))
+  | None ↦ elim c.presence as (λ _. Option next.Due) [ Presence.Must ↦ None | _ ↦ due_in profile_two t cs ]
+]
+
+-- the first component begins with the tag
+pub due_in-found : (t : Tag) (c : Component) (cs : List Component) (e : Element) → element_with t (starts profile_two c) ≡ Some e → due_in profile_two t (c ∷ cs) ≡ Some (part c e (rows cs))
+due_in-found t c cs e h = at (start_of profile_two t c) h
+  where
+    at : (o : Option Start) → option_map (λ (s : Start). s.element) o ≡ Some e → first_due t c cs o ≡ Some (part c e (rows cs))
+    at None k = absurd cc
+    at (Some s) k = let q : s.element ≡ e = cc in ap (λ x. Some (part c x (rows cs))) q
+
+-- what comes in a list
+pub items-at : (node : NodeId) (row : Row) → slice_get (rows_of node) 0 ≡ Some row → opening profile_two (list node) ≡ items (component_at (record { node = node; row = 0 }) row)
+items-at node row h = ap (λ cs. elim cs as (λ _. next.Next) [ [] ↦ rows [] | c ∷ _ ↦ items c ]) (components-at node 0 row h)
+
+-- an element that is due, and what may come after it
 abbrev Answer : Option next.Due → Element → next.Next → Type 0
 Answer o e n = (D : next.Due) × (o ≡ Some D) × (element_of D ≡ e) × (next_of D ≡ n)
 
@@ -41,7 +83,7 @@ in_rows t node n d h = go d.slot h
 inside : (t : Tag) (w : Wrapped) (d : Due) → IsInnerDue t w d → Answer (due_in profile_two t (component_of w ∷ [])) (found_is d.found) (next_is Nothing)
 inside t w d h = (part (component_of w) (found_is d.found) (rows []), due_in-found t (component_of w) [] (found_is d.found) h.begun.is, refl, refl)
 
--- the element that is due, and what may come behind it
+-- the element that is due, and what may come after it
 pub due_element_is : (t : Tag) (n : Next) (d : Due) → IsDueIn t n d
     → (D : next.Due) × (due profile_two t (next_is n) ≡ Some D) × (element_of D ≡ found_is d.found) × (next_of D ≡ next_is (behind n d.slot))
 due_element_is t (Rows node n) d h =

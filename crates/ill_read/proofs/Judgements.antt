@@ -12,7 +12,8 @@ use Rattle.ill_schema.specs.declared.part.PartId.{PartId}
 use Rattle.ill_schema.specs.declared.refusal.Cause.{Cause}
 use Rattle.ill_schema.specs.declared.refusal.Refusal.{Refusal}
 use Rattle.ill_read.specs.Elements.{element_is, found_is}
-use Rattle.ill_read.specs.DueCode.{IsDueIn, next_is}
+use Rattle.ill_cells.specs.declared.at.At.{At}
+use Rattle.ill_read.specs.DueCode.{IsDueIn, behind, next_is, shape}
 use Rattle.ill_refusals.specs.Element.{Element}
 use Rattle.ill_refusals.specs.Fault.{Fault, fault, element_fault, ends_at, wanting}
 use Rattle.ill_refusals.specs.code.Judge.{Judgement, faulty, closes, reads, or_faulty, judge_end, judge_size, judge_length, judge_form, judge_tag, judge_element, judge_octets, judge}
@@ -23,6 +24,7 @@ use Rattle.ill_refusals.specs.Place.{Open, next_in, bound, allows}
 use Rattle.ill_read.specs.code.Progress.{IsProgress}
 use Rattle.ill_refusals.specs.Reading.{IdentifierRead, identified, part_identifier, no_identifier, read_identifier, definite, read_length}
 use Rattle.ill_read.specs.Standing.{StandsAt, next_at}
+use Rattle.ill_read.specs.declared.due.Coming.{Coming}
 use Rattle.ill_read.specs.declared.due.Due.{Due as CodeDue}
 use Rattle.ill_read.specs.declared.due.Slot.{Slot}
 use Rattle.ill_read.specs.declared.element.Element.{Element as CodeElement}
@@ -87,12 +89,21 @@ due_judged frames place tag f d at i want w h s k =
     ∙ ap (tag_body place tag f at i want w) (ap (due profile_two tag) (sym (next_open place _ _ h.1)) ∙ e.1)
     ∙ ap (λ x. judge_form profile_two place x tag f at i want w) e.2
 
-pub identified_judged : (frames : Frames) (place : List Open) (at : ℕ) (id : Id) (d : CodeDue) (r : Result Started Refusal) → StandsAt frames place → length place < 32
-    → IsDueIn (tag_of_id id) (next_at frames.open.items) d → IsFormed d at id r → IsIdentified frames place at id r
-identified_judged frames place at id d (Ok started) h s k f =
-    (record { is_due = subst (IsDueIn (tag_of_id id) (next_at frames.open.items)) f.0 k; allowed = ap (allows (element_is started.element)) f.2 ∙ f.3; shallow = s }, f.2, f.1)
-identified_judged frames place at id d (Err refusal) h s k f = λ i want w.
-    due_judged frames place (tag_of_id id) (form_of_id id) d at i want w h s k ∙ f profile_two place (tag_of_id id) i want w
+pub identified_judged : (frames : Frames) (place : List Open) (at : ℕ) (id : Id) (c : Coming) (r : Result Started Refusal) → StandsAt frames place → length place < 32
+    → IsDueIn (tag_of_id id) (next_at frames.open.items) c.due → shape c.after ≡ behind (next_at frames.open.items) c.due.slot → IsFormed c at id r → IsIdentified frames place at id r
+identified_judged frames place at id c (Ok started) h s k g f =
+    (
+      record {
+        is_due = subst (IsDueIn (tag_of_id id) (next_at frames.open.items)) f.0 k;
+        goes_on = ap shape f.4 ∙ g ∙ ap (λ (d : CodeDue). behind (next_at frames.open.items) d.slot) f.0;
+        allowed = ap (allows (element_is started.element)) f.2 ∙ f.3;
+        shallow = s;
+      },
+      f.2,
+      f.1,
+    )
+identified_judged frames place at id c (Err refusal) h s k g f = λ i want w.
+    due_judged frames place (tag_of_id id) (form_of_id id) c.due at i want w h s k ∙ f profile_two place (tag_of_id id) i want w
 
 abbrev element_body : List Open → ℕ → Fault → List ℕ → IdentifierRead → Judgement
 element_body place at want w x = elim x as (λ _. Judgement) [
@@ -109,10 +120,10 @@ behind_identifier place at want w front behind tag f e r =
     ap (element_body place at want w) r ∙ ap (λ i. judge_identified place tag f at i want behind) n
 
 -- an element that may begin there is judged by its length
-pub begun_judged : (frames : Frames) (place : List Open) (tag : Tag) (slot : Slot) (alternative : Option ℕ) (element : CodeElement) (f : Bool) (at i : ℕ) (want : Fault) (w : List ℕ)
-    → StandsAt frames place → IsBegin frames place tag slot alternative element f
+pub begun_judged : (frames : Frames) (place : List Open) (tag : Tag) (slot : Slot) (alternative : Option ℕ) (element : CodeElement) (after : At) (f : Bool) (at i : ℕ) (want : Fault) (w : List ℕ)
+    → StandsAt frames place → IsBegin frames place tag slot alternative element after f
     → judge_identified place tag f at i want w ≡ judge_length profile_two place (element_is element) tag f at i want w
-begun_judged frames place tag slot alternative element f at i want w h b =
+begun_judged frames place tag slot alternative element after f at i want w h b =
     due_judged frames place tag f (record { slot = slot; alternative = alternative; found = found.Element element }) at i want w h b.shallow b.is_due
     ∙ form_judged profile_two place (element_is element) tag f at i want w b.allowed
 

@@ -1,6 +1,3 @@
-pub mod Starts
-pub mod Components
-pub mod DueRows
 pub mod Enumerated
 pub mod HeadersRead
 pub mod OpenFrames
@@ -14,6 +11,7 @@ pub mod Strings
 pub mod ClosedElements
 pub mod OpenedElements
 pub mod PrimitiveElements
+pub mod DueCells
 pub mod DueElements
 pub mod Entries
 pub mod Meanings

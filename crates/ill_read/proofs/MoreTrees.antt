@@ -5,14 +5,14 @@ use Rattle.std.proofs.lemmas.List.{set_at, get_or_at}
 use Rattle.ber_core.specs.Tree.{Tree, Trees, none, more, tag_of}
 use Rattle.ber_leaf.specs.Profile.{profile_two}
 use Rattle.ill_schema.specs.Content.{Content}
-use Rattle.ill_read.specs.DueCode.{IsDueIn, behind}
+use Rattle.ill_read.specs.DueCode.{IsDueIn, behind, next_is, shape}
+use Rattle.ill_cells.specs.declared.at.At.{At}
 use Rattle.ill_refusals.specs.Next.{due, next_of, next_after, opening}
 use Rattle.ill_refusals.specs.Next as following
 use Rattle.ill_refusals.specs.Place.{Open}
 use Rattle.ill_read.specs.Standing.{AreDue, IsHeld, IsFrame}
 use Rattle.ill_refusals.specs.code.Step.{snoc}
 use Rattle.ill_read.specs.declared.due.Due.{Due}
-use Rattle.ill_read.specs.declared.due.Next.{Next}
 use Rattle.ill_read.specs.declared.frame.Frame.{Frame}
 use Rattle.ill_read.proofs.DueElements.{due_element_is}
 use Rattle.ill_refusals.proofs.Rows.{next_after-more}
@@ -30,9 +30,10 @@ with_one o T = record o { trees = snoc o.trees T }
 
 -- the frame of an open element, after a tree that was due
 pub frame_added : (f : Frame) (o : Open) (path : List Open) (outer : List Frame) (entries new : List (Option Content)) (T : Tree) (d : Due) → IsFrame f o path outer entries
-    → IsDueIn (tag_of T) f.next d → IsHeld f.element (behind f.next d.slot) new (snoc o.trees T) → IsFrame (record f { next = behind f.next d.slot }) (with_one o T) path outer new
-frame_added f o path outer entries new T d h is held =
-    let D = due_element_is (tag_of T) f.next d is in
+    → IsDueIn (tag_of T) (shape f.place) d → (after : At) → shape after ≡ behind (shape f.place) d.slot → IsHeld f.element (behind (shape f.place) d.slot) new (snoc o.trees T)
+    → IsFrame (record f { place = after }) (with_one o T) path outer new
+frame_added f o path outer entries new T d h is after goes held =
+    let D = due_element_is (tag_of T) (shape f.place) d is in
     let e : due profile_two (tag_of T) (next_after profile_two (opening profile_two o.element) o.trees) ≡ Some D.0 = ap (due profile_two (tag_of T)) (sym h.next) ∙ D.1 in
     let more = next-added (opening profile_two o.element) o.trees T D.0 h.were_due e in
     record {
@@ -40,23 +41,24 @@ frame_added f o path outer entries new T d h is held =
       start = h.start;
       end = h.end;
       bound = h.bound;
-      next = sym D.3 ∙ sym more.0;
+      next = ap next_is goes ∙ sym D.3 ∙ sym more.0;
       is_due = h.is_due;
-      held = held;
+      after = h.after;
+      held = subst (λ n. IsHeld f.element n new (snoc o.trees T)) (sym goes) held;
       were_due = more.1;
     }
 
 -- the last frame with another next
-pub advanced : (outer : List Frame) (f x : Frame) (frames : List Frame) (i : ℕ) (n : Next) (p : x.bound ≤ 1048576) → frames ≡ outer ++ f ∷ [] → i ≡ length frames - 1
-    → x ≡ get_or frames i x → set frames i (record x { next = n; within = p }) ≡ outer ++ record f { next = n } ∷ []
+pub advanced : (outer : List Frame) (f x : Frame) (frames : List Frame) (i : ℕ) (n : At) (p : x.bound ≤ 1048576) → frames ≡ outer ++ f ∷ [] → i ≡ length frames - 1
+    → x ≡ get_or frames i x → set frames i (record x { place = n; within = p }) ≡ outer ++ record f { place = n } ∷ []
 advanced outer f x frames i n p e last is =
     let len : length frames ≡ length outer + length (f ∷ []) = ap length e ∙ length-append outer (f ∷ []) in
     let at : length outer ≡ i = omega (arith, len, last) in
     let same : x ≡ f = is ∙ ap (λ fs. get_or fs i x) e ∙ get_or_at outer f [] x i at in
-    ap (λ fs. set fs i (record x { next = n; within = p })) e ∙ set_at outer f [] (record x { next = n; within = p }) i at
+    ap (λ fs. set fs i (record x { place = n; within = p })) e ∙ set_at outer f [] (record x { place = n; within = p }) i at
     ∙ ap (λ g. outer ++ g ∷ []) (alike x same p)
   where
-    alike : (y : Frame) → y ≡ f → (q : y.bound ≤ 1048576) → record y { next = n; within = q } ≡ record f { next = n }
+    alike : (y : Frame) → y ≡ f → (q : y.bound ≤ 1048576) → record y { place = n; within = q } ≡ record f { place = n }
     alike y s q =
-        let P : Frame → Type 0 = λ z. (r : z.bound ≤ 1048576) → record z { next = n; within = r } ≡ record f { next = n } in
-        subst P (sym s) (λ r. ap (λ w. let g : Frame = record f { next = n; within = w } in g) (le_prop r f.within)) q
+        let P : Frame → Type 0 = λ z. (r : z.bound ≤ 1048576) → record z { place = n; within = r } ≡ record f { place = n } in
+        subst P (sym s) (λ r. ap (λ w. let g : Frame = record f { place = n; within = w } in g) (le_prop r f.within)) q

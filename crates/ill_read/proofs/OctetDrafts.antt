@@ -11,11 +11,11 @@ use Rattle.ber_leaf.specs.Leaf.{boolean, is_string, normal_content, value, conte
 use Rattle.ber_leaf.specs.Profile.{profile_two}
 use Rattle.ill_schema.specs.Content.{Content, simple}
 use Rattle.ill_refusals.specs.Element.{segment}
-use Rattle.ill_read.specs.DueCode.{IsDueIn}
+use Rattle.ill_read.specs.DueCode.{IsDueIn, shape, first_of}
 use Rattle.ill_read.specs.Elements.{element_is}
 use Rattle.ill_read.specs.LeafTypes.{leaf_is}
 use Rattle.ill_read.specs.Standing.{Level, level_of, with_alternative, IsValueOf, IsHeld}
-use Rattle.ill_read.specs.code.Drafts.{HasOpened, IsContentOf, IsDueAt, IsRightText, due_with, first_of, with_entry}
+use Rattle.ill_read.specs.code.Drafts.{HasOpened, IsContentOf, IsDueAt, IsRightText, due_with, with_entry}
 use Rattle.ill_read.specs.code.OctetDrafts.{AreOctets, AreWritten, IsApartAs, enclosed, form_of, unless_left, written}
 use Rattle.ill_read.specs.code.Written.{normal_element}
 use Rattle.ill_read.specs.declared.due.Next.{Next}
@@ -145,28 +145,28 @@ no_segment e n entries text c k s = subst (λ x. IsContentOf x n entries text c)
 
 -- an element ends: its contents are made, and then its length is set
 pub octets_closed : (old new : Octets) (middle : List ℕ) (f : Frame) (next : Next) (tag : Tag) (entries : List (Option Content)) (trees : Trees) (l : Level) (below : List Level) (text : List ℕ) (c : Content)
-    → AreOctets old (level_of f tag entries ∷ l ∷ below) text → IsHeld f.element f.next entries trees → IsRightText f.element text → IsContentOf f.element f.next entries text c
+    → AreOctets old (level_of f tag entries ∷ l ∷ below) text → IsHeld f.element (shape f.place) entries trees → IsRightText f.element text → IsContentOf f.element (shape f.place) entries text c
     → ((T : Tree) × (tag_of T ≡ tag) × IsValueOf (element_is f.element) c T) → IsDueAt l next tag f.slot f.alternative f.element
-    → ((before : List ℕ) → old.octets ≡ before ++ (written f.element f.next entries ++ text) → f.base ≡ length before → middle ≡ before ++ contents_of f.element f.next (written f.element f.next entries) text)
+    → ((before : List ℕ) → old.octets ≡ before ++ (written f.element (shape f.place) entries ++ text) → f.base ≡ length before → middle ≡ before ++ contents_of f.element (shape f.place) (written f.element (shape f.place) entries) text)
     → ((before body : List ℕ) (t : Tag) (form : Bool) (x : ℕ) → middle ≡ before ++ (identifier t form ++ x ∷ body) → f.base ≡ length (before ++ (identifier t form ++ x ∷ []))
     → new.octets ≡ before ++ (identifier t form ++ (shortest_length (length body) ++ body)))
     → AreOctets new (with_entry l f.slot (with_alternative f.alternative c) ∷ below) []
 octets_closed old new middle f next tag entries trees l below text c h held right is value due made closed =
     let a = h.are in
-    let w = written f.element f.next entries in
-    let contents = contents_of f.element f.next w text in
+    let w = written f.element (shape f.place) entries in
+    let contents = contents_of f.element (shape f.place) w text in
     let id = identifier tag (form_of f.element) in
-    let apart = no_segment f.element f.next entries text c is in
+    let apart = no_segment f.element (shape f.place) entries text c is in
     let header : a.1 ≡ id ++ 0 ∷ [] = a.4 (λ class number. absurd (due_apart tag l.next f.slot f.alternative f.element due.is_due apart class number)) in
     let all : old.octets ≡ (a.0 ++ a.1) ++ (w ++ text) =
     h.joined ∙ ap (λ x. x ++ text) (a.2 ∙ sym (append_assoc a.0 a.1 w)) ∙ append_assoc (a.0 ++ a.1) w text in
     let middle_is : middle ≡ a.0 ++ (id ++ 0 ∷ contents) =
     made (a.0 ++ a.1) all a.3 ∙ append_assoc a.0 a.1 contents ∙ ap (λ x. a.0 ++ x) (ap (λ x. x ++ contents) header ∙ append_assoc id (0 ∷ []) contents) in
     let base : f.base ≡ length (a.0 ++ (id ++ 0 ∷ [])) = a.3 ∙ ap (λ x. length (a.0 ++ x)) header in
-    let done = closed a.0 contents tag (form_of f.element) 0 middle_is base ∙ ap (λ x. a.0 ++ x) (sym (ended_octets f.element f.next entries trees text c tag held right is)) in
+    let done = closed a.0 contents tag (form_of f.element) 0 middle_is base ∙ ap (λ x. a.0 ++ x) (sym (ended_octets f.element (shape f.place) entries trees text c tag held right is)) in
     let here = subst (λ t. IsDueIn t l.next (due_with f.slot f.alternative f.element)) (sym value.1) due.is_due in
     let entry = entry_written l.element l.next l.entries due.trees value.0 f.slot f.alternative f.element c due.held here value.2 in
-    let stays = kept tag l.next f.slot f.alternative f.element c due.is_due (may_open f.element f.next entries trees held) in
+    let stays = kept tag l.next f.slot f.alternative f.element c due.is_due (may_open f.element (shape f.place) entries trees held) in
     let octets = encoding (normal_element (element_is f.element) tag c) in
     let added : unless_left l.next f.slot (with_alternative f.alternative c) (encoding (normal_element (element_is f.element) (tag_of value.0) c)) ≡ octets =
     ap (λ b. elim b as (λ _. List ℕ) [ true ↦ [] | false ↦ encoding (normal_element (element_is f.element) (tag_of value.0) c) ]) stays

@@ -1,20 +1,20 @@
 -- The last of the frames, and how many there are.
 use Rattle.std.proofs.Common.{◌≡◌, ℕ, suc, ◌-◌, List, [], ◌∷◌, ◌++◌, length, length-append, Option, Some, None, is_some, refl, sym, ap, ◌∙◌, arith, slice_get}
 use Rattle.ber_leaf.specs.Profile.{profile_two}
-use Rattle.ill_read.specs.DueCode.{next_is}
+use Rattle.ill_read.specs.DueCode.{next_is, shape}
 use Rattle.ill_read.specs.code.JudgeCode.{outermost_end}
 use Rattle.ill_read.specs.Need.{outermost}
 use Rattle.ill_refusals.specs.Place.{Open, next_in, innermost_end, bound}
 use Rattle.ill_read.specs.Standing.{Level, next_at, AreFrames}
 use Rattle.ill_read.specs.declared.frame.Frame.{Frame}
 
-pub next_last : (frames : List Frame) (f : Frame) → slice_get frames (length frames - 1) ≡ Some f → next_at frames ≡ f.next
+pub next_last : (frames : List Frame) (f : Frame) → slice_get frames (length frames - 1) ≡ Some f → next_at frames ≡ (shape f.place)
 next_last [] f e = absurd cc
-next_last (g ∷ []) f e = let q : Some g ≡ Some f = e in let r : g ≡ f = cc in ap (λ (x : Frame). x.next) r
+next_last (g ∷ []) f e = let q : Some g ≡ Some f = e in let r : g ≡ f = cc in ap (λ (x : Frame). shape x.place) r
 next_last (g ∷ h ∷ fs) f e = next_last (h ∷ fs) f (let n : length (g ∷ h ∷ fs) - 1 ≡ suc (length (h ∷ fs) - 1) = omega arith in sym (ap (slice_get (g ∷ h ∷ fs)) n) ∙ e)
 
 -- the frame behind others
-pub next_behind : (outer : List Frame) (f : Frame) → next_at (outer ++ f ∷ []) ≡ f.next
+pub next_behind : (outer : List Frame) (f : Frame) → next_at (outer ++ f ∷ []) ≡ (shape f.place)
 next_behind [] f = refl
 next_behind (g ∷ []) f = refl
 next_behind (g ∷ h ∷ fs) f = next_behind (h ∷ fs) f

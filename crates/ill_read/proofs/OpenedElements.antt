@@ -5,13 +5,13 @@ use Rattle.ber_core.specs.Identifier.{Tag}
 use Rattle.ber_core.specs.Tree.{none}
 use Rattle.ber_leaf.specs.Profile.{profile_two}
 use Rattle.ill_read.specs.Elements.{element_is}
-use Rattle.ill_read.specs.DueCode.{IsDueIn, next_is}
+use Rattle.ill_read.specs.DueCode.{IsDueIn, behind, first_of, next_is, shape}
 use Rattle.ill_refusals.specs.Element.{segment}
 use Rattle.ill_refusals.specs.Next.{opening}
 use Rattle.ill_refusals.specs.Place.{Open, allows, bound}
 use Rattle.ill_read.specs.Standing.{Level, level_of, pushed, next_at, text_so_far, IsHeld, IsFrame, HoldsAt}
 use Rattle.ill_refusals.specs.code.Step.{opened}
-use Rattle.ill_read.specs.code.Drafts.{HasOpened, due_with, first_of}
+use Rattle.ill_read.specs.code.Drafts.{HasOpened, due_with}
 use Rattle.ill_read.specs.declared.due.Next.{Next}
 use Rattle.ill_read.specs.declared.element.Element.{Element as CodeElement}
 use Rattle.ill_read.specs.declared.element.Element.TheVariants.{Leaf, Sequence, List as ListOf, Wrapper, LooseWrapper, Segment}
@@ -60,10 +60,10 @@ first_opening (LooseWrapper w) = refl
 first_opening Segment = refl
 
 pub opens_at : {D : Type 0} (holds : D → List Level → List ℕ → Type 0) (old new : Path D) (opening : Opening) (f : Frame) (place : List Open) (round : ℕ) → HoldsAt holds old place
-    → IsDueIn (tag_of_id opening.id) (next_at old.frames.open.items) (due_with f.slot f.alternative f.element) → allows (element_is f.element) true ≡ true → f.next ≡ first_of f.element
+    → IsDueIn (tag_of_id opening.id) (next_at old.frames.open.items) (due_with f.slot f.alternative f.element) → shape f.after ≡ behind (next_at old.frames.open.items) f.slot → allows (element_is f.element) true ≡ true → (shape f.place) ≡ first_of f.element
     → round ≡ bound profile_two place → f.bound ≡ unwrap_or f.end round → HasOpened holds old.draft opening f.base new.draft → new.frames.open.items ≡ old.frames.open.items ++ f ∷ [] → f.element ≡ opening.element
     → HoldsAt holds new (opened (element_is f.element) (tag_of_id opening.id) f.start f.end ∷ place)
-opens_at holds old new opening f place round h due allowed first r b has frames is =
+opens_at holds old new opening f place round h due after allowed first r b has frames is =
     let tag = tag_of_id opening.id in
     let o : Open = opened (element_is f.element) tag f.start f.end in
     let framed : IsFrame f o place old.frames.open.items [] = record {
@@ -73,7 +73,8 @@ opens_at holds old new opening f place round h due allowed first r b has frames 
       bound = b ∙ bound_opened f.end round f.element tag f.start place r;
       next = ap next_is first ∙ first_opening f.element;
       is_due = due;
-      held = holds_none f.element f.next first allowed;
+      after = after;
+      held = holds_none f.element (shape f.place) first allowed;
       were_due = tt;
     } in
     let none_before : (element_is f.element ≡ segment → ⊥) → text_so_far place ≡ [] = λ apart.

@@ -41,16 +41,16 @@ content_read e place tag header octets start at rest = moved (or_faulty (element
 
 -- a leaf
 pub leaf_read : {D : Type 0} (holds : D → List Level → List ℕ → Type 0) (old new : Path D) (place : List Open) (r : Reading) (l : LeafType) (start : ℕ) (octets : List ℕ) (result : Bool) (header at : ℕ) (rest : List ℕ)
-    → HoldsAt holds old place → IsBegin old.frames place (tag_of_id r.id) r.slot r.alternative r.element false → r.element ≡ Leaf l → IsTrue (are_octets octets)
+    → HoldsAt holds old place → IsBegin old.frames place (tag_of_id r.id) r.slot r.alternative r.element r.after false → r.element ≡ Leaf l → IsTrue (are_octets octets)
     → content_fault profile_two (leaf_is l) octets ≡ None → HasLeaf holds old.draft (next_at old.frames.open.items) r l octets new.draft
-    → GoesOn r.slot old.frames.open.items new.frames.open.items result → IsStep holds new (Ok result) (content_read r.element place (tag_of_id r.id) header octets start at rest)
+    → GoesOn r.after old.frames.open.items new.frames.open.items result → IsStep holds new (Ok result) (content_read r.element place (tag_of_id r.id) header octets start at rest)
 leaf_read holds old new place r l start octets result header at rest stands begin is ok right has goes =
     let tag = tag_of_id r.id in
     let due : IsDueIn tag (next_at old.frames.open.items) (due_with r.slot r.alternative (Leaf l)) = subst (λ x. IsDueIn tag (next_at old.frames.open.items) (due_with r.slot r.alternative x)) is begin.is_due in
     let apart : element_is (Leaf l) ≡ segment → ⊥ = λ s. cc in
     let no : text_so_far place ≡ [] = no_text place old.frames.open.items stands.0 stands.1 (λ s. apart (due_segment tag (next_at old.frames.open.items) (due_with r.slot r.alternative (Leaf l)) due s)) in
     let added = entry_added holds old.frames.open.items stands.0 new place r.slot r.alternative (Leaf l) (simple (value (leaf_is l) octets)) (primitive tag octets)
-    (at + header + length octets) (drop (header + length octets) rest) result stands.1 due apart goes
+    (at + header + length octets) (drop (header + length octets) rest) result stands.1 due apart r.after begin.goes_on goes
     (λ level below e d. ((tt, ok, right, refl), has level below (subst (λ t. holds old.draft (level ∷ below) t) no (subst (λ ls. holds old.draft ls (text_so_far place)) e stands.2)) d)) in
     let none : element_fault profile_two (element_is r.element) octets ≡ None = ap (λ x. element_fault profile_two (element_is x) octets) is ∙ right in
     subst (λ f. IsStep holds new (Ok result) (moved (or_faulty f start (reads tag header octets)) place at rest)) (sym none) added
@@ -73,7 +73,7 @@ primitive_segment Segment a h = refl
 
 -- a segment
 pub segment_read : {D : Type 0} (holds : D → List Level → List ℕ → Type 0) (old new : Path D) (place : List Open) (r : Reading) (start : ℕ) (octets : List ℕ) (header at : ℕ) (rest : List ℕ)
-    → HoldsAt holds old place → IsBegin old.frames place (tag_of_id r.id) r.slot r.alternative r.element false → ((l : LeafType) → r.element ≡ Leaf l → ⊥)
+    → HoldsAt holds old place → IsBegin old.frames place (tag_of_id r.id) r.slot r.alternative r.element r.after false → ((l : LeafType) → r.element ≡ Leaf l → ⊥)
     → new.frames.open.items ≡ old.frames.open.items → HasText holds old.draft octets new.draft
     → IsStep holds new (Ok false) (content_read r.element place (tag_of_id r.id) header octets start at rest)
 segment_read holds old new place r start octets header at rest stands begin apart frames has =

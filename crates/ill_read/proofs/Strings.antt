@@ -5,7 +5,7 @@ use Rattle.ber_core.specs.Tree.{Tree, Trees, none, more, tag_of, octet_string, I
 use Rattle.ber_leaf.specs.Profile.{profile_two}
 use Rattle.ill_schema.specs.Content.{Content}
 use Rattle.ill_read.specs.Elements.{element_is}
-use Rattle.ill_read.specs.DueCode.{IsDueIn, next_is, behind}
+use Rattle.ill_read.specs.DueCode.{IsDueIn, next_is, behind, shape}
 use Rattle.ill_read.specs.code.Judged.{IsStep}
 use Rattle.ill_refusals.specs.Next.{due, next_after, opening}
 use Rattle.ill_refusals.specs.Place.{Open}
@@ -54,12 +54,12 @@ segment_tag : (t : Tag) (n : Next) (d : Due) → IsDueIn t n d → n ≡ Segment
 segment_tag t n d h e = let k : IsDueIn t Segments d = subst (λ x. IsDueIn t x d) e h in same_tag-is t octet_string k.tag
 
 string_frame : (f : Frame) (o : Open) (path : List Open) (outer : List Frame) (entries : List (Option Content)) (T : Tree) (d : Due) → IsFrame f o path outer entries
-    → IsDueIn (tag_of T) f.next d → f.next ≡ Segments → IsString T → IsFrame f (with_one o T) path outer entries
+    → IsDueIn (tag_of T) (shape f.place) d → (shape f.place) ≡ Segments → IsString T → IsFrame f (with_one o T) path outer entries
 string_frame f o path outer entries T d h is e s =
-    let D = due_element_is (tag_of T) f.next d is in
+    let D = due_element_is (tag_of T) (shape f.place) d is in
     let found : due profile_two (tag_of T) (next_after profile_two (opening profile_two o.element) o.trees) ≡ Some D.0 = ap (due profile_two (tag_of T)) (sym h.next) ∙ D.1 in
     let one_more = next-added (opening profile_two o.element) o.trees T D.0 h.were_due found in
-    let stays : behind f.next d.slot ≡ f.next = ap (λ n. behind n d.slot) e ∙ sym e in
+    let stays : behind (shape f.place) d.slot ≡ (shape f.place) = ap (λ n. behind n d.slot) e ∙ sym e in
     let held : IsHeld f.element Segments entries o.trees = subst (λ n. IsHeld f.element n entries o.trees) e h.held in
     record {
       element = h.element;
@@ -68,7 +68,8 @@ string_frame f o path outer entries T d h is e s =
       bound = h.bound;
       next = ap next_is (sym stays) ∙ sym D.3 ∙ sym one_more.0;
       is_due = h.is_due;
-      held = subst (λ n. IsHeld f.element n entries (snoc o.trees T)) (sym e) (string_held f.element entries o.trees T held (segment_tag (tag_of T) f.next d is e) s);
+      after = h.after;
+      held = subst (λ n. IsHeld f.element n entries (snoc o.trees T)) (sym e) (string_held f.element entries o.trees T held (segment_tag (tag_of T) (shape f.place) d is e) s);
       were_due = one_more.1;
     }
 
@@ -80,9 +81,9 @@ segment_added holds path [] levels d T at rest h is e s t = absurd (let q : top 
 segment_added holds path (o ∷ outside) levels d T at rest h is e s t =
     let f = h.1 in
     let k : IsFrame f o outside h.0 h.3 = h.6 in
-    let here : next_at path.frames.open.items ≡ f.next = ap next_at h.4 ∙ next_behind h.0 f in
-    let due : IsDueIn (tag_of T) f.next d = subst (λ n. IsDueIn (tag_of T) n d) here is in
-    let string : f.next ≡ Segments = sym here ∙ e in
+    let here : next_at path.frames.open.items ≡ (shape f.place) = ap next_at h.4 ∙ next_behind h.0 f in
+    let due : IsDueIn (tag_of T) (shape f.place) d = subst (λ n. IsDueIn (tag_of T) n d) here is in
+    let string : (shape f.place) ≡ Segments = sym here ∙ e in
     let held : IsHeld f.element Segments h.3 o.trees = subst (λ n. IsHeld f.element n h.3 o.trees) string k.held in
     let joined = string_text f.element h.3 o.trees T (text_so_far outside) held in
     let as_element = λ (us : Trees). ap (λ x. text_with x (text_so_far outside) us) k.element in

@@ -18,7 +18,7 @@ use Rattle.ill_schema.specs.declared.value.Value.{Value}
 use Rattle.ill_refusals.specs.Fault.{fault, element_fault, fault_of}
 use Rattle.ill_read.specs.Elements.{element_is}
 use Rattle.ill_read.specs.LeafTypes.{leaf_is}
-use Rattle.ill_read.specs.code.Drafts.{HasOpened, IsContentOf, IsRightText, first_of, rows_before, rows_left, with_entry}
+use Rattle.ill_read.specs.code.Drafts.{HasOpened, IsContentOf, IsRightText, rows_before, rows_left, with_entry}
 use Rattle.ill_read.specs.code.Held.{EndsExactly, HasAdded, IsFound, IsLast, IsList, IsSequence}
 use Rattle.ill_read.specs.Standing.{Level, level_of, whole_level, absent_content, AreHeld, AreValues, IsHeld}
 use Rattle.ill_read.specs.declared.due.Next.{Next}
@@ -32,6 +32,7 @@ use Rattle.ill_read.specs.declared.frame.Frame.{Frame}
 use Rattle.ill_read.specs.declared.judge.Opening.{Opening}
 use Rattle.ill_read.specs.declared.leaf_type.LeafType.{LeafType}
 use Rattle.ill_read.specs.declared.values.Values.{Values}
+use Rattle.ill_read.specs.DueCode.{shape, first_of}
 
 -- an element that opens has no entries
 pub values_opened : (v : Values) (opening : Opening) (base : ℕ) → base ≡ length v.held.entries.items → HasOpened AreValues v opening base v
@@ -76,19 +77,19 @@ left : (new : Values) (below : List Level) (under : List (Option Value)) → Are
 left new below under h e text = record { held = subst (AreHeld below) (sym e) h; text = text }
 
 sequence_left : (old new : Values) (f : Frame) (tag : Tag) (entries : List (Option Content)) (below : List Level) (text : List ℕ) (v : Value) (c : Content)
-    → AreValues old (level_of f tag entries ∷ below) text → IsSequence (rows_left f.next) f.base v old.held.entries.items new.held.entries.items → new.text.items ≡ old.text.items
-    → text ≡ [] → c ≡ content.sequence (entries_of (entries ++ map absent_content (rows_left f.next))) → (content_of v ≡ c) × AreValues new below []
+    → AreValues old (level_of f tag entries ∷ below) text → IsSequence (rows_left (shape f.place)) f.base v old.held.entries.items new.held.entries.items → new.text.items ≡ old.text.items
+    → text ≡ [] → c ≡ content.sequence (entries_of (entries ++ map absent_content (rows_left (shape f.place)))) → (content_of v ≡ c) × AreValues new below []
 sequence_left old new f tag entries below text v c h s same empty is =
     let g : Option Value → Option Content = option_map content_of in
     let x = h.held in
     let taken = s.is x.0 x.1 x.2 (sym x.3) in
-    let all : map g (x.1 ++ s.entries) ≡ entries ++ map absent_content (rows_left f.next) = map-append g x.1 s.entries ∙ ap₂ (λ (xs ys : List (Option Content)). xs ++ ys) x.4 s.are in
+    let all : map g (x.1 ++ s.entries) ≡ entries ++ map absent_content (rows_left (shape f.place)) = map-append g x.1 s.entries ∙ ap₂ (λ (xs ys : List (Option Content)). xs ++ ys) x.4 s.are in
     (taken.1 ∙ ap (λ es. content.sequence (entries_of es)) all ∙ sym is, left new below x.0 x.5 taken.0 (same ∙ h.text ∙ empty))
 
-pub sequence_ends : (old new : Values) (f : Frame) (v : Value) (node : NodeId) → f.element ≡ Sequence node → IsSequence (rows_left f.next) f.base v old.held.entries.items new.held.entries.items
+pub sequence_ends : (old new : Values) (f : Frame) (v : Value) (node : NodeId) → f.element ≡ Sequence node → IsSequence (rows_left (shape f.place)) f.base v old.held.entries.items new.held.entries.items
     → new.text.items ≡ old.text.items → EndsExactly old f new (Ok (Some v))
 sequence_ends old new f v node is s same tag entries below text h =
-    subst (λ x. IsRightText x text × ((trees : Trees) (c : Content) → IsHeld x f.next entries trees → IsContentOf x f.next entries text c → IsFound (Some v) c × AreValues new below [])) (sym is)
+    subst (λ x. IsRightText x text × ((trees : Trees) (c : Content) → IsHeld x (shape f.place) entries trees → IsContentOf x (shape f.place) entries text c → IsFound (Some v) c × AreValues new below [])) (sym is)
     (tt, λ trees c held k. sequence_left old new f tag entries below text v c h s same k.0 k.1)
 
 loose_content : (w : Wrapped) (n : Next) (entries : List (Option Content)) (text : List ℕ) (c : Content) → (n ≡ Nothing → ⊥) → IsContentOf (LooseWrapper w) n entries text c
@@ -100,11 +101,11 @@ loose_content w (Items node) entries text c apart k = k
 loose_content w (Either x) entries text c apart k = k
 loose_content w Segments entries text c apart k = k
 
-pub loose_ends : (old new : Values) (f : Frame) (v : Value) (w : Wrapped) → f.element ≡ LooseWrapper w → (f.next ≡ Nothing → ⊥)
-    → IsSequence (rows_left f.next) f.base v old.held.entries.items new.held.entries.items → new.text.items ≡ old.text.items → EndsExactly old f new (Ok (Some v))
+pub loose_ends : (old new : Values) (f : Frame) (v : Value) (w : Wrapped) → f.element ≡ LooseWrapper w → ((shape f.place) ≡ Nothing → ⊥)
+    → IsSequence (rows_left (shape f.place)) f.base v old.held.entries.items new.held.entries.items → new.text.items ≡ old.text.items → EndsExactly old f new (Ok (Some v))
 loose_ends old new f v w is apart s same tag entries below text h =
-    subst (λ x. IsRightText x text × ((trees : Trees) (c : Content) → IsHeld x f.next entries trees → IsContentOf x f.next entries text c → IsFound (Some v) c × AreValues new below [])) (sym is)
-    (tt, λ trees c held k. let q = loose_content w f.next entries text c apart k in sequence_left old new f tag entries below text v c h s same q.0 q.1)
+    subst (λ x. IsRightText x text × ((trees : Trees) (c : Content) → IsHeld x (shape f.place) entries trees → IsContentOf x (shape f.place) entries text c → IsFound (Some v) c × AreValues new below [])) (sym is)
+    (tt, λ trees c held k. let q = loose_content w (shape f.place) entries text c apart k in sequence_left old new f tag entries below text v c h s same q.0 q.1)
 
 -- entries that are all there are values
 all_there : (es : List (Option Value)) (cs : List Content) → map (option_map content_of) es ≡ map Some cs → (vs : List Value) × (es ≡ map Some vs) × (map content_of vs ≡ cs)
@@ -120,7 +121,7 @@ all_there (Some v ∷ es) (c ∷ cs) e =
 pub list_ends : (old new : Values) (f : Frame) (v : Value) (node : NodeId) → f.element ≡ ListOf node → IsList f.base v old.held.entries.items new.held.entries.items → new.text.items ≡ old.text.items
     → EndsExactly old f new (Ok (Some v))
 list_ends old new f v node is s same tag entries below text h =
-    subst (λ x. IsRightText x text × ((trees : Trees) (c : Content) → IsHeld x f.next entries trees → IsContentOf x f.next entries text c → IsFound (Some v) c × AreValues new below [])) (sym is) (
+    subst (λ x. IsRightText x text × ((trees : Trees) (c : Content) → IsHeld x (shape f.place) entries trees → IsContentOf x (shape f.place) entries text c → IsFound (Some v) c × AreValues new below [])) (sym is) (
       tt,
       λ trees c held k.
           let x = h.held in
@@ -148,13 +149,13 @@ last_left old new f tag entries below text found c h s same empty is =
 pub wrapper_ends : (old new : Values) (f : Frame) (found : Option Value) (w : Wrapped) → f.element ≡ Wrapper w → IsLast found old.held.entries.items new.held.entries.items
     → new.text.items ≡ old.text.items → EndsExactly old f new (Ok found)
 wrapper_ends old new f found w is s same tag entries below text h =
-    subst (λ x. IsRightText x text × ((trees : Trees) (c : Content) → IsHeld x f.next entries trees → IsContentOf x f.next entries text c → IsFound found c × AreValues new below [])) (sym is)
+    subst (λ x. IsRightText x text × ((trees : Trees) (c : Content) → IsHeld x (shape f.place) entries trees → IsContentOf x (shape f.place) entries text c → IsFound found c × AreValues new below [])) (sym is)
     (tt, λ trees c held k. last_left old new f tag entries below text found c h s same k.0 k.1)
 
-pub loose_wrapper_ends : (old new : Values) (f : Frame) (found : Option Value) (w : Wrapped) → f.element ≡ LooseWrapper w → f.next ≡ Nothing
+pub loose_wrapper_ends : (old new : Values) (f : Frame) (found : Option Value) (w : Wrapped) → f.element ≡ LooseWrapper w → (shape f.place) ≡ Nothing
     → IsLast found old.held.entries.items new.held.entries.items → new.text.items ≡ old.text.items → EndsExactly old f new (Ok found)
 loose_wrapper_ends old new f found w is nothing s same tag entries below text h =
-    subst (λ x. IsRightText x text × ((trees : Trees) (c : Content) → IsHeld x f.next entries trees → IsContentOf x f.next entries text c → IsFound found c × AreValues new below [])) (sym is) (
+    subst (λ x. IsRightText x text × ((trees : Trees) (c : Content) → IsHeld x (shape f.place) entries trees → IsContentOf x (shape f.place) entries text c → IsFound found c × AreValues new below [])) (sym is) (
       tt,
       λ trees c held k.
           let q : (text ≡ []) × (entries ≡ Some c ∷ []) = subst (λ n. IsContentOf (LooseWrapper w) n entries text c) nothing k in
@@ -175,11 +176,11 @@ pub string_ends : (old new : Values) (f : Frame) (v : Value) (l : LeafType) (oct
     → EndsExactly old f new (Ok (Some v))
 string_ends old new f v l octets is same ok right value_is kept empty tag entries below text h =
     let joined : octets ≡ text = same ∙ h.text in
-    subst (λ x. IsRightText x text × ((trees : Trees) (c : Content) → IsHeld x f.next entries trees → IsContentOf x f.next entries text c → IsFound (Some v) c × AreValues new below [])) (sym is) (
+    subst (λ x. IsRightText x text × ((trees : Trees) (c : Content) → IsHeld x (shape f.place) entries trees → IsContentOf x (shape f.place) entries text c → IsFound (Some v) c × AreValues new below [])) (sym is) (
       (subst (λ o. IsTrue (are_octets o)) joined ok, subst (λ o. content_fault profile_two (leaf_is l) o ≡ None) joined right),
       λ trees c held k.
           let x = h.held in
-          let none = no_entries x.1 entries x.4 (string_none l f.next entries trees held) in
+          let none = no_entries x.1 entries x.4 (string_none l (shape f.place) entries trees held) in
           (value_is ∙ ap (λ o. simple (value (leaf_is l) o)) joined ∙ sym k, left new below x.0 x.5 (kept ∙ x.2 ∙ ap (λ xs. x.0 ++ xs) none ∙ append-nil x.0) empty),
     )
 
@@ -190,7 +191,7 @@ string_fails old new f l octets wrong r is same e at tag entries below text h =
 
 pub segment_ends : (old new : Values) (f : Frame) → f.element ≡ Segment → EndsExactly old f new (Ok None)
 segment_ends old new f is tag entries below text h =
-    subst (λ x. IsRightText x text × ((trees : Trees) (c : Content) → IsHeld x f.next entries trees → IsContentOf x f.next entries text c → IsFound None c × AreValues new below [])) (sym is)
+    subst (λ x. IsRightText x text × ((trees : Trees) (c : Content) → IsHeld x (shape f.place) entries trees → IsContentOf x (shape f.place) entries text c → IsFound None c × AreValues new below [])) (sym is)
     (tt, λ trees c held k. absurd k)
 
 -- the value of a message

@@ -29,7 +29,7 @@ use Rattle.ill_read.specs.declared.element.Element.{Element as CodeElement}
 use Rattle.ill_read.specs.declared.element.Element.TheVariants.{Leaf as LeafElement, Sequence, List as ListOf, Wrapper, LooseWrapper, Segment}
 use Rattle.ill_read.specs.declared.element.Found.{Found}
 use Rattle.ill_read.specs.declared.element.Wrapped.{Wrapped}
-use Rattle.ill_read.proofs.DeliveredEntries.{got_below}
+use Rattle.std.proofs.lemmas.Option.{slice_get_within}
 use Rattle.ill_read.proofs.NormalElements.{row_normal, item_normal, inner_normal}
 use Rattle.ill_read.proofs.NormalEntries.{normal_added, normal_ended, normal_item_added}
 
@@ -59,7 +59,7 @@ row_written : (T : Tree) (node : NodeId) (n r : ℕ) (alt : Option ℕ) (el : Co
 row_written T node n r alt el c entries ts d m h =
     let rows = rows_of node in
     let behind = d.behind in
-    let below = got_below rows r d.row d.is_row in
+    let below = slice_get_within rows r d.row d.is_row in
     let size : length entries ≡ n = matches_length entries (take n rows) ts h ∙ length-take-le n rows (omega (arith, behind, below)) in
     normal_added rows n r d.row entries (with_alternative alt c) size d.behind d.is_row
     ∙ ap (λ x. encodings (normal_trees (entries_of entries) rows) ++ x)

@@ -1,24 +1,87 @@
 -- What is due, in the decoder's words.
-use Rattle.std.specs.Prelude.{◌≡◌, ◌⊎◌, ℕ, ◌+◌, ◌<◌, ◌≤◌, true, false, [], ◌∷◌, drop, Option, Some, None, slice_get}
+use Rattle.std.specs.Prelude.{◌≡◌, ◌⊎◌, ℕ, zero, suc, ◌+◌, ◌<◌, ◌≤◌, true, false, [], ◌∷◌, drop, Option, Some, None, slice_get}
 use Rattle.ber_core.specs.Identifier.{Tag}
 use Rattle.ber_core.specs.Tree.{octet_string}
 use Rattle.ber_leaf.specs.Profile.{profile_two}
 use Rattle.ill_schema.specs.declared.node.Kind.{Kind}
 use Rattle.ill_schema.specs.declared.node.NodeId.{NodeId}
+use Rattle.ill_schema.specs.declared.part.PartId.{PartId}
 use Rattle.ill_schema.specs.declared.part.Row.{Row}
 use Rattle.ill_schema.specs.Table.{kind_of, rows_of}
 use Rattle.ill_schema.specs.Tagging.{untagged, same_tag, sequence_tag}
 use Rattle.ill_refusals.specs.Element.{Component, Element, list, segment, components, component_starts, starts}
 use Rattle.ill_refusals.specs.Next as next
-use Rattle.ill_read.specs.Elements.{component_of, component_at, element_with, found_is, alternative_starts}
+use Rattle.ill_cells.specs.Places.{part_in, node_in, position_in}
+use Rattle.ill_cells.specs.declared.at.At.{At}
+use Rattle.ill_cells.specs.declared.cell.Slot.{Slot as CellSlot}
+use Rattle.ill_cells.specs.declared.cell.What.{What}
+use Rattle.ill_cells.specs.declared.cell.What.TheVariants as what
+use Rattle.ill_cells.specs.declared.cell.Slot.TheVariants as cell
+use Rattle.ill_read.specs.Elements.{component_of, component_at, element_with, found_is}
 use Rattle.ill_schema.specs.declared.part.Presence.{Presence}
 use Rattle.ill_read.specs.declared.due.Due.{Due}
+use Rattle.ill_read.specs.declared.due.Coming.{Coming}
 use Rattle.ill_read.specs.declared.due.Slot.TheVariants.{Row as AtRow, Item, Inner as Inside, Segment}
 use Rattle.ill_read.specs.declared.due.Next.{Next}
 use Rattle.ill_read.specs.declared.due.Next.TheVariants.{Rows, Inner, Items, Either, Segments, Nothing}
 use Rattle.ill_read.specs.declared.due.Slot.{Slot}
+use Rattle.ill_read.specs.declared.element.Element.{Element as CodeElement}
+use Rattle.ill_read.specs.declared.element.Element.TheVariants.{Leaf, Sequence, List as ListOf, Wrapper, LooseWrapper, Segment as InString}
 use Rattle.ill_read.specs.declared.element.Found.{Found}
+use Rattle.ill_read.specs.declared.element.Found.TheVariants as found
 use Rattle.ill_read.specs.declared.element.Wrapped.{Wrapped}
+use Rattle.ill_read.specs.declared.leaf_type.LeafType.TheVariants as leaf
+
+-- what may come next at a position of a node: at 0 in the wrapper of a part round it, from 1 on in the node itself
+abbrev pub shape_of : Kind → PartId → NodeId → ℕ → Next
+shape_of Kind.Seq p node zero = Either (record { part = p; node = node })
+shape_of Kind.Seq p node (suc row) = Rows node row
+shape_of _ p node zero = Inner (record { part = p; node = node })
+shape_of Kind.SeqOf p node (suc zero) = Items node
+shape_of (Kind.Leaf _) p node (suc zero) = Segments
+shape_of Kind.IllString p node (suc zero) = Segments
+shape_of _ p node (suc _) = Nothing
+
+abbrev pub shape : At → Next
+shape at = shape_of (kind_of (node_in at)) (part_in at) (node_in at) (position_in at)
+
+-- what may come in an element when it opens
+abbrev pub first_of : CodeElement → Next
+first_of (Leaf l) = Segments
+first_of (Sequence node) = Rows node 0
+first_of (ListOf node) = Items node
+first_of (Wrapper w) = Inner w
+first_of (LooseWrapper w) = Either w
+first_of InString = Segments
+
+-- what is found, if it is an element, begins at this place inside
+abbrev pub BeginsAt : Found → At → Type 0
+BeginsAt (found.Element e) first = shape first ≡ first_of e
+BeginsAt (found.LeftOut part) first = Unit {0}
+
+-- what a part with this node is
+abbrev pub found_as : PartId → NodeId → What → Found
+found_as p node what.Boolean = found.Element (Leaf leaf.Boolean)
+found_as p node what.Integer = found.Element (Leaf leaf.Integer)
+found_as p node what.Enumerated = found.Element (Leaf leaf.Enumerated)
+found_as p node what.General = found.Element (Leaf leaf.General)
+found_as p node what.Visible = found.Element (Leaf leaf.Visible)
+found_as p node what.Printable = found.Element (Leaf leaf.Printable)
+found_as p node what.Date = found.Element (Leaf leaf.Date)
+found_as p node what.Time = found.Element (Leaf leaf.Time)
+found_as p node what.Sequence = found.Element (Sequence node)
+found_as p node what.List = found.Element (ListOf node)
+found_as p node what.Wrapper = found.Element (Wrapper (record { part = p; node = node }))
+found_as p node what.LooseWrapper = found.Element (LooseWrapper (record { part = p; node = node }))
+found_as p node what.Segment = found.Element InString
+found_as p node what.LeftOut = found.LeftOut p
+
+-- where what is found stands
+abbrev pub slot_as : ℕ → CellSlot → Slot
+slot_as row cell.Row = AtRow row
+slot_as row cell.Inner = Inside
+slot_as row cell.Item = Item
+slot_as row cell.Segment = Segment
 
 abbrev pub next_is : Next → next.Next
 next_is (Rows node n) = next.rows (drop n (components profile_two node))
@@ -31,11 +94,6 @@ next_is Nothing = next.rows []
 -- the tag begins an element of the row of a choice
 abbrev pub IsRowStart : Tag → NodeId → ℕ → Element → Type 0
 IsRowStart t node n e = (row : Row) × (slice_get (rows_of node) n ≡ Some row) × (element_with t (component_starts (component_at (record { node = node; row = n }) row)) ≡ Some e)
-
--- the first alternative with the tag
-abbrev pub IsAlternativeOf : Tag → NodeId → Option ℕ → Found → Type 0
-IsAlternativeOf t node None f = ⊥
-IsAlternativeOf t node (Some n) f = (element_with t (alternative_starts node) ≡ Some (found_is f)) × IsRowStart t node n (found_is f)
 
 -- the tag begins the component, or an alternative of it where it is a choice without a tag
 abbrev pub Begins : Tag → Component → Option ℕ → Element → Type 0
@@ -64,7 +122,7 @@ pub record IsRowDue (t : Tag) (node : NodeId) (position r : ℕ) (alternative : 
 abbrev pub IsDueInRows : Tag → NodeId → ℕ → Due → Type 0
 IsDueInRows t node position d = elim d.slot as (λ _. Type 0) [ AtRow r ↦ IsRowDue t node position r d.alternative d.found | _ ↦ ⊥ ]
 
--- what comes behind an element at a slot
+-- what comes after an element at a slot
 abbrev pub behind : Next → Slot → Next
 behind (Rows node n) (AtRow r) = Rows node (r + 1)
 behind (Either w) (AtRow r) = Rows w.node (r + 1)
@@ -97,3 +155,9 @@ IsDueIn t (Items node) d = IsItemDue t node d
 IsDueIn t (Either w) d = ((same_tag t sequence_tag ≡ true) × IsInnerDue t w d) ⊎ ((same_tag t sequence_tag ≡ false) × IsDueInRows t w.node 0 d)
 IsDueIn t Segments d = IsSegmentDue t d
 IsDueIn t Nothing d = ⊥
+
+-- the same, with the first place in it and the place after it
+pub record IsComing (t : Tag) (at : At) (c : Coming) : Type 0 where
+  pub is_due : IsDueIn t (shape at) c.due
+  pub first : BeginsAt c.due.found c.first
+  pub after : shape c.after ≡ behind (shape at) c.due.slot

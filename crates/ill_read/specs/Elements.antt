@@ -13,8 +13,6 @@ use Rattle.ill_read.specs.declared.element.Element.{Element as CodeElement}
 use Rattle.ill_read.specs.declared.element.Element.TheVariants as code
 use Rattle.ill_read.specs.declared.element.Found.{Found}
 use Rattle.ill_read.specs.declared.element.Found.TheVariants as found
-use Rattle.ill_read.specs.declared.element.Tagging.{Tagging as CodeTagging}
-use Rattle.ill_read.specs.declared.element.Tagging.TheVariants as tag
 use Rattle.ill_read.specs.declared.element.Wrapped.{Wrapped}
 
 abbrev pub component_of : Wrapped → Component
@@ -32,12 +30,6 @@ abbrev pub found_is : Found → Element
 found_is (found.Element e) = element_is e
 found_is (found.LeftOut part) = left_out part
 
-abbrev pub tagging_is : CodeTagging → Tagging
-tagging_is tag.Untagged = untagged
-tagging_is (tag.Implicit class number) = implicit (record { class = class; number = number })
-tagging_is (tag.Explicit class number) = explicit (record { class = class; number = number })
-tagging_is (tag.ExplicitOrBare class number) = explicit_or_bare (record { class = class; number = number })
-
 -- the component that a row is
 abbrev pub component_at : PartId → Row → Component
 component_at part row = record { part = part; presence = row.presence; tagging = tagging profile_two row; node = row.node }
@@ -45,11 +37,3 @@ component_at part row = record { part = part; presence = row.presence; tagging =
 -- the first element with the tag
 abbrev pub element_with : Tag → List Start → Option Element
 element_with tag ss = option_map (λ s. s.element) (find (λ s. same_tag s.tag tag) ss)
-
-abbrev pub first_element : List Start → Option Element
-first_element [] = None
-first_element (s ∷ ss) = Some s.element
-
--- the elements by which a choice without a tag of its own begins
-abbrev pub alternative_starts : NodeId → List Start
-alternative_starts node = flat_map component_starts (components profile_two node)

@@ -24,7 +24,7 @@ use Rattle.ill_refusals.specs.Next.{due, next_of, opening}
 use Rattle.ill_refusals.specs.Next as following
 use Rattle.ill_refusals.specs.Place.{Open, next_in, bound, IsPlace}
 use Rattle.ill_read.specs.Elements.{element_is}
-use Rattle.ill_read.specs.DueCode.{next_is, IsDueIn}
+use Rattle.ill_read.specs.DueCode.{next_is, IsDueIn, behind, shape}
 use Rattle.ill_read.specs.LeafTypes.{leaf_is}
 use Rattle.ill_read.specs.declared.due.Next.{Next}
 use Rattle.ill_read.specs.declared.due.Next.TheVariants.{Rows, Inner, Items, Either, Segments, Nothing}
@@ -58,7 +58,7 @@ top = Inner top_part
 -- what may come next in the last frame
 abbrev pub next_at : List Frame → Next
 next_at [] = top
-next_at (f ∷ fs) = elim fs as (λ _. Next) [ [] ↦ f.next | _ ↦ next_at fs ]
+next_at (f ∷ fs) = elim fs as (λ _. Next) [ [] ↦ (shape f.place) | _ ↦ next_at fs ]
 
 -- the content is what the tree means as a whole element
 abbrev pub IsValueOf : Element → Content → Tree → Type 0
@@ -115,7 +115,7 @@ abbrev pub whole_level : Content → Level
 whole_level c = record top_level { next = Nothing; entries = Some c ∷ [] }
 
 abbrev pub level_of : Frame → Tag → List (Option Content) → Level
-level_of f tag entries = record { element = f.element; tag = tag; next = f.next; base = f.base; entries = entries }
+level_of f tag entries = record { element = f.element; tag = tag; next = (shape f.place); base = f.base; entries = entries }
 
 -- segments have nothing of their own
 abbrev pub pushed : Level → List Level → List Level
@@ -132,9 +132,10 @@ pub record IsFrame (f : Frame) (o : Open) (path : List Open) (outer : List Frame
   pub start : f.start ≡ o.start
   pub end : f.end ≡ o.end
   pub bound : f.bound ≡ bound profile_two (o ∷ path)
-  pub next : next_is f.next ≡ next_in profile_two (o ∷ path)
+  pub next : next_is (shape f.place) ≡ next_in profile_two (o ∷ path)
   pub is_due : IsDueIn o.tag (next_at outer) (record { slot = f.slot; alternative = f.alternative; found = found.Element f.element })
-  pub held : IsHeld f.element f.next entries o.trees
+  pub after : shape f.after ≡ behind (next_at outer) f.slot
+  pub held : IsHeld f.element (shape f.place) entries o.trees
   pub were_due : AreDue (opening profile_two o.element) o.trees
 
 -- the frames are the open elements, outermost first, and have this in them, innermost first

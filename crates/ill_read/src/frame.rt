@@ -4,7 +4,7 @@ ghost use Rattle.std.specs.Prelude.{◌≡◌, ◌≤◌};
 use crate::due::{Next, Slot};
 use crate::element::Element;
 use crate::leaf_type::LeafType;
-use ill_schema::NodeId;
+use ill_cells::At;
 
 /// An open element: a constructed one whose header has been read.
 #[derive(Clone, Copy)]
@@ -14,8 +14,10 @@ pub struct Frame {
     pub slot: Slot,
     /// The alternative of a choice without a tag that it is.
     pub alternative: Option<u8>,
-    /// What may come next in it.
-    pub next: Next,
+    /// The place that has been reached in it.
+    pub place: At,
+    /// The place after it, in the element round it.
+    pub after: At,
     /// The offset of its first octet.
     pub start: u32,
     /// The offset of its end, where its length is definite.
@@ -28,7 +30,15 @@ pub struct Frame {
 }
 
 impl Frame {
+    ghost use Rattle.ill_read.specs.DueCode.{shape};
     ghost use Rattle.ill_read.specs.code.JudgeCode.{end_at};
+
+    /// What may come next in it.
+    pub fn next(&self) -> Next
+        ensures { result ≡ shape self.now.place }
+    {
+        Next::at(self.place)
+    }
 
     /// Whether it is definite and ends there.
     pub fn ends_at(&self, at: u32) -> bool
@@ -48,7 +58,8 @@ impl Default for Frame {
             element: Element::Leaf(LeafType::Boolean),
             slot: Slot::Row(0),
             alternative: None,
-            next: Next::Rows(NodeId::Boolean, 0),
+            place: At::default(),
+            after: At::default(),
             start: 0,
             end: None,
             bound: 0,

@@ -1,25 +1,17 @@
 //! The open elements of a message, innermost last.
 ghost use Rattle.std.specs.Prelude.{◌≡◌, ◌≤◌, ◌++◌, List, [], ◌∷◌, length};
+ghost use Rattle.ill_read.specs.DueCode.{shape};
 ghost use Rattle.ill_read.specs.Standing.{next_at};
 ghost use Rattle.ill_read.specs.declared.frame.Frame.{Frame};
 
 use crate::due::Next;
-use crate::element::Wrapped;
 use crate::frame::Frame;
 use arrayvec::ArrayVec;
-use ill_schema::{Cause, LIMIT, NodeId, PartId};
+use ill_cells::At;
+use ill_schema::{Cause, LIMIT};
 
 /// How many elements may be open.
 pub const DEPTH: usize = 32;
-
-/// What is due where no element is open.
-const TOP: Next = Next::Inner(Wrapped {
-    part: PartId {
-        node: NodeId::IllApdu,
-        row: 0,
-    },
-    node: NodeId::IllApdu,
-});
 
 /// The open elements, innermost last.
 #[derive(Drop)]
@@ -56,14 +48,21 @@ impl Frames {
         self.open.len()
     }
 
+    /// The place that has been reached in the innermost element, or that of a message.
+    pub fn place(&self) -> At
+        ensures { shape result ≡ next_at self.now.open.items }
+    {
+        match self.innermost() {
+            Some(frame) => frame.place,
+            None => At::top(),
+        }
+    }
+
     /// What may come next.
     pub fn next(&self) -> Next
         ensures { result ≡ next_at self.now.open.items }
     {
-        match self.innermost() {
-            Some(frame) => frame.next,
-            None => TOP,
-        }
+        Next::at(self.place())
     }
 
     /// The offset that no octet may reach.
@@ -121,14 +120,14 @@ impl Frames {
         }
     }
 
-    /// Sets what may come next in the innermost element.
-    pub fn advance(&mut self, next: Next)
-        ensures frame { (outer : List Frame) (f : Frame) → self.old.open.items ≡ outer ++ f ∷ [] → self.new.open.items ≡ outer ++ record f { next = next } ∷ [] }
+    /// Goes to a place in the innermost element.
+    pub fn advance(&mut self, place: At)
+        ensures frame { (outer : List Frame) (f : Frame) → self.old.open.items ≡ outer ++ f ∷ [] → self.new.open.items ≡ outer ++ record f { place = place } ∷ [] }
         ensures depth { depth_of self.new ≡ depth_of self.old }
     {
         let last = self.open.len().saturating_sub(1);
         if let Some(frame) = self.open.get_mut(last) {
-            frame.next = next;
+            frame.place = place;
         }
     }
 }

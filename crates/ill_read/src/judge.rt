@@ -2,12 +2,15 @@
 ghost use Rattle.std.specs.Prelude.{◌≡◌, ◌≤◌, false, IfOk, length};
 ghost use Rattle.ber_core.specs.Id.{form_of_id};
 ghost use Rattle.std.specs.Option.{ForSome};
+ghost use Rattle.std.proofs.Props.{props};
+ghost use Rattle.ill_read.specs.DueCode.{BeginsAt, first_of, shape};
 
-use crate::due::{Due, Slot};
+use crate::due::{Coming, Slot, find};
 use crate::element::{Element, Found};
 use crate::frames::{DEPTH, Frames};
 use crate::header::{HeaderRead, LengthRead, read_header};
 use ber_core::{Id, Len};
+use ill_cells::At;
 use ill_schema::{Cause, Refusal};
 
 /// What is done at a place where nothing is at fault but, perhaps, the text or content of a leaf.
@@ -41,10 +44,15 @@ pub struct Opening {
     pub slot: Slot,
     pub alternative: Option<u8>,
     pub element: Element,
+    /// The first place in it.
+    pub first: At,
+    /// The place after it.
+    pub after: At,
     pub id: Id,
     pub header: u32,
     pub end: Option<u32>,
     ghost within: { ForSome end (λ e. e ≤ 1_048_576) },
+    ghost first_is: { shape first ≡ first_of element } by { Prim.hlevel props },
 }
 
 /// A primitive element: the sizes of its header and its content.
@@ -53,6 +61,8 @@ pub struct Reading {
     pub slot: Slot,
     pub alternative: Option<u8>,
     pub element: Element,
+    /// The place after it.
+    pub after: At,
     pub id: Id,
     pub header: u32,
     pub size: u32,
@@ -68,16 +78,21 @@ struct Started {
     slot: Slot,
     element: Element,
     alternative: Option<u8>,
+    first: At,
+    after: At,
     ghost form: { constructed ≡ form_of_id id },
+    ghost first_is: { shape first ≡ first_of element } by { Prim.hlevel props },
 }
 
 impl Started {
     ghost use Rattle.ill_read.specs.code.JudgeCode.{IsFormed};
 
     /// The form of an element that is due.
-    fn judge_form(at: u32, due: Due, id: Id) -> Result<Started, Refusal>
-        ensures { IsFormed due at id result }
+    fn judge_form(at: u32, coming: Coming, id: Id) -> Result<Started, Refusal>
+        requires { BeginsAt coming.due.found coming.first }
+        ensures { IsFormed coming at id result }
     {
+        let Coming { due, first, after } = coming;
         let constructed = id.constructed();
         match due.found {
             Found::LeftOut(part) => Err(Refusal {
@@ -96,6 +111,8 @@ impl Started {
                     slot: due.slot,
                     alternative: due.alternative,
                     element,
+                    first,
+                    after,
                     constructed,
                 })
             }
@@ -173,13 +190,16 @@ impl Frames {
         ensures closes { IfOk result (λ judgement. judgement ≡ Judgement.Closes marks) }
         ensures exact { (octets : List ℕ) → Judges self.now at octets result (λ place. judge_end profile_two place at marks) }
     {
-        match self.next().missing() {
-            Some(part) => Err(Refusal {
-                at,
-                cause: Cause::Missing(part),
-            }),
-            None => Ok(Judgement::Closes(marks)),
+        let place = self.place();
+        if place.is_missing() {
+            if let Some(part) = place.missing() {
+                return Err(Refusal {
+                    at,
+                    cause: Cause::Missing(part),
+                });
+            }
         }
+        Ok(Judgement::Closes(marks))
     }
 
     /// An end mark, whose first octet is there.
@@ -230,13 +250,13 @@ impl Frames {
                 cause: Cause::TooDeep,
             });
         }
-        let Some(due) = self.next().find(id) else {
+        let Some(coming) = find(self.place(), id) else {
             return Err(Refusal {
                 at,
                 cause: Cause::UnexpectedTag,
             });
         };
-        Started::judge_form(at, due, id)
+        Started::judge_form(at, coming, id)
     }
 
     /// The length of an element.
@@ -266,6 +286,8 @@ impl Frames {
                 slot: started.slot,
                 alternative: started.alternative,
                 element: started.element,
+                first: started.first,
+                after: started.after,
                 id: started.id,
                 header,
                 end: None,
@@ -305,6 +327,8 @@ impl Frames {
                 slot: started.slot,
                 alternative: started.alternative,
                 element: started.element,
+                first: started.first,
+                after: started.after,
                 id: started.id,
                 header,
                 end: Some(at.saturating_add(header).saturating_add(size)),
@@ -317,6 +341,7 @@ impl Frames {
             slot: started.slot,
             alternative: started.alternative,
             element: started.element,
+            after: started.after,
             id: started.id,
             header,
             size,

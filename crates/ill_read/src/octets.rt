@@ -143,7 +143,7 @@ impl Draft for Octets {
                     return Err(Failure::refused(frame.start, Cause::from(fault)));
                 }
             }
-            Element::LooseWrapper(_) => self.enclose(frame.next, frame.base)?,
+            Element::LooseWrapper(_) => self.enclose(frame.next(), frame.base)?,
             _ => {}
         }
         self.octets.close(frame.base)?;

@@ -1,15 +1,14 @@
 //! The path of open elements, with the draft of what has been read.
 ghost use Rattle.std.specs.Prelude.{◌≡◌, ◌+◌, ◌<◌, ◌≤◌, ℕ, List, [], ◌∷◌, IfOk, length};
 ghost use Rattle.ill_read.specs.Standing.{HoldsAt, top_level};
-ghost use Rattle.ill_read.specs.code.Drafts.{first_of};
 
 use crate::draft::Draft;
-use crate::due::{Next, Slot};
 use crate::element::Element;
 use crate::failure::Failure;
 use crate::frame::Frame;
 use crate::frames::Frames;
 use crate::judge::{Judgement, Opening, Reading};
+use ill_cells::At;
 use ill_schema::Cause;
 use std::alloc::AllocError;
 
@@ -73,6 +72,8 @@ impl<D: Draft> Path<D> {
             slot,
             alternative,
             element,
+            first,
+            after,
             id: _,
             header: _,
             end,
@@ -81,7 +82,8 @@ impl<D: Draft> Path<D> {
             element,
             slot,
             alternative,
-            next: first_next(element),
+            place: first,
+            after,
             start,
             end,
             bound: end.unwrap_or(self.frames.bound()),
@@ -104,7 +106,7 @@ impl<D: Draft> Path<D> {
             return Err(Failure::refused(start, Cause::from(fault)));
         }
         self.draft.leaf(self.frames.next(), reading, leaf, content)?;
-        Ok(self.pass(reading.slot))
+        Ok(self.pass(reading.after))
     }
 
     /// Closes the innermost element, in which nothing is missing. Returns whether the message is whole.
@@ -118,34 +120,19 @@ impl<D: Draft> Path<D> {
             return Ok(false);
         }
         self.draft.close(frame, self.frames.next())?;
-        Ok(self.pass(frame.slot))
+        Ok(self.pass(frame.after))
     }
 
-    /// Goes on after an element at the slot. Returns whether the message is whole.
-    fn pass(&mut self, slot: Slot) -> bool
-        ensures passed { GoesOn slot self.old.frames.open.items self.new.frames.open.items result }
+    /// Goes on at the place after an element. Returns whether the message is whole.
+    fn pass(&mut self, after: At) -> bool
+        ensures passed { GoesOn after self.old.frames.open.items self.new.frames.open.items result }
         ensures draft { self.new.draft ≡ self.old.draft }
         ensures depth { depth_of self.new.frames ≡ depth_of self.old.frames }
     {
-        match self.frames.innermost() {
-            Some(frame) => {
-                self.frames.advance(frame.next.behind(slot));
-                false
-            }
-            None => true,
+        if self.frames.depth() == 0 {
+            return true;
         }
-    }
-}
-
-/// What may come in an element when it opens.
-fn first_next(element: Element) -> Next
-    ensures { result ≡ first_of element }
-{
-    match element {
-        Element::Leaf(_) | Element::Segment => Next::Segments,
-        Element::Sequence(node) => Next::Rows(node, 0),
-        Element::List(node) => Next::Items(node),
-        Element::Wrapper(wrapped) => Next::Inner(wrapped),
-        Element::LooseWrapper(wrapped) => Next::Either(wrapped),
+        self.frames.advance(after);
+        false
     }
 }

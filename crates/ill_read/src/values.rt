@@ -104,12 +104,12 @@ impl Values {
                     None => Ok(Some(leaf.value(text))),
                 }
             }
-            Element::Sequence(_) => Ok(Some(self.held.sequence(frame.next, frame.base)?)),
+            Element::Sequence(_) => Ok(Some(self.held.sequence(frame.next(), frame.base)?)),
             Element::List(_) => Ok(Some(self.held.list(self.alloc, frame.base)?)),
             Element::Wrapper(_) => Ok(self.held.last()),
-            Element::LooseWrapper(_) => match frame.next {
+            Element::LooseWrapper(_) => match frame.next() {
                 Next::Nothing => Ok(self.held.last()),
-                _ => Ok(Some(self.held.sequence(frame.next, frame.base)?)),
+                _ => Ok(Some(self.held.sequence(frame.next(), frame.base)?)),
             },
         }
     }

@@ -1,5 +1,5 @@
 -- What the cells of a node are to say.
-use Rattle.std.specs.Prelude.{ℕ, ℤ, pos, drop, option_map, zero, suc, Bool, true, false, ◌&&◌, List, [], ◌∷◌, Option, Some, None, is_some, map, if◌then◌else◌}
+use Rattle.std.specs.Prelude.{ℕ, ℤ, pos, drop, option_map, suc, Bool, true, false, ◌&&◌, List, [], ◌∷◌, Option, Some, None, is_some, map, if◌then◌else◌}
 use Rattle.ber_core.specs.Tree.{octet_string}
 use Rattle.ber_leaf.specs.Profile.{profile_two}
 use Rattle.ill_schema.specs.declared.node.Kind.{Kind}
@@ -9,7 +9,7 @@ use Rattle.ill_schema.specs.Table.{kind_of}
 use Rattle.ill_schema.specs.Tagging.{untagged}
 use Rattle.ill_refusals.specs.Element.{Component, components, component_starts, segment, Start, start, starts}
 use Rattle.ill_refusals.specs.Next.{first_mandatory}
-use Rattle.ill_cells.specs.Cells.{wrapped, element_in, presence_default, row_before}
+use Rattle.ill_cells.specs.Cells.{wrapped, element_in, is_leaf, is_list, is_sequence, presence_default, row_before}
 use Rattle.ill_cells.specs.declared.cell.Cell.{Cell}
 use Rattle.ill_cells.specs.declared.cell.What.{What}
 use Rattle.ill_cells.specs.declared.cell.What.TheVariants as what
@@ -27,22 +27,9 @@ cell_start node row c = start (record { class = c.class; number = c.number }) (e
 abbrev pub cell_starts : NodeId → ℕ → Cell → List Start
 cell_starts node position c = if c.nested then node_starts c.node else cell_start node (row_before position) c ∷ []
 
-abbrev pub is_leaf : Kind → Bool
-is_leaf (Kind.Leaf _) = true
-is_leaf Kind.IllString = true
-is_leaf _ = false
-
 abbrev pub is_empty : Kind → List Component → Bool
 is_empty Kind.Seq [] = true
 is_empty _ _ = false
-
-abbrev pub is_sequence : Kind → Bool
-is_sequence Kind.Seq = true
-is_sequence _ = false
-
-abbrev pub is_list : Kind → Bool
-is_list Kind.SeqOf = true
-is_list _ = false
 
 abbrev pub is_other : Kind → Bool
 is_other Kind.Seq = false
@@ -88,14 +75,6 @@ opens_in w node = opens w (kind_of node) (components profile_two node)
 
 abbrev pub cell_opens : Cell → Bool
 cell_opens c = if c.nested then is_nested (kind_of c.node) else opens_in c.what c.node
-
--- an element may stand at a position of a node of this kind
-abbrev pub is_placed : Kind → ℕ → Slot → Bool
-is_placed k (suc row) slot.Row = is_sequence k
-is_placed k position slot.Inner = true
-is_placed k (suc zero) slot.Item = is_list k
-is_placed k (suc zero) slot.Segment = is_leaf k
-is_placed k position _ = false
 
 -- the node, where it is a choice
 abbrev pub node_choice : NodeId → Option NodeId

@@ -15,7 +15,7 @@ use Rattle.ill_schema.specs.Table.{rows_of}
 use Rattle.ill_schema.specs.Value.{entries_of, items_of}
 use Rattle.ill_schema.specs.declared.part.Row.{Row}
 use Rattle.ill_refusals.specs.Fault.{fault, element_fault, fault_of}
-use Rattle.ill_read.specs.DueCode.{IsDueIn, behind}
+use Rattle.ill_read.specs.DueCode.{IsDueIn, behind, first_of, shape}
 use Rattle.ill_read.specs.Elements.{element_is}
 use Rattle.ill_read.specs.LeafTypes.{leaf_is}
 use Rattle.ill_read.specs.Standing.{Level, IsHeld, IsValueOf, absent_content, level_of, pushed, whole_level, with_alternative}
@@ -33,15 +33,6 @@ use Rattle.ill_read.specs.declared.judge.Opening.{Opening}
 use Rattle.ill_read.specs.declared.judge.Reading.{Reading}
 use Rattle.ill_read.specs.declared.leaf_type.LeafType.{LeafType}
 
--- what may come in an element when it opens
-abbrev pub first_of : CodeElement → Next
-first_of (Leaf l) = Segments
-first_of (Sequence node) = Rows node 0
-first_of (ListOf node) = Items node
-first_of (Wrapper w) = Inner w
-first_of (LooseWrapper w) = Either w
-first_of Segment = Segments
-
 -- the rows between a position and the row of an element
 abbrev pub rows_before : Next → Slot → List Row
 rows_before (Rows node n) (AtRow r) = drop n (take r (rows_of node))
@@ -53,11 +44,6 @@ abbrev pub rows_left : Next → List Row
 rows_left (Rows node n) = drop n (rows_of node)
 rows_left (Either w) = rows_of w.node
 rows_left _ = []
-
--- a row number that has a next one
-abbrev pub HasNext : Slot → Type 0
-HasNext (AtRow r) = r < 255
-HasNext _ = Unit {0}
 
 abbrev pub due_with : Slot → Option ℕ → CodeElement → Due
 due_with slot alternative element = record { slot = slot; alternative = alternative; found = found.Element element }
@@ -119,7 +105,7 @@ ChecksText holds old f result = (tag : Tag) (entries : List (Option Content)) (b
 -- an element ended, and its content is in the level round it
 abbrev pub HasClosed : {D : Type 0} → (D → List Level → List ℕ → Type 0) → D → Frame → Next → D → Type 0
 HasClosed holds old f next new = (tag : Tag) (entries : List (Option Content)) (trees : Trees) (l : Level) (below : List Level) (text : List ℕ) (c : Content)
-    → holds old (level_of f tag entries ∷ l ∷ below) text → IsHeld f.element f.next entries trees → IsRightText f.element text → IsContentOf f.element f.next entries text c
+    → holds old (level_of f tag entries ∷ l ∷ below) text → IsHeld f.element (shape f.place) entries trees → IsRightText f.element text → IsContentOf f.element (shape f.place) entries text c
     → ((T : Tree) × (tag_of T ≡ tag) × IsValueOf (element_is f.element) c T)
     → IsDueAt l next tag f.slot f.alternative f.element → holds new (with_entry l f.slot (with_alternative f.alternative c) ∷ below) []
 

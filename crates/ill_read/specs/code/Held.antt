@@ -13,6 +13,7 @@ use Rattle.ill_read.specs.declared.failure.Failure.{Failure}
 use Rattle.ill_read.specs.declared.frame.Frame.{Frame}
 use Rattle.ill_read.specs.declared.values.Body.{Body}
 use Rattle.ill_read.specs.declared.values.Values.{Values}
+use Rattle.ill_read.specs.DueCode.{shape}
 
 -- the entries of rows that have no element
 abbrev pub ArePassed : List (Option Value) → List Row → Type 0
@@ -52,7 +53,7 @@ IsFound None c = ⊥
 -- the value of an element that has ended, with these levels round it, where its text is right
 abbrev pub IsEnded : Frame → List (Option Content) → List Level → List ℕ → Values → Result (Option Value) Failure → Type 0
 IsEnded f entries below text new (Ok found) = IsRightText f.element text × ((trees : Trees) (c : Content)
-    → IsHeld f.element f.next entries trees → IsContentOf f.element f.next entries text c → IsFound found c × AreValues new below [])
+    → IsHeld f.element (shape f.place) entries trees → IsContentOf f.element (shape f.place) entries text c → IsFound found c × AreValues new below [])
 IsEnded f entries below text new (Err failure) = IsTextFault f.element f.start text failure
 
 abbrev pub EndsExactly : Values → Frame → Values → Result (Option Value) Failure → Type 0

@@ -12,7 +12,7 @@ use Rattle.ill_refusals.specs.code.Judge.{Judgement, faulty, judge_form, judge_t
 use Rattle.ill_read.specs.code.Judged.{IsBegin, IsJudged}
 use Rattle.ill_refusals.specs.Place.{Open, bound, allows}
 use Rattle.ill_read.specs.Standing.{StandsAt}
-use Rattle.ill_read.specs.declared.due.Due.{Due}
+use Rattle.ill_read.specs.declared.due.Coming.{Coming}
 use Rattle.ill_read.specs.declared.element.Found.TheVariants as found
 use Rattle.ill_read.specs.declared.frame.Frame.{Frame}
 use Rattle.ill_read.specs.declared.judge.Judgement.{Judgement as CodeJudgement}
@@ -42,12 +42,12 @@ JudgesWithin frames at octets result judged =
     (place : List Open) → StandsAt frames place → length octets ≤ bound profile_two place - at → IsJudged frames place at octets result (judged place)
 
 -- what is due may have the form, or is at fault
-abbrev pub IsFormed : Due → ℕ → Id → Result Started Refusal → Type 0
-IsFormed due at id (Ok started) =
-    (due ≡ record { slot = started.slot; alternative = started.alternative; found = found.Element started.element })
-    × (started.id ≡ id) × (started.constructed ≡ form_of_id id) × (allows (element_is started.element) (form_of_id id) ≡ true)
-IsFormed due at id (Err refusal) =
-    (p : Profile) (place : List Open) (tag : Tag) (i : ℕ) (want : Fault) (w : List ℕ) → judge_form p place (found_is due.found) tag (form_of_id id) at i want w ≡ faulty (fault_of refusal)
+abbrev pub IsFormed : Coming → ℕ → Id → Result Started Refusal → Type 0
+IsFormed coming at id (Ok started) =
+    (coming.due ≡ record { slot = started.slot; alternative = started.alternative; found = found.Element started.element })
+    × (started.id ≡ id) × (started.constructed ≡ form_of_id id) × (allows (element_is started.element) (form_of_id id) ≡ true) × (started.after ≡ coming.after)
+IsFormed coming at id (Err refusal) =
+    (p : Profile) (place : List Open) (tag : Tag) (i : ℕ) (want : Fault) (w : List ℕ) → judge_form p place (found_is coming.due.found) tag (form_of_id id) at i want w ≡ faulty (fault_of refusal)
 
 -- what is judged behind an identifier of i octets
 abbrev pub judge_identified : List Open → Tag → Bool → ℕ → ℕ → Fault → List ℕ → Judgement
@@ -57,12 +57,12 @@ judge_identified place tag constructed at i want w =
 -- an element with the identifier may begin there, or is at fault
 abbrev pub IsIdentified : Frames → List Open → ℕ → Id → Result Started Refusal → Type 0
 IsIdentified frames place at id (Ok started) =
-    IsBegin frames place (tag_of_id id) started.slot started.alternative started.element started.constructed × (started.constructed ≡ form_of_id id) × (started.id ≡ id)
+    IsBegin frames place (tag_of_id id) started.slot started.alternative started.element started.after started.constructed × (started.constructed ≡ form_of_id id) × (started.id ≡ id)
 IsIdentified frames place at id (Err refusal) =
     (i : ℕ) (want : Fault) (w : List ℕ) → judge_identified place (tag_of_id id) (form_of_id id) at i want w ≡ faulty (fault_of refusal)
 
 -- the judgement is the definitions', of an element that may begin there
 abbrev pub JudgesStarted : Frames → Started → ℕ → List ℕ → Result CodeJudgement Refusal → (List Open → Tag → Judgement) → Type 0
 JudgesStarted frames started at octets result judged =
-    (place : List Open) → StandsAt frames place → IsBegin frames place (tag_of_id started.id) started.slot started.alternative started.element started.constructed
+    (place : List Open) → StandsAt frames place → IsBegin frames place (tag_of_id started.id) started.slot started.alternative started.element started.after started.constructed
     → length octets ≤ bound profile_two place - at → IsJudged frames place at octets result (judged place (tag_of_id started.id))

@@ -14,7 +14,8 @@ use Rattle.ill_refusals.specs.Place.{Open, next_in, allows}
 use Rattle.ill_refusals.specs.Fault.{fault_of, element_fault}
 use Rattle.ill_refusals.specs.code.Judge.{Judgement, faulty, closes, opens, reads, or_faulty, judge}
 use Rattle.ill_read.specs.Elements.{element_is}
-use Rattle.ill_read.specs.DueCode.{IsDueIn}
+use Rattle.ill_cells.specs.declared.at.At.{At}
+use Rattle.ill_read.specs.DueCode.{IsDueIn, behind, shape}
 use Rattle.ill_read.specs.Standing.{Level, whole_level, next_at, StandsAt, HoldsAt}
 use Rattle.ill_read.specs.code.Progress.{size_of}
 use Rattle.ill_refusals.specs.code.Step.{Step, refused, goes, whole, moved}
@@ -36,8 +37,9 @@ pub record IsEnd (place : List Open) (marks : ℕ) (j : Judgement) : Type 0 wher
   pub is : j ≡ or_faulty (element_fault profile_two innermost.element (text_all innermost.trees)) innermost.start (closes marks)
 
 -- an element is due there and may have the form
-pub record IsBegin (frames : Frames) (place : List Open) (tag : Tag) (slot : Slot) (alternative : Option ℕ) (element : CodeElement) (constructed : Bool) : Type 0 where
+pub record IsBegin (frames : Frames) (place : List Open) (tag : Tag) (slot : Slot) (alternative : Option ℕ) (element : CodeElement) (after : At) (constructed : Bool) : Type 0 where
   pub is_due : IsDueIn tag (next_at frames.open.items) (record { slot = slot; alternative = alternative; found = found.Element element })
+  pub goes_on : shape after ≡ behind (next_at frames.open.items) slot
   pub allowed : allows (element_is element) constructed ≡ true
   pub shallow : length place < 32
 
@@ -49,8 +51,8 @@ content_in header size rest = take size (drop header rest)
 abbrev pub IsJudgement : Frames → List Open → ℕ → List ℕ → CodeJudgement → Judgement → Type 0
 IsJudgement frames place at rest (code.Closes marks) j = IsEnd place marks j
 IsJudgement frames place at rest (code.Opens o) j =
-    IsBegin frames place (tag_of_id o.id) o.slot o.alternative o.element true × (j ≡ opens (tag_of_id o.id) (element_is o.element) o.header o.end)
-IsJudgement frames place at rest (code.Reads r) j = IsBegin frames place (tag_of_id r.id) r.slot r.alternative r.element false
+    IsBegin frames place (tag_of_id o.id) o.slot o.alternative o.element o.after true × (j ≡ opens (tag_of_id o.id) (element_is o.element) o.header o.end)
+IsJudgement frames place at rest (code.Reads r) j = IsBegin frames place (tag_of_id r.id) r.slot r.alternative r.element r.after false
     × (j ≡ or_faulty (element_fault profile_two (element_is r.element) (content_in r.header r.size rest)) at (reads (tag_of_id r.id) r.header (content_in r.header r.size rest)))
 
 abbrev pub IsJudged : Frames → List Open → ℕ → List ℕ → Result CodeJudgement Refusal → Judgement → Type 0

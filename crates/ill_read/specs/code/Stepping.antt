@@ -7,32 +7,30 @@ use Rattle.ill_refusals.specs.Fault.{element_fault}
 use Rattle.ill_refusals.specs.code.Judge.{Judgement, or_faulty, reads}
 use Rattle.ill_refusals.specs.code.Step.{moved, opened}
 use Rattle.ill_read.specs.Elements.{element_is}
-use Rattle.ill_read.specs.DueCode.{behind}
-use Rattle.ill_read.specs.code.Drafts.{HasNext}
+use Rattle.ill_cells.specs.declared.at.At.{At}
 use Rattle.ill_read.specs.code.Judged.{IsEnd, IsBegin, IsStep}
 use Rattle.ill_read.specs.Standing.{Level, HoldsAt}
-use Rattle.ill_read.specs.declared.due.Slot.{Slot}
 use Rattle.ill_read.specs.declared.failure.Failure.{Failure}
 use Rattle.ill_read.specs.declared.frame.Frame.{Frame}
 use Rattle.ill_read.specs.declared.judge.Opening.{Opening}
 use Rattle.ill_read.specs.declared.judge.Reading.{Reading}
 use Rattle.ill_read.specs.declared.path.Path.{Path}
 
--- the innermost element goes on after one at the slot, or the message is whole
-abbrev pub GoesOn : Slot → List Frame → List Frame → Bool → Type 0
-GoesOn slot old new true = (old ≡ []) × (new ≡ [])
-GoesOn slot old new false = (old ≡ [] → ⊥)
-    × ((outer : List Frame) (f : Frame) → old ≡ outer ++ f ∷ [] → HasNext slot → new ≡ outer ++ record f { next = behind f.next slot } ∷ [])
+-- the innermost element goes on at this place, or the message is whole
+abbrev pub GoesOn : At → List Frame → List Frame → Bool → Type 0
+GoesOn after old new true = (old ≡ []) × (new ≡ [])
+GoesOn after old new false = (old ≡ [] → ⊥)
+    × ((outer : List Frame) (f : Frame) → old ≡ outer ++ f ∷ [] → new ≡ outer ++ record f { place = after } ∷ [])
 
 abbrev pub ClosesExactly : {D : Type 0} → (D → List Level → List ℕ → Type 0) → Path D → Path D → Result Bool Failure → Type 0
 ClosesExactly holds old new result = (place : List Open) (marks at : ℕ) (rest : List ℕ) (j : Judgement) → HoldsAt holds old place → IsEnd place marks j
     → IsStep holds new result (moved j place at rest)
 
 abbrev pub OpensExactly : {D : Type 0} → (D → List Level → List ℕ → Type 0) → Path D → Opening → ℕ → Path D → Type 0
-OpensExactly holds old o start new = (place : List Open) → HoldsAt holds old place → IsBegin old.frames place (tag_of_id o.id) o.slot o.alternative o.element true
+OpensExactly holds old o start new = (place : List Open) → HoldsAt holds old place → IsBegin old.frames place (tag_of_id o.id) o.slot o.alternative o.element o.after true
     → HoldsAt holds new (opened (element_is o.element) (tag_of_id o.id) start o.end ∷ place)
 
 abbrev pub ReadsExactly : {D : Type 0} → (D → List Level → List ℕ → Type 0) → Path D → Reading → ℕ → List ℕ → Path D → Result Bool Failure → Type 0
 ReadsExactly holds old r start octets new result = (place : List Open) (header at : ℕ) (rest : List ℕ) → HoldsAt holds old place
-    → IsBegin old.frames place (tag_of_id r.id) r.slot r.alternative r.element false
+    → IsBegin old.frames place (tag_of_id r.id) r.slot r.alternative r.element r.after false
     → IsStep holds new result (moved (or_faulty (element_fault profile_two (element_is r.element) octets) start (reads (tag_of_id r.id) header octets)) place at rest)

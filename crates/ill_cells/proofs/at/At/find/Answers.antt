@@ -1,6 +1,7 @@
 use Rattle.std.proofs.Common.{refl, ◌∙◌, arith}
 use Rattle.ber_core.specs.Id.{tag_of_id}
-use Rattle.ill_cells.proofs.Steps.{cell-said, scan-all, scan-end, scan-found, scan-skip, scan-stop}
+use Rattle.ill_cells.proofs.AtRow.{row-of}
+use Rattle.ill_cells.proofs.Steps.{passed-next, passed-none, cell-said, scan-all, scan-end, scan-found, scan-skip, scan-stop}
 use Rattle.ill_cells.proofs.at.At.find.Goals as goal
 
 pub start-requires : goal.start-requires
@@ -24,10 +25,16 @@ returns-in-Some c =
     let cell = c.cell_at-cell.result in
     let begun = c.in-Some.ensures in
     record {
-      is = scan-all t s.part s.node s.position cells c.cells_of-cells.ensures.meant ∙ c.loop-position.invariant
+      is = scan-all t s.part s.node s.position cells c.cells_of-cells.ensures.meant ∙ c.loop-position.invariant.0
           ∙ scan-found t s.part s.node i cells cell _ c.cell_at-cell.ensures begun.is;
       begins = (cell-said s.node i cells cell c.cells_of-cells.ensures.meant c.cell_at-cell.ensures).begins t s.part _ _ (record { is = begun.is; by = begun.by });
       round = refl;
+      later = c.loop-position.invariant.1.later;
+      passed = c.loop-position.invariant.1.apart;
+      placed = (cell-said s.node i cells cell c.cells_of-cells.ensures.meant c.cell_at-cell.ensures).placed;
+      row =
+          let said = cell-said s.node i cells cell c.cells_of-cells.ensures.meant c.cell_at-cell.ensures in
+          row-of s.part s.node i cell.slot _ said.placed said.there;
     }
 
 pub returns-then-cell : goal.returns-then-cell
@@ -35,20 +42,26 @@ returns-then-cell c =
     let s = c.args.self in
     let t = tag_of_id c.args.id in
     let cells = c.cells_of-cells.result.now in
-    scan-all t s.part s.node s.position cells c.cells_of-cells.ensures.meant ∙ c.loop-position.invariant
+    scan-all t s.part s.node s.position cells c.cells_of-cells.ensures.meant ∙ c.loop-position.invariant.0
     ∙ scan-stop t s.part s.node c.loop-position.position cells c.cell_at-cell.result c.cell_at-cell.ensures c.in_default.ensures c.if-cell.true
+
+pub loop-position-init : goal.loop-position-init
+loop-position-init c = (refl, passed-none (tag_of_id c.args.id) c.args.self.node c.args.self.position)
 
 pub loop-position-preserved : goal.loop-position-preserved
 loop-position-preserved c =
     let s = c.args.self in
     let t = tag_of_id c.args.id in
     let cells = c.cells_of-cells.result.now in
-    c.loop-position.invariant ∙ scan-skip t s.part s.node c.loop-position.position cells c.cell_at-cell.result c.cell_at-cell.ensures c.in_default.ensures c.if-cell.false
+    (
+      c.loop-position.invariant.0 ∙ scan-skip t s.part s.node c.loop-position.position cells c.cell_at-cell.result c.cell_at-cell.ensures c.in_default.ensures c.if-cell.false,
+      passed-next t s.node s.position c.loop-position.position cells c.cell_at-cell.result c.cells_of-cells.ensures.meant c.cell_at-cell.ensures c.in_default.ensures c.loop-position.invariant.1,
+    )
 
 pub returns : goal.returns
 returns c =
     let s = c.args.self in
     let t = tag_of_id c.args.id in
     let cells = c.cells_of-cells.result.now in
-    scan-all t s.part s.node s.position cells c.cells_of-cells.ensures.meant ∙ c.loop-position.invariant
+    scan-all t s.part s.node s.position cells c.cells_of-cells.ensures.meant ∙ c.loop-position.invariant.0
     ∙ scan-end t s.part s.node c.loop-position.position cells (omega (arith, c.loop-position-test.false))

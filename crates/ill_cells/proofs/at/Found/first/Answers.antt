@@ -1,13 +1,17 @@
-use Rattle.std.proofs.Common.{sym, ap, ◌∙◌}
+use Rattle.std.proofs.Common.{ℕ, sym, ap, ◌∙◌}
 use Rattle.ber_leaf.specs.Profile.{profile_two}
 use Rattle.ill_refusals.specs.Next.{opening}
 use Rattle.ill_cells.specs.Cells.{next_from}
 use Rattle.ill_cells.specs.Places.{element_found}
+use Rattle.ill_cells.specs.declared.at.At.{At}
 use Rattle.ill_cells.proofs.Going.{element-due, first-opens}
 use Rattle.ill_cells.proofs.at.Found.first.Goals as goal
 
-pub returns : goal.returns
-returns c =
+pub returns-clause-place : goal.returns-clause-place
+returns-clause-place c = let f = c.args.self in ap (λ (n : ℕ). let at : At = record { part = f.part; node = f.node; position = n } in at) c.first_position.ensures
+
+pub returns-clause-next : goal.returns-clause-next
+returns-clause-next c =
     let f = c.args.self in
     ap (next_from f.part f.node) c.first_position.ensures
     ∙ first-opens f.what f.part f.node f.opens

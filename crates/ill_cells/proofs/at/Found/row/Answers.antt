@@ -2,14 +2,17 @@ use Rattle.std.proofs.Common.{◌-◌, sym, subst, IsTrue}
 use Rattle.ber_leaf.specs.Profile.{profile_two}
 use Rattle.ill_schema.specs.Table.{kind_of}
 use Rattle.ill_refusals.specs.Element.{components}
-use Rattle.ill_cells.specs.Cells.{due_at}
-use Rattle.ill_cells.specs.code.Meant.{is_placed, row_there}
+use Rattle.ill_cells.specs.Cells.{due_at, is_placed}
+use Rattle.ill_cells.specs.code.Meant.{row_there}
 use Rattle.ill_cells.specs.Places.{IsAtRow, element_found}
-use Rattle.ill_cells.proofs.AtRow.{row-at}
+use Rattle.ill_cells.proofs.AtRow.{row-at, row-number}
 use Rattle.ill_cells.proofs.at.Found.row.Goals as goal
 
-pub returns : goal.returns
-returns c =
+pub returns-clause-row : goal.returns-clause-row
+returns-clause-row c = let f = c.args.self in row-number f.at.position
+
+pub returns-clause-component : goal.returns-clause-component
+returns-clause-component c =
     let f = c.args.self in
     subst (λ s. IsAtRow f.at.node (f.at.position - 1) (due_at f.at.part f.at.node f.at.position s (element_found f))) (sym c.requires)
     (row-at f.at.part f.at.node f.at.position (element_found f)

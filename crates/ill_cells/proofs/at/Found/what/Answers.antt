@@ -2,5 +2,5 @@ use Rattle.ill_cells.specs.Places.{element_found}
 use Rattle.ill_cells.proofs.Going.{element-due}
 use Rattle.ill_cells.proofs.at.Found.what.Goals as goal
 
-pub returns : goal.returns
-returns c = let f = c.args.self in element-due f.at.part f.at.node f.at.position f.slot (element_found f)
+pub returns-clause-element : goal.returns-clause-element
+returns-clause-element c = let f = c.args.self in element-due f.at.part f.at.node f.at.position f.slot (element_found f)

@@ -1,8 +1,11 @@
-use Rattle.std.proofs.Common.{◌≡◌, ◌<◌, ℕ, Some, None, sym, ap, subst, ◌∙◌}
+use Rattle.std.proofs.Common.{◌≡◌, ◌<◌, ℕ, false, Option, Some, None, refl, sym, ap, subst, ◌∙◌}
+use Rattle.std.specs.Prelude.{is_some}
+use Rattle.ill_schema.specs.declared.part.PartId.{PartId}
 use Rattle.ber_leaf.specs.Profile.{profile_two}
 use Rattle.ill_read.specs.DueCode.{next_is}
 use Rattle.ill_refusals.specs.Next.{missing}
 use Rattle.ill_refusals.specs.Place.{next_in}
+use Rattle.ill_read.proofs.DueCells.{shape-next}
 use Rattle.ill_read.proofs.OpenFrames.{frames_open, next_open}
 use Rattle.ill_read.proofs.Judgements.{end_missing, end_complete}
 use Rattle.ill_read.proofs.frames.Frames.judge_end.Goals as goal
@@ -11,12 +14,16 @@ pub returns-in-Some-clause-exact : goal.returns-in-Some-clause-exact
 returns-in-Some-clause-exact c octets place h =
     let n = next_open place _ _ h.1 in
     let e : missing profile_two (next_in profile_two place) ≡ Some c.in-Some.part =
-    ap (missing profile_two) (sym n) ∙ ap (λ x. missing profile_two (next_is x)) (sym c.next.ensures) ∙ sym c.missing.ensures ∙ c.in-Some.is in
+    ap (missing profile_two) (sym n ∙ ap next_is (sym c.place-place.ensures) ∙ sym (shape-next c.place-place.result)) ∙ sym c.missing.ensures ∙ c.in-Some.is in
     end_missing place c.args.at c.args.marks c.in-Some.part (subst (λ (x : ℕ). 0 < x) (frames_open place _ _ h.1) c.requires) e
 
-pub returns-in-None-clause-exact : goal.returns-in-None-clause-exact
-returns-in-None-clause-exact c octets place h =
+none-missing : (o : Option PartId) → is_some o ≡ false → o ≡ None
+none-missing None h = refl
+none-missing (Some p) h = absurd cc
+
+pub returns-else-is_missing-clause-exact : goal.returns-else-is_missing-clause-exact
+returns-else-is_missing-clause-exact c octets place h =
     let n = next_open place _ _ h.1 in
     let e : missing profile_two (next_in profile_two place) ≡ None =
-    ap (missing profile_two) (sym n) ∙ ap (λ x. missing profile_two (next_is x)) (sym c.next.ensures) ∙ sym c.missing.ensures ∙ c.in-None.is in
+    ap (missing profile_two) (sym n ∙ ap next_is (sym c.place-place.ensures) ∙ sym (shape-next c.place-place.result)) ∙ none-missing _ (sym c.is_missing.ensures ∙ c.if-is_missing.false) in
     end_complete place c.args.at c.args.marks (subst (λ (x : ℕ). 0 < x) (frames_open place _ _ h.1) c.requires) e

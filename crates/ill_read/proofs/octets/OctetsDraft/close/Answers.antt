@@ -2,19 +2,20 @@ use Rattle.std.proofs.Common.{◌∙◌, ◌++◌, refl, sym, ap, subst, append-
 use Rattle.ber_leaf.proofs.Leaves.{content_holds}
 use Rattle.ill_read.specs.LeafTypes.{leaf_is}
 use Rattle.ill_read.specs.code.Drafts.{IsContentOf, IsRightText}
-use Rattle.ill_read.specs.code.OctetDrafts.{written}
-use Rattle.ill_read.specs.declared.element.Element.TheVariants.{Leaf}
+use Rattle.ill_read.specs.code.OctetDrafts.{enclosed, written}
+use Rattle.ill_read.specs.declared.element.Element.TheVariants.{Leaf, LooseWrapper}
 use Rattle.ill_read.specs.declared.octets.Octets.{Octets}
 use Rattle.ill_read.proofs.OctetDrafts.{contents_of, contents_other, loose_text, octets_closed, right_other, text_at}
 use Rattle.ill_read.proofs.octets.OctetsDraft.close.Goals as goal
 use Rattle.ill_read.proofs.octets.OctetsDraft.close.Goals.{in-Leaf+in_default-fault, in-LooseWrapper+in_ok-enclose-in-LooseWrapper, in_default}
+use Rattle.ill_read.specs.DueCode.{shape}
 
 pub returns-clause-text : goal.returns-clause-text
 returns-clause-text c tag entries below text h = elim c.match-frame.branch [
   | in-Leaf+in_default-fault w ↦
       let l = w.in-Leaf.leaf in
       let right = content_holds (leaf_is l) w.written_from.result.now (w.in_default-fault.ensures.none.0 refl) in
-      let at = w.written_from.ensures ∙ text_at c.args.self.now _ below text h (ap (λ e. written e c.args.frame.next entries) w.in-Leaf.is) in
+      let at = w.written_from.ensures ∙ text_at c.args.self.now _ below text h (ap (λ e. written e (shape c.args.frame.place) entries) w.in-Leaf.is) in
       subst (λ e. IsRightText e text) (sym w.in-Leaf.is) (subst (IsRightText (Leaf l)) at (right.0, right.1))
   | in-LooseWrapper+in_ok-enclose-in-LooseWrapper w ↦ subst (λ e. IsRightText e text) (sym w.in-LooseWrapper.is) tt
   | in_default w ↦ right_other c.args.frame.element text (λ l e. w.in_default.not-Leaf l e)
@@ -26,22 +27,23 @@ returns-clause-closed c tag entries trees l below text content h held right is v
       octets_closed c.args.self.now (record c.args.self.now { octets = c.close.new.self }) c.match-frame.self.octets c.args.frame c.args._next tag entries trees l below text content h held right is value due
       (λ before all base.
       ap (λ (o : Octets). o.octets) w.self-is ∙ all
-      ∙ ap (λ e. before ++ (written e c.args.frame.next entries ++ text)) w.in-Leaf.is
-      ∙ ap (λ e. before ++ contents_of e c.args.frame.next (written e c.args.frame.next entries) text) (sym w.in-Leaf.is))
+      ∙ ap (λ e. before ++ (written e (shape c.args.frame.place) entries ++ text)) w.in-Leaf.is
+      ∙ ap (λ e. before ++ contents_of e (shape c.args.frame.place) (written e (shape c.args.frame.place) entries) text) (sym w.in-Leaf.is))
       (λ before body t form x joined base. c.in_ok-close.ensures.element before body t form x joined base)
   | in-LooseWrapper+in_ok-enclose-in-LooseWrapper w ↦
       octets_closed c.args.self.now (record c.args.self.now { octets = c.close.new.self }) c.match-frame.self.octets c.args.frame c.args._next tag entries trees l below text content h held right is value due
       (λ before all base.
-      let none = loose_text w.in-LooseWrapper.field-0 c.args.frame.next entries text content (subst (λ e. IsContentOf e c.args.frame.next entries text content) w.in-LooseWrapper.is is) in
-      let octets = written c.args.frame.element c.args.frame.next entries in
+      let none = loose_text w.in-LooseWrapper.field-0 (shape c.args.frame.place) entries text content (subst (λ e. IsContentOf e (shape c.args.frame.place) entries text content) w.in-LooseWrapper.is is) in
+      let octets = written c.args.frame.element (shape c.args.frame.place) entries in
       let joined = all ∙ ap (λ x. before ++ x) (ap (λ y. octets ++ y) none ∙ append-nil octets) in
       ap (λ (o : Octets). o.octets) w.self-is ∙ w.in_ok-enclose-in-LooseWrapper.ensures w.in-LooseWrapper.field-0 before octets joined base
-      ∙ ap (λ e. before ++ contents_of e c.args.frame.next octets text) (sym w.in-LooseWrapper.is))
+      ∙ ap (λ n. before ++ enclosed (LooseWrapper w.in-LooseWrapper.field-0) n octets) w.next.ensures
+      ∙ ap (λ e. before ++ contents_of e (shape c.args.frame.place) octets text) (sym w.in-LooseWrapper.is))
       (λ before body t form x joined base. c.in_ok-close.ensures.element before body t form x joined base)
   | in_default w ↦
       octets_closed c.args.self.now (record c.args.self.now { octets = c.close.new.self }) c.match-frame.self.octets c.args.frame c.args._next tag entries trees l below text content h held right is value due
       (λ before all base.
       ap (λ (o : Octets). o.octets) w.self-is ∙ all
-      ∙ ap (λ x. before ++ x) (contents_other c.args.frame.element c.args.frame.next entries text content is (λ x e. w.in_default.not-Leaf x e) (λ x e. w.in_default.not-LooseWrapper x e)))
+      ∙ ap (λ x. before ++ x) (contents_other c.args.frame.element (shape c.args.frame.place) entries text content is (λ x e. w.in_default.not-Leaf x e) (λ x e. w.in_default.not-LooseWrapper x e)))
       (λ before body t form x joined base. c.in_ok-close.ensures.element before body t form x joined base)
 ]

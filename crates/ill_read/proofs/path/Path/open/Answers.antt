@@ -16,4 +16,4 @@ returns-then-is_full-clause-exact g c place stands begin =
 pub returns-clause-exact : goal.returns-clause-exact
 returns-clause-exact g c place stands begin =
     opens_at g.D.Draft.holds c.args.self.now (record { frames = record { «open» = c.push.new.self }; draft = c.open.new.self }) c.args.opening _ place c.bound.result stands
-    begin.is_due begin.allowed c.first_next.ensures (c.bound.ensures.exact place (stands.0, stands.1)) c.unwrap_or.ensures c.in_ok-base.ensures c.push.ensures.items refl
+    begin.is_due begin.goes_on begin.allowed c.args.opening.first_is (c.bound.ensures.exact place (stands.0, stands.1)) c.unwrap_or.ensures c.in_ok-base.ensures c.push.ensures.items refl

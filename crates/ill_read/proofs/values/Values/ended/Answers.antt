@@ -1,4 +1,4 @@
-use Rattle.std.proofs.Common.{◌∙◌, ℕ, Global, Vec, refl, subst, ap}
+use Rattle.std.proofs.Common.{◌∙◌, ℕ, Global, Vec, refl, sym, subst, ap}
 use Rattle.ber_leaf.specs.Content.{IsContent}
 use Rattle.ber_leaf.proofs.Leaves.{content_holds}
 use Rattle.ill_read.specs.LeafTypes.{leaf_is}
@@ -23,5 +23,5 @@ returns-in-Wrapper c = wrapper_ends c.args.self.now (record c.args.self.now { he
 
 pub returns-in-Nothing : goal.returns-in-Nothing
 returns-in-Nothing c =
-    loose_wrapper_ends c.args.self.now (record c.args.self.now { held = c.last-in-Nothing.new.self }) c.args.frame c.last-in-Nothing.result c.in-LooseWrapper.field-0 c.in-LooseWrapper.is c.in-Nothing.is
+    loose_wrapper_ends c.args.self.now (record c.args.self.now { held = c.last-in-Nothing.new.self }) c.args.frame c.last-in-Nothing.result c.in-LooseWrapper.field-0 c.in-LooseWrapper.is (sym c.next-in-LooseWrapper.ensures ∙ c.in-Nothing.is)
     c.last-in-Nothing.ensures refl

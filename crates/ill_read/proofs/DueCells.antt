@@ -1,0 +1,475 @@
+-- What the cells find is due by the decoder's words.
+use Rattle.std.proofs.Common.{◌≡◌, ◌⊎◌, ℕ, zero, suc, ◌+◌, ◌-◌, ◌<◌, ◌≤◌, Bool, true, false, List, [], ◌∷◌, drop, IsTrue, Option, Some, None, option_map, refl, sym, ap, subst, ◌∙◌, inl, inr, arith, slice_get}
+use Rattle.std.specs.Prelude.{if◌then◌else◌, nat_eq}
+use Rattle.ber_core.specs.Identifier.{Tag}
+use Rattle.ber_core.specs.Tree.{octet_string}
+use Rattle.ber_leaf.specs.Profile.{profile_two}
+use Rattle.ill_schema.specs.declared.node.Kind.{Kind}
+use Rattle.ill_schema.specs.declared.node.NodeId.{NodeId}
+use Rattle.ill_schema.specs.declared.part.PartId.{PartId}
+use Rattle.ill_schema.specs.declared.part.Presence.{Presence}
+use Rattle.ill_schema.specs.declared.part.Row.{Row}
+use Rattle.ill_schema.specs.Table.{kind_of, rows_of}
+use Rattle.ill_schema.specs.Tagging.{untagged, same_tag, sequence_tag}
+use Rattle.ill_refusals.specs.Element.{Component, Element, Start, component_starts, components, components_from, list, own_starts, segment, sequence, start, starts}
+use Rattle.ill_refusals.specs.Next as next
+use Rattle.ill_refusals.specs.Next.{part, octets, rows, items, due, due_in, element_of, start_of}
+use Rattle.ill_refusals.proofs.Rows.{two_cases}
+use Rattle.ill_cells.specs.Cells as cells
+use Rattle.ill_cells.specs.Cells.{BeginsDue, IsAlternative, wrapped}
+use Rattle.ill_cells.specs.Places.{IsAtRow, IsDue, due_of, element_found, next_at, place_after, row_of}
+use Rattle.ill_cells.specs.code.Meant.{is_other, opens_in}
+use Rattle.ill_cells.specs.declared.at.At.{At}
+use Rattle.ill_cells.specs.declared.at.Found.{Found as CellFound}
+use Rattle.ill_cells.specs.declared.cell.What.{What}
+use Rattle.ill_cells.specs.declared.cell.What.TheVariants as what
+use Rattle.ill_cells.proofs.Scanning.{same_tag-swap, sequence_starts}
+use Rattle.ill_cells.specs.declared.cell.Slot.{Slot as CellSlot}
+use Rattle.ill_cells.specs.declared.cell.Slot.TheVariants as cell
+use Rattle.ill_read.specs.Elements.{component_of, component_at, element_with, found_is}
+use Rattle.ill_read.specs.DueCode.{Begins, BeginsAt, IsBegun, IsDueIn, IsDueInRows, IsItemDue, IsInnerDue, IsRowDue, IsRowStart, IsSegmentDue, MayAllLack, behind, found_as, next_is, shape, shape_of, slot_as}
+use Rattle.ill_read.specs.declared.due.Next.{Next}
+use Rattle.ill_read.specs.declared.due.Next.TheVariants.{Rows, Inner, Items, Either, Segments, Nothing}
+use Rattle.ill_read.proofs.DueElements.{first_due}
+use Rattle.ill_read.specs.declared.due.Due.{Due}
+use Rattle.ill_read.specs.declared.due.Slot.{Slot}
+use Rattle.ill_read.specs.declared.due.Slot.TheVariants.{Row as AtRow, Item, Inner as Inside, Segment as InString}
+use Rattle.ill_read.specs.declared.element.Found.{Found}
+use Rattle.ill_read.specs.declared.element.Wrapped.{Wrapped}
+
+there : (node : NodeId) (k i : ℕ) (rs : List Row) (c : Component) (cs : List Component) → drop i (components_from profile_two node k rs) ≡ c ∷ cs
+    → (row : Row) × (slice_get rs i ≡ Some row) × (c ≡ component_at (record { node = node; row = k + i }) row)
+there node k zero [] c cs e = absurd cc
+there node k zero (r ∷ rs) c cs e =
+    let z : k ≡ k + zero = omega arith in
+    let q : component_at (record { node = node; row = k }) r ≡ c = cc in
+    (r, refl, sym q ∙ ap (λ (m : ℕ). component_at (record { node = node; row = m }) r) z)
+there node k (suc i) [] c cs e = absurd cc
+there node k (suc i) (r ∷ rs) c cs e =
+    let z : k + 1 + i ≡ k + suc i = omega arith in
+    let x = there node (k + 1) i rs c cs e in
+    (x.0, x.1, x.2 ∙ ap (λ (m : ℕ). component_at (record { node = node; row = m }) x.0) z)
+
+-- the row of a component
+pub component-row : (node : NodeId) (i : ℕ) (c : Component) (cs : List Component) → drop i (components profile_two node) ≡ c ∷ cs
+    → (row : Row) × (slice_get (rows_of node) i ≡ Some row) × (c ≡ component_at (record { node = node; row = i }) row)
+component-row node i c cs e =
+    let z : 0 + i ≡ i = omega arith in
+    let x = there node 0 i (rows_of node) c cs e in
+    (x.0, x.1, x.2 ∙ ap (λ (m : ℕ). component_at (record { node = node; row = m }) x.0) z)
+
+got : {A : Type 0} (xs : List A) (i : ℕ) (x : A) → slice_get xs i ≡ Some x → (ys : List A) × (drop i xs ≡ x ∷ ys)
+got [] i x e = absurd cc
+got (y ∷ ys) zero x e = (ys, (let q : y ≡ x = cc in ap (λ z. z ∷ ys) q))
+got (y ∷ ys) (suc i) x e = got ys i x e
+
+begins-as : (t : Tag) (c : Component) (alt : Option ℕ) (e : Element) → cells.Begins t c alt e → Begins t c alt e
+begins-as t c None e b = b
+begins-as t c (Some n) e b =
+    let g = got (components profile_two c.node) n b.2.0 b.2.1 in
+    let w = component-row c.node n b.2.0 g.0 g.1 in
+    (b.0, b.1, (w.0, w.1, subst (λ x. element_with t (component_starts x) ≡ Some e) w.2 b.2.2))
+
+begins-due : (t : Tag) (c : Component) (e : Element) (n : next.Next) (D : next.Due) (alt : Option ℕ) → D ≡ part c e n → BeginsDue t D alt → Begins t c alt (element_of D)
+begins-due t c e n D alt is b =
+    subst (λ x. Begins t c alt (element_of x)) (sym is) (begins-as t c alt e (subst (λ x. BeginsDue t x alt) is b))
+
+-- a row is due only if none before it has to be there
+record Lacks (t : Tag) (node : NodeId) (n : ℕ) (c : Component) (cs : List Component) (D : next.Due) : Type 0 where
+  may : c.presence ≡ Presence.Must → ⊥
+  rest : due_in profile_two t cs ≡ Some D
+
+lacks-first : (t : Tag) (node : NodeId) (n r : ℕ) (c : Component) (cs : List Component) (D : next.Due) → (n ≡ r → ⊥) → c.part ≡ record { node = node; row = n } → (x : Component) → x.part ≡ record { node = node; row = r }
+    → (e : Element) (m : next.Next) → D ≡ part x e m → due_in profile_two t (c ∷ cs) ≡ Some D → Lacks t node n c cs D
+lacks-first t node n r c cs D apart here x there' e m is h = at (start_of profile_two t c) h
+  where
+    by : (y : Presence) → c.presence ≡ y → (elim y as (λ _. Option next.Due) [ Presence.Must ↦ None | _ ↦ due_in profile_two t cs ]) ≡ Some D → Lacks t node n c cs D
+    by Presence.Must p k = absurd cc
+    by Presence.May p k = record { may = λ q. (let z : Presence.May ≡ Presence.Must = sym p ∙ q in cc); rest = k; }
+    by Presence.LeftOut p k = record { may = λ q. (let z : Presence.LeftOut ≡ Presence.Must = sym p ∙ q in cc); rest = k; }
+    by (Presence.Default d) p k = record { may = λ q. (let z : Presence.Default d ≡ Presence.Must = sym p ∙ q in cc); rest = k; }
+
+    at : (o : Option Start) → first_due t c cs o ≡ Some D → Lacks t node n c cs D
+    at None k = by c.presence refl k
+    at (Some s) k =
+        let q : part c s.element (rows cs) ≡ part x e m = (let z : part c s.element (rows cs) ≡ D = cc in z ∙ is) in
+        let same : c ≡ x = cc in
+        let parts : c.part ≡ x.part = ap (λ (y : Component). y.part) same in
+        let p : record { node = node; row = n } ≡ record { node = node; row = r } = sym here ∙ parts ∙ there' in
+        absurd (apart (ap (λ (y : PartId). y.row) p))
+
+drop-next : (i : ℕ) (xs : List Component) (y : Component) (ys : List Component) → drop i xs ≡ y ∷ ys → drop (suc i) xs ≡ ys
+drop-next zero [] y ys f = absurd cc
+drop-next zero (x ∷ xs) y ys f = cc
+drop-next (suc i) [] y ys f = absurd cc
+drop-next (suc i) (x ∷ xs) y ys f = drop-next i xs y ys f
+
+drop-after : (i : ℕ) (xs : List Component) (y : Component) (ys : List Component) → drop i xs ≡ y ∷ ys → drop (i + 1) xs ≡ ys
+drop-after i xs y ys f = let z : i + 1 ≡ suc i = omega arith in ap (λ (j : ℕ). drop j xs) z ∙ drop-next i xs y ys f
+
+at-or-after : (n k : ℕ) → n ≤ k → (n ≡ k) ⊎ (n + 1 ≤ k)
+at-or-after n k h = elim (two_cases (nat_eq n k)) [ inl y ↦ inl (grind (arith, y)) | inr z ↦ inr (grind (arith, h, z)) ]
+
+lacking-on : (t : Tag) (node : NodeId) (D : next.Due) (m n r : ℕ) → r ≡ n + suc m → due_in profile_two t (drop n (components profile_two node)) ≡ Some D → IsAtRow node r D
+    → (cs : List Component) → drop n (components profile_two node) ≡ cs
+    → (due_in profile_two t (drop (n + 1) (components profile_two node)) ≡ Some D → MayAllLack node (n + 1) r) → MayAllLack node n r
+lacking-on t node D m n r e h a [] f others = absurd (let q : None ≡ Some D = sym (ap (due_in profile_two t) f) ∙ h in cc)
+lacking-on t node D m n r e h a (c ∷ cs) f others =
+    let here = component-row node n c cs f in
+    let last = component-row node r a.component a.behind a.is_row in
+    let apart : n ≡ r → ⊥ = λ q. omega (arith, q, e) in
+    let l = lacks-first t node n r c cs D apart (ap (λ (y : Component). y.part) here.2) a.component (ap (λ (y : Component). y.part) last.2) (element_of D) (rows a.behind) a.is_due (sym (ap (due_in profile_two t) f) ∙ h) in
+    let rest = others (ap (due_in profile_two t) (drop-after n (components profile_two node) c cs f) ∙ l.rest) in
+    λ k row from until is must. elim (at-or-after n k from) [
+      | inl q ↦
+          let same : here.0 ≡ row = (let z : Some here.0 ≡ Some row = sym here.1 ∙ ap (slice_get (rows_of node)) q ∙ is in cc) in
+          absurd (l.may (ap (λ (y : Component). y.presence) here.2 ∙ ap (λ (y : Row). y.presence) same ∙ must))
+      | inr q ↦ rest k row q until is must
+    ]
+
+lacking : (t : Tag) (node : NodeId) (D : next.Due) (m n r : ℕ) → r ≡ n + m → due_in profile_two t (drop n (components profile_two node)) ≡ Some D → IsAtRow node r D → MayAllLack node n r
+lacking t node D zero n r e h a = λ k row from until is must. absurd (omega (arith, e, from, until))
+lacking t node D (suc m) n r e h a = lacking-on t node D m n r e h a (drop n (components profile_two node)) refl (λ k. lacking t node D m (n + 1) r (omega (arith, e)) k a)
+
+-- a row that is due
+pub row-due : (t : Tag) (node : NodeId) (n r : ℕ) (D : next.Due) (alt : Option ℕ) (found : Found) → due_in profile_two t (drop n (components profile_two node)) ≡ Some D → IsAtRow node r D → n ≤ r
+    → BeginsDue t D alt → found_is found ≡ element_of D → IsRowDue t node n r alt found
+row-due t node n r D alt found h a from b is =
+    let w = component-row node r a.component a.behind a.is_row in
+    let id : PartId = record { node = node; row = r } in
+    let behind : drop (r + 1) (components profile_two node) ≡ a.behind = drop-after r (components profile_two node) a.component a.behind a.is_row in
+    let begins : Begins t a.component alt (element_of D) = begins-due t a.component (element_of D) (rows a.behind) D alt a.is_due b in
+    record {
+      row = w.0;
+      is_row = w.1;
+      behind = from;
+      lacking = let m = split n r from in lacking t node D m.0 n r m.1 h a;
+      is =
+          h ∙ ap Some (a.is_due ∙ ap (λ c. part c (element_of D) (rows a.behind)) w.2 ∙ ap (λ e. part (component_at id w.0) e (rows a.behind)) (sym is)
+          ∙ ap (λ cs. part (component_at id w.0) (found_is found) (rows cs)) (sym behind));
+      begins = subst (λ e. Begins t (component_at id w.0) alt e) (sym is) (subst (λ c. Begins t c alt (element_of D)) w.2 begins);
+    }
+  where
+    split : (i j : ℕ) → i ≤ j → (m : ℕ) × (j ≡ i + m)
+    split i j h = (j - i, omega (arith, h))
+
+-- the one component of a wrapper
+one-due : (t : Tag) (c : Component) (D : next.Due) → c.presence ≡ Presence.Must → due_in profile_two t (c ∷ []) ≡ Some D
+    → (e : Element) × (D ≡ part c e (rows [])) × (element_with t (starts profile_two c) ≡ Some e)
+one-due t c D must h = at (start_of profile_two t c) refl h
+  where
+    at : (o : Option Start) → start_of profile_two t c ≡ o → first_due t c [] o ≡ Some D → (e : Element) × (D ≡ part c e (rows [])) × (element_with t (starts profile_two c) ≡ Some e)
+    at None f k = absurd (let q : None ≡ Some D = sym (ap (λ (x : Presence). elim x as (λ _. Option next.Due) [ Presence.Must ↦ None | _ ↦ due_in profile_two t [] ]) must) ∙ k in cc)
+    at (Some s) f k = (s.element, (let q : part c s.element (rows []) ≡ D = cc in sym q), ap (option_map (λ (x : Start). x.element)) f)
+
+-- nothing is due in a wrapper whose component doesn't begin with the tag
+none-due : (t : Tag) (c : Component) (D : next.Due) → c.presence ≡ Presence.Must → element_with t (starts profile_two c) ≡ None → due_in profile_two t (c ∷ []) ≡ Some D → ⊥
+none-due t c D must f h = let o = one-due t c D must h in (let q : None ≡ Some o.0 = sym f ∙ o.2 in cc)
+
+pub inner-due : (t : Tag) (w : Wrapped) (D : next.Due) (d : Due) → due_in profile_two t (component_of w ∷ []) ≡ Some D → BeginsDue t D d.alternative
+    → d.slot ≡ Inside → found_is d.found ≡ element_of D → IsInnerDue t w d
+inner-due t w D d h b slot is =
+    let o = one-due t (component_of w) D refl h in
+    let e : element_of D ≡ o.0 = ap element_of o.1 in
+    record {
+      slot = slot;
+      begun = record {
+        is = o.2 ∙ ap Some (sym e ∙ sym is);
+        begins = subst (λ x. Begins t (component_of w) d.alternative x) (sym is) (begins-due t (component_of w) o.0 (rows []) D d.alternative o.1 b);
+      };
+    }
+
+-- an item of a list that is due
+item-start : (t : Tag) (node : NodeId) (c : Component) (cs : List Component) (D : next.Due) (d : Due) (o : Option Start) → components profile_two node ≡ c ∷ cs → start_of profile_two t c ≡ o
+    → (elim o as (λ _. Option next.Due) [ Some s ↦ Some (part c s.element (items c)) | None ↦ None ]) ≡ Some D → BeginsDue t D d.alternative → d.slot ≡ Item → found_is d.found ≡ element_of D → IsItemDue t node d
+item-start t node c cs D d None f g m b slot is = absurd (let q : None ≡ Some D = m in cc)
+item-start t node c cs D d (Some s) f g m b slot is =
+    let w = component-row node 0 c cs f in
+    let q : part c s.element (items c) ≡ D = cc in
+    let e : found_is d.found ≡ s.element = is ∙ ap element_of (sym q) in
+    record {
+      slot = slot;
+      row = w.0;
+      is_row = w.1;
+      begun = record {
+        is = subst (λ x. element_with t (starts profile_two x) ≡ Some (found_is d.found)) w.2 (ap (option_map (λ (x : Start). x.element)) g ∙ ap Some (sym e));
+        begins = subst (λ x. Begins t x d.alternative (found_is d.found)) w.2
+            (subst (λ x. Begins t c d.alternative x) (sym is) (begins-due t c s.element (items c) D d.alternative (sym q) b));
+      };
+    }
+
+pub item-due : (t : Tag) (node : NodeId) (D : next.Due) (d : Due) → due profile_two t (next.opening profile_two (list node)) ≡ Some D → BeginsDue t D d.alternative
+    → d.slot ≡ Item → found_is d.found ≡ element_of D → IsItemDue t node d
+item-due t node D d h b slot is = go (components profile_two node) refl h
+  where
+    go : (cs : List Component) → components profile_two node ≡ cs → due profile_two t (elim cs as (λ _. next.Next) [ [] ↦ rows [] | c ∷ _ ↦ items c ]) ≡ Some D → IsItemDue t node d
+    go [] f k = absurd (let q : None ≡ Some D = k in cc)
+    go (c ∷ cs) f k = item-start t node c cs D d (start_of profile_two t c) f refl k b slot is
+
+-- a segment that is due
+pub segment-due : (t : Tag) (D : next.Due) (d : Due) → due profile_two t next.segments ≡ Some D → d.slot ≡ InString → found_is d.found ≡ element_of D → IsSegmentDue t d
+segment-due t D d h slot is = at (same_tag t octet_string) refl h
+  where
+    at : (b : Bool) → same_tag t octet_string ≡ b → (if b then Some octets else None) ≡ Some D → IsSegmentDue t d
+    at true f k = record { slot = slot; tag = f; found = is ∙ ap element_of (let q : octets ≡ D = cc in sym q); }
+    at false f k = absurd cc
+
+-- what is due at a place with the tag, in its slot
+pub record IsPlaced (t : Tag) (k : Kind) (p : PartId) (node : NodeId) (position at row : ℕ) (s : CellSlot) (D : next.Due) : Type 0 where
+  pub is : due profile_two t (cells.next_of_kind k p node position) ≡ Some D
+  pub later : position ≤ at
+  pub passed : position ≡ 0 → (at ≡ 0 → ⊥) → element_with t (starts profile_two (wrapped p node)) ≡ None
+  pub placed : cells.is_placed k at s ≡ true
+  pub at_row : s ≡ cell.Row → IsAtRow node row D
+  pub number : row ≡ cells.row_before at
+  pub inner : s ≡ cell.Inner → (q : PartId) × (e : Element) × (D ≡ part (wrapped q node) e (rows []))
+
+around : (t : Tag) (p : PartId) (node : NodeId) (at row : ℕ) (k : Kind) (s : CellSlot) (D : next.Due) (d : Due) → due_in profile_two t (wrapped p node ∷ []) ≡ Some D
+    → ((at ≡ 0 → ⊥) → element_with t (starts profile_two (wrapped p node)) ≡ None) → cells.is_placed k at s ≡ true → d.slot ≡ slot_as row s → BeginsDue t D d.alternative → found_is d.found ≡ element_of D
+    → IsInnerDue t (record { part = p; node = node }) d
+around t p node zero row k cell.Inner D d h passed placed slot b is = inner-due t (record { part = p; node = node }) D d h b slot is
+around t p node zero row k cell.Row D d h passed placed slot b is = absurd cc
+around t p node zero row k cell.Item D d h passed placed slot b is = absurd cc
+around t p node zero row k cell.Segment D d h passed placed slot b is = absurd cc
+around t p node (suc at) row k s D d h passed placed slot b is = absurd (none-due t (wrapped p node) D refl (passed (λ z. cc)) h)
+
+-- in a list, from its first position on, there are items only
+only-item : (at : ℕ) (s : CellSlot) → 1 ≤ at → cells.is_placed Kind.SeqOf at s ≡ true → s ≡ cell.Item
+only-item zero s h p = absurd (omega (arith, h))
+only-item (suc n) cell.Row h p = absurd cc
+only-item (suc n) cell.Inner h p = absurd cc
+only-item (suc n) cell.Item h p = refl
+only-item (suc zero) cell.Segment h p = absurd cc
+only-item (suc (suc n)) cell.Segment h p = absurd cc
+
+-- in a string there are segments only
+only-segment : (k : Kind) (at : ℕ) (s : CellSlot) → cells.is_leaf k ≡ true → 1 ≤ at → cells.is_placed k at s ≡ true → s ≡ cell.Segment
+only-segment k zero s l h p = absurd (omega (arith, h))
+only-segment k (suc n) cell.Segment l h p = refl
+only-segment k (suc n) cell.Inner l h p = absurd cc
+only-segment (Kind.Leaf x) (suc n) cell.Row l h p = absurd cc
+only-segment Kind.IllString (suc n) cell.Row l h p = absurd cc
+only-segment Kind.Seq (suc n) cell.Row l h p = absurd cc
+only-segment Kind.SeqOf (suc n) cell.Row l h p = absurd cc
+only-segment Kind.Choice (suc n) cell.Row l h p = absurd cc
+only-segment (Kind.Leaf x) (suc zero) cell.Item l h p = absurd cc
+only-segment Kind.IllString (suc zero) cell.Item l h p = absurd cc
+only-segment Kind.Seq (suc zero) cell.Item l h p = absurd cc
+only-segment Kind.SeqOf (suc zero) cell.Item l h p = absurd cc
+only-segment Kind.Choice (suc zero) cell.Item l h p = absurd cc
+only-segment k (suc (suc n)) cell.Item l h p = absurd cc
+
+sequence-with : (t : Tag) (node : NodeId) (o : Option Element) → element_with t (start sequence_tag (sequence node) ∷ []) ≡ o
+    → same_tag t sequence_tag ≡ (elim o as (λ _. Bool) [ Some e ↦ true | None ↦ false ])
+sequence-with t node o h = same_tag-swap t sequence_tag ∙ at (same_tag sequence_tag t) ∙ ap (λ x. elim x as (λ _. Bool) [ Some e ↦ true | None ↦ false ]) h
+  where
+    at : (b : Bool) → b ≡ (elim (option_map (λ (s : Start). s.element) (if b then Some (start sequence_tag (sequence node)) else None)) as (λ _. Bool) [ Some e ↦ true | None ↦ false ])
+    at true = refl
+    at false = refl
+
+-- the SEQUENCE round the components of a node
+sequence-due : (t : Tag) (q : PartId) (node : NodeId) (alt : Option ℕ) (e : Element) → kind_of node ≡ Kind.Seq → Begins t (wrapped q node) alt e → same_tag t sequence_tag ≡ true
+sequence-due t q node None e k b = sequence-with t node (Some e) (ap (λ x. element_with t (own_starts x node)) (sym k) ∙ b)
+sequence-due t q node (Some n) e k b = absurd (let z : Kind.Seq ≡ Kind.Choice = sym k ∙ b.1 in cc)
+
+in-row : (t : Tag) (node : NodeId) (n row : ℕ) (D : next.Due) (d : Due) → d.slot ≡ AtRow row → due_in profile_two t (drop n (components profile_two node)) ≡ Some D → IsAtRow node row D → n ≤ row
+    → BeginsDue t D d.alternative → found_is d.found ≡ element_of D → IsDueInRows t node n d
+in-row t node n row D d slot h a from b is =
+    subst (λ x. elim x as (λ _. Type 0) [ AtRow r ↦ IsRowDue t node n r d.alternative d.found | _ ↦ ⊥ ]) (sym slot) (row-due t node n row D d.alternative d.found h a from b is)
+
+either-due : (t : Tag) (p : PartId) (node : NodeId) (b : Bool) (D : next.Due) → same_tag t sequence_tag ≡ b → due profile_two t (next.either (wrapped p node)) ≡ Some D
+    → (elim b as (λ _. Option next.Due) [ true ↦ due_in profile_two t (wrapped p node ∷ []) | false ↦ due_in profile_two t (components profile_two node) ]) ≡ Some D
+either-due t p node b D e h =
+    ap (λ x. elim x as (λ _. Option next.Due) [ true ↦ due_in profile_two t (wrapped p node ∷ []) | false ↦ due_in profile_two t (components profile_two node) ]) (sym e) ∙ h
+
+-- what the cells find is due by the decoder's words
+pub placed-due : (t : Tag) (k : Kind) (p : PartId) (node : NodeId) (position at row : ℕ) (s : CellSlot) (D : next.Due) (d : Due) → kind_of node ≡ k → IsPlaced t k p node position at row s D
+    → BeginsDue t D d.alternative → d.slot ≡ slot_as row s → found_is d.found ≡ element_of D → IsDueIn t (shape_of k p node position) d
+placed-due t Kind.Seq p node zero zero row cell.Inner D d e h b slot is =
+    let i = h.inner refl in
+    let tag = sequence-due t i.0 node d.alternative i.1 e (let x = begins-due t (wrapped i.0 node) i.1 (rows []) D d.alternative i.2 b in subst (λ y. Begins t (wrapped i.0 node) d.alternative y) (ap element_of i.2) x) in
+    inl (tag, inner-due t (record { part = p; node = node }) D d (either-due t p node true D tag h.is) b slot is)
+placed-due t Kind.Seq p node zero zero row cell.Row D d e h b slot is = absurd (let z : false ≡ true = h.placed in cc)
+placed-due t Kind.Seq p node zero zero row cell.Item D d e h b slot is = absurd (let z : false ≡ true = h.placed in cc)
+placed-due t Kind.Seq p node zero zero row cell.Segment D d e h b slot is = absurd (let z : false ≡ true = h.placed in cc)
+placed-due t Kind.Seq p node zero (suc r) row cell.Row D d e h b slot is =
+    let apart : element_with t (starts profile_two (wrapped p node)) ≡ None = h.passed refl (λ z. cc) in
+    let tag = sequence-with t node None (ap (element_with t) (sym (sequence_starts node e)) ∙ apart) in
+    inr (tag, in-row t node 0 row D d slot (either-due t p node false D tag h.is) (h.at_row refl) (omega arith) b is)
+placed-due t Kind.Seq p node zero (suc r) row cell.Inner D d e h b slot is = absurd (let z : false ≡ true = h.placed in cc)
+placed-due t Kind.Seq p node zero (suc zero) row cell.Item D d e h b slot is = absurd (let z : false ≡ true = h.placed in cc)
+placed-due t Kind.Seq p node zero (suc (suc r)) row cell.Item D d e h b slot is = absurd (let z : false ≡ true = h.placed in cc)
+placed-due t Kind.Seq p node zero (suc zero) row cell.Segment D d e h b slot is = absurd (let z : false ≡ true = h.placed in cc)
+placed-due t Kind.Seq p node zero (suc (suc r)) row cell.Segment D d e h b slot is = absurd (let z : false ≡ true = h.placed in cc)
+placed-due t Kind.Seq p node (suc n) zero row s D d e h b slot is = absurd (omega (arith, h.later))
+placed-due t Kind.Seq p node (suc n) (suc r) row cell.Row D d e h b slot is = in-row t node n row D d slot h.is (h.at_row refl) (omega (arith, h.later, h.number)) b is
+placed-due t Kind.Seq p node (suc n) (suc r) row cell.Inner D d e h b slot is = absurd (let z : false ≡ true = h.placed in cc)
+placed-due t Kind.Seq p node (suc n) (suc zero) row cell.Item D d e h b slot is = absurd (let z : false ≡ true = h.placed in cc)
+placed-due t Kind.Seq p node (suc n) (suc (suc r)) row cell.Item D d e h b slot is = absurd (let z : false ≡ true = h.placed in cc)
+placed-due t Kind.Seq p node (suc n) (suc zero) row cell.Segment D d e h b slot is = absurd (let z : false ≡ true = h.placed in cc)
+placed-due t Kind.Seq p node (suc n) (suc (suc r)) row cell.Segment D d e h b slot is = absurd (let z : false ≡ true = h.placed in cc)
+placed-due t Kind.SeqOf p node zero at row s D d e h b slot is = around t p node at row Kind.SeqOf s D d h.is (h.passed refl) h.placed slot b is
+placed-due t Kind.Choice p node zero at row s D d e h b slot is = around t p node at row Kind.Choice s D d h.is (h.passed refl) h.placed slot b is
+placed-due t (Kind.Leaf l) p node zero at row s D d e h b slot is = around t p node at row (Kind.Leaf l) s D d h.is (h.passed refl) h.placed slot b is
+placed-due t Kind.IllString p node zero at row s D d e h b slot is = around t p node at row Kind.IllString s D d h.is (h.passed refl) h.placed slot b is
+placed-due t Kind.SeqOf p node (suc zero) at row s D d e h b slot is = item-due t node D d h.is b (slot ∙ ap (slot_as row) (only-item at s h.later h.placed)) is
+placed-due t (Kind.Leaf l) p node (suc zero) at row s D d e h b slot is = segment-due t D d h.is (slot ∙ ap (slot_as row) (only-segment (Kind.Leaf l) at s refl h.later h.placed)) is
+placed-due t Kind.IllString p node (suc zero) at row s D d e h b slot is = segment-due t D d h.is (slot ∙ ap (slot_as row) (only-segment Kind.IllString at s refl h.later h.placed)) is
+placed-due t Kind.SeqOf p node (suc (suc n)) at row s D d e h b slot is = absurd (let z : None ≡ Some D = h.is in cc)
+placed-due t Kind.Choice p node (suc zero) at row s D d e h b slot is = absurd (let z : None ≡ Some D = h.is in cc)
+placed-due t Kind.Choice p node (suc (suc n)) at row s D d e h b slot is = absurd (let z : None ≡ Some D = h.is in cc)
+placed-due t (Kind.Leaf l) p node (suc (suc n)) at row s D d e h b slot is = absurd (let z : None ≡ Some D = h.is in cc)
+placed-due t Kind.IllString p node (suc (suc n)) at row s D d e h b slot is = absurd (let z : None ≡ Some D = h.is in cc)
+
+-- what may come after what is found
+abbrev after-shape : Kind → PartId → NodeId → ℕ → CellSlot → Next
+after-shape k q node at s = elim s as (λ _. Next) [ cell.Row ↦ shape_of k q node (at + 1) | cell.Inner ↦ Nothing | _ ↦ shape_of k q node at ]
+
+pub after-found : (f : CellFound) (s : CellSlot) (node : NodeId) → f.at.node ≡ node → shape (place_after f s) ≡ after-shape (kind_of node) f.at.part node f.at.position s
+after-found f cell.Row node e = ap (λ n. shape_of (kind_of n) f.at.part n (f.at.position + 1)) e
+after-found f cell.Inner node e = refl
+after-found f cell.Item node e = ap (λ n. shape_of (kind_of n) f.at.part n f.at.position) e
+after-found f cell.Segment node e = ap (λ n. shape_of (kind_of n) f.at.part n f.at.position) e
+
+after-row : (q : PartId) (node : NodeId) (r row : ℕ) → row ≡ r → shape_of Kind.Seq q node (suc r + 1) ≡ Rows node (row + 1)
+after-row q node r row e = let z : suc r + 1 ≡ suc (row + 1) = omega (arith, e) in ap (shape_of Kind.Seq q node) z
+
+-- in a wrapper nothing but its component is due
+wrapper-only : (t : Tag) (p : PartId) (node : NodeId) (D : next.Due) (n : ℕ) → due_in profile_two t (wrapped p node ∷ []) ≡ Some D
+    → ((suc n ≡ 0 → ⊥) → element_with t (starts profile_two (wrapped p node)) ≡ None) → ⊥
+wrapper-only t p node D n h passed = none-due t (wrapped p node) D refl (passed (λ z. cc)) h
+
+pub after-is : (t : Tag) (k : Kind) (p q : PartId) (node : NodeId) (position at row : ℕ) (s : CellSlot) (D : next.Due) → IsPlaced t k p node position at row s D
+    → after-shape k q node at s ≡ behind (shape_of k p node position) (slot_as row s)
+after-is t Kind.Seq p q node zero (suc r) row cell.Row D h = after-row q node r row h.number
+after-is t Kind.Seq p q node (suc n) (suc r) row cell.Row D h = after-row q node r row h.number
+after-is t k p q node position zero row cell.Row D h = absurd (let z : false ≡ true = h.placed in cc)
+after-is t Kind.SeqOf p q node position (suc r) row cell.Row D h = absurd (let z : false ≡ true = h.placed in cc)
+after-is t Kind.Choice p q node position (suc r) row cell.Row D h = absurd (let z : false ≡ true = h.placed in cc)
+after-is t (Kind.Leaf l) p q node position (suc r) row cell.Row D h = absurd (let z : false ≡ true = h.placed in cc)
+after-is t Kind.IllString p q node position (suc r) row cell.Row D h = absurd (let z : false ≡ true = h.placed in cc)
+after-is t Kind.Seq p q node zero zero row cell.Inner D h = refl
+after-is t Kind.SeqOf p q node zero zero row cell.Inner D h = refl
+after-is t Kind.Choice p q node zero zero row cell.Inner D h = refl
+after-is t (Kind.Leaf l) p q node zero zero row cell.Inner D h = refl
+after-is t Kind.IllString p q node zero zero row cell.Inner D h = refl
+after-is t k p q node (suc n) zero row cell.Inner D h = absurd (omega (arith, h.later))
+after-is t k p q node position (suc r) row cell.Inner D h = absurd (let z : false ≡ true = h.placed in cc)
+after-is t Kind.SeqOf p q node zero (suc zero) row cell.Item D h = absurd (wrapper-only t p node D 0 h.is (h.passed refl))
+after-is t Kind.SeqOf p q node (suc zero) (suc zero) row cell.Item D h = refl
+after-is t Kind.SeqOf p q node (suc (suc n)) (suc zero) row cell.Item D h = absurd (omega (arith, h.later))
+after-is t k p q node position zero row cell.Item D h = absurd (let z : false ≡ true = h.placed in cc)
+after-is t k p q node position (suc (suc n)) row cell.Item D h = absurd (let z : false ≡ true = h.placed in cc)
+after-is t Kind.Seq p q node position (suc zero) row cell.Item D h = absurd (let z : false ≡ true = h.placed in cc)
+after-is t Kind.Choice p q node position (suc zero) row cell.Item D h = absurd (let z : false ≡ true = h.placed in cc)
+after-is t (Kind.Leaf l) p q node position (suc zero) row cell.Item D h = absurd (let z : false ≡ true = h.placed in cc)
+after-is t Kind.IllString p q node position (suc zero) row cell.Item D h = absurd (let z : false ≡ true = h.placed in cc)
+after-is t (Kind.Leaf l) p q node zero (suc zero) row cell.Segment D h = absurd (wrapper-only t p node D 0 h.is (h.passed refl))
+after-is t (Kind.Leaf l) p q node (suc zero) (suc zero) row cell.Segment D h = refl
+after-is t (Kind.Leaf l) p q node (suc (suc n)) (suc zero) row cell.Segment D h = absurd (omega (arith, h.later))
+after-is t Kind.IllString p q node zero (suc zero) row cell.Segment D h = absurd (wrapper-only t p node D 0 h.is (h.passed refl))
+after-is t Kind.IllString p q node (suc zero) (suc zero) row cell.Segment D h = refl
+after-is t Kind.IllString p q node (suc (suc n)) (suc zero) row cell.Segment D h = absurd (omega (arith, h.later))
+after-is t k p q node position zero row cell.Segment D h = absurd (let z : false ≡ true = h.placed in cc)
+after-is t k p q node position (suc (suc n)) row cell.Segment D h = absurd (let z : false ≡ true = h.placed in cc)
+after-is t Kind.Seq p q node position (suc zero) row cell.Segment D h = absurd (let z : false ≡ true = h.placed in cc)
+after-is t Kind.SeqOf p q node position (suc zero) row cell.Segment D h = absurd (let z : false ≡ true = h.placed in cc)
+after-is t Kind.Choice p q node position (suc zero) row cell.Segment D h = absurd (let z : false ≡ true = h.placed in cc)
+
+leaf-shape : (p : PartId) (node : NodeId) (k : Kind) → cells.is_leaf k ≡ true → shape_of k p node 1 ≡ Segments
+leaf-shape p node (Kind.Leaf l) h = refl
+leaf-shape p node Kind.IllString h = refl
+leaf-shape p node Kind.Seq h = absurd cc
+leaf-shape p node Kind.SeqOf h = absurd cc
+leaf-shape p node Kind.Choice h = absurd cc
+
+sequence-shape : (p : PartId) (node : NodeId) (k : Kind) → cells.is_sequence k ≡ true → (shape_of k p node 1 ≡ Rows node 0) × (shape_of k p node 0 ≡ Either (record { part = p; node = node }))
+sequence-shape p node Kind.Seq h = (refl, refl)
+sequence-shape p node (Kind.Leaf l) h = absurd cc
+sequence-shape p node Kind.IllString h = absurd cc
+sequence-shape p node Kind.SeqOf h = absurd cc
+sequence-shape p node Kind.Choice h = absurd cc
+
+list-shape : (p : PartId) (node : NodeId) (k : Kind) → cells.is_list k ≡ true → shape_of k p node 1 ≡ Items node
+list-shape p node Kind.SeqOf h = refl
+list-shape p node (Kind.Leaf l) h = absurd cc
+list-shape p node Kind.IllString h = absurd cc
+list-shape p node Kind.Seq h = absurd cc
+list-shape p node Kind.Choice h = absurd cc
+
+wrapper-shape : (p : PartId) (node : NodeId) (k : Kind) → is_other k ≡ true → shape_of k p node 0 ≡ Inner (record { part = p; node = node })
+wrapper-shape p node Kind.SeqOf h = refl
+wrapper-shape p node (Kind.Leaf l) h = refl
+wrapper-shape p node Kind.IllString h = refl
+wrapper-shape p node Kind.Choice h = refl
+wrapper-shape p node Kind.Seq h = absurd cc
+
+-- where what is found begins inside
+pub begins-at : (w : What) (p : PartId) (node : NodeId) → IsTrue (opens_in w node) → BeginsAt (found_as p node w) (record { part = p; node = node; position = cells.first_position w })
+begins-at what.Boolean p node h = leaf-shape p node (kind_of node) h
+begins-at what.Integer p node h = leaf-shape p node (kind_of node) h
+begins-at what.Enumerated p node h = leaf-shape p node (kind_of node) h
+begins-at what.General p node h = leaf-shape p node (kind_of node) h
+begins-at what.Visible p node h = leaf-shape p node (kind_of node) h
+begins-at what.Printable p node h = leaf-shape p node (kind_of node) h
+begins-at what.Date p node h = leaf-shape p node (kind_of node) h
+begins-at what.Time p node h = leaf-shape p node (kind_of node) h
+begins-at what.Segment p node h = leaf-shape p node (kind_of node) h
+begins-at what.Sequence p node h = (sequence-shape p node (kind_of node) h).0
+begins-at what.LooseWrapper p node h = (sequence-shape p node (kind_of node) h).1
+begins-at what.List p node h = list-shape p node (kind_of node) h
+begins-at what.Wrapper p node h = wrapper-shape p node (kind_of node) h
+begins-at what.LeftOut p node h = tt
+
+-- what is found, by the definitions
+pub found-means : (w : What) (p : PartId) (node : NodeId) → found_is (found_as p node w) ≡ cells.element_in p node w
+found-means what.Boolean p node = refl
+found-means what.Integer p node = refl
+found-means what.Enumerated p node = refl
+found-means what.General p node = refl
+found-means what.Visible p node = refl
+found-means what.Printable p node = refl
+found-means what.Date p node = refl
+found-means what.Time p node = refl
+found-means what.Segment p node = refl
+found-means what.Sequence p node = refl
+found-means what.LooseWrapper p node = refl
+found-means what.List p node = refl
+found-means what.Wrapper p node = refl
+found-means what.LeftOut p node = refl
+
+-- what is found at a place is placed there
+pub found-placed : (t : Tag) (a : At) (f : CellFound) → IsDue t a f → IsPlaced t (kind_of a.node) a.part a.node a.position f.at.position (row_of f) f.slot (due_of f)
+found-placed t a f h = record {
+  is = h.is;
+  later = h.later;
+  passed = h.passed;
+  placed = subst (λ n. cells.is_placed (kind_of n) f.at.position f.slot ≡ true) h.round h.placed;
+  at_row = λ s. subst (λ n. IsAtRow n (row_of f) (due_of f)) h.round (h.row s);
+  number = refl;
+  inner = λ s. (
+    f.at.part,
+    element_found f,
+    ap (λ x. cells.due_at f.at.part f.at.node f.at.position x (element_found f)) s ∙ ap (λ n. part (wrapped f.at.part n) (element_found f) (rows [])) h.round,
+  );
+}
+
+-- what may come next by the cells may by the decoder's words
+pub shape-next : (a : At) → next_at a ≡ next_is (shape a)
+shape-next a = go (kind_of a.node) a.position
+  where
+    go : (k : Kind) (n : ℕ) → cells.next_of_kind k a.part a.node n ≡ next_is (shape_of k a.part a.node n)
+    go Kind.Seq zero = refl
+    go Kind.Seq (suc row) = refl
+    go Kind.SeqOf zero = refl
+    go Kind.SeqOf (suc zero) = refl
+    go Kind.SeqOf (suc (suc n)) = refl
+    go Kind.Choice zero = refl
+    go Kind.Choice (suc zero) = refl
+    go Kind.Choice (suc (suc n)) = refl
+    go (Kind.Leaf l) zero = refl
+    go (Kind.Leaf l) (suc zero) = refl
+    go (Kind.Leaf l) (suc (suc n)) = refl
+    go Kind.IllString zero = refl
+    go Kind.IllString (suc zero) = refl
+    go Kind.IllString (suc (suc n)) = refl

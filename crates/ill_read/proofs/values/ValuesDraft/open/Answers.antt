@@ -1,0 +1,5 @@
+use Rattle.ill_read.proofs.ValueDrafts.{values_opened}
+use Rattle.ill_read.proofs.values.ValuesDraft.open.Goals as goal
+
+pub returns : goal.returns
+returns c = values_opened c.args.self.now c.args._opening c.len.result c.len.ensures
