@@ -25,6 +25,7 @@ pub enum LengthRead {
 }
 
 /// Reads as much of a header as is there.
+#[inline(always)]
 pub fn read_header(octets: &[u8]) -> HeaderRead
     requires { length octets.now ≤ 1_048_576 }
     ensures { IsHeaderRead result octets.now }
@@ -36,6 +37,7 @@ pub fn read_header(octets: &[u8]) -> HeaderRead
 }
 
 /// Reads a header octet by octet.
+#[inline(never)]
 fn read_any(octets: &[u8]) -> HeaderRead
     requires { length octets.now ≤ 1_048_576 }
     ensures { IsHeaderRead result octets.now }
@@ -66,6 +68,7 @@ fn read_any(octets: &[u8]) -> HeaderRead
 }
 
 /// A header of two octets, as most elements have: a number below 31 and a length below 128. None where the octets begin with no such.
+#[inline(always)]
 fn read_short(octets: &[u8]) -> Option<HeaderRead>
     ensures { IfSome result (λ read. IsHeaderRead read octets.now) }
 {
@@ -80,6 +83,7 @@ fn read_short(octets: &[u8]) -> Option<HeaderRead>
 }
 
 /// The class in the first octet of an identifier.
+#[inline(always)]
 fn class_in(octet: u8) -> Class
     ensures { result ≡ class_of octet }
 {

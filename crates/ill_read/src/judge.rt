@@ -88,6 +88,7 @@ impl Started {
     ghost use Rattle.ill_read.specs.code.JudgeCode.{IsFormed};
 
     /// The form of an element that is due.
+    #[inline(always)]
     fn judge_form(at: u32, coming: Coming, id: Id) -> Result<Started, Refusal>
         requires { BeginsAt coming.due.found coming.first }
         ensures { IsFormed coming at id result }
@@ -133,6 +134,7 @@ impl Frames {
     ghost use Rattle.ber_leaf.specs.Profile.{profile_two};
 
     /// Judges the place at this offset, where the rest of the input follows.
+    #[inline(always)]
     pub fn judge(&self, at: u32, rest: &[u8]) -> Result<Judgement, Refusal>
         requires { at ≤ 1_048_576 }
         ensures exact { JudgesExactly self.now at rest.now result }
@@ -152,6 +154,7 @@ impl Frames {
     }
 
     /// An end mark or an element, in the octets that may be read.
+    #[inline(always)]
     fn judge_octets(&self, at: u32, window: &[u8], want: Refusal) -> Result<Judgement, Refusal>
         requires { at + length window.now ≤ 1_048_576 }
         ensures exact { JudgesWithin self.now at window.now result (λ place. judge_octets profile_two place at (fault_of want) window.now) }
@@ -221,6 +224,7 @@ impl Frames {
     }
 
     /// An element from its first octet on.
+    #[inline(always)]
     fn judge_element(&self, at: u32, window: &[u8], want: Refusal) -> Result<Judgement, Refusal>
         requires { at + length window.now ≤ 1_048_576 }
         ensures exact { JudgesWithin self.now at window.now result (λ place. judge_element profile_two place at (fault_of want) window.now) }
@@ -241,6 +245,7 @@ impl Frames {
     }
 
     /// The depth, tag and form of an element.
+    #[inline(always)]
     fn judge_tag(&self, at: u32, id: Id) -> Result<Started, Refusal>
         ensures { WhereItStands self.now (λ place. IsIdentified self.now place at id result) }
     {
@@ -260,6 +265,7 @@ impl Frames {
     }
 
     /// The length of an element.
+    #[inline(always)]
     fn judge_length(
         &self,
         at: u32,
@@ -299,6 +305,7 @@ impl Frames {
     }
 
     /// The end of an element of definite length.
+    #[inline(always)]
     fn judge_size(
         &self,
         at: u32,
