@@ -257,7 +257,9 @@ fn insert(octets: &mut Vec<u8>, at: usize, part: &[u8]) -> Result<(), AllocError
     requires { at ≤ length octets.old.items }
     ensures { OnOk result (octets.new.items ≡ take at octets.old.items ++ (part.now ++ drop at octets.old.items)) }
 {
+    let end = octets.len();
     octets.extend_from_slice(part)?;
-    octets[at..].rotate_right(part.len());
+    octets.copy_within(at..end, at + part.len());
+    octets[at..at + part.len()].copy_from_slice(part);
     Ok(())
 }
