@@ -51,6 +51,14 @@ impl DerBuffer {
         }
     }
 
+    /// An empty buffer in the memory of `room`, whose octets are forgotten.
+    pub fn reusing(mut room: Vec<u8>) -> DerBuffer
+        ensures { result ≡ [] }
+    {
+        room.clear();
+        DerBuffer { octets: room }
+    }
+
     /// Takes all octets back, and keeps the memory.
     pub fn clear(&mut self)
         ensures { self.new ≡ [] }

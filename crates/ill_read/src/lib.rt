@@ -29,5 +29,7 @@ pub use ill_refusals::{
     one_outcome, one_place, refusals_stay, truncated_at_the_end, values_are_small,
 };
 pub use laws::decoders_are_apart;
-pub use normal::{Normal, decode_normal, read_kept_normal_by, read_normal_by};
+pub use normal::{
+    Normal, decode_normal, read_kept_normal_by, read_kept_normal_in, read_normal_by, read_normal_in,
+};
 pub use read::{decode, read_kept, read_kept_by, read_message, read_message_by};

@@ -30,13 +30,13 @@ pub struct Octets {
 }
 
 impl Octets {
-    /// Holds nothing.
-    pub fn new(alloc: Global) -> Octets
+    /// Holds nothing, in the memory of `room`, whose octets are forgotten.
+    pub fn new(alloc: Global, room: Vec<u8>) -> Octets
         ensures { AreOctets result (top_level ∷ []) [] }
     {
         Octets {
             alloc,
-            octets: DerBuffer::new(alloc),
+            octets: DerBuffer::reusing(room),
         }
     }
 

@@ -16,7 +16,7 @@ pub returns-in_err-outcome : goal.returns-in_err-outcome
 returns-in_err-outcome c =
     let w = c.args.octets.now in
     let ok : IsTrue (are_octets w) = octets_fit w (λ k. let small : get_or w k 0 < 256 = omega (arith, c.type_inv.octets k) in small) in
-    let came = c.outcome.ensures w (drop c.run.result w) (c.run.ensures.stopped w (runs AreOctets AreNormal c.new-reader.result w ok (c.new-reader.ensures c.new.ensures))) in
+    let came = c.outcome.ensures w (drop c.run.result w) (c.run.ensures.stopped w (runs AreOctets AreNormal c.new-reader.result w ok (c.new-reader.ensures c.new-2.ensures))) in
     let refused = subst (λ (e : Result Bool Failure). HasOutcome AreNormal c.run.new.self w e) c.in_err-outcome.was came in
     handed_on (NormalAnswers w) c.from_residual.result c.in_err-outcome.field-0.0 c.from_residual.ensures.1 (normal_fails w c.in_err-outcome.field-0.0 refused)
 
@@ -24,7 +24,7 @@ pub overflow_cast-octets : goal.overflow_cast-octets
 overflow_cast-octets c =
     let w = c.args.octets.now in
     let ok : IsTrue (are_octets w) = octets_fit w (λ k. let small : get_or w k 0 < 256 = omega (arith, c.type_inv.octets k) in small) in
-    let came = c.outcome.ensures w (drop c.run.result w) (c.run.ensures.stopped w (runs AreOctets AreNormal c.new-reader.result w ok (c.new-reader.ensures c.new.ensures))) in
+    let came = c.outcome.ensures w (drop c.run.result w) (c.run.ensures.stopped w (runs AreOctets AreNormal c.new-reader.result w ok (c.new-reader.ensures c.new-2.ensures))) in
     let read = subst (λ (e : Result Bool Failure). HasOutcome AreNormal c.run.new.self w e) (c.in_ok-outcome.was ∙ ap Ok c.if-not-branch.true) came in
     let small = read.1 in
     omega (arith, small)
@@ -33,7 +33,7 @@ pub returns-then-not-branch : goal.returns-then-not-branch
 returns-then-not-branch c =
     let w = c.args.octets.now in
     let ok : IsTrue (are_octets w) = octets_fit w (λ k. let small : get_or w k 0 < 256 = omega (arith, c.type_inv.octets k) in small) in
-    let came = c.outcome.ensures w (drop c.run.result w) (c.run.ensures.stopped w (runs AreOctets AreNormal c.new-reader.result w ok (c.new-reader.ensures c.new.ensures))) in
+    let came = c.outcome.ensures w (drop c.run.result w) (c.run.ensures.stopped w (runs AreOctets AreNormal c.new-reader.result w ok (c.new-reader.ensures c.new-2.ensures))) in
     let read = subst (λ (e : Result Bool Failure). HasOutcome AreNormal c.run.new.self w e) (c.in_ok-outcome.was ∙ ap Ok c.if-not-branch.true) came in
     subst (λ r. NormalAnswers w (Err r)) (sym c.refused.ensures) (normal_short w read.0)
 
@@ -41,7 +41,7 @@ pub returns-then-read-octets : goal.returns-then-read-octets
 returns-then-read-octets c =
     let w = c.args.octets.now in
     let ok : IsTrue (are_octets w) = octets_fit w (λ k. let small : get_or w k 0 < 256 = omega (arith, c.type_inv.octets k) in small) in
-    let came = c.outcome.ensures w (drop c.run.result w) (c.run.ensures.stopped w (runs AreOctets AreNormal c.new-reader.result w ok (c.new-reader.ensures c.new.ensures))) in
+    let came = c.outcome.ensures w (drop c.run.result w) (c.run.ensures.stopped w (runs AreOctets AreNormal c.new-reader.result w ok (c.new-reader.ensures c.new-2.ensures))) in
     let read = subst (λ (e : Result Bool Failure). HasOutcome AreNormal c.run.new.self w e) (c.in_ok-outcome.was ∙ ap Ok c.if-not-branch.false) came in
     let n = c.run.new.self.at in
     let at : c.at-read.result ≡ n = c.at-read.ensures in
@@ -53,7 +53,7 @@ pub returns : goal.returns
 returns c =
     let w = c.args.octets.now in
     let ok : IsTrue (are_octets w) = octets_fit w (λ k. let small : get_or w k 0 < 256 = omega (arith, c.type_inv.octets k) in small) in
-    let came = c.outcome.ensures w (drop c.run.result w) (c.run.ensures.stopped w (runs AreOctets AreNormal c.new-reader.result w ok (c.new-reader.ensures c.new.ensures))) in
+    let came = c.outcome.ensures w (drop c.run.result w) (c.run.ensures.stopped w (runs AreOctets AreNormal c.new-reader.result w ok (c.new-reader.ensures c.new-2.ensures))) in
     let read = subst (λ (e : Result Bool Failure). HasOutcome AreNormal c.run.new.self w e) (c.in_ok-outcome.was ∙ ap Ok c.if-not-branch.false) came in
     let all = c.if-read-octets.false in
     let size = sym c.at-read.ensures ∙ all in
