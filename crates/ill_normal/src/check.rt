@@ -1,12 +1,12 @@
 //! What there is to say of a message.
-ghost use Rattle.std.specs.Prelude.{◌≡◌, ℕ, List, IfSome};
+ghost use Rattle.std.specs.Prelude.{◌≡◌, ℕ, List, [], IfSome};
 ghost use Rattle.ber_leaf.specs.Profile.{profile_two};
 ghost use Rattle.ill_schema.specs.Apdu.{Apdu, Accepts, SpellsApdu, normal_form};
 ghost use Rattle.ill_read.specs.Answers.{AnswersSome, ReadsNext};
 ghost use Rattle.ill_normal.specs.Checking.{Describes};
 
 use ber_core::{Look, Source, Unseen};
-use ill_read::{ReadFailure, read_kept_normal_by};
+use ill_read::{ReadFailure, read_kept_normal_in};
 use std::alloc::Global;
 
 /// A message, and how it was spelled.
@@ -49,16 +49,41 @@ pub fn check_one_by<R: Source, L: Look<R>>(
     // A spelling at the front is checked, unless memory or the source failed.
     ensures accepts { IfSome (R.left source.old) (λ s. (a : Apdu) (n : ℕ) → Accepts profile_two s a n → AnswersSome result) }
 {
-    let mut octets = Vec::new(alloc);
-    let Some(normal) = read_kept_normal_by::<R, L>(alloc, source, &mut octets)? else {
+    let Some(found) = check_one_in::<R, L>(alloc, source, Vec::new(alloc))? else {
         return Ok(None);
     };
-    Ok(Some(Checked {
+    Ok(Some(found.0))
+}
+
+/// Checks a message as [`check_one_by`] does, and makes its normal form in the memory of `room`, whose octets are forgotten. That memory
+/// is handed back, empty.
+///
+/// # Errors
+///
+/// Those of [`check_one`].
+pub fn check_one_in<R: Source, L: Look<R>>(
+    alloc: Global,
+    source: &mut R,
+    room: Vec<u8>,
+) -> Result<Option<(Checked, Vec<u8>)>, ReadFailure>
+    ensures next { ReadsNext (R.left source.old) (R.left source.new) (R.is_broken source.old) (R.is_broken source.new)
+        (λ found octets. Describes found.0 octets × (found.1.items ≡ [])) result }
+    // A spelling at the front is checked, unless memory or the source failed.
+    ensures accepts { IfSome (R.left source.old) (λ s. (a : Apdu) (n : ℕ) → Accepts profile_two s a n → AnswersSome result) }
+{
+    let mut kept = Vec::new(alloc);
+    let Some(normal) = read_kept_normal_in::<R, L>(alloc, source, room, &mut kept)? else {
+        return Ok(None);
+    };
+    let checked = Checked {
         apdu: apdu_number(&normal.octets),
         octets: normal.read,
         normal: normal.octets.len() as u32,
-        is_normal: octets.as_slice() == normal.octets.as_slice(),
-    }))
+        is_normal: kept.as_slice() == normal.octets.as_slice(),
+    };
+    let mut room = normal.octets;
+    room.clear();
+    Ok(Some((checked, room)))
 }
 
 /// The number of the APDU whose normal form this is: its first octet is [APPLICATION number], constructed.

@@ -14,12 +14,12 @@ pub use ber_core::{
     ToWrite, Unseen,
 };
 pub use ber_leaf::{DateText, GeneralText, IllString, PrintableText, TimeText, VisibleText};
-pub use check::{Checked, check_one, check_one_by};
+pub use check::{Checked, check_one, check_one_by, check_one_in};
 pub use compare::{Side, is_normal, same_message};
 pub use failure::{NormalFailure, StreamCause, StreamFailure};
 pub use ill_read::{
-    Failure, Normal, ReadFailure, decode, decode_normal, read_kept_normal_by, read_message,
-    read_message_by, read_normal_by,
+    Failure, Normal, ReadFailure, decode, decode_normal, read_kept_normal_by, read_kept_normal_in,
+    read_message, read_message_by, read_normal_by, read_normal_in,
 };
 pub use ill_schema::{
     Cause, Kind, LIMIT, LeafKind, Message, Mode, NodeId, PartId, Presence, Refusal, Row, Unfit,

@@ -4,7 +4,7 @@ ghost use Rattle.std.specs.Io.KnownBytes.{Consumes, IsAtEnd, Keeps};
 ghost use Rattle.ill_read.specs.Answers.{ReadsNext};
 ghost use Rattle.ill_normal.specs.Calls.{taking, putting};
 ghost use Rattle.ill_normal.specs.Messages.{EndsAfter, Makes, PassesAll, Spelling};
-ghost use Rattle.ill_normal.specs.code.Ending.{GoesOn};
+ghost use Rattle.ill_normal.specs.code.Ending.{GoesOn, ended_at};
 
 use ber_core::{Look, Sink, Source};
 use ill_read::ReadFailure;
@@ -33,7 +33,8 @@ pub trait Maker {
     // Whether a message is as it should be.
     ghost is_good: { Self → Spelling → Bool };
 
-    /// Reads the message that the source begins with, as [`read_message`](crate::read_message) does, and makes of it what is written.
+    /// Reads the message that the source begins with, as [`read_message`](crate::read_message) does, and makes of it what is written. This
+    /// may stand in the memory of `room`, whose octets are forgotten.
     ///
     /// # Errors
     ///
@@ -43,6 +44,7 @@ pub trait Maker {
         alloc: Global,
         number: u32,
         source: &mut R,
+        room: Vec<u8>,
     ) -> Result<Option<Piece>, ReadFailure>
         ensures { ReadsNext (R.left source.old) (R.left source.new) (R.is_broken source.old) (R.is_broken source.new)
             (Makes (text self.now number) (is_good self.now)) result };
@@ -80,8 +82,8 @@ pub struct Stopped {
     pub why: Why,
 }
 
-/// Writes what is made of each message of an input, one after another up to its end, by a way to look at the source. A message's whole text is made before any of it is
-/// written, and one message is held at a time.
+/// Writes what is made of each message of an input, one after another up to its end, by a way to look at the source. A message's whole
+/// text is made before any of it is written, and one message is held at a time. The memory of a text is used again for the next one.
 ///
 /// # Errors
 ///
@@ -103,44 +105,44 @@ pub fn each_message<M: Maker, R: Source, L: Look<R>, W: Sink>(
     let mut all_good = true;
     let mut before = 0;
     let mut written = 0;
+    let mut room = Vec::new(alloc);
     for whole in 0..MESSAGES {
-        let piece = match maker.next::<R, L>(alloc, whole + 1, source) {
+        let piece = match maker.next::<R, L>(alloc, whole + 1, source, room) {
             Ok(Some(piece)) => piece,
             Ok(None) => return Ok(Passed { whole, all_good }),
-            Err(failure) => {
-                return Err(Stopped {
-                    whole,
-                    before,
-                    written,
-                    why: Why::Read(failure),
-                });
-            }
+            Err(failure) => return Err(ended(whole, before, written, Why::Read(failure))),
         };
         if let Err(count) = put_all(sink, &piece.text) {
-            return Err(Stopped {
-                whole,
-                before,
-                written: written + count as u128,
-                why: Why::Write(count),
-            });
+            let written = written + count as u128;
+            return Err(ended(whole, before, written, Why::Write(count)));
         }
         before += u64::from(piece.octets);
         written += piece.text.len() as u128;
         if !piece.is_good {
             all_good = false;
         }
+        room = piece.text;
     }
+    drop(room);
     match end_of_input(source) {
         Ok(()) => Ok(Passed {
             whole: MESSAGES,
             all_good,
         }),
-        Err(why) => Err(Stopped {
-            whole: MESSAGES,
-            before,
-            written,
-            why,
-        }),
+        Err(why) => Err(ended(MESSAGES, before, written, why)),
+    }
+}
+
+/// How far the messages were written, and why no further.
+#[inline(always)]
+fn ended(whole: u32, before: u64, written: u128, why: Why) -> Stopped
+    ensures { result ≡ ended_at whole before written why }
+{
+    Stopped {
+        whole,
+        before,
+        written,
+        why,
     }
 }
 

@@ -13,7 +13,7 @@ ghost use Rattle.ill_normal.specs.Streamed.{Passes, StopsAfter, AnswersCount, An
 use crate::failure::{NormalFailure, StreamCause, StreamFailure};
 use crate::messages::{Maker, Piece, Why, each_message};
 use ber_core::{Look, Sink, Source, Unseen};
-use ill_read::{ReadFailure, read_normal_by};
+use ill_read::{ReadFailure, read_normal_in};
 use std::alloc::Global;
 
 /// Makes the normal form of each message.
@@ -29,9 +29,10 @@ impl Maker for NormalForms {
         alloc: Global,
         number: u32,
         source: &mut R,
+        room: Vec<u8>,
     ) -> Result<Option<Piece>, ReadFailure> {
         let _ = number;
-        let Some(normal) = read_normal_by::<R, L>(alloc, source)? else {
+        let Some(normal) = read_normal_in::<R, L>(alloc, source, room)? else {
             return Ok(None);
         };
         Ok(Some(Piece {

@@ -4,6 +4,7 @@ use Rattle.std.specs.Io.KnownBytes.{Consumes, Keeps}
 use Rattle.ill_read.specs.declared.failure.ReadFailure.{ReadFailure}
 use Rattle.ill_normal.specs.declared.failure.NormalFailure.{NormalFailure}
 use Rattle.ill_normal.specs.declared.failure.StreamCause.{StreamCause}
+use Rattle.ill_normal.specs.declared.messages.Stopped.{Stopped}
 use Rattle.ill_normal.specs.declared.messages.Why.{Why}
 use Rattle.ill_normal.specs.Failures.{of_read}
 
@@ -18,3 +19,7 @@ abbrev pub stream_cause : Why → StreamCause
 stream_cause (Why.Read failure) = StreamCause.Normal (of_read failure)
 stream_cause (Why.Write n) = StreamCause.Normal (NormalFailure.WriteFault n)
 stream_cause Why.TooMany = StreamCause.TooManyMessages
+
+-- how far the messages were written, and why no further
+abbrev pub ended_at : ℕ → ℕ → ℕ → Why → Stopped
+ended_at whole before written why = record { whole = whole; before = before; written = written; why = why }

@@ -10,7 +10,7 @@ returns-in-Ok-None-clause-passes g c =
 
 pub returns-in-Err-clause-ends : goal.returns-in-Err-clause-ends
 returns-in-Err-clause-ends g c =
-    ends_reading _ _ _ _ _ _ _ (g.W.Sink.contents c.loop-whole.sink) _ _ _ _ c.loop-whole.invariant.reached _ _ _ _ c.in-Err.failure c.loop-whole-test.true c.in-Err.ensures
+    rw c.ended.ensures (ends_reading _ _ _ _ _ _ _ (g.W.Sink.contents c.loop-whole.sink) _ _ _ _ c.loop-whole.invariant.reached _ _ _ _ c.in-Err.failure c.loop-whole-test.true c.in-Err.ensures)
 
 pub loop-whole-preserved : goal.loop-whole-preserved
 loop-whole-preserved g c =
@@ -35,7 +35,7 @@ returns-in-Err-put_all-clause-ends g c =
     let next = rw c.in-Ok-Some.field-0-is at c.in-Ok-Some.ensures in
     let some = rw c.deref.ensures.value at c.in-Err-put_all.ensures.some in
     let fewer = rw c.deref.ensures.value at c.in-Err-put_all.ensures.fewer in
-    ends_writing _ _ _ _ _ _ _ _ _ _ _ _ c.loop-whole.invariant.reached _ _ c.in-Ok-Some.piece c.in-Err-put_all.count c.loop-whole-test.true next.taken next.message some fewer (c.put_all.ensures.breaks (search rules))
+    rw c.ended-in-Err-put_all.ensures (ends_writing _ _ _ _ _ _ _ _ _ _ _ _ c.loop-whole.invariant.reached _ _ c.in-Ok-Some.piece c.in-Err-put_all.count c.loop-whole-test.true next.taken next.message some fewer (c.put_all.ensures.breaks (search rules)))
 
 pub loop-whole-init : goal.loop-whole-init
 loop-whole-init g c = record {
@@ -48,4 +48,4 @@ loop-whole-init g c = record {
 
 pub returns-in-Err-end_of_input-clause-ends : goal.returns-in-Err-end_of_input-clause-ends
 returns-in-Err-end_of_input-clause-ends g c =
-    ends_at_last _ _ _ _ _ _ _ (g.W.Sink.contents c.loop-whole.sink) _ _ _ _ c.loop-whole.invariant.reached _ _ 1_000_000 c.in-Err-end_of_input.why (omega arith) refl c.in-Err-end_of_input.ensures.more
+    rw c.ended-in-Err-end_of_input.ensures (ends_at_last _ _ _ _ _ _ _ (g.W.Sink.contents c.loop-whole.sink) _ _ _ _ c.loop-whole.invariant.reached _ _ 1_000_000 c.in-Err-end_of_input.why (omega arith) refl c.in-Err-end_of_input.ensures.more)
