@@ -8,3 +8,7 @@ use Rattle.ill_normal.specs.declared.check.Checked.{Checked}
 abbrev pub Describes : Checked → List ℕ → Type 0
 Describes x octets = (a : Apdu) × SpellsApdu profile_two a octets × (x.apdu ≡ a.number) × (x.octets ≡ length octets)
     × (x.normal ≡ length (normal_form a)) × (IsTrue x.is_normal ↔ (octets ≡ normal_form a))
+
+-- these are the normal form of what the octets spell
+abbrev pub IsFormOf : List ℕ → List ℕ → Type 0
+IsFormOf form octets = (a : Apdu) → SpellsApdu profile_two a octets → form ≡ normal_form a

@@ -1,9 +1,9 @@
 //! What there is to say of a message.
-ghost use Rattle.std.specs.Prelude.{◌≡◌, ℕ, List, [], IfSome};
+ghost use Rattle.std.specs.Prelude.{◌≡◌, ℕ, List, IfSome};
 ghost use Rattle.ber_leaf.specs.Profile.{profile_two};
 ghost use Rattle.ill_schema.specs.Apdu.{Apdu, Accepts, SpellsApdu, normal_form};
 ghost use Rattle.ill_read.specs.Answers.{AnswersSome, ReadsNext};
-ghost use Rattle.ill_normal.specs.Checking.{Describes};
+ghost use Rattle.ill_normal.specs.Checking.{Describes, IsFormOf};
 
 use ber_core::{Look, Source, Unseen};
 use ill_read::{ReadFailure, read_kept_normal_in};
@@ -55,8 +55,7 @@ pub fn check_one_by<R: Source, L: Look<R>>(
     Ok(Some(found.0))
 }
 
-/// Checks a message as [`check_one_by`] does, and makes its normal form in the memory of `room`, whose octets are forgotten. That memory
-/// is handed back, empty.
+/// Checks a message as [`check_one_by`] does, and returns its normal form besides, in the memory of `room`, whose octets are forgotten.
 ///
 /// # Errors
 ///
@@ -67,7 +66,7 @@ pub fn check_one_in<R: Source, L: Look<R>>(
     room: Vec<u8>,
 ) -> Result<Option<(Checked, Vec<u8>)>, ReadFailure>
     ensures next { ReadsNext (R.left source.old) (R.left source.new) (R.is_broken source.old) (R.is_broken source.new)
-        (λ found octets. Describes found.0 octets × (found.1.items ≡ [])) result }
+        (λ found octets. Describes found.0 octets × IsFormOf found.1.items octets) result }
     // A spelling at the front is checked, unless memory or the source failed.
     ensures accepts { IfSome (R.left source.old) (λ s. (a : Apdu) (n : ℕ) → Accepts profile_two s a n → AnswersSome result) }
 {
@@ -81,9 +80,7 @@ pub fn check_one_in<R: Source, L: Look<R>>(
         normal: normal.octets.len() as u32,
         is_normal: kept.as_slice() == normal.octets.as_slice(),
     };
-    let mut room = normal.octets;
-    room.clear();
-    Ok(Some((checked, room)))
+    Ok(Some((checked, normal.octets)))
 }
 
 /// The number of the APDU whose normal form this is: its first octet is [APPLICATION number], constructed.
