@@ -9,7 +9,7 @@ ghost use Rattle.ill_jobs.specs.Output.{is_good, line_of_check, message_output};
 use crate::job::Job;
 use ber_core::{Look, Source};
 use ill_normal::{
-    Checked, Maker, NormalForms, Piece, ReadFailure, apdu_name, check_one_by, read_message_by,
+    Checked, Maker, NormalForms, Piece, ReadFailure, apdu_name, check_one_in, read_message_by,
 };
 use ill_text::show_text;
 use itoa::Buffer;
@@ -35,26 +35,27 @@ impl Maker for Work {
         alloc: Global,
         number: u32,
         source: &mut R,
+        room: Vec<u8>,
     ) -> Result<Option<Piece>, ReadFailure> {
-        next_piece::<R, L>(alloc, self.job, self.hex, number, source)
+        next_piece::<R, L>(alloc, *self, number, source, room)
     }
 }
 
 /// Reads the next message, and makes its whole output; None at the end of the input.
 fn next_piece<R: Source, L: Look<R>>(
     alloc: Global,
-    job: Job,
-    hex: bool,
+    work: Work,
     number: u32,
     source: &mut R,
+    room: Vec<u8>,
 ) -> Result<Option<Piece>, ReadFailure>
     ensures { ReadsNext (R.left source.old) (R.left source.new) (R.is_broken source.old) (R.is_broken source.new)
-        (Makes (message_output job hex number) (is_good job)) result }
+        (Makes (message_output work.job work.hex number) (is_good work.job)) result }
 {
-    match job {
+    match work.job {
         Job::Show => shown::<R, L>(alloc, number, source),
-        Job::Check => checked::<R, L>(alloc, number, source),
-        Job::Canonicalise => canonical::<R, L>(alloc, hex, source),
+        Job::Check => checked::<R, L>(alloc, number, source, room),
+        Job::Canonicalise => canonical::<R, L>(alloc, work.hex, source, room),
     }
 }
 
@@ -83,14 +84,15 @@ fn checked<R: Source, L: Look<R>>(
     alloc: Global,
     number: u32,
     source: &mut R,
+    room: Vec<u8>,
 ) -> Result<Option<Piece>, ReadFailure>
     ensures { ReadsNext (R.left source.old) (R.left source.new) (R.is_broken source.old) (R.is_broken source.new)
         (λ p octets. (hex : Bool) → Makes (message_output Job.Check hex number) (is_good Job.Check) p octets) result }
 {
-    let Some(found) = check_one_by::<R, L>(alloc, source)? else {
+    let Some((found, normal)) = check_one_in::<R, L>(alloc, source, room)? else {
         return Ok(None);
     };
-    match check_line(alloc, number, found) {
+    match check_line(normal, number, found) {
         Ok(text) => Ok(Some(Piece {
             text,
             is_good: found.is_normal,
@@ -100,14 +102,16 @@ fn checked<R: Source, L: Look<R>>(
     }
 }
 
-fn check_line(alloc: Global, number: u32, found: Checked) -> Result<Vec<u8>, AllocError>
+/// The line that says whether a message is its normal form, in the memory of `room`, whose octets are forgotten.
+fn check_line(room: Vec<u8>, number: u32, found: Checked) -> Result<Vec<u8>, AllocError>
     ensures { IfOk result (λ line. line.items ≡ line_of_check number found.apdu found.octets found.is_normal found.normal) }
 {
     let name = match apdu_name(found.apdu) {
         Some(name) => name,
         None => "",
     };
-    let mut line = Vec::new(alloc);
+    let mut line = room;
+    line.clear();
     line.extend_from_slice(b"message ")?;
     line.extend_from_slice(Buffer::new().format(number).as_bytes())?;
     line.extend_from_slice(b": ")?;
@@ -129,11 +133,12 @@ fn canonical<R: Source, L: Look<R>>(
     alloc: Global,
     hex: bool,
     source: &mut R,
+    room: Vec<u8>,
 ) -> Result<Option<Piece>, ReadFailure>
     ensures { ReadsNext (R.left source.old) (R.left source.new) (R.is_broken source.old) (R.is_broken source.new)
         (λ p octets. (number : ℕ) → Makes (message_output Job.Canonicalise hex number) (is_good Job.Canonicalise) p octets) result }
 {
-    let Some(normal) = NormalForms.next::<R, L>(alloc, 1, source)? else {
+    let Some(normal) = NormalForms.next::<R, L>(alloc, 1, source, room)? else {
         return Ok(None);
     };
     if !hex {
