@@ -1,1 +1,2 @@
 pub mod Accepted
+pub mod FrontForms

@@ -66,6 +66,15 @@ fn der_buffers_keep_what_they_took(
     Ok(())
 }
 
+/// A buffer in the memory of others begins empty.
+fn der_buffers_forget_what_their_room_held(room: Vec<u8>, octets: &[u8]) -> Result<(), AllocError> {
+    let mut buffer = DerBuffer::reusing(room);
+    prove!(buffer.is_empty());
+    buffer.append(octets)?;
+    prove!(buffer.octets() == octets);
+    Ok(())
+}
+
 /// An element begins in one way behind the same octets.
 fn elements_begin_in_one_way(
     one: &mut DerBuffer,

@@ -5,13 +5,15 @@ ghost use Rattle.std.specs.Prelude.{◌≡◌, ◌↔◌, ◌≤◌, ◌+◌, �
 ghost use Rattle.ber_leaf.specs.Profile.{profile_two};
 ghost use Rattle.ill_schema.specs.Apdu.{Apdu, Accepts, IsStream, SpellsApdu, normal_form};
 ghost use Rattle.ill_schema.specs.Message.{apdu_of, octets_of};
-ghost use Rattle.ill_normal.specs.Messages.{AreSpelled, Spelling};
+ghost use Rattle.ill_normal.specs.Messages.{AreSpelled, Spelling, spelling};
 
 use ber_core::{AtHand, FromSlice, Pieces, Room, Sink, Source, Unseen};
 use ill_normal::{
-    Checked, Failure, Message, Normal, NormalFailure, NormalForms, Passed, ReadFailure, Refusal,
-    Side, Stopped, StreamFailure, check_one, decode, decode_normal, each_message, is_normal,
-    normalise, normalise_stream, read_kept_normal_by, read_message, read_message_by, same_message,
+    Checked, Failure, Maker, Message, Normal, NormalFailure, NormalForms, Passed, Piece,
+    ReadFailure, Refusal, Side, Stopped, StreamFailure, check_one, check_one_in, decode,
+    decode_normal, each_message, is_normal, normalise, normalise_stream, read_kept_normal_by,
+    read_kept_normal_in, read_message, read_message_by, read_normal_by, read_normal_in,
+    same_message,
 };
 use std::alloc::Global;
 
@@ -106,6 +108,69 @@ fn normal_forms_are_of_the_message_at_the_front(
     read_kept_normal_by::<Pieces, Unseen>(alloc, source, kept)
 }
 
+/// Of octets at hand no more are passed than the message has whose normal form is read.
+fn normal_forms_at_hand_are_taken_whole(
+    source: &mut FromSlice,
+    alloc: Global,
+) -> Result<Option<Normal>, ReadFailure>
+    ensures { (a : Apdu) (n : ℕ) → Accepts profile_two source.old a n
+        → IfOk result (λ found. elim found as (λ _. Type 0) [
+          | Some x ↦ (x.octets.items ≡ normal_form a) × (x.read ≡ n) × (source.new ≡ drop n source.old)
+          | None ↦ ⊥
+        ]) }
+{
+    read_normal_by::<FromSlice, AtHand>(alloc, source)
+}
+
+/// Nothing that stands in the room comes into a normal form.
+fn normal_forms_have_nothing_of_the_room(
+    source: &mut FromSlice,
+    room: Vec<u8>,
+    alloc: Global,
+) -> Result<Option<Normal>, ReadFailure>
+    ensures { (a : Apdu) (n : ℕ) → Accepts profile_two source.old a n
+        → IfOk result (λ found. elim found as (λ _. Type 0) [
+          | Some x ↦ (x.octets.items ≡ normal_form a) × (x.read ≡ n) × (source.new ≡ drop n source.old)
+          | None ↦ ⊥
+        ]) }
+{
+    read_normal_in::<FromSlice, AtHand>(alloc, source, room)
+}
+
+/// Nothing that stands in the room comes into a normal form, or among the octets that are kept.
+fn kept_normal_forms_have_nothing_of_the_room(
+    source: &mut Pieces,
+    room: Vec<u8>,
+    kept: &mut Vec<u8>,
+    alloc: Global,
+) -> Result<Option<Normal>, ReadFailure>
+    ensures { (a : Apdu) (n : ℕ) → Accepts profile_two source.old.octets a n
+        → IfOk result (λ found. elim found as (λ _. Type 0) [
+          | Some x ↦ (x.octets.items ≡ normal_form a) × (x.read ≡ n) × (source.new.octets ≡ drop n source.old.octets)
+              × (kept.new.items ≡ kept.old.items ++ take n source.old.octets)
+          | None ↦ ⊥
+        ]) }
+{
+    read_kept_normal_in::<Pieces, Unseen>(alloc, source, room, kept)
+}
+
+/// Nothing that stands in the room comes into what is written of a message, whatever is made of it.
+fn pieces_have_nothing_of_the_room<M: Maker>(
+    maker: &M,
+    number: u32,
+    source: &mut Pieces,
+    room: Vec<u8>,
+    alloc: Global,
+) -> Result<Option<Piece>, ReadFailure>
+    ensures { (a : Apdu) (n : ℕ) → Accepts profile_two source.old.octets a n
+        → IfOk result (λ found. elim found as (λ _. Type 0) [
+          | Some x ↦ (x.text.items ≡ M.text maker.now number (spelling a (take n source.old.octets))) × (x.octets ≡ n)
+          | None ↦ ⊥
+        ]) }
+{
+    maker.next::<Pieces, Unseen>(alloc, number, source, room)
+}
+
 /// What is checked is the message at the front, and the result describes it.
 fn checks_describe_what_they_took(
     source: &mut Pieces,
@@ -119,6 +184,22 @@ fn checks_describe_what_they_took(
         ]) }
 {
     check_one(alloc, source)
+}
+
+/// What is checked is the message at the front, and nothing that stands in the room comes into its normal form.
+fn checks_have_nothing_of_the_room(
+    source: &mut Pieces,
+    room: Vec<u8>,
+    alloc: Global,
+) -> Result<Option<(Checked, Vec<u8>)>, ReadFailure>
+    ensures { (a : Apdu) (n : ℕ) → Accepts profile_two source.old.octets a n
+        → IfOk result (λ found. elim found as (λ _. Type 0) [
+          | Some x ↦ (x.0.apdu ≡ a.number) × (x.0.octets ≡ n) × (x.0.normal ≡ length (normal_form a))
+              × (IsTrue x.0.is_normal ↔ (take n source.old.octets ≡ normal_form a)) × (x.1.items ≡ normal_form a)
+          | None ↦ ⊥
+        ]) }
+{
+    check_one_in::<Pieces, Unseen>(alloc, source, room)
 }
 
 /// Nothing is written before the whole message was read, and then as many octets as are told.

@@ -1,0 +1,14 @@
+use Rattle.std.proofs.Common.{ap, take, ◌∙◌}
+use Rattle.ill_normal.proofs.Canonical.{spells_once}
+use Rattle.ill_normal.specs.Messages.{Makes, spelling}
+use Rattle.test_normal.proofs.FrontForms.{front}
+use Rattle.test_normal.proofs.tests.contracts.pieces_have_nothing_of_the_room.Goals as goal
+
+pub returns : goal.returns
+returns g c a n h =
+    let s = c.args.source.now.octets in
+    let text = g.M.Maker.text c.args.maker.now c.args.number in
+    front (Makes text (g.M.Maker.is_good c.args.maker.now)) _ s c.next.new.source.octets _ _ a n c.next.result
+    (λ x b is. (is.apdu, is.spells))
+    (λ x is size rest. (is.text ∙ ap (λ d. text (spelling d (take n s))) (spells_once is.apdu a (take n s) is.spells h.1), is.size ∙ size))
+    h c.next.ensures
