@@ -53,7 +53,11 @@ fn next_piece<R: Source, L: Look<R>>(
         (Makes (message_output work.job work.hex number) (is_good work.job)) result }
 {
     match work.job {
-        Job::Show => shown::<R, L>(alloc, number, source),
+        // The text before is let go, so that two are never held.
+        Job::Show => {
+            drop(room);
+            shown::<R, L>(alloc, number, source)
+        }
         Job::Check => checked::<R, L>(alloc, number, source, room),
         Job::Canonicalise => canonical::<R, L>(alloc, work.hex, source, room),
     }
