@@ -1,28 +1,22 @@
 -- An element's content goes where it belongs.
-use Rattle.std.proofs.Common.{◌≡◌, ℕ, zero, suc, ◌<◌, ◌≤◌, Bool, true, false, nat_le, List, [], ◌∷◌, ◌++◌, length, Option, Some, Ok, refl, sym, ap, subst, ◌∙◌, inl, inr, arith, slice_get}
+use Rattle.std.proofs.Common.{◌≡◌, ℕ, Bool, true, false, List, [], ◌∷◌, ◌++◌, Option, Ok, refl, sym, ap, subst, ◌∙◌}
 use Rattle.ber_core.specs.Identifier.{Tag}
 use Rattle.ber_core.specs.Tree.{Tree, Trees, none, tag_of}
 use Rattle.ber_leaf.specs.Profile.{profile_two}
-use Rattle.ill_schema.specs.declared.node.NodeId.{NodeId}
-use Rattle.ill_schema.specs.declared.node.NodeId.TheVariants.{Boolean}
-use Rattle.ill_schema.specs.declared.part.Row.{Row}
 use Rattle.ill_schema.specs.Content.{Content}
-use Rattle.ill_schema.specs.Table.{rows_of}
 use Rattle.ill_refusals.specs.Element.{segment}
 use Rattle.ill_refusals.specs.Place.{Open}
 use Rattle.ill_refusals.specs.code.Step.{with_tree}
 use Rattle.ill_read.specs.Elements.{component_of, element_is}
 use Rattle.ill_cells.specs.declared.at.At.{At}
-use Rattle.ill_read.specs.DueCode.{IsDueIn, IsDueInRows, IsRowDue, behind, shape}
+use Rattle.ill_read.specs.DueCode.{IsDueIn, behind, shape}
 use Rattle.ill_read.specs.code.Drafts.{IsDueAt, due_with, with_entry}
 use Rattle.ill_read.specs.code.Judged.{IsStep}
 use Rattle.ill_read.specs.code.Stepping.{GoesOn}
 use Rattle.ill_read.specs.Standing.{Level, level_of, pushed, top_level, top_part, next_at, text_so_far, top, with_alternative, IsValueOf, IsHeld, IsFrame, AreFrames}
-use Rattle.ill_read.specs.declared.due.Due.{Due}
 use Rattle.ill_read.specs.declared.due.Next.{Next}
 use Rattle.ill_read.specs.declared.due.Next.TheVariants.{Rows, Inner, Items, Either, Segments, Nothing}
 use Rattle.ill_read.specs.declared.due.Slot.{Slot}
-use Rattle.ill_read.specs.declared.due.Slot.TheVariants.{Row as AtRow, Item, Inner as Inside, Segment as InString}
 use Rattle.ill_read.specs.declared.element.Element.{Element as CodeElement}
 use Rattle.ill_read.specs.declared.element.Element.TheVariants.{Leaf, Sequence, List as ListOf, Wrapper, LooseWrapper, Segment}
 use Rattle.ill_read.specs.declared.element.Found.{Found}

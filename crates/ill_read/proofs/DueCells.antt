@@ -1,5 +1,5 @@
 -- What the cells find is due by the decoder's words.
-use Rattle.std.proofs.Common.{◌≡◌, ◌⊎◌, ℕ, zero, suc, ◌+◌, ◌-◌, ◌<◌, ◌≤◌, Bool, true, false, List, [], ◌∷◌, drop, IsTrue, Option, Some, None, option_map, refl, sym, ap, subst, ◌∙◌, inl, inr, arith, slice_get}
+use Rattle.std.proofs.Common.{◌≡◌, ◌⊎◌, ℕ, zero, suc, ◌+◌, ◌-◌, ◌≤◌, Bool, true, false, List, [], ◌∷◌, drop, IsTrue, Option, Some, None, option_map, refl, sym, ap, subst, ◌∙◌, inl, inr, arith, slice_get}
 use Rattle.std.specs.Prelude.{if◌then◌else◌, nat_eq}
 use Rattle.ber_core.specs.Identifier.{Tag}
 use Rattle.ber_core.specs.Tree.{octet_string}
@@ -10,8 +10,8 @@ use Rattle.ill_schema.specs.declared.part.PartId.{PartId}
 use Rattle.ill_schema.specs.declared.part.Presence.{Presence}
 use Rattle.ill_schema.specs.declared.part.Row.{Row}
 use Rattle.ill_schema.specs.Table.{kind_of, rows_of}
-use Rattle.ill_schema.specs.Tagging.{untagged, same_tag, sequence_tag}
-use Rattle.ill_refusals.specs.Element.{Component, Element, Start, component_starts, components, components_from, list, own_starts, segment, sequence, start, starts}
+use Rattle.ill_schema.specs.Tagging.{same_tag, sequence_tag}
+use Rattle.ill_refusals.specs.Element.{Component, Element, Start, component_starts, components, components_from, list, own_starts, sequence, start, starts}
 use Rattle.ill_refusals.specs.Next as next
 use Rattle.ill_refusals.specs.Next.{part, octets, rows, items, due, due_in, element_of, start_of}
 use Rattle.ill_refusals.proofs.Rows.{two_cases}
@@ -27,12 +27,11 @@ use Rattle.ill_cells.proofs.Scanning.{same_tag-swap, sequence_starts}
 use Rattle.ill_cells.specs.declared.cell.Slot.{Slot as CellSlot}
 use Rattle.ill_cells.specs.declared.cell.Slot.TheVariants as cell
 use Rattle.ill_read.specs.Elements.{component_of, component_at, element_with, found_is}
-use Rattle.ill_read.specs.DueCode.{Begins, BeginsAt, IsBegun, IsDueIn, IsDueInRows, IsItemDue, IsInnerDue, IsRowDue, IsRowStart, IsSegmentDue, MayAllLack, behind, found_as, next_is, shape, shape_of, slot_as}
+use Rattle.ill_read.specs.DueCode.{Begins, BeginsAt, IsDueIn, IsDueInRows, IsItemDue, IsInnerDue, IsRowDue, IsSegmentDue, MayAllLack, behind, found_as, next_is, shape, shape_of, slot_as}
 use Rattle.ill_read.specs.declared.due.Next.{Next}
 use Rattle.ill_read.specs.declared.due.Next.TheVariants.{Rows, Inner, Items, Either, Segments, Nothing}
 use Rattle.ill_read.proofs.DueElements.{first_due}
 use Rattle.ill_read.specs.declared.due.Due.{Due}
-use Rattle.ill_read.specs.declared.due.Slot.{Slot}
 use Rattle.ill_read.specs.declared.due.Slot.TheVariants.{Row as AtRow, Item, Inner as Inside, Segment as InString}
 use Rattle.ill_read.specs.declared.element.Found.{Found}
 use Rattle.ill_read.specs.declared.element.Wrapped.{Wrapped}

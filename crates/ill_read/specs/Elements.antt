@@ -1,13 +1,12 @@
 -- What the decoder's types stand for.
-use Rattle.std.specs.Prelude.{List, [], ◌∷◌, find, flat_map, Option, Some, None, option_map}
+use Rattle.std.specs.Prelude.{List, find, Option, option_map}
 use Rattle.ber_core.specs.Identifier.{Tag}
 use Rattle.ber_leaf.specs.Profile.{profile_two}
-use Rattle.ill_schema.specs.declared.node.NodeId.{NodeId}
 use Rattle.ill_schema.specs.declared.part.PartId.{PartId}
 use Rattle.ill_schema.specs.declared.part.Presence.{Presence}
 use Rattle.ill_schema.specs.declared.part.Row.{Row}
-use Rattle.ill_schema.specs.Tagging.{Tagging, untagged, implicit, explicit, explicit_or_bare, tagging, same_tag}
-use Rattle.ill_refusals.specs.Element.{Component, Element, leaf, sequence, list, wrapper, loose_wrapper, segment, left_out, Start, components, component_starts}
+use Rattle.ill_schema.specs.Tagging.{untagged, tagging, same_tag}
+use Rattle.ill_refusals.specs.Element.{Component, Element, leaf, sequence, list, wrapper, loose_wrapper, segment, left_out, Start}
 use Rattle.ill_read.specs.LeafTypes.{leaf_is}
 use Rattle.ill_read.specs.declared.element.Element.{Element as CodeElement}
 use Rattle.ill_read.specs.declared.element.Element.TheVariants as code

@@ -83,6 +83,7 @@ impl Next {
 }
 
 /// What is due at a place with the identifier's tag, None where nothing is.
+// Not in line: each part of what it returns is loaded from memory where it is used.
 #[inline(never)]
 pub fn find(place: At, id: Id) -> Option<Coming>
     ensures { MatchOption result (due profile_two (tag_of_id id) (next_is (shape place)) ≡ None) (λ coming. IsComing (tag_of_id id) place coming) }
