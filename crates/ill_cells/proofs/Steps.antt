@@ -68,7 +68,7 @@ pub record HasPassed (t : Tag) (node : NodeId) (from i : ℕ) : Type 0 where
   pub apart : from ≡ 0 → (i ≡ 0 → ⊥) → element_with t (node_starts node) ≡ None
 
 pub passed-none : (t : Tag) (node : NodeId) (from : ℕ) → HasPassed t node from from
-passed-none t node from = record { later = omega arith; apart = λ z n. absurd (n z); }
+passed-none t node from = record { later = omega arith; apart = λ z n. absurd (n z) }
 
 around : (k : Kind) (node : NodeId) (m : Meant) (ms : List Meant) → kind_meant k node ≡ m ∷ ms → m.starts ≡ node_starts node
 around Kind.Seq node m ms e = let g : meant (node_starts node) slot.Inner false (is_some (first_mandatory (components profile_two node))) (node_choice node) None ≡ m = cc in ap (λ x. x.starts) (sym g)
@@ -83,7 +83,7 @@ around-cell node cs c e h = around (kind_of node) node _ _ (sym e ∙ cells-at n
 
 pub passed-next : (t : Tag) (node : NodeId) (from i : ℕ) (cs : List Cell) (c : Cell) → cells_meant node 0 cs ≡ node_meant node → slice_get cs i ≡ Some c
     → element_with t (cell_starts node i c) ≡ None → HasPassed t node from i → HasPassed t node from (i + 1)
-passed-next t node from i cs c e h f p = record { later = let q = p.later in omega arith; apart = λ z n. go i h f (λ m. p.apart z m); }
+passed-next t node from i cs c e h f p = record { later = let q = p.later in omega arith; apart = λ z n. go i h f (λ m. p.apart z m) }
   where
     go : (j : ℕ) → slice_get cs j ≡ Some c → element_with t (cell_starts node j c) ≡ None → ((j ≡ 0 → ⊥) → element_with t (node_starts node) ≡ None)
         → element_with t (node_starts node) ≡ None

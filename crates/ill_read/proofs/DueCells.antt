@@ -84,9 +84,9 @@ lacks-first t node n r c cs D apart here x there' e m is h = at (start_of profil
   where
     by : (y : Presence) → c.presence ≡ y → (elim y as (λ _. Option next.Due) [ Presence.Must ↦ None | _ ↦ due_in profile_two t cs ]) ≡ Some D → Lacks t node n c cs D
     by Presence.Must p k = absurd cc
-    by Presence.May p k = record { may = λ q. (let z : Presence.May ≡ Presence.Must = sym p ∙ q in cc); rest = k; }
-    by Presence.LeftOut p k = record { may = λ q. (let z : Presence.LeftOut ≡ Presence.Must = sym p ∙ q in cc); rest = k; }
-    by (Presence.Default d) p k = record { may = λ q. (let z : Presence.Default d ≡ Presence.Must = sym p ∙ q in cc); rest = k; }
+    by Presence.May p k = record { may = λ q. (let z : Presence.May ≡ Presence.Must = sym p ∙ q in cc); rest = k }
+    by Presence.LeftOut p k = record { may = λ q. (let z : Presence.LeftOut ≡ Presence.Must = sym p ∙ q in cc); rest = k }
+    by (Presence.Default d) p k = record { may = λ q. (let z : Presence.Default d ≡ Presence.Must = sym p ∙ q in cc); rest = k }
 
     at : (o : Option Start) → first_due t c cs o ≡ Some D → Lacks t node n c cs D
     at None k = by c.presence refl k
@@ -210,7 +210,7 @@ pub segment-due : (t : Tag) (D : next.Due) (d : Due) → due profile_two t next.
 segment-due t D d h slot is = at (same_tag t octet_string) refl h
   where
     at : (b : Bool) → same_tag t octet_string ≡ b → (if b then Some octets else None) ≡ Some D → IsSegmentDue t d
-    at true f k = record { slot = slot; tag = f; found = is ∙ ap element_of (let q : octets ≡ D = cc in sym q); }
+    at true f k = record { slot = slot; tag = f; found = is ∙ ap element_of (let q : octets ≡ D = cc in sym q) }
     at false f k = absurd cc
 
 -- what is due at a place with the tag, in its slot

@@ -91,17 +91,16 @@ due_judged frames place tag f d at i want w h s k =
 
 pub identified_judged : (frames : Frames) (place : List Open) (at : ℕ) (id : Id) (c : Coming) (r : Result Started Refusal) → StandsAt frames place → length place < 32
     → IsDueIn (tag_of_id id) (next_at frames.open.items) c.due → shape c.after ≡ behind (next_at frames.open.items) c.due.slot → IsFormed c at id r → IsIdentified frames place at id r
-identified_judged frames place at id c (Ok started) h s k g f =
-    (
-      record {
-        is_due = subst (IsDueIn (tag_of_id id) (next_at frames.open.items)) f.0 k;
-        goes_on = ap shape f.4 ∙ g ∙ ap (λ (d : CodeDue). behind (next_at frames.open.items) d.slot) f.0;
-        allowed = ap (allows (element_is started.element)) f.2 ∙ f.3;
-        shallow = s;
-      },
-      f.2,
-      f.1,
-    )
+identified_judged frames place at id c (Ok started) h s k g f = (
+  record {
+    is_due = subst (IsDueIn (tag_of_id id) (next_at frames.open.items)) f.0 k;
+    goes_on = ap shape f.4 ∙ g ∙ ap (λ (d : CodeDue). behind (next_at frames.open.items) d.slot) f.0;
+    allowed = ap (allows (element_is started.element)) f.2 ∙ f.3;
+    shallow = s;
+  },
+  f.2,
+  f.1,
+)
 identified_judged frames place at id c (Err refusal) h s k g f = λ i want w.
     due_judged frames place (tag_of_id id) (form_of_id id) c.due at i want w h s k ∙ f profile_two place (tag_of_id id) i want w
 

@@ -47,4 +47,3 @@ pub enum Found {
     Element(Element),
     LeftOut(PartId),
 }
-

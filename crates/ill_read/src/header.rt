@@ -1,7 +1,9 @@
 //! The header at the front of the octets that are there.
-ghost use Rattle.std.specs.Prelude.{◌≡◌, ◌≤◌, length, IfSome};
+ghost use Rattle.std.specs.Prelude.{◌≡◌, ◌≤◌, length, min, drop, IfSome};
+ghost use Rattle.std.specs.Int.Digits.{number_from_digits};
+ghost use Rattle.ber_core.specs.Id.{form_of_id, tag_of_id};
 ghost use Rattle.ill_read.specs.HeaderCode.{IsHeaderRead};
-ghost use Rattle.ill_refusals.specs.Reading.{class_of};
+ghost use Rattle.ill_refusals.specs.Reading.{class_of, identified, read_identifier};
 
 use ber_core::{Class, HeaderFault, HeaderState, Id, Len};
 
@@ -67,7 +69,7 @@ fn read_any(octets: &[u8]) -> HeaderRead
     }
 }
 
-/// A header of two octets, as most elements have: a number below 31 and a length below 128. None where the octets begin with no such.
+/// A header whose identifier is of one octet, as most elements have. None where the octets begin with no such.
 #[inline(always)]
 fn read_short(octets: &[u8]) -> Option<HeaderRead>
     ensures { IfSome result (λ read. IsHeaderRead read octets.now) }
@@ -75,11 +77,48 @@ fn read_short(octets: &[u8]) -> Option<HeaderRead>
     let [first, length, ..] = octets else {
         return None;
     };
-    if *first == 0 || *first % 32 == 31 || *length >= 128 {
+    if *first == 0 || *first % 32 == 31 {
         return None;
     }
     let id = Id::new(class_in(*first), *first % 64 >= 32, (*first % 32) as u32)?;
+    if *length >= 128 {
+        return read_long(id, octets);
+    }
     Some(HeaderRead::Identified(id, LengthRead::Whole(Len::Definite(*length as u32), 2)))
+}
+
+/// The same where the length isn't in the short form (X.690, 8.1.3.5 and 8.1.3.6).
+#[inline(never)]
+fn read_long(id: Id, octets: &[u8]) -> Option<HeaderRead>
+    requires { read_identifier octets.now ≡ identified (tag_of_id id) (form_of_id id) (drop 1 octets.now) }
+    ensures { IfSome result (λ read. IsHeaderRead read octets.now) }
+{
+    if octets.len() < 2 || octets[1] < 128 || octets[1] == 255 {
+        return None;
+    }
+    let count = (octets[1] - 128) as usize;
+    if count == 0 {
+        if !id.constructed() {
+            return None;
+        }
+        return Some(HeaderRead::Identified(id, LengthRead::Whole(Len::Indefinite, 2)));
+    }
+    if octets.len() < count + 2 {
+        return None;
+    }
+    let size = number(&octets[2..count + 2]);
+    Some(HeaderRead::Identified(id, LengthRead::Whole(Len::Definite(size), count as u32 + 2)))
+}
+
+/// The number that these digits in base 256 spell, or 4,294,967,295 where it is larger.
+fn number(digits: &[u8]) -> u32
+    ensures { result ≡ min (number_from_digits 256 digits.now) 4_294_967_295 }
+{
+    let mut number: u32 = 0;
+    for digit in digits {
+        number = number.saturating_mul(256).saturating_add(*digit as u32);
+    }
+    number
 }
 
 /// The class in the first octet of an identifier.

@@ -52,8 +52,7 @@ pub loop-position-preserved : goal.loop-position-preserved
 loop-position-preserved c =
     let s = c.args.self in
     let t = tag_of_id c.args.id in
-    let cells = c.cells_of-cells.result.now in
-    (
+    let cells = c.cells_of-cells.result.now in (
       c.loop-position.invariant.0 ∙ scan-skip t s.part s.node c.loop-position.position cells c.cell_at-cell.result c.cell_at-cell.ensures c.in_default.ensures c.if-cell.false,
       passed-next t s.node s.position c.loop-position.position cells c.cell_at-cell.result c.cells_of-cells.ensures.meant c.cell_at-cell.ensures c.in_default.ensures c.loop-position.invariant.1,
     )
