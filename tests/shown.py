@@ -9,7 +9,7 @@ import re
 import subprocess
 import sys
 
-from spellings import Speller
+from encoder import Speller
 from tables import CHOICES, LISTS, NAMES, PROGRAM, ROWS, TOP, random_value, seed_and_count
 
 

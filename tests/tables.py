@@ -58,6 +58,13 @@ def read_names():
 NAMES = read_names()
 
 
+def default_of(row):
+    """The value of a row that is absent: its default, or None."""
+    if row.presence != "Default":
+        return None
+    return bool(int(row.default)) if row.node == "Boolean" else int(row.default)
+
+
 def random_text(chance, alphabet):
     return "".join(chance.choice(alphabet) for _ in range(chance.choice([0, 1, 2, 5, 20, 130, 300])))
 
@@ -94,7 +101,7 @@ def random_entry(chance, row):
     if row.presence == "LeftOut" or row.presence == "May" and chance.random() < 0.6:
         return None
     if row.presence == "Default" and chance.random() < 0.5:
-        return bool(int(row.default)) if row.node == "Boolean" else int(row.default)
+        return default_of(row)
     return random_value(chance, row.node)
 
 

@@ -9,8 +9,8 @@ import sys
 import tempfile
 from pathlib import Path
 
-from spellings import Writer
-from tables import CHOICES, LISTS, PROGRAM, ROWS
+from encoder import Writer
+from tables import CHOICES, LISTS, PROGRAM, ROWS, default_of
 
 LIMIT = 1_048_576
 # in kilobytes, beyond the input: of check and canonicalise, of show, and of show where no list is large
@@ -29,17 +29,11 @@ def leasts(node, deep=True):
         return [[]]
     if node not in ROWS:
         return [LEAST[node]]
-    least = [leasts(row.node, False)[0] if row.presence == "Must" else default(row) for row in ROWS[node]]
+    least = [leasts(row.node, False)[0] if row.presence == "Must" else default_of(row) for row in ROWS[node]]
     places = [i for i, row in enumerate(ROWS[node]) if row.presence in ("Must", "May")] if deep else []
     found = [least]
     found += [least[:i] + [value] + least[i + 1 :] for i in places for value in leasts(ROWS[node][i].node) if value != least[i]]
     return found
-
-
-def default(row):
-    if row.presence != "Default":
-        return None
-    return bool(int(row.default)) if row.node == "Boolean" else int(row.default)
 
 
 def holding(node, wanted):
