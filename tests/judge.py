@@ -168,7 +168,7 @@ def content_fault(node, octets):
     if node == "PrintableString":
         return None if all(chr(octet) in LETTERS for octet in octets) else "BadText"
     if node == "General":
-        return "BadText" if any(octet in SHIFTS for octet in octets) else None
+        return "BadText" if any(shift in octets for shift in SHIFTS) else None
     return None if all(0x20 <= octet <= 0x7E for octet in octets) else "BadText"
 
 
@@ -187,6 +187,8 @@ class Judge:
 
     def __init__(self, octets):
         self.octets, self.path, self.apdu = octets, [], None
+        # the end of the innermost definite element, outside of all and in each that is open
+        self.bounds = [None]
 
     def message(self):
         """The APDU and the octets of the message."""
@@ -196,7 +198,7 @@ class Judge:
         return self.apdu, size
 
     def bound(self):
-        return next((element.end for element in reversed(self.path) if element.end is not None), None)
+        return self.bounds[-1]
 
     def octet(self, i, place):
         """The octet at i, which is needed at the place."""
@@ -234,6 +236,7 @@ class Judge:
             if fault:
                 raise Refused(fault, inner.start)
         self.path.pop()
+        self.bounds.pop()
         if inner.kind == "segment":
             self.path[-1].text += inner.text
         else:
@@ -269,6 +272,7 @@ class Judge:
         if constructed:
             element.start, element.end = place, None if size is None else at + size
             self.path.append(element)
+            self.bounds.append(self.bound() if element.end is None else element.end)
             return at
         if at + size > len(self.octets):
             raise Refused("Truncated", len(self.octets))

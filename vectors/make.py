@@ -1,0 +1,58 @@
+#!/usr/bin/env python3
+"""Writes the test vectors, vectors/*.json, from the rules in vectors/rules: the same octets each time.
+
+Usage: make.py [--check]. With --check nothing is written, and the status is 1 where a file isn't what the rules give.
+"""
+import importlib
+import json
+import sys
+from pathlib import Path
+
+FOLDER = Path(__file__).resolve().parent
+sys.path[:0] = [str(FOLDER), str(FOLDER.parent / "tests")]
+
+from schema import Schema
+
+THEMES = "identifiers lengths end_marks booleans integers strings dates rows tagging defaults wrappers limits causes worked streams".split()
+
+
+def books():
+    for theme in THEMES:
+        yield from importlib.import_module(f"rules.{theme}").books()
+
+
+def text_of(book):
+    """The JSON text of a file: a test vector is a line."""
+    groups = ",\n".join(
+        f'{{"rule": {dense(group.rule)}, "vectors": [\n' + ",\n".join(map(dense, group.vectors)) + "\n]}" for group in book.groups
+    )
+    return f'{{"$schema": "schema.json",\n"title": {dense(book.title)},\n"groups": [\n{groups}\n]}}\n'
+
+
+def dense(value):
+    return json.dumps(value, separators=(", ", ": "))
+
+
+def main():
+    wrong, names, total = 0, set(), 0
+    schema = Schema(json.loads((FOLDER / "schema.json").read_text()))
+    for book in books():
+        text, file = text_of(book), FOLDER / f"{book.name}.json"
+        fault = schema.fault(json.loads(text))
+        assert not fault, f"{book.name}: {fault}"
+        for vector in book.vectors():
+            assert vector["id"] not in names, vector["id"]
+            names.add(vector["id"])
+        print(f"{book.name}: {len(book.vectors())} test vectors of {len(book.groups)} rules, {len(text)} octets")
+        total += len(book.vectors())
+        if "--check" not in sys.argv:
+            file.write_text(text)
+        elif not file.exists() or file.read_text() != text:
+            wrong += 1
+            print(f"{file.name} isn't what the rules give; run vectors/make.py")
+    print(f"{total} test vectors")
+    sys.exit(1 if wrong else 0)
+
+
+if __name__ == "__main__":
+    main()

@@ -1,0 +1,216 @@
+#!/usr/bin/env python3
+"""Runs a program over the test vectors, and prints a table of the rules that it breaks.
+
+Usage: run.py [OPTION..] COMMAND..
+       run.py [OPTION..] --adapter illcanon|yaz
+
+COMMAND is run once for each test vector, with one more word: the path of a file with the octets. Status 0: they are one message, and standard
+output has its normal form. Status 1: they aren't, and the last line of standard error may say CAUSE OFFSET PART. Any other status: it broke.
+
+  --decisions     compare statuses alone, neither outputs nor faults
+  --any-spelling  standard output may have any spelling of the APDU
+  --streams       run over streams.json, too: standard output has the normal form of each message before the one that is refused
+  --all           print each rule, not only those that are broken
+  --vectors       print each test vector that differs
+  --only NAME     run over NAME.json alone
+"""
+import argparse
+import json
+import re
+import subprocess
+import sys
+import tempfile
+from collections import Counter, namedtuple
+from pathlib import Path
+
+FOLDER = Path(__file__).resolve().parent
+sys.path[:0] = [str(FOLDER), str(FOLDER.parent / "tests")]
+
+SECONDS = 120
+WRONG = ["refused", "other", "accepted", "fault", "broke"]
+MEANINGS = {
+    "right": "as expected",
+    "refused": "valid, and refused",
+    "other": "valid, and accepted with another output",
+    "accepted": "to be refused, and accepted",
+    "fault": "refused with another cause, offset or part",
+    "broke": "another status, a signal, or no end in time",
+}
+# what a program says of octets: its status, what it wrote, the fault that it names (None: none), and the text of the value (None: none)
+Answer = namedtuple("Answer", "status output fault shown", defaults=[None, None])
+
+
+def run(*words):
+    try:
+        return subprocess.run(words, capture_output=True, timeout=SECONDS)
+    except subprocess.TimeoutExpired:
+        return subprocess.CompletedProcess(words, -1, b"", b"")
+
+
+class Command:
+    """Any program that is called as the usage says."""
+
+    def __init__(self, words):
+        self.words = words
+
+    def message(self, path):
+        done = run(*self.words, path)
+        said = re.search(rb"^([A-Z]\w+)(?: (\d+))?(?: (.+))?$", (done.stderr.splitlines() or [b""])[-1])
+        fault = (said[1].decode(), said[2] and int(said[2]), (said[3] or b"").decode()) if said else None
+        return Answer(done.returncode, done.stdout, fault)
+
+    stream = message
+
+
+class Illcanon:
+    """The program of this repository: `same` reads one whole message, `canonicalise` a stream."""
+
+    def __init__(self):
+        from tables import PROGRAM
+
+        self.program = PROGRAM
+
+    def message(self, path):
+        done = run(self.program, "same", path, path)
+        if done.returncode:
+            return Answer(done.returncode, b"", self.fault(done.stderr))
+        return self.stream(path)._replace(shown=run(self.program, "show", path).stdout.decode())
+
+    def stream(self, path):
+        done = run(self.program, "canonicalise", path, "-")
+        return Answer(done.returncode, done.stdout, self.fault(done.stderr))
+
+    def fault(self, line):
+        if b"more than 1000000 messages" in line:
+            return "TooManyMessages", None, ""
+        said = re.search(rb"refused at (\d+) in [^:]*: (\w+)(?: (.+))?\n", line)
+        return (said[2].decode(), int(said[1]), (said[3] or b"").decode()) if said else None
+
+
+class Yaz(Command):
+    """The codec of YAZ, which writes what it read in indefinite form. Wants `cc` and YAZ's headers (Debian: libyaz-dev)."""
+
+    def __init__(self):
+        self.folder = tempfile.TemporaryDirectory()
+        program = Path(self.folder.name, "yaz")
+        subprocess.run(["cc", "-O1", "-o", program, FOLDER / "yaz.c", "-lyaz"], check=True)
+        super().__init__([program])
+
+
+ADAPTERS = {"illcanon": Illcanon, "yaz": Yaz}
+
+
+def octets_of(vector, name, runs):
+    if name in vector:
+        return bytes.fromhex(vector[name])
+    return b"".join(bytes.fromhex(unit) * count for unit, count in vector[runs])
+
+
+def outcome(vector, answer, options):
+    """What comes of a test vector, as MEANINGS has it."""
+    if answer.status not in (0, 1):
+        return "broke"
+    normal = octets_of(vector, "normal", "normal_runs") if "normal" in vector or "normal_runs" in vector else b""
+    if vector["result"] == "valid":
+        if answer.status:
+            return "refused"
+        return "right" if options.decisions or says(vector, answer, normal, options) else "other"
+    if not answer.status:
+        return "accepted"
+    if options.decisions or answer.fault is None:
+        return "right"
+    if "messages" in vector and answer.output != normal:
+        return "other"
+    return "right" if answer.fault == (vector["cause"], vector.get("offset"), vector.get("part", "")) else "fault"
+
+
+def says(vector, answer, normal, options):
+    """Whether the output is that of a valid test vector."""
+    if answer.shown is not None and answer.shown != text_of(vector):
+        return False
+    if not options.any_spelling:
+        return answer.output == normal
+    from judge import Refused, message
+
+    try:
+        return message(answer.output) == message(normal)
+    except Refused:
+        return False
+
+
+def text_of(vector):
+    """The value as `illcanon show` prints it."""
+    from rules.book import APDUS, node_of
+    from rules.values import from_json
+    from shown import text
+
+    return text(1, (APDUS.index(vector["apdu"]), from_json(node_of(vector["apdu"]), vector["value"])))
+
+
+def source_of(rule):
+    return next(f"{word} {rule[word]}" if word != "clause" else rule[word] for word in ("clause", "row", "limit", "cause") if word in rule)
+
+
+def line(title, counts):
+    return f"{title:70} {counts['right']:6}" + "".join(f"{counts[name]:9}" for name in WRONG)
+
+
+def run_group(adapter, group, file, options):
+    """How often each outcome comes of the test vectors of a group."""
+    counts = Counter()
+    for vector in group["vectors"]:
+        file.write_bytes(octets_of(vector, "octets", "runs"))
+        answer = (adapter.stream if "messages" in vector else adapter.message)(file)
+        came = outcome(vector, answer, options)
+        counts[came] += 1
+        if came != "right" and options.vectors:
+            wanted = " ".join(str(vector[name]) for name in ("result", "cause", "offset", "part") if name in vector)
+            print(f"{vector['id']}: {MEANINGS[came]}; wanted {wanted}, got status {answer.status}, {answer.fault or answer.output[:60].hex()}")
+    return counts
+
+
+def options_of():
+    parser = argparse.ArgumentParser(description=__doc__, formatter_class=argparse.RawDescriptionHelpFormatter)
+    parser.add_argument("--adapter", choices=ADAPTERS)
+    for name in ("decisions", "any-spelling", "streams", "all", "vectors"):
+        parser.add_argument(f"--{name}", action="store_true")
+    parser.add_argument("--only")
+    parser.add_argument("command", nargs=argparse.REMAINDER)
+    options = parser.parse_args()
+    if bool(options.command) == bool(options.adapter):
+        parser.error("a COMMAND or an adapter is wanted")
+    return options
+
+
+def main():
+    options = options_of()
+    adapter = ADAPTERS[options.adapter]() if options.adapter else Command(options.command)
+    options.streams |= options.adapter == "illcanon"
+    options.any_spelling |= options.adapter == "yaz"
+    total = Counter()
+    print(line("file, or rule and its source", {name: name for name in MEANINGS}).replace("  right", "  right"))
+    with tempfile.TemporaryDirectory() as name:
+        for path in sorted(FOLDER.glob(f"{options.only or '*'}.json")):
+            if path.name != "schema.json" and (options.streams or path.name != "streams.json"):
+                total += run_file(adapter, path, Path(name, "message"), options)
+    differ = sum(total[name] for name in WRONG)
+    print(line("all", total))
+    print(f"{sum(total.values())} test vectors, {differ} differ")
+    sys.exit(1 if differ else 0)
+
+
+def run_file(adapter, path, file, options):
+    groups = json.loads(path.read_text())["groups"]
+    counts = [run_group(adapter, group, file, options) for group in groups]
+    print(line(path.name, sum(counts, Counter())))
+    for group, came in zip(groups, counts):
+        if options.all or any(came[name] for name in WRONG):
+            rule = group["rule"]
+            source = source_of(rule)
+            title = rule["name"] if rule["name"] in source else f"{rule['name']} ({source})"
+            print(line(f"    {title}", came))
+    return sum(counts, Counter())
+
+
+if __name__ == "__main__":
+    main()
