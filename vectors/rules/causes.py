@@ -2,7 +2,7 @@
 from rules.book import Book
 from rules.end_marks import all_indefinite
 from rules.limits import LIMIT, filled, nest
-from rules.messages import DATE, GROUP, HEAD, QUALIFIER, REQUEST, SERVICE, VERSION, expired, message
+from rules.messages import DATE, GROUP, HEAD, QUALIFIER, SERVICE, VERSION, expired, message, request
 from rules.octets import MARK, element, indefinite, joined, text
 
 # the least that a message begins with, and what stands before its date
@@ -148,7 +148,7 @@ def order(book):
         ("left-out-primitive", "a part that is left out, primitive", joined(MARK, "42 00"), "LeftOut", "ILL-APDU.Forward-Notification"),
         ("left-out-past-end", "a part that is left out with a length that passes its parent", message("Lost", MARK, "BF 31 7F"), "LeftOut", "Lost.lost-extensions"),
         ("left-out-not-due", "a part that is left out before a mandatory part isn't due", message("Message", MARK, "BF 31 00 BF 2E 03 1B 01 41"), "UnexpectedTag"),
-        ("left-out-too-late", "a part that is left out after a later part isn't due", message("ILL-Request", REQUEST[:-2], element("B0", "B2 03 1B 01 41", MARK, "B1 00")), "UnexpectedTag"),
+        ("left-out-too-late", "a part that is left out after a later part isn't due", request(item=element("B0", "B2 03 1B 01 41", MARK, "B1 00")), "UnexpectedTag"),
         ("form-before-length", "a wrong form with the length octet FF", joined(MARK, "54 FF"), "WrongForm"),
         ("form-before-end-of-input", "a wrong form as the last octet", joined("74 1F 30 1D", MARK, "A0"), "WrongForm"),
         ("identifier-before-tag", "octets that are no identifier where no high tag is due", joined("74 1F 30 1D", MARK, "9F 80"), "BadTag"),

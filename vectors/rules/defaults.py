@@ -3,8 +3,8 @@ from encoder import Writer
 from tables import ROWS, default_of
 
 from rules.book import Book
-from rules.messages import REQUEST, REQUEST_VALUE, Octets, around, message, octets_of, other, part_name, sample, slug, with_head
-from rules.octets import MARK, element, joined
+from rules.messages import OPTIONAL_MESSAGES, REQUEST_VALUE, TYPES, Octets, around, message, octets_of, other, part_name, request, sample, slug, with_head
+from rules.octets import MARK, element, indefinite
 
 
 def books():
@@ -28,7 +28,7 @@ def each(book, node, i):
     def with_entry(entry):
         return around(node, entries[:i] + [entry] + entries[i + 1 :])
 
-    group.spells(f"{name}-not-written", "the default isn't written", octets_of(with_entry(default)), with_entry(default))
+    group.spells(f"{name}-not-written", "the default isn't written", octets_of(with_entry(Octets())), with_entry(default))
     contents = ["FF", "01", "80"] if default is True else ["00"] if default is False else [f"{default:02X}"]
     for content in contents:
         octets = octets_of(with_entry(Octets(Writer().identifier(row.tag, False), "01", content)))
@@ -49,15 +49,15 @@ def together(book):
     parts = [("85 01 01", 0), ("8E 01 03", 1), ("95 01 00", 2), ("96 01 00", 3)]
     for choice in range(16):
         there = [octets if choice >> bit & 1 else "" for octets, bit in parts]
-        octets = message("ILL-Request", there[0], REQUEST[:-2], there[1], REQUEST[-2:], there[2], there[3])
+        octets = message("ILL-Request", there[0], TYPES, OPTIONAL_MESSAGES, there[1], "B0 00", there[2], there[3])
         what = " ".join(filter(None, there)) or "none"
         group.valid(f"defaults-of-a-request-{choice:04b}", f"of an ILL-REQUEST's defaults these are written: {what}", octets, "ILL-Request", with_head(REQUEST_VALUE))
-    octets = message("ILL-Request", REQUEST, "B4 06 80 01 00 85 01 02")
+    octets = request(beside="B4 06 80 01 00 85 01 02")
     value = with_head({**REQUEST_VALUE, "third-party-info-type": {}})
     group.valid("defaults-leave-an-empty-sequence", "a Third-Party-Info of defaults alone is an empty sequence, not an absent one", octets, "ILL-Request", value)
-    octets = message("ILL-Request", REQUEST, "B2 09 82 01 00 83 01 00 84 01 00")
+    octets = request(beside="B2 09 82 01 00 83 01 00 84 01 00")
     value = with_head({**REQUEST_VALUE, "cost-info-type": {}})
     group.valid("defaults-leave-an-empty-cost-info", "a Cost-Info of defaults alone is an empty sequence", octets, "ILL-Request", value)
-    octets = message("ILL-Request", REQUEST, "B4 80", joined("80 01 FF 85 01 02"), "00 00")
+    octets = request(beside=indefinite("B4", "80 01 FF 85 01 02"))
     value = with_head({**REQUEST_VALUE, "third-party-info-type": {"permission-to-forward": True}})
     group.valid("defaults-one-of-two", "a default beside a part that isn't its default", octets, "ILL-Request", value)

@@ -1,6 +1,6 @@
 """The indefinite form and its end marks."""
 from rules.book import Book
-from rules.messages import HEAD, HEAD_VALUE, QUALIFIER, REQUEST, VERSION, expired, message, with_date, with_group, with_head
+from rules.messages import HEAD, HEAD_VALUE, QUALIFIER, REQUEST_VALUE, VERSION, expired, request, with_date, with_group, with_head
 from rules.octets import MARK, element, indefinite, joined, text
 from rules.places import CONSTRUCTED
 
@@ -32,9 +32,8 @@ def each_element(book):
     group.valid("indefinite-with-zeros", "a text of two octets 00 in an indefinite element is no end mark", expired(group=indefinite("A1", indefinite("3B", "04 02 00 00"))), "Expired", with_group("\0\0"))
     octets = indefinite("74", indefinite("30", "80 01 00", HEAD[3:]))
     group.valid("indefinite-with-number-zero", "a number whose content is 00, and then no end mark", octets, "Expired", with_head(protocol_version_num=0))
-    octets = message("ILL-Request", indefinite("A9"), REQUEST[5:-2], indefinite("B0"))
-    value = {"ill-service-type": [], "requester-optional-messages": {"can-send-received": False, "can-send-returned": False, "requester-shipped": 1, "requester-checked-in": 1}, "item-id": {}}
-    group.valid("indefinite-empty", "an empty list and an empty SEQUENCE in the indefinite form", octets, "ILL-Request", with_head(value))
+    octets = request(indefinite("A9"), item=indefinite("B0"))
+    group.valid("indefinite-empty", "an empty list and an empty SEQUENCE in the indefinite form", octets, "ILL-Request", with_head({**REQUEST_VALUE, "ill-service-type": []}))
     group.valid("indefinite-empty-string", "a string of no segments in the indefinite form", expired(group=element("A1", indefinite("3B"))), "Expired", with_group(""))
     group.valid("indefinite-empty-segment", "a segment of no segments in the indefinite form", expired(group=element("A1", element("3B", indefinite("24"), "04 01 47"))), "Expired", HEAD_VALUE)
 

@@ -2,8 +2,8 @@
 from tables import ROWS
 
 from rules.book import Book
-from rules.messages import HEAD, HEAD_VALUE, REQUEST, REQUEST_VALUE, SERVICE, TRANSACTION
-from rules.messages import around, carried, expired, message, octets_of, other, part_name, sample, with_head
+from rules.messages import HEAD, HEAD_VALUE, REQUEST_VALUE, SERVICE, TRANSACTION
+from rules.messages import around, carried, expired, message, octets_of, other, part_name, request, sample, with_head
 from rules.octets import MARK, element, indefinite, joined, text
 
 CLASSES = {"universal": "00", "application": "40", "context": "80", "private": "C0"}
@@ -103,7 +103,7 @@ def zero(book):
     group.refused("identifier-zero-in-sequence", "00 in a definite SEQUENCE", element("74", element("30", HEAD, MARK, "00")), "BadTag")
     group.refused("identifier-zero-in-wrapper", "00 in a definite EXPLICIT tag", expired(group=element("A1", MARK, "00 01 47")), "BadTag")
     group.refused("identifier-zero-in-string", "00 in a definite constructed string", expired(group=element("A1", element("3B", MARK, "00 00"))), "BadTag")
-    group.refused("identifier-zero-in-list", "00 in a definite list", message("ILL-Request", element("A9", MARK, "00 00"), REQUEST[5:]), "BadTag")
+    group.refused("identifier-zero-in-list", "00 in a definite list", request(element("A9", MARK, "00 00")), "BadTag")
     group.refused("identifier-zero-constructed", "20, universal 0 constructed, is an identifier that isn't due", joined(MARK, "20 00"), "UnexpectedTag")
     group.refused("identifier-zero-constructed-in-indefinite", "20 00 in an indefinite SEQUENCE is no end mark", indefinite("74", indefinite("30", HEAD, MARK, "20 00")), "UnexpectedTag")
     group.refused("identifier-end-mark-in-definite", "00 00 at the end of a definite SEQUENCE", element("74", element("30", HEAD, MARK, "00 00")), "BadTag")
@@ -116,15 +116,15 @@ def forms(book):
     octets = element("74", element("30", "80 01 02", MARK, element("81", TRANSACTION[2:]), SERVICE))
     group.refused("identifier-primitive-implicit-sequence", "a SEQUENCE with an IMPLICIT tag is constructed", octets, "WrongForm")
     group.refused("identifier-primitive-wrapper", "an EXPLICIT tag is constructed (8.14)", expired(group=joined(MARK, element("81", "1B 01 47"))), "WrongForm")
-    group.refused("identifier-primitive-list", "a SEQUENCE OF is constructed (8.10.1)", message("ILL-Request", MARK, "89 03 0A 01 01", REQUEST[5:]), "WrongForm")
+    group.refused("identifier-primitive-list", "a SEQUENCE OF is constructed (8.10.1)", request(joined(MARK, "89 03 0A 01 01")), "WrongForm")
     group.refused("identifier-primitive-empty-sequence", "an empty SEQUENCE is constructed, too", message("Expired", MARK, "83 00"), "WrongForm")
     answer = message("ILL-Answer", "9F 1F 01 07", MARK, "9F 20 0D A7 0B 30 09 A0 07", element("1B", text("12.50")))
     group.refused("identifier-primitive-choice", "an EXPLICIT tag of more than 30 is constructed", answer, "WrongForm")
     group.refused("identifier-constructed-integer", "an INTEGER is primitive (8.3.1)", expired(version=joined(MARK, "A0 01 02")), "WrongForm")
     group.refused("identifier-constructed-boolean", "a BOOLEAN is primitive (8.2.1)", message("Cancel-Reply", MARK, "BF 23 01 FF"), "WrongForm")
-    group.refused("identifier-constructed-enumerated", "an ENUMERATED is primitive (8.4)", message("ILL-Request", "A9 03", MARK, "2A 01 01", REQUEST[5:]), "WrongForm")
+    group.refused("identifier-constructed-enumerated", "an ENUMERATED is primitive (8.4)", request(joined("A9 03", MARK, "2A 01 01")), "WrongForm")
     group.valid("identifier-constructed-string", "a string is primitive or constructed (8.23, 8.7.1)", expired(group=element("A1", element("3B", "04 01 47"))), "Expired", HEAD_VALUE)
     group.valid("identifier-constructed-date", "a date is a string, too", expired(date=element("A0", element("04", text("20240229")))), "Expired", HEAD_VALUE)
-    octets = message("ILL-Request", REQUEST[:5], element("AB", MARK, "A0 01 00 81 01 00 82 01 01 83 01 01"), "B0 00")
+    octets = request(messages=element("AB", MARK, "A0 01 00 81 01 00 82 01 01 83 01 01"))
     group.refused("identifier-constructed-boolean-implicit", "a BOOLEAN with an IMPLICIT tag is primitive", octets, "WrongForm")
-    group.valid("identifier-forms-of-a-request", "each form of an ILL-REQUEST as it ought to be", message("ILL-Request", REQUEST), "ILL-Request", with_head(REQUEST_VALUE))
+    group.valid("identifier-forms-of-a-request", "each form of an ILL-REQUEST as it ought to be", request(), "ILL-Request", with_head(REQUEST_VALUE))

@@ -3,7 +3,7 @@ from encoder import Writer, whole
 from tables import ROWS
 
 from rules.book import Book
-from rules.messages import REQUEST, REQUEST_VALUE, Octets, around, expired, message, octets_of, part_name, sample, slug, with_head
+from rules.messages import REQUEST_VALUE, Octets, around, expired, octets_of, part_name, request, sample, slug, with_head
 from rules.octets import MARK, element, joined
 
 # the least and the greatest number of each size, and those about zero
@@ -55,7 +55,7 @@ def both(group, kind, make, said):
 
 def listed(content, mark=b""):
     """An ILL-REQUEST with one service type of this content."""
-    return message("ILL-Request", element("A9", mark, element("0A", content)), REQUEST[5:])
+    return request(element("A9", mark, element("0A", content)))
 
 
 def each(group, node, i):

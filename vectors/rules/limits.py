@@ -1,6 +1,6 @@
 """Each limit at its value and one beyond."""
 from rules.book import Book
-from rules.messages import HEAD, HEAD_VALUE, QUALIFIER, REQUEST, REQUEST_VALUE, SERVICE, VERSION, expired, message, with_head
+from rules.messages import HEAD, HEAD_VALUE, QUALIFIER, REQUEST_VALUE, SERVICE, VERSION, expired, message, request, with_head
 from rules.octets import MARK, element, fixed, indefinite, joined, long, of, text
 
 LIMIT = 1_048_576
@@ -158,25 +158,25 @@ def contents(book):
     for name, content, number in [("greatest", "7F" + "FF" * 7, 2**63 - 1), ("least", "80" + "00" * 7, -(2**63))]:
         octets = expired(version=element("80", content))
         group.valid(f"limit-number-{name}", f"the {name} number", octets, "Expired", with_head(protocol_version_num=number))
-        octets = message("ILL-Request", element("A9", element("0A", content)), REQUEST[5:])
+        octets = request(element("A9", element("0A", content)))
         value = with_head({**REQUEST_VALUE, "ill-service-type": [number]})
         group.valid(f"limit-enumerated-{name}", f"the {name} number of an ENUMERATED", octets, "ILL-Request", value)
     for name, content in [("greatest-and-one", "00 80" + "00" * 7), ("least-less-one", "FF 7F" + "FF" * 7)]:
         octets = expired(version=joined(MARK, element("80", content)))
         group.refused(f"limit-number-{name}", f"the number {name.replace('-', ' ')}", octets, "IntegerTooLong")
-        octets = message("ILL-Request", element("A9", MARK, element("0A", content)), REQUEST[5:])
+        octets = request(element("A9", MARK, element("0A", content)))
         group.refused(f"limit-enumerated-{name}", f"the number {name.replace('-', ' ')} of an ENUMERATED", octets, "IntegerTooLong")
 
 
 def many(book):
     group = book.group("many elements", "There is no limit of items and segments but the size of the message.", limit="octets of a message: 1,048,576")
-    count = (LIMIT - 64) // 3
-    octets = message("ILL-Request", element("A9", bytes.fromhex("0A 01 01") * count), REQUEST[5:])
-    group.valid(f"limit-items-{count}", f"a list of {count} items", octets, "ILL-Request", with_head({**REQUEST_VALUE, "ill-service-type": {"item": 1, "count": count}}))
+    count = (LIMIT - 128) // 3
+    octets = request(element("A9", bytes.fromhex("0A 01 01") * count))
+    group.valid("limit-many-items", f"a list of {count} items", octets, "ILL-Request", with_head({**REQUEST_VALUE, "ill-service-type": {"item": 1, "count": count}}))
     count = (LIMIT - 128) // 2
     octets = message("ILL-Answer", "9F 1F 01 02", element("BF 22", bytes.fromhex("30 00") * count))
     value = with_head({"transaction-results": 2, "already-tried-list": {"item": {}, "count": count}})
-    group.valid(f"limit-empty-items-{count}", f"a list of {count} empty sequences", octets, "ILL-Answer", value)
+    group.valid("limit-many-empty-items", f"a list of {count} empty sequences", octets, "ILL-Answer", value)
     count = (LIMIT - 128) // 3
     octets = message("Message", element("BF 2E", indefinite("3B", bytes.fromhex("04 01 41") * count)))
-    group.valid(f"limit-segments-{count}", f"a note in {count} segments", octets, "Message", noted(count))
+    group.valid("limit-many-segments", f"a note in {count} segments", octets, "Message", noted(count))

@@ -21,8 +21,7 @@ HEAD_VALUE = {
     "transaction-id": {"transaction-group-qualifier": {"general": "G"}, "transaction-qualifier": {"general": "Q"}},
     "service-date-time": {"date-time-of-this-service": {"date": "20240229"}},
 }
-# an ILL-REQUEST after its head
-REQUEST = joined("A9 03 0A 01 01", "AB 0C 80 01 00 81 01 00 82 01 01 83 01 01", "B0 00")
+TYPES, OPTIONAL_MESSAGES = joined("A9 03 0A 01 01"), joined("AB 0C 80 01 00 81 01 00 82 01 01 83 01 01")
 REQUEST_VALUE = {
     "ill-service-type": [1],
     "requester-optional-messages": {"can-send-received": False, "can-send-returned": False, "requester-shipped": 1, "requester-checked-in": 1},
@@ -58,6 +57,11 @@ def message(apdu, *contents):
     return element(APPLICATION[apdu], element("30", HEAD, *contents))
 
 
+def request(types=TYPES, messages=OPTIONAL_MESSAGES, medium=b"", item="B0 00", beside=b""):
+    """An ILL-REQUEST in definite form, of these pieces, with each of its defaults."""
+    return message("ILL-Request", "85 01 01", types, messages, medium, "8E 01 03", item, beside, "95 01 00 96 01 00")
+
+
 def expired(*contents, version=VERSION, group=GROUP, qualifier=QUALIFIER, date=DATE):
     """An EXPIRED in definite form, of these pieces."""
     service = element("A2", element("A0", date))
@@ -76,7 +80,7 @@ class Contents(Octets):
 
 
 class Builder(Writer):
-    """Writes values in which octets stand in place of a part, with a mark among them."""
+    """Writes values in which octets stand in place of a part, with a mark among them. Defaults are written, so that no other rule is tested."""
 
     def row(self, row, value):
         return value.octets if type(value) is Octets else super().row(row, value)
@@ -86,6 +90,9 @@ class Builder(Writer):
             return value.octets
         rows = ROWS[node] * len(value) if node in LISTS else ROWS[node]
         return joined(*(self.row(row, entry) for row, entry in zip(rows, value) if entry is not None))
+
+    def writes_default(self):
+        return True
 
 
 SAMPLES = {"Boolean": True, "Integer": 1, "Enumerated": 1, "IsoDate": "20240229", "IsoTime": "120000", "PrintableString": "1", "IllString": ("general", "A")}

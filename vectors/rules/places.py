@@ -1,5 +1,5 @@
 """An element of each kind in a small message, written by whatever writes elements."""
-from rules.messages import GROUP, HEAD, HEAD_VALUE, QUALIFIER, REQUEST, REQUEST_VALUE, SERVICE, VERSION, expired, message, with_head
+from rules.messages import GROUP, HEAD, HEAD_VALUE, QUALIFIER, REQUEST_VALUE, SERVICE, VERSION, expired, message, request, with_head
 from rules.octets import element, text
 
 EXPIRED = "Expired", HEAD_VALUE
@@ -8,11 +8,6 @@ REPLY = "Cancel-Reply", with_head(answer=True)
 REQUESTED = "ILL-Request", with_head(REQUEST_VALUE)
 MEDIUM = "ILL-Request", with_head({**REQUEST_VALUE, "supply-medium-info-type": [{"supply-medium-type": 1}]})
 RETRY = "ILL-Answer", with_head({"transaction-results": 2, "results-explanation": {"retry-results": {"reason-not-available": 1}}})
-
-
-def request(types, medium=b""):
-    """An ILL-REQUEST with this element for its ill-service-type, and one for its supply-medium-info-type."""
-    return message("ILL-Request", types, REQUEST[5:-2], medium, REQUEST[-2:])
 
 
 def answer(results):
@@ -34,7 +29,7 @@ CONSTRUCTED = {
     "bare-apdu": ("an APDU round the parts of its SEQUENCE", lambda write: write("74", HEAD), EXPIRED),
     "bare-result": ("the tag of a result round the parts of its SEQUENCE", lambda write: answer(element("BF 20", write("A2", "80 01 01"))), RETRY),
     "list": ("a SEQUENCE OF", lambda write: request(write("A9", "0A 01 01")), REQUESTED),
-    "sequence-item": ("a SEQUENCE in a SEQUENCE OF", lambda write: request("A9 03 0A 01 01", element("AD", write("30", "80 01 01"))), MEDIUM),
+    "sequence-item": ("a SEQUENCE in a SEQUENCE OF", lambda write: request(medium=element("AD", write("30", "80 01 01"))), MEDIUM),
     "constructed-string": ("a string in segments", lambda write: expired(group=element("A1", write("3B", "04 01 47"))), EXPIRED),
     "constructed-date": ("a date in segments", lambda write: expired(date=write("A0", element("04", text("20240229")))), EXPIRED),
     "constructed-segment": ("a segment in segments", lambda write: expired(group=element("A1", element("3B", write("24", "04 01 47")))), EXPIRED),

@@ -67,7 +67,8 @@ def row(book, node, i):
     if row.presence != "Must":
         entries = full(node)
         entries[i] = default_of(row)
-        group.spells(f"{name}-absent", f"each part but {part}", octets_of(around(node, entries)), around(node, entries))
+        octets = whole(node, [*every[:i], *every[i + 1 :]])
+        group.spells(f"{name}-absent", f"each part but {part}", octets, around(node, entries))
         return
     if any(every[i + 1 :]):
         octets = whole(node, [*every[:i], MARK, *every[i + 1 :]])

@@ -1,5 +1,4 @@
 """The EXPLICIT tags of APDUs and of results, which some implementations write without the SEQUENCE inside."""
-from encoder import Writer
 from tables import NAMES, ROWS
 
 from rules.book import Book
@@ -25,7 +24,7 @@ def apdus(book):
         if row.presence == "LeftOut":
             continue
         apdu, name = (i, sample(row.node)), NAMES["IllApdu"][1][i]
-        parts = Writer().contents(row.node, apdu[1])
+        parts = Builder().contents(row.node, apdu[1])
         tag, slugged, what = APPLICATION[name], slug(name), name.upper()
         group.spells(f"wrapper-{slugged}", f"{what} round a SEQUENCE", element(tag, element("30", parts)), apdu)
         group.spells(f"bare-{slugged}", f"{what} bare", element(tag, parts), apdu)
@@ -40,7 +39,7 @@ def results(book):
     for i, row in enumerate(ROWS["Results"]):
         value, name = sample(row.node), NAMES["Results"][1][i]
         apdu = along(shortest_way("Results"), (i, value))
-        parts, slugged = Writer().contents(row.node, value), slug(name)
+        parts, slugged = Builder().contents(row.node, value), slug(name)
 
         def answer(result):
             return message("ILL-Answer", "9F 1F 01 01", element("BF 20", result))
