@@ -5,9 +5,10 @@ Usage: run.py [OPTION..] COMMAND..
        run.py [OPTION..] --adapter illcanon|yaz
 
 COMMAND is run once for each test vector, with one more word: the path of a file with the octets. Status 0: they are one message, and standard
-output has its normal form. Status 1: they aren't, and the last line of standard error may say CAUSE OFFSET PART. Any other status: it broke.
+output has its normal form. Status 1: they aren't, and the last line of standard error is CAUSE OFFSET PART, or less of it, or Refused where the
+program doesn't say why. Anything else: it broke.
 
-  --decisions     compare statuses alone, neither outputs nor faults
+  --decisions     compare statuses alone, whatever the outputs are
   --any-spelling  standard output may have any spelling of the APDU
   --streams       run over streams.json, too: standard output has the normal form of each message before the one that is refused
   --all           print each rule, not only those that are broken
@@ -26,7 +27,7 @@ from pathlib import Path
 FOLDER = Path(__file__).resolve().parent
 sys.path[:0] = [str(FOLDER), str(FOLDER.parent / "tests")]
 
-SECONDS = 120
+SECONDS, WIDTH = 120, 80
 WRONG = ["refused", "other", "accepted", "fault", "broke"]
 MEANINGS = {
     "right": "as expected",
@@ -34,10 +35,11 @@ MEANINGS = {
     "other": "valid, and accepted with another output",
     "accepted": "to be refused, and accepted",
     "fault": "refused with another cause, offset or part",
-    "broke": "another status, a signal, or no end in time",
+    "broke": "neither accepted nor refused, or no end in time",
 }
-# what a program says of octets: its status, what it wrote, the fault that it names (None: none), and the text of the value (None: none)
+# what a program says of octets: its status, what it wrote, cause, offset and part of the fault (None: it doesn't say), and the text of the value
 Answer = namedtuple("Answer", "status output fault shown", defaults=[None, None])
+UNSAID = None, None, None
 
 
 def run(*words):
@@ -55,9 +57,13 @@ class Command:
 
     def message(self, path):
         done = run(*self.words, path)
-        said = re.search(rb"^([A-Z]\w+)(?: (\d+))?(?: (.+))?$", (done.stderr.splitlines() or [b""])[-1])
-        fault = (said[1].decode(), said[2] and int(said[2]), (said[3] or b"").decode()) if said else None
-        return Answer(done.returncode, done.stdout, fault)
+        return Answer(done.returncode, done.stdout, self.fault((done.stderr.splitlines() or [b""])[-1].decode("latin-1")))
+
+    def fault(self, line):
+        said = re.fullmatch(r"([A-Z][A-Za-z]+)(?: (\d+)(?: (.+))?)?", line)
+        if line == "Refused" or not said:
+            return UNSAID if said else None
+        return said[1], said[2] and int(said[2]), said[3]
 
     stream = message
 
@@ -117,11 +123,14 @@ def outcome(vector, answer, options):
         return "right" if options.decisions or says(vector, answer, normal, options) else "other"
     if not answer.status:
         return "accepted"
-    if options.decisions or answer.fault is None:
+    if options.decisions:
         return "right"
+    if answer.fault is None:
+        return "broke"
     if "messages" in vector and answer.output != normal:
         return "other"
-    return "right" if answer.fault == (vector["cause"], vector.get("offset"), vector.get("part", "")) else "fault"
+    wanted = vector["cause"], vector.get("offset"), vector.get("part", "")
+    return "right" if all(said in (None, want) for said, want in zip(answer.fault, wanted)) else "fault"
 
 
 def says(vector, answer, normal, options):
@@ -147,12 +156,20 @@ def text_of(vector):
     return text(1, (APDUS.index(vector["apdu"]), from_json(node_of(vector["apdu"]), vector["value"])))
 
 
-def source_of(rule):
-    return next(f"{word} {rule[word]}" if word != "clause" else rule[word] for word in ("clause", "row", "limit", "cause") if word in rule)
+def title_of(rule):
+    """The name of a rule, and its source where the name doesn't say it."""
+    kind = kind_of(rule)
+    source = rule[kind] if kind in ("clause", "row") else f"{kind}: {rule[kind]}"
+    return rule["name"] if rule[kind] in rule["name"] else f"{rule['name']} ({source})"
+
+
+def kind_of(rule):
+    return next(kind for kind in ("clause", "row", "limit", "cause") if kind in rule)
 
 
 def line(title, counts):
-    return f"{title:70} {counts['right']:6}" + "".join(f"{counts[name]:9}" for name in WRONG)
+    shown = title if len(title) <= WIDTH else title[: WIDTH - 2] + ".."
+    return f"{shown:{WIDTH}}" + "".join(f"{counts[name]:>9}" for name in MEANINGS)
 
 
 def run_group(adapter, group, file, options):
@@ -187,29 +204,34 @@ def main():
     adapter = ADAPTERS[options.adapter]() if options.adapter else Command(options.command)
     options.streams |= options.adapter == "illcanon"
     options.any_spelling |= options.adapter == "yaz"
-    total = Counter()
-    print(line("file, or rule and its source", {name: name for name in MEANINGS}).replace("  right", "  right"))
+    total, rules, broken = Counter(), Counter(), Counter()
+    print(line("rule", {name: name for name in MEANINGS}))
     with tempfile.TemporaryDirectory() as name:
         for path in sorted(FOLDER.glob(f"{options.only or '*'}.json")):
-            if path.name != "schema.json" and (options.streams or path.name != "streams.json"):
-                total += run_file(adapter, path, Path(name, "message"), options)
-    differ = sum(total[name] for name in WRONG)
+            if path.name == "schema.json" or path.name == "streams.json" and not options.streams:
+                continue
+            groups = json.loads(path.read_text())["groups"]
+            counts = [run_group(adapter, group, Path(name, "message"), options) for group in groups]
+            print_file(path, groups, counts, options)
+            for group, came in zip(groups, counts):
+                total += came
+                rules[kind_of(group["rule"])] += 1
+                broken[kind_of(group["rule"])] += differs(came) > 0
     print(line("all", total))
-    print(f"{sum(total.values())} test vectors, {differ} differ")
-    sys.exit(1 if differ else 0)
+    print("rules broken: " + ", ".join(f"{broken[kind]} of {rules[kind]} by {kind}" for kind in rules))
+    print(f"{sum(total.values())} test vectors, {differs(total)} differ")
+    sys.exit(1 if differs(total) else 0)
 
 
-def run_file(adapter, path, file, options):
-    groups = json.loads(path.read_text())["groups"]
-    counts = [run_group(adapter, group, file, options) for group in groups]
+def print_file(path, groups, counts, options):
     print(line(path.name, sum(counts, Counter())))
     for group, came in zip(groups, counts):
-        if options.all or any(came[name] for name in WRONG):
-            rule = group["rule"]
-            source = source_of(rule)
-            title = rule["name"] if rule["name"] in source else f"{rule['name']} ({source})"
-            print(line(f"    {title}", came))
-    return sum(counts, Counter())
+        if options.all or differs(came):
+            print(line(f"    {title_of(group['rule'])}", came))
+
+
+def differs(counts):
+    return sum(counts[name] for name in WRONG)
 
 
 if __name__ == "__main__":

@@ -3,13 +3,15 @@ from tables import ROWS
 
 from rules.book import Book
 from rules.messages import Octets, around, message, octets_of, other, part_name, sample, slug, with_head
-from rules.octets import MARK, element, joined
+from rules.octets import MARK, element
 from encoder import Writer
 
 
 def books():
     book = Book("booleans", "BOOLEAN contents (X.690, 8.2 and 11.1)")
-    group = book.group("value of an octet", "The octet 00 is FALSE, and each other is TRUE. The normal form of TRUE is FF.", clause="X.690, 8.2.2 and 11.1")
+    group = book.group(
+        "value of an octet", "The octet 00 is FALSE, and each other is TRUE. The normal form of TRUE is FF.", clause="X.690, 8.2.2 and 11.1"
+    )
     for octet in range(256):
         if octet < 4 or octet > 253 or octet.bit_count() == 1 or octet in (0x30, 0x54, 0x7F, 0xAA):
             octets = message("Cancel-Reply", "9F 23 01", bytes([octet]))
@@ -18,7 +20,12 @@ def books():
     for content in ("", "00 00", "FF FF", "00 FF", "FF 00 00", "00" * 128):
         octets = message("Cancel-Reply", MARK, element("9F 23", content))
         size = len(bytes.fromhex(content))
-        group.refused(f"boolean-of-{size}-octets" + ("-" + content[:2].lower() + content[-2:].lower() if size == 2 else ""), f"a content of {size} octets", octets, "BadBoolean")
+        group.refused(
+            f"boolean-of-{size}-octets" + ("-" + content[:2].lower() + content[-2:].lower() if size == 2 else ""),
+            f"a content of {size} octets",
+            octets,
+            "BadBoolean",
+        )
     group = book.group("each BOOLEAN", "Each row of type BOOLEAN has these contents.", clause="X.690, 8.2")
     for node, rows in ROWS.items():
         for i, row in enumerate(rows):

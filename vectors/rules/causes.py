@@ -119,9 +119,17 @@ def last_places():
         "Missing": ("the end of a message of the greatest size", large(MARK, apdu="71"), "Message.note"),
         "BadEnd": ("00 01 at the end of a message of the greatest size", in_indefinite(MARK, "00 01")),
         "BadBoolean": ("an empty BOOLEAN at the end of a message of the greatest size", large(element("BF 29", DATE, MARK, "81 00"), apdu="6C")),
-        "BadInteger": ("an empty ENUMERATED at the end of a message of the greatest size", large(numbers[0], element("AB", numbers[1], MARK, "83 00"), apdu="61")),
-        "IntegerTooLong": ("nine octets of an ENUMERATED at the end of a message of the greatest size", large(numbers[0], element("AB", numbers[1], MARK, "83 09 01", bytes(8)), apdu="61")),
-        "BadText": ("a text of one octet at the end of a message of the greatest size", large(element("9F 25", text("20240229")), element("BF 27", MARK, "81 01 2A"), apdu="6A")),
+        "BadInteger": (
+            "an empty ENUMERATED at the end of a message of the greatest size", large(numbers[0], element("AB", numbers[1], MARK, "83 00"), apdu="61")
+        ),
+        "IntegerTooLong": (
+            "nine octets of an ENUMERATED at the end of a message of the greatest size",
+            large(numbers[0], element("AB", numbers[1], MARK, "83 09 01", bytes(8)), apdu="61"),
+        ),
+        "BadText": (
+            "a text of one octet at the end of a message of the greatest size",
+            large(element("9F 25", text("20240229")), element("BF 27", MARK, "81 01 2A"), apdu="6A"),
+        ),
         "BadDate": ("an empty date at the end of a message of the greatest size", large(element("BF 29", MARK, "80 00"), apdu="6C")),
         "BadTime": ("an empty time at the end of a message of the greatest size", large(service=service)),
         "TrailingBytes": ("an octet after a message of the greatest size", joined(whole, MARK, "74")),
@@ -131,35 +139,79 @@ def last_places():
 
 def cuts(book):
     group = book.group("each cut", "Each front of a message that isn't the whole of it is Truncated at its size.", cause="Truncated")
-    for name, octets, what in [("expired", expired(), "an EXPIRED in normal form"), ("indefinite", all_indefinite(), "an EXPIRED in indefinite form")]:
+    for name, octets, what in [
+        ("expired", expired(), "an EXPIRED in normal form"),
+        ("indefinite", all_indefinite(), "an EXPIRED in indefinite form"),
+    ]:
         for size in range(len(octets)):
             group.refused(f"cut-{name}-{size}", f"the first {size} octets of {what}", joined(octets[:size], MARK), "Truncated")
 
 
 def order(book):
-    group = book.group("which fault counts", "An element is judged from left to right: identifier, depth, tag, form, length, room, content.", cause="order of judgement")
+    group = book.group(
+        "which fault counts",
+        "An element is judged from left to right: identifier, depth, tag, form, length, room, content.",
+        cause="order of judgement",
+    )
     deep = joined("74 80 30 80 80 01 02 A1 80 A1 80 3B 80", bytes.fromhex("24 80") * 27)
     for name, comment, octets, cause, *part in [
         ("tag-before-length", "a wrong tag with the length octet FF", joined(MARK, "75 FF"), "UnexpectedTag"),
         ("tag-before-end-of-input", "a wrong tag as the last octet", joined("74 1F 30 1D 80 01 02", MARK, "A2"), "UnexpectedTag"),
         ("tag-before-end-of-parent", "a wrong tag as the last octet of a definite element", joined("74 01", MARK, "9E"), "UnexpectedTag"),
         ("tag-before-form", "a wrong tag in a wrong form", joined("74 1F", MARK, "9E"), "UnexpectedTag"),
-        ("left-out-before-length", "a part that is left out with the length octet FF", joined(MARK, "62 FF"), "LeftOut", "ILL-APDU.Forward-Notification"),
+        (
+            "left-out-before-length",
+            "a part that is left out with the length octet FF",
+            joined(MARK, "62 FF"),
+            "LeftOut",
+            "ILL-APDU.Forward-Notification",
+        ),
         ("left-out-primitive", "a part that is left out, primitive", joined(MARK, "42 00"), "LeftOut", "ILL-APDU.Forward-Notification"),
-        ("left-out-past-end", "a part that is left out with a length that passes its parent", message("Lost", MARK, "BF 31 7F"), "LeftOut", "Lost.lost-extensions"),
-        ("left-out-not-due", "a part that is left out before a mandatory part isn't due", message("Message", MARK, "BF 31 00 BF 2E 03 1B 01 41"), "UnexpectedTag"),
-        ("left-out-too-late", "a part that is left out after a later part isn't due", request(item=element("B0", "B2 03 1B 01 41", MARK, "B1 00")), "UnexpectedTag"),
+        (
+            "left-out-past-end",
+            "a part that is left out with a length that passes its parent",
+            message("Lost", MARK, "BF 31 7F"),
+            "LeftOut",
+            "Lost.lost-extensions",
+        ),
+        (
+            "left-out-not-due",
+            "a part that is left out before a mandatory part isn't due",
+            message("Message", MARK, "BF 31 00 BF 2E 03 1B 01 41"),
+            "UnexpectedTag",
+        ),
+        (
+            "left-out-too-late",
+            "a part that is left out after a later part isn't due",
+            request(item=element("B0", "B2 03 1B 01 41", MARK, "B1 00")),
+            "UnexpectedTag",
+        ),
         ("form-before-length", "a wrong form with the length octet FF", joined(MARK, "54 FF"), "WrongForm"),
         ("form-before-end-of-input", "a wrong form as the last octet", joined("74 1F 30 1D", MARK, "A0"), "WrongForm"),
         ("identifier-before-tag", "octets that are no identifier where no high tag is due", joined("74 1F 30 1D", MARK, "9F 80"), "BadTag"),
         ("identifier-cut-at-end-of-parent", "an identifier that passes its parent", element("74", element("30", HEAD, MARK, "BF")), "Overrun"),
         ("identifier-cut-at-end-of-input", "an identifier that the input ends in", joined("74 80 30 80", HEAD, "BF", MARK), "Truncated"),
-        ("length-octet-before-room", "the length octet 80 of a primitive element at the end of its parent", joined("74 1F 30 02", MARK, "80 80"), "BadLength"),
+        (
+            "length-octet-before-room",
+            "the length octet 80 of a primitive element at the end of its parent",
+            joined("74 1F 30 02", MARK, "80 80"),
+            "BadLength",
+        ),
         ("room-before-end-of-input", "a length that passes its parent, and the input ends", joined("74 1F 30 1D", MARK, "80 1C"), "Overrun"),
-        ("length-whole-before-judged", "a length of 126 octets FF but the last, which isn't there", joined("74 FE", b"\xff" * 125, MARK), "Truncated"),
+        (
+            "length-whole-before-judged",
+            "a length of 126 octets FF but the last, which isn't there",
+            joined("74 FE", b"\xff" * 125, MARK),
+            "Truncated",
+        ),
         ("length-judged-when-whole", "a length of 126 octets FF", joined(MARK, "74 FE", b"\xff" * 126), "TooLong"),
         ("length-octets-before-room", "length octets that pass their parent", joined("74 1F", MARK, "30 FE", bytes(29)), "Overrun"),
-        ("content-judged-when-whole", "a number of two octets, the first 00, the second not there", joined("74 1F 30 1D 80 02 00", MARK), "Truncated"),
+        (
+            "content-judged-when-whole",
+            "a number of two octets, the first 00, the second not there",
+            joined("74 1F 30 1D 80 02 00", MARK),
+            "Truncated",
+        ),
         ("content-after-room", "a number of nine octets in a parent of eight", joined("74 0A 30 08", MARK, "80 09 01", bytes(5)), "Overrun"),
         ("padded-before-too-long", "nine octets of a number with equal first bits", expired(version=joined(MARK, "80 09", bytes(9))), "BadInteger"),
         ("depth-before-tag", "a wrong tag at depth 33", joined(deep, MARK, "1B"), "TooDeep"),
@@ -167,16 +219,55 @@ def order(book):
         ("identifier-before-depth", "octets that are no identifier at depth 33", joined(deep, MARK, "9F 80"), "BadTag"),
         ("end-mark-at-depth-33", "half an end mark at depth 33", joined(deep, "00", MARK), "Truncated"),
         ("bad-end-at-depth-33", "a bad end mark at depth 33", joined(deep, MARK, "00 01"), "BadEnd"),
-        ("missing-before-end-of-input", "a SEQUENCE without parts ends where the input ends", joined("74 02 30 00", MARK), "Missing", "Expired.protocol-version-num"),
-        ("missing-before-parent", "a SEQUENCE without parts, and its APDU goes on with 00", joined("74 04 30 00", MARK, "00 00"), "Missing", "Expired.protocol-version-num"),
-        ("missing-inner-first", "an inner and an outer SEQUENCE end at one place, each without a part", element("74", element("30", VERSION, element("A1", GROUP), MARK)), "Missing", "Transaction-Id.transaction-qualifier"),
-        ("missing-at-end-mark", "an indefinite APDU without parts, its end mark whole", joined("74 80", MARK, "00 00"), "Missing", "Expired.protocol-version-num"),
+        (
+            "missing-before-end-of-input",
+            "a SEQUENCE without parts ends where the input ends",
+            joined("74 02 30 00", MARK),
+            "Missing",
+            "Expired.protocol-version-num",
+        ),
+        (
+            "missing-before-parent",
+            "a SEQUENCE without parts, and its APDU goes on with 00",
+            joined("74 04 30 00", MARK, "00 00"),
+            "Missing",
+            "Expired.protocol-version-num",
+        ),
+        (
+            "missing-inner-first",
+            "an inner and an outer SEQUENCE end at one place, each without a part",
+            element("74", element("30", VERSION, element("A1", GROUP), MARK)),
+            "Missing",
+            "Transaction-Id.transaction-qualifier",
+        ),
+        (
+            "missing-at-end-mark",
+            "an indefinite APDU without parts, its end mark whole",
+            joined("74 80", MARK, "00 00"),
+            "Missing",
+            "Expired.protocol-version-num",
+        ),
         ("half-end-mark-before-missing", "an indefinite APDU without parts, its end mark half", joined("74 80 00", MARK), "Truncated"),
         ("bad-end-before-missing", "an indefinite SEQUENCE without parts and 00 01", joined("74 80 30 80", MARK, "00 01"), "BadEnd"),
-        ("text-at-end-of-string", "a bad octet in the first segment, and a wrong tag after it", expired(group=element("A1", element("3B", "04 01 1B", MARK, "1B 01 47"))), "UnexpectedTag"),
-        ("text-before-next-element", "a bad text, and a wrong tag after the string", expired(group=element("A1", MARK, "3B 03 04 01 1B", "05 00")), "BadText"),
+        (
+            "text-at-end-of-string",
+            "a bad octet in the first segment, and a wrong tag after it",
+            expired(group=element("A1", element("3B", "04 01 1B", MARK, "1B 01 47"))),
+            "UnexpectedTag",
+        ),
+        (
+            "text-before-next-element",
+            "a bad text, and a wrong tag after the string",
+            expired(group=element("A1", MARK, "3B 03 04 01 1B", "05 00")),
+            "BadText",
+        ),
         ("first-of-two-texts", "two bad texts", expired(group=element("A1", MARK, "1B 01 0E"), qualifier=element("A2", "1B 01 0F")), "BadText"),
-        ("normal-form-before-trailing", "a normal form that is too long, and octets after the message", joined(first_places()["NormalTooLong"][1], "74"), "NormalTooLong"),
+        (
+            "normal-form-before-trailing",
+            "a normal form that is too long, and octets after the message",
+            joined(first_places()["NormalTooLong"][1], "74"),
+            "NormalTooLong",
+        ),
         ("limit-before-end-of-input", "a length that passes the limit, and the input ends", joined(MARK, "74 84 7F FF FF FF"), "TooLong"),
         ("room-before-limit", "a length that passes its parent and the limit", joined("74 1F", MARK, "30 84 7F FF FF FF"), "Overrun"),
         ("fault-before-trailing", "a fault in the message, and octets after it", joined("74 1F 30 1D", MARK, "81", HEAD, HEAD), "UnexpectedTag"),

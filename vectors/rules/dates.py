@@ -11,17 +11,25 @@ DAYS = [31, 29, 31, 30, 31, 30, 31, 31, 30, 31, 30, 31]
 
 def books():
     book = Book("dates", "ISO-Date and ISO-Time")
-    group = book.group("ISO-Date", "YYYYMMDD, eight digits of a day of the years 0000 to 9999 in the Gregorian calendar.", limit="octets of an ISO-Date")
+    group = book.group(
+        "ISO-Date", "YYYYMMDD, eight digits of a day of the years 0000 to 9999 in the Gregorian calendar.", limit="octets of an ISO-Date"
+    )
     dates(group)
-    group = book.group("ISO-Time", "HHMMSS, six digits: hours to 23, minutes to 59, seconds to 60; and 240000, which isn't 000000.", limit="octets of an ISO-Time")
+    group = book.group(
+        "ISO-Time", "HHMMSS, six digits: hours to 23, minutes to 59, seconds to 60; and 240000, which isn't 000000.", limit="octets of an ISO-Time"
+    )
     times(group)
-    group = book.group("each date and time", "Each row of type ISO-Date or ISO-Time has these contents.", limit="octets of an ISO-Date and an ISO-Time")
+    group = book.group(
+        "each date and time", "Each row of type ISO-Date or ISO-Time has these contents.", limit="octets of an ISO-Date and an ISO-Time"
+    )
     for node, rows in ROWS.items():
         for i, row in enumerate(rows):
             if row.node in ("IsoDate", "IsoTime"):
                 entries, part, cause = sample(node), part_name(node, i), {"IsoDate": "BadDate", "IsoTime": "BadTime"}[row.node]
                 bad = {"IsoDate": "20230229", "IsoTime": "240001"}[row.node]
-                octets = octets_of(around(node, entries[:i] + [Octets(MARK, element(Writer().identifier(row.tag, False), text(bad)))] + entries[i + 1 :]))
+                octets = octets_of(
+                    around(node, entries[:i] + [Octets(MARK, element(Writer().identifier(row.tag, False), text(bad)))] + entries[i + 1 :])
+                )
                 group.refused(f"iso-date-{slug(part)}-{bad}", f"{part} is {bad}", octets, cause)
     yield book
 
@@ -30,7 +38,9 @@ def dates(group):
     for month, days in enumerate(DAYS, 1):
         for day in (1, days):
             date = f"2024{month:02}{day:02}"
-            group.valid(f"iso-date-{date}", f"day {day} of month {month} of a leap year", expired(date=element("80", text(date))), "Expired", with_date(date))
+            group.valid(
+                f"iso-date-{date}", f"day {day} of month {month} of a leap year", expired(date=element("80", text(date))), "Expired", with_date(date)
+            )
         bad_date(group, f"2024{month:02}{days + 1:02}", f"day {days + 1} of month {month}")
     for date, what in [
         ("00000101", "the first day"),

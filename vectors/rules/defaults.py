@@ -3,7 +3,8 @@ from encoder import Writer
 from tables import ROWS, default_of
 
 from rules.book import Book
-from rules.messages import OPTIONAL_MESSAGES, REQUEST_VALUE, TYPES, Octets, around, message, octets_of, other, part_name, request, sample, slug, with_head
+from rules.messages import OPTIONAL_MESSAGES, REQUEST_VALUE, TYPES, Octets
+from rules.messages import around, message, octets_of, other, part_name, request, sample, slug, with_head
 from rules.octets import MARK, element, indefinite
 
 
@@ -51,10 +52,22 @@ def together(book):
         there = [octets if choice >> bit & 1 else "" for octets, bit in parts]
         octets = message("ILL-Request", there[0], TYPES, OPTIONAL_MESSAGES, there[1], "B0 00", there[2], there[3])
         what = " ".join(filter(None, there)) or "none"
-        group.valid(f"defaults-of-a-request-{choice:04b}", f"of an ILL-REQUEST's defaults these are written: {what}", octets, "ILL-Request", with_head(REQUEST_VALUE))
+        group.valid(
+            f"defaults-of-a-request-{choice:04b}",
+            f"of an ILL-REQUEST's defaults these are written: {what}",
+            octets,
+            "ILL-Request",
+            with_head(REQUEST_VALUE),
+        )
     octets = request(beside="B4 06 80 01 00 85 01 02")
     value = with_head({**REQUEST_VALUE, "third-party-info-type": {}})
-    group.valid("defaults-leave-an-empty-sequence", "a Third-Party-Info of defaults alone is an empty sequence, not an absent one", octets, "ILL-Request", value)
+    group.valid(
+        "defaults-leave-an-empty-sequence",
+        "a Third-Party-Info of defaults alone is an empty sequence, not an absent one",
+        octets,
+        "ILL-Request",
+        value,
+    )
     octets = request(beside="B2 09 82 01 00 83 01 00 84 01 00")
     value = with_head({**REQUEST_VALUE, "cost-info-type": {}})
     group.valid("defaults-leave-an-empty-cost-info", "a Cost-Info of defaults alone is an empty sequence", octets, "ILL-Request", value)

@@ -16,17 +16,29 @@ KINDS = {"integer": "an INTEGER", "enumerated": "an ENUMERATED"}
 def books():
     book = Book("integers", "INTEGER and ENUMERATED contents (X.690, 8.3 and 8.4)")
     group = book.group("two's complement", "The content is the number in two's complement.", clause="X.690, 8.3.3")
-    both(group, "integer", lambda content: expired(version=element("80", content)), lambda number: ("Expired", with_head(protocol_version_num=number)))
+    both(
+        group, "integer", lambda content: expired(version=element("80", content)), lambda number: ("Expired", with_head(protocol_version_num=number))
+    )
     group = book.group("two's complement of an ENUMERATED", "The content is that of an INTEGER. Any number is read.", clause="X.690, 8.4")
     both(group, "enumerated", listed, lambda number: ("ILL-Request", with_head({**REQUEST_VALUE, "ill-service-type": [number]})))
     group = book.group("fewest octets", "Of two octets or more, the first nine bits aren't all equal.", clause="X.690, 8.3.2")
-    for kind, make in [("integer", lambda content: expired(version=joined(MARK, element("80", content)))), ("enumerated", lambda content: listed(content, MARK))]:
+    for kind, make in [
+        ("integer", lambda content: expired(version=joined(MARK, element("80", content)))),
+        ("enumerated", lambda content: listed(content, MARK)),
+    ]:
         for content in PADDED:
             name = content.replace(" ", "").lower()
             group.refused(f"content-{kind}-padded-{name}", f"{KINDS[kind]} of {content}", make(content), "BadInteger")
         group.refused(f"content-{kind}-empty", f"{KINDS[kind]} without content", make(""), "BadInteger")
-    group = book.group("octets of a number", "A number has at most eight octets, here. Of nine or more with equal first bits BadInteger is the cause.", limit="octets of a number: 8")
-    for kind, make in [("integer", lambda content: expired(version=joined(MARK, element("80", content)))), ("enumerated", lambda content: listed(content, MARK))]:
+    group = book.group(
+        "octets of a number",
+        "A number has at most eight octets, here. Of nine or more with equal first bits BadInteger is the cause.",
+        limit="octets of a number: 8",
+    )
+    for kind, make in [
+        ("integer", lambda content: expired(version=joined(MARK, element("80", content)))),
+        ("enumerated", lambda content: listed(content, MARK)),
+    ]:
         for name, content, cause in [
             ("nine-octets", "01" + " 00" * 8, "IntegerTooLong"),
             ("nine-octets-of-2-63", "00 80" + " 00" * 7, "IntegerTooLong"),
@@ -38,7 +50,11 @@ def books():
             ("300-octets", "01" * 300, "IntegerTooLong"),
         ]:
             group.refused(f"content-{kind}-{name}", f"{KINDS[kind]} of {len(bytes.fromhex(content))} octets from {content[:5]}", make(content), cause)
-    group = book.group("each number", "Each row of type INTEGER or ENUMERATED has numbers of one to eight octets, whatever the module names.", clause="X.690, 8.3 and 8.4")
+    group = book.group(
+        "each number",
+        "Each row of type INTEGER or ENUMERATED has numbers of one to eight octets, whatever the module names.",
+        clause="X.690, 8.3 and 8.4",
+    )
     for node, rows in ROWS.items():
         for i, row in enumerate(rows):
             if row.node in ("Integer", "Enumerated") and row.tag:

@@ -118,7 +118,12 @@ def bad(book):
         octets = make(lambda identifier, *parts: joined(MARK, element(identifier, *parts, form=fixed("FF"))))
         group.refused(f"length-ff-of-{kind}", f"the first length octet of {what} is FF", octets, "BadLength")
     group.refused("length-ff-alone", "nothing follows the FF", joined(MARK, "74 FF"), "BadLength")
-    group.refused("length-ff-and-127-octets", "as if FF were a long form of 127 octets", joined(MARK, "74 FF", bytes(126), "1F", element("30", HEAD)), "BadLength")
+    group.refused(
+        "length-ff-and-127-octets",
+        "as if FF were a long form of 127 octets",
+        joined(MARK, "74 FF", bytes(126), "1F", element("30", HEAD)),
+        "BadLength",
+    )
     group = book.group("indefinite form of primitive elements", "A primitive element has a definite length.", clause="X.690, 8.1.3.2 a")
     for kind, (what, make, _) in PRIMITIVE.items():
         octets = make(lambda identifier, *parts: joined(MARK, indefinite(identifier, *parts)))
@@ -132,5 +137,12 @@ def cut(book):
             octets = joined("74", bytes([0x80 | count]), bytes(there), MARK)
             group.refused(f"length-cut-{there}-of-{count}", f"the input ends after {there} of {count} octets of a length", octets, "Truncated")
     group.refused("length-cut-before", "the input ends before the length", joined("74", MARK), "Truncated")
-    group.refused("length-octets-past-sequence", "the octets of a length pass the definite element round it", joined("74 1F", MARK, "30 FE", bytes(29)), "Overrun")
-    group.refused("length-octets-past-wrapper", "the first length octet passes the definite element round it", joined("74 01", MARK, "30 00"), "Overrun")
+    group.refused(
+        "length-octets-past-sequence",
+        "the octets of a length pass the definite element round it",
+        joined("74 1F", MARK, "30 FE", bytes(29)),
+        "Overrun",
+    )
+    group.refused(
+        "length-octets-past-wrapper", "the first length octet passes the definite element round it", joined("74 01", MARK, "30 00"), "Overrun"
+    )

@@ -169,10 +169,18 @@ def contents(book):
 
 
 def many(book):
-    group = book.group("many elements", "There is no limit of items and segments but the size of the message.", limit="octets of a message: 1,048,576")
+    group = book.group(
+        "many elements", "There is no limit of items and segments but the size of the message.", limit="octets of a message: 1,048,576"
+    )
     count = (LIMIT - 128) // 3
     octets = request(element("A9", bytes.fromhex("0A 01 01") * count))
-    group.valid("limit-many-items", f"a list of {count} items", octets, "ILL-Request", with_head({**REQUEST_VALUE, "ill-service-type": {"item": 1, "count": count}}))
+    group.valid(
+        "limit-many-items",
+        f"a list of {count} items",
+        octets,
+        "ILL-Request",
+        with_head({**REQUEST_VALUE, "ill-service-type": {"item": 1, "count": count}}),
+    )
     count = (LIMIT - 128) // 2
     octets = message("ILL-Answer", "9F 1F 01 02", element("BF 22", bytes.fromhex("30 00") * count))
     value = with_head({"transaction-results": 2, "already-tried-list": {"item": {}, "count": count}})

@@ -5,7 +5,7 @@ from functools import cache
 from encoder import Writer
 from tables import CHOICES, LISTS, NAMES, ROWS, default_of
 
-from rules.octets import MARK, element, joined, text
+from rules.octets import element, joined, text
 
 # what each message begins with
 VERSION = element("80", "02")
@@ -95,7 +95,15 @@ class Builder(Writer):
         return True
 
 
-SAMPLES = {"Boolean": True, "Integer": 1, "Enumerated": 1, "IsoDate": "20240229", "IsoTime": "120000", "PrintableString": "1", "IllString": ("general", "A")}
+SAMPLES = {
+    "Boolean": True,
+    "Integer": 1,
+    "Enumerated": 1,
+    "IsoDate": "20240229",
+    "IsoTime": "120000",
+    "PrintableString": "1",
+    "IllString": ("general", "A"),
+}
 
 
 def sample(node):

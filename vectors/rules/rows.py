@@ -6,7 +6,14 @@ from rules.messages import Builder, Contents, Octets, around, full, identifier, 
 from rules.octets import MARK, element, joined
 
 PRESENCE = {"Must": "mandatory", "May": "optional", "Default": "with a default", "LeftOut": "left out"}
-TYPES = {"IsoDate": "ISO-Date", "IsoTime": "ISO-Time", "IllString": "ILL-String", "Boolean": "BOOLEAN", "Integer": "INTEGER", "Enumerated": "ENUMERATED"}
+TYPES = {
+    "IsoDate": "ISO-Date",
+    "IsoTime": "ISO-Time",
+    "IllString": "ILL-String",
+    "Boolean": "BOOLEAN",
+    "Integer": "INTEGER",
+    "Enumerated": "ENUMERATED",
+}
 
 
 def books():
@@ -63,7 +70,9 @@ def row(book, node, i):
     else:
         entries = sample(node)
         entries[i] = other(row)
-        group.spells(f"{name}-present", f"{part}, and of the other parts only the mandatory ones", octets_of(around(node, entries)), around(node, entries))
+        group.spells(
+            f"{name}-present", f"{part}, and of the other parts only the mandatory ones", octets_of(around(node, entries)), around(node, entries)
+        )
     if row.presence != "Must":
         entries = full(node)
         entries[i] = default_of(row)
@@ -125,7 +134,9 @@ def strangers(book):
         least, name = written(node, sample(node)), slug(NAMES[node][0])
         for tag, what in [("9F 64", "[100]"), ("05", "a NULL"), ("30", "a SEQUENCE")]:
             octets = whole(node, [*least, MARK, joined(tag, "00")])
-            group.refused(f"stranger-{tag.replace(' ', '').lower()}-in-{name}", f"{what} at the end of {NAMES[node][0]}{where(node)}", octets, "UnexpectedTag")
+            group.refused(
+                f"stranger-{tag.replace(' ', '').lower()}-in-{name}", f"{what} at the end of {NAMES[node][0]}{where(node)}", octets, "UnexpectedTag"
+            )
 
 
 def lists(book):
@@ -146,7 +157,9 @@ def lists(book):
         if node in CHOICES or node in LISTS:
             continue
         for i, row in enumerate(rows):
-            if row.presence == "May" and row.mode == "Implicit" and row.node in ROWS and row.node not in LISTS and not any(r.presence == "Must" for r in ROWS[row.node]):
+            if row.presence == "May" and row.mode == "Implicit" and row.node in ROWS and row.node not in LISTS and not any(
+                r.presence == "Must" for r in ROWS[row.node]
+            ):
                 entries = sample(node)
                 octets = octets_of(around(node, entries[:i] + [Octets(element(identifier(row)))] + entries[i + 1 :]))
                 entries[i] = [default_of(inner) for inner in ROWS[row.node]]

@@ -33,11 +33,21 @@ def jones(book):
         segments = joined("04 03 4A 6F 6E 04 02 65 73")
         group.valid(f"string-jones-{kind}-primitive", f"{tag} 05 4A 6F 6E 65 73", of_group(tag, "05 4A 6F 6E 65 73"), "Expired", value)
         group.valid(f"string-jones-{kind}-segments", f"{constructed} 09 and two segments", of_group(constructed, "09", segments), "Expired", value)
-        group.valid(f"string-jones-{kind}-indefinite", f"{constructed} 80, two segments and 00 00", of_group(constructed, "80", segments, "00 00"), "Expired", value)
+        group.valid(
+            f"string-jones-{kind}-indefinite",
+            f"{constructed} 80, two segments and 00 00",
+            of_group(constructed, "80", segments, "00 00"),
+            "Expired",
+            value,
+        )
 
 
 def segments(book):
-    group = book.group("segments", "A string in constructed form is any number of segments, each of any size, in either form. Its octets are theirs, joined.", clause="X.690, 8.7.3")
+    group = book.group(
+        "segments",
+        "A string in constructed form is any number of segments, each of any size, in either form. Its octets are theirs, joined.",
+        clause="X.690, 8.7.3",
+    )
     for name, pieces, said in [
         ("none", "", ""),
         ("one-empty", "04 00", ""),
@@ -54,14 +64,44 @@ def segments(book):
         ("nested-empty", "24 04 24 02 24 00", ""),
         ("nested-in-turn", "24 80 04 01 47 24 05 04 01 48 24 00 00 00 04 01 49", "GHI"),
     ]:
-        group.valid(f"segments-{name}", f"segments {pieces}" if pieces else "no segments", of_group(element("3B", pieces)), "Expired", with_group(said))
-        group.valid(f"segments-{name}-in-indefinite", f"{f'segments {pieces}' if pieces else 'no segments'} in an indefinite string", of_group(indefinite("3B", pieces)), "Expired", with_group(said))
+        group.valid(
+            f"segments-{name}", f"segments {pieces}" if pieces else "no segments", of_group(element("3B", pieces)), "Expired", with_group(said)
+        )
+        group.valid(
+            f"segments-{name}-in-indefinite",
+            f"{f'segments {pieces}' if pieces else 'no segments'} in an indefinite string",
+            of_group(indefinite("3B", pieces)),
+            "Expired",
+            with_group(said),
+        )
     many = "".join(f"04 01 {octet:02X}" for octet in range(0x20, 0x7F))
-    group.valid("segments-of-one-octet-each", "95 segments of one octet", of_group(element("3B", many)), "Expired", with_group("".join(map(chr, range(0x20, 0x7F)))))
-    group.valid("segments-1000", "1000 segments of one octet", of_group(indefinite("3B", joined("04 01 41") * 1000)), "Expired", with_group("A" * 1000))
-    group.valid("segments-long-lengths", "segments with lengths in the long form", of_group(element("3B", element("04", "47", form=of(1)), element("04", "48", form=of(9)))), "Expired", with_group("GH"))
-    group.valid("segments-octets-that-look-like-elements", "a segment whose octets look like an end mark and a header", of_group(indefinite("3B", "04 05 00 00 04 01 47")), "Expired", with_group("\0\0\x04\x01G"))
-    group = book.group("segments of the part that may be split anywhere", "A segment may end in the middle of what the text says.", clause="X.690, 8.7.3")
+    group.valid(
+        "segments-of-one-octet-each",
+        "95 segments of one octet",
+        of_group(element("3B", many)),
+        "Expired",
+        with_group("".join(map(chr, range(0x20, 0x7F)))),
+    )
+    group.valid(
+        "segments-1000", "1000 segments of one octet", of_group(indefinite("3B", joined("04 01 41") * 1000)), "Expired", with_group("A" * 1000)
+    )
+    group.valid(
+        "segments-long-lengths",
+        "segments with lengths in the long form",
+        of_group(element("3B", element("04", "47", form=of(1)), element("04", "48", form=of(9)))),
+        "Expired",
+        with_group("GH"),
+    )
+    group.valid(
+        "segments-octets-that-look-like-elements",
+        "a segment whose octets look like an end mark and a header",
+        of_group(indefinite("3B", "04 05 00 00 04 01 47")),
+        "Expired",
+        with_group("\0\0\x04\x01G"),
+    )
+    group = book.group(
+        "segments of the part that may be split anywhere", "A segment may end in the middle of what the text says.", clause="X.690, 8.7.3"
+    )
     for cut in range(1, 8):
         date = "20240229"
         octets = expired(date=element("A0", element("04", text(date[:cut])), element("04", text(date[cut:]))))
@@ -70,27 +110,73 @@ def segments(book):
     group.valid("segments-of-a-date-each", "a segment for each digit of a date", octets, "Expired", HEAD_VALUE)
     value = with_head(date_returned="20240229", insured_for={"currency-code": "USD", "monetary-value": "12.50"})
     amount = joined("BF 27", element("", element("A0", "04 02 55 53 04 01 44"), element("A1", indefinite("24", "04 02 31 32"), "04 03 2E 35 30")))
-    group.valid("segments-of-an-amount", "a currency-code and a monetary-value in segments", message("Returned", element("9F 25", text("20240229")), amount), "Returned", value)
+    group.valid(
+        "segments-of-an-amount",
+        "a currency-code and a monetary-value in segments",
+        message("Returned", element("9F 25", text("20240229")), amount),
+        "Returned",
+        value,
+    )
 
 
 def tags(book):
-    group = book.group("tags of segments", "A segment has the tag of an OCTET STRING, universal 4, whatever the string's tag is.", clause="X.690, 8.23.6")
-    for tag, what in [("1B", "GeneralString"), ("1A", "VisibleString"), ("13", "PrintableString"), ("0C", "UTF8String"), ("03", "BIT STRING"), ("02", "INTEGER"), ("05", "NULL"), ("30", "SEQUENCE"), ("84", "[4]"), ("A1", "[1]")]:
+    group = book.group(
+        "tags of segments", "A segment has the tag of an OCTET STRING, universal 4, whatever the string's tag is.", clause="X.690, 8.23.6"
+    )
+    for tag, what in [
+        ("1B", "GeneralString"),
+        ("1A", "VisibleString"),
+        ("13", "PrintableString"),
+        ("0C", "UTF8String"),
+        ("03", "BIT STRING"),
+        ("02", "INTEGER"),
+        ("05", "NULL"),
+        ("30", "SEQUENCE"),
+        ("84", "[4]"),
+        ("A1", "[1]"),
+    ]:
         for string, kind in [("3B", "general"), ("3A", "visible")]:
             octets = of_group(element(string, MARK, element(tag, "47")))
-            group.refused(f"segment-with-tag-{tag.lower()}-in-{kind}", f"a segment with the tag of {what} in a {kind.capitalize()}String", octets, "UnexpectedTag")
+            group.refused(
+                f"segment-with-tag-{tag.lower()}-in-{kind}",
+                f"a segment with the tag of {what} in a {kind.capitalize()}String",
+                octets,
+                "UnexpectedTag",
+            )
     octets = of_group(element("3B", "04 01 47", MARK, "1B 01 48"))
     group.refused("segment-second-with-the-strings-tag", "the second segment has the string's tag", octets, "UnexpectedTag")
     octets = of_group(element("3B", element("24", MARK, "1B 01 47")))
     group.refused("segment-inner-with-the-strings-tag", "a segment in a segment has the string's tag", octets, "UnexpectedTag")
     octets = of_group(element("3B", element("24", MARK, "3B 03 04 01 47")))
     group.refused("segment-inner-string", "a string in segments in a segment", octets, "UnexpectedTag")
-    group.refused("segment-of-a-date-with-visible-tag", "a date's segment has VisibleString's tag", expired(date=element("A0", MARK, "1A 08", text("20240229"))), "UnexpectedTag")
-    group.refused("segment-of-a-date-with-its-own-tag", "a date's segment has the date's tag", expired(date=element("A0", MARK, "80 08", text("20240229"))), "UnexpectedTag")
+    group.refused(
+        "segment-of-a-date-with-visible-tag",
+        "a date's segment has VisibleString's tag",
+        expired(date=element("A0", MARK, "1A 08", text("20240229"))),
+        "UnexpectedTag",
+    )
+    group.refused(
+        "segment-of-a-date-with-its-own-tag",
+        "a date's segment has the date's tag",
+        expired(date=element("A0", MARK, "80 08", text("20240229"))),
+        "UnexpectedTag",
+    )
     group = book.group("tags of strings", "An ILL-String is a GeneralString or a VisibleString, which are two values.", clause="X.690, 8.13")
     group.valid("string-general", "GeneralString G", of_group("1B 01 47"), "Expired", with_group("G"))
     group.valid("string-visible", "VisibleString G", of_group("1A 01 47"), "Expired", with_group(visible="G"))
-    for tag, what in [("04", "OCTET STRING"), ("0C", "UTF8String"), ("12", "NumericString"), ("13", "PrintableString"), ("14", "TeletexString"), ("16", "IA5String"), ("19", "GraphicString"), ("1C", "UniversalString"), ("1E", "BMPString"), ("24", "OCTET STRING in segments"), ("33", "PrintableString in segments")]:
+    for tag, what in [
+        ("04", "OCTET STRING"),
+        ("0C", "UTF8String"),
+        ("12", "NumericString"),
+        ("13", "PrintableString"),
+        ("14", "TeletexString"),
+        ("16", "IA5String"),
+        ("19", "GraphicString"),
+        ("1C", "UniversalString"),
+        ("1E", "BMPString"),
+        ("24", "OCTET STRING in segments"),
+        ("33", "PrintableString in segments"),
+    ]:
         octets = of_group(MARK, element(tag, "47"))
         group.refused(f"string-with-tag-{tag.lower()}", f"{what} for an ILL-String", octets, "UnexpectedTag")
 
@@ -98,7 +184,9 @@ def tags(book):
 def general(book):
     group = book.group("GeneralString", "Its octets are any but SO, SI and ESC (0E, 0F, 1B).", limit="octets of a GeneralString")
     octets = bytes(octet for octet in range(256) if octet not in (0x0E, 0x0F, 0x1B))
-    group.valid("general-all-octets", "each octet that there may be", of_group(element("1B", octets)), "Expired", with_group(octets.decode("latin-1")))
+    group.valid(
+        "general-all-octets", "each octet that there may be", of_group(element("1B", octets)), "Expired", with_group(octets.decode("latin-1"))
+    )
     for octet in (0x00, 0x09, 0x0A, 0x0D, 0x10, 0x1A, 0x1C, 0x1F, 0x20, 0x7E, 0x7F, 0x80, 0x9B, 0xA0, 0xE9, 0xFF):
         group.valid(f"general-octet-{octet:02x}", f"the octet {octet:02X}", of_group("1B 01", bytes([octet])), "Expired", with_group(chr(octet)))
     for octet in (0x0E, 0x0F, 0x1B):
@@ -123,7 +211,9 @@ def visible(book):
     octets = bytes(range(0x20, 0x7F))
     group.valid("visible-all-octets", "each octet that there may be", of_group(element("1A", octets)), "Expired", with_group(visible=octets.decode()))
     for octet in (0x20, 0x7E):
-        group.valid(f"visible-octet-{octet:02x}", f"the octet {octet:02X}", of_group("1A 01", bytes([octet])), "Expired", with_group(visible=chr(octet)))
+        group.valid(
+            f"visible-octet-{octet:02x}", f"the octet {octet:02X}", of_group("1A 01", bytes([octet])), "Expired", with_group(visible=chr(octet))
+        )
     group.valid("visible-empty", "no octets", of_group("1A 00"), "Expired", with_group(visible=""))
     for octet in (0x1F, 0x7F):
         bad_octet(group, "visible", "1A", octet)
@@ -150,7 +240,9 @@ def printable(book):
 
 
 def each_string(book):
-    group = book.group("each PrintableString, date and time", "Each row of these types may be in segments, under its own IMPLICIT tag.", clause="X.690, 8.14")
+    group = book.group(
+        "each PrintableString, date and time", "Each row of these types may be in segments, under its own IMPLICIT tag.", clause="X.690, 8.14"
+    )
     for node, rows in ROWS.items():
         for i, row in enumerate(rows):
             if row.node in ("PrintableString", "IsoDate", "IsoTime"):

@@ -14,7 +14,9 @@ def books():
     empty = book.group("EXPLICIT tags round nothing", "An EXPLICIT tag is round one element.", clause="X.690, 8.14")
     bare = book.group("EXPLICIT tags as IMPLICIT ones", "An EXPLICIT tag doesn't replace the tag of the string.", clause="X.690, 8.14")
     twice = book.group("EXPLICIT tags round two elements", "An EXPLICIT tag is round one element.", clause="X.690, 8.14")
-    doubled = book.group("IMPLICIT tags as EXPLICIT ones", "An IMPLICIT tag replaces the tag of the element, which isn't inside once more.", clause="X.690, 8.14")
+    doubled = book.group(
+        "IMPLICIT tags as EXPLICIT ones", "An IMPLICIT tag replaces the tag of the element, which isn't inside once more.", clause="X.690, 8.14"
+    )
     for node, rows in ROWS.items():
         for i, row in enumerate(rows):
             if row.presence != "LeftOut" and row.mode == "Explicit":
@@ -98,11 +100,21 @@ def each_alternative(book, node):
                 apdu = around(parent, entries[:at] + [(i, sample(row.node))] + entries[at + 1 :])
                 group.spells(name, comment, octets_of(apdu), apdu)
         bad = Octets(tagged(parent, at, joined(MARK, "BF 64 03 1B 01 41")))
-        group.refused(f"alternative-{slug(place)}-none", f"{place} is no alternative", octets_of(around(parent, entries[:at] + [bad] + entries[at + 1 :])), "UnexpectedTag")
+        group.refused(
+            f"alternative-{slug(place)}-none",
+            f"{place} is no alternative",
+            octets_of(around(parent, entries[:at] + [bad] + entries[at + 1 :])),
+            "UnexpectedTag",
+        )
         first = next(i for i, row in enumerate(ROWS[node]) if row.presence != "LeftOut")
         both = Writer().value(node, (first, sample(ROWS[node][first].node)), None)
         bad = Octets(tagged(parent, at, joined(both, MARK, both)))
-        group.refused(f"alternative-{slug(place)}-twice", f"{place} is two alternatives", octets_of(around(parent, entries[:at] + [bad] + entries[at + 1 :])), "UnexpectedTag")
+        group.refused(
+            f"alternative-{slug(place)}-twice",
+            f"{place} is two alternatives",
+            octets_of(around(parent, entries[:at] + [bad] + entries[at + 1 :])),
+            "UnexpectedTag",
+        )
 
 
 def tagged(parent, at, octets):

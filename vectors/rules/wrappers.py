@@ -48,7 +48,12 @@ def results(book):
         group.spells(f"wrapper-{slugged}", f"{name} round a SEQUENCE", answer(element(tag, element("30", parts))), apdu)
         group.spells(f"bare-{slugged}", f"{name} bare", answer(element(tag, parts)), apdu)
         group.spells(f"bare-{slugged}-indefinite", f"{name} bare, in the indefinite form", answer(indefinite(tag, parts)), apdu)
-        group.refused(f"bare-{slugged}-then-sequence", f"a SEQUENCE after the parts of a bare {name}", answer(element(tag, parts or "80 01 01", MARK, "30 00")), "UnexpectedTag")
+        group.refused(
+            f"bare-{slugged}-then-sequence",
+            f"a SEQUENCE after the parts of a bare {name}",
+            answer(element(tag, parts or "80 01 01", MARK, "30 00")),
+            "UnexpectedTag",
+        )
         missing = next((j for j, row in enumerate(ROWS[row.node]) if row.presence == "Must"), None)
         if missing is None:
             group.spells(f"bare-{slugged}-empty", f"{name} bare, without parts", answer(element(tag)), apdu)
@@ -56,7 +61,13 @@ def results(book):
             part = part_name(row.node, missing)
             group.refused(f"bare-{slugged}-empty", f"{name} bare, without parts", answer(element(tag, MARK)), "Missing", part)
     octets = message("ILL-Answer", "9F 1F 01 05", element("BF 20", element("A5", "80 01 01", MARK, "A4 00")))
-    group.refused("bare-will-supply-left-out", "will-supply-results bare, with a part that is left out", octets, "LeftOut", "Will-Supply.electronic-delivery-service")
+    group.refused(
+        "bare-will-supply-left-out",
+        "will-supply-results bare, with a part that is left out",
+        octets,
+        "LeftOut",
+        "Will-Supply.electronic-delivery-service",
+    )
 
 
 def both(book):
@@ -85,37 +96,40 @@ def both(book):
 def mixed(book):
     group = book.group("parts and a SEQUENCE", "In one tag there are parts or one SEQUENCE, and nothing after that.", row="ILL-APDU")
     inner = element("30", HEAD)
-    for name, octets, what in [
-        ("sequence-after-parts", element("74", HEAD, MARK, "30 00"), "a SEQUENCE after bare parts"),
-        ("sequence-after-first-part", element("74", "80 01 02", MARK, "30 00"), "a SEQUENCE after the first bare part"),
-        ("sequence-after-sequence", element("74", inner, MARK, "30 00"), "an empty SEQUENCE after the SEQUENCE"),
-        ("sequence-twice", element("74", inner, MARK, inner), "the SEQUENCE twice"),
-        ("part-after-sequence", element("74", inner, MARK, "A3 00"), "a part after the SEQUENCE"),
-        ("part-in-and-after-sequence", element("74", element("30", "80 01 02"), HEAD[3:]), "the first part in a SEQUENCE, and the others after it"),
-        ("sequence-in-sequence", element("74", element("30", MARK, inner)), "a SEQUENCE in the SEQUENCE"),
-        ("wrapper-twice", element("74", MARK, element("74", inner)), "the tag of the APDU twice"),
-        ("second-part-first", element("74", MARK, HEAD[3:]), "a bare APDU begins with its second part"),
-        ("primitive-sequence", element("74", MARK, "10 00"), "the SEQUENCE is primitive"),
-        ("constructed-first-part", element("74", MARK, "A0 00"), "the first bare part is constructed"),
-        ("set", element("74", MARK, element("31", HEAD)), "a SET in place of the SEQUENCE"),
-        ("no-apdu-tag", joined(MARK, inner), "the SEQUENCE without the tag of the APDU"),
+    for name, what, octets in [
+        ("sequence-after-parts", "a SEQUENCE after bare parts", element("74", HEAD, MARK, "30 00")),
+        ("sequence-after-first-part", "a SEQUENCE after the first bare part", element("74", "80 01 02", MARK, "30 00")),
+        ("sequence-after-sequence", "an empty SEQUENCE after the SEQUENCE", element("74", inner, MARK, "30 00")),
+        ("sequence-twice", "the SEQUENCE twice", element("74", inner, MARK, inner)),
+        ("part-after-sequence", "a part after the SEQUENCE", element("74", inner, MARK, "A3 00")),
+        ("sequence-in-sequence", "a SEQUENCE in the SEQUENCE", element("74", element("30", MARK, inner))),
+        ("wrapper-twice", "the tag of the APDU twice", element("74", MARK, element("74", inner))),
+        ("second-part-first", "a bare APDU begins with its second part", element("74", MARK, HEAD[3:])),
+        ("set", "a SET in place of the SEQUENCE", element("74", MARK, element("31", HEAD))),
+        ("no-apdu-tag", "the SEQUENCE without the tag of the APDU", joined(MARK, inner)),
     ]:
-        if name == "part-in-and-after-sequence":
-            octets = element("74", element("30", "80 01 02", MARK), HEAD[3:])
-            group.refused(f"bare-{name}", what, octets, "Missing", "Expired.transaction-id")
-        else:
-            group.refused(f"bare-{name}", what, octets, "WrongForm" if name in ("primitive-sequence", "constructed-first-part") else "UnexpectedTag")
+        group.refused(f"bare-{name}", what, octets, "UnexpectedTag")
+    group.refused("bare-primitive-sequence", "the SEQUENCE is primitive", element("74", MARK, "10 00"), "WrongForm")
+    group.refused("bare-constructed-first-part", "the first bare part is constructed", element("74", MARK, "A0 00"), "WrongForm")
+    octets = element("74", element("30", "80 01 02", MARK), HEAD[3:])
+    group.refused(
+        "bare-part-in-and-after-sequence", "the first part in a SEQUENCE, and the others after it", octets, "Missing", "Expired.transaction-id"
+    )
 
 
 def ends(book):
     group = book.group("bare APDUs that end", "A bare APDU that ends early misses the part of its SEQUENCE.", row="ILL-APDU")
     group.refused("bare-empty", "no parts at all", element("74", MARK), "Missing", "Expired.protocol-version-num")
-    group.refused("bare-empty-indefinite", "no parts at all, in the indefinite form", joined("74 80", MARK, "00 00"), "Missing", "Expired.protocol-version-num")
+    group.refused(
+        "bare-empty-indefinite", "no parts at all, in the indefinite form", joined("74 80", MARK, "00 00"), "Missing", "Expired.protocol-version-num"
+    )
     for i, row in enumerate(ROWS["Expired"]):
         if row.presence == "Must" and i:
             before = [Builder().row(other, entry) for other, entry in zip(ROWS["Expired"][:i], sample("Expired"))]
             octets = element("74", *before, MARK)
-            group.refused(f"bare-ends-before-{NAMES['Expired'][1][i]}", f"it ends before {NAMES['Expired'][1][i]}", octets, "Missing", part_name("Expired", i))
+            group.refused(
+                f"bare-ends-before-{NAMES['Expired'][1][i]}", f"it ends before {NAMES['Expired'][1][i]}", octets, "Missing", part_name("Expired", i)
+            )
     octets = element("74", HEAD, "A3 07 A0 05 A1 03 1B 01 4C")
     value = {**HEAD_VALUE, "requester-id": {"person-or-institution-symbol": {"institution-symbol": {"general": "L"}}}}
     group.valid("bare-with-optional-part", "a bare APDU with a part that may be absent", octets, "Expired", value)
