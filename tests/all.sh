@@ -6,6 +6,7 @@ cd "$(dirname "$0")" || exit 2
 (cd ../crates/illcanon && rt run -- --version >/dev/null 2>&1) || exit 2
 status=0
 command -v python3 >/dev/null && { python3 trusted.py --check || status=1; }
+command -v python3 >/dev/null && { python3 ../vectors/make.py --check && ../vectors/run.py --adapter illcanon || status=1; }
 scripts="growths.sh program.sh faults.sh"
 command -v python3 >/dev/null && scripts="$scripts spellings.py refusals.py shown.py"
 command -v python3 >/dev/null && [ -x /usr/bin/time ] && scripts="$scripts worst.py"
