@@ -13,7 +13,7 @@ ghost use Rattle.ill_cells.specs.code.Starts.{IsBegun};
 use crate::cell::{Cell, Slot, What};
 use crate::runs::{alternatives_of, cells_of};
 use ber_core::Id;
-use ill_schema::{Kind, NodeId, PartId, kind};
+use ill_schema::{NodeId, PartId};
 
 /// A place where an element may begin: a position in the cells of a node, at 0 in a wrapper round the node, from 1 on in the node itself.
 #[derive(Clone, Copy, Debug, PartialEq, Eq)]
@@ -83,13 +83,15 @@ fn nested_start(node: NodeId, id: Id) -> Option<Begun>
     None
 }
 
-/// The number as that of an alternative, None where the node is no choice.
+/// The number as that of an alternative, None where the node has two types instead.
+#[inline(always)]
 fn alternative_number(node: NodeId, number: u8) -> Option<u8>
+    requires { is_nested (kind_of node) ≡ true }
     ensures { result ≡ option_map (λ _. number) (node_choice node) }
 {
-    match kind(node) {
-        Kind::Choice => Some(number),
-        _ => None,
+    match node {
+        NodeId::IllString => None,
+        _ => Some(number),
     }
 }
 

@@ -345,6 +345,7 @@ const STRINGS: [Cell; 2] = [
 ];
 
 /// The cells of a node: those by which it begins, and those of what may stand in it.
+#[inline(always)]
 pub fn cells_of(node: NodeId) -> &'static [Cell]
     ensures meant { cells_meant node 0 result.now ≡ node_meant node }
     ensures few { length result.now ≤ 27 }

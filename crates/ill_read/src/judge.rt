@@ -61,6 +61,8 @@ pub struct Reading {
     pub slot: Slot,
     pub alternative: Option<u8>,
     pub element: Element,
+    /// The first place in it.
+    pub first: At,
     /// The place after it.
     pub after: At,
     pub id: Id,
@@ -348,6 +350,7 @@ impl Frames {
             slot: started.slot,
             alternative: started.alternative,
             element: started.element,
+            first: started.first,
             after: started.after,
             id: started.id,
             header,
