@@ -208,6 +208,8 @@ impl At {
     }
 
     /// What is due with the identifier's tag, None where nothing is.
+    // Not in line: each part of what it returns is loaded from memory where it is used.
+    #[inline(never)]
     pub fn find(self, id: Id) -> Option<Found>
         ensures { MatchOption result (due profile_two (tag_of_id id) (next_at self) ≡ None)
             (λ found. IsDue (tag_of_id id) self found) }
@@ -270,6 +272,31 @@ impl Default for At {
             },
             node: NodeId::Boolean,
             position: 0,
+        }
+    }
+}
+
+/// A BOOLEAN in a wrapper. Each field is the first of its type.
+impl Default for Found {
+    fn default() -> Found {
+        Found {
+            at: At {
+                part: PartId {
+                    node: NodeId::Boolean,
+                    row: 0,
+                },
+                node: NodeId::Boolean,
+                position: 0,
+            },
+            slot: Slot::Inner,
+            what: What::Boolean,
+            node: NodeId::Boolean,
+            part: PartId {
+                node: NodeId::Boolean,
+                row: 0,
+            },
+            default: None,
+            alternative: None,
         }
     }
 }
@@ -352,7 +379,7 @@ impl Found {
     }
 
     /// The default of its row.
-    pub fn default(self) -> Option<i64>
+    pub fn default_value(self) -> Option<i64>
         ensures { result ≡ default_due (due_of self) }
     {
         match self.default {

@@ -28,8 +28,8 @@ pub enum What {
 /// Where an element stands in the element round it.
 #[derive(Clone, Copy, Debug, PartialEq, Eq)]
 pub enum Slot {
-    Row,
     Inner,
+    Row,
     Item,
     Segment,
 }

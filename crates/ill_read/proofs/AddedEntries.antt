@@ -12,14 +12,14 @@ use Rattle.ill_read.specs.DueCode.{IsDueIn, IsRowDue, IsInnerDue, IsItemDue, beh
 use Rattle.ill_read.specs.code.Drafts.{due_with, rows_before}
 use Rattle.ill_read.specs.Standing.{with_alternative, absent_content, IsValueOf, HoldsPart, IsHeld}
 use Rattle.ill_refusals.specs.code.Step.{snoc}
-use Rattle.ill_read.specs.declared.due.Due.{Due}
+use Rattle.ill_read.specs.DueCode.{Due}
 use Rattle.ill_read.specs.declared.due.Next.{Next}
 use Rattle.ill_read.specs.declared.due.Next.TheVariants.{Rows, Inner, Items, Either, Segments, Nothing}
 use Rattle.ill_read.specs.declared.due.Slot.{Slot}
 use Rattle.ill_read.specs.declared.due.Slot.TheVariants.{Row as AtRow, Item, Inner as Inside, Segment as InString}
 use Rattle.ill_read.specs.declared.element.Element.{Element as CodeElement}
 use Rattle.ill_read.specs.declared.element.Element.TheVariants.{Leaf, Sequence, List as ListOf, Wrapper, LooseWrapper, Segment}
-use Rattle.ill_read.specs.declared.element.Found.{Found}
+use Rattle.ill_read.specs.Found.{Found}
 use Rattle.ill_read.specs.declared.element.Wrapped.{Wrapped}
 use Rattle.ill_read.proofs.Entries.{row_added, item_added}
 use Rattle.ill_read.proofs.Meanings.{begun_means, row_means}

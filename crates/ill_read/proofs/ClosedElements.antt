@@ -14,6 +14,7 @@ use Rattle.ill_refusals.specs.Fault.{fault, element_fault}
 use Rattle.ill_refusals.specs.Place.{Open, next_in}
 use Rattle.ill_refusals.specs.code.Judge.{Judgement, closes, or_faulty}
 use Rattle.ill_refusals.specs.code.Step.{moved, refused, with_tree}
+use Rattle.ill_cells.specs.Places.{alternative_of}
 use Rattle.ill_read.specs.Elements.{element_is}
 use Rattle.ill_read.specs.code.Drafts.{ChecksText, HasClosed, IsRightText, due_with, with_entry}
 use Rattle.ill_read.specs.code.Judged.{IsEnd, IsStep}
@@ -32,7 +33,7 @@ use Rattle.ill_read.proofs.OpenFrames.{last_open}
 use Rattle.ill_read.proofs.OpenedElements.{only_segment}
 use Rattle.ill_read.proofs.Segments.{segment_due, text_with}
 use Rattle.ill_read.proofs.Strings.{segment_added}
-use Rattle.ill_read.specs.DueCode.{shape}
+use Rattle.ill_read.specs.DueCode.{shape, read_as, slot_in, next_place}
 
 -- the frames without the last one
 record IsPopped (levels : List Level) (frames : List Frame) (f : Frame) (o : Open) (path : List Open) : Type 0 where
@@ -72,19 +73,19 @@ refusing o path marks at rest c h = ap (λ x. moved (or_faulty x o.start (closes
 -- a segment closes
 pub segment_closed : {D : Type 0} (holds : D → List Level → List ℕ → Type 0) (old new : Path D) (f : Frame) (place : List Open) (marks at : ℕ) (rest : List ℕ) (j : Judgement) → HoldsAt holds old place
     → IsEnd place marks j → new.frames.open.items ≡ take (length old.frames.open.items - 1) old.frames.open.items → slice_get old.frames.open.items (length old.frames.open.items - 1) ≡ Some f
-    → f.element ≡ Segment → new.draft ≡ old.draft → IsStep holds new (Ok false) (moved j place at rest)
+    → read_as f.found ≡ Segment → new.draft ≡ old.draft → IsStep holds new (Ok false) (moved j place at rest)
 segment_closed holds old new f place marks at rest j stands end frames last is draft =
     let o = end.innermost in
     let path = end.outer in
     let here : HoldsAt holds old (o ∷ path) = subst (HoldsAt holds old) end.is_path stands in
     let p = popped old.frames.open.items new.frames.open.items here.0 f o path here.1 frames last in
     let e : segment ≡ o.element = ap element_is (sym is) ∙ p.framed.element in
-    let string : next_at new.frames.open.items ≡ Segments = segment_due o.tag (next_at new.frames.open.items) (due_with f.slot f.alternative f.element) p.framed.is_due (ap element_is is) in
+    let string : next_at new.frames.open.items ≡ Segments = segment_due o.tag (next_at new.frames.open.items) (due_with (slot_in f.found) (alternative_of f.found) (read_as f.found)) p.framed.is_due (ap element_is is) in
     let h = segment_holds (shape f.place) p.entries o.trees (subst (λ x. IsHeld x (shape f.place) p.entries o.trees) is p.framed.held) in
     let levels : here.0 ≡ p.below = p.held ∙ pushed_segment (level_of f o.tag p.entries) p.below is in
     let joined : text_so_far (o ∷ path) ≡ text_so_far path ++ text_all o.trees = sym (ap (λ x. text_with x (text_so_far path) o.trees) e) in
     let held = subst (λ t. holds new.draft p.below t) joined (subst (λ ls. holds new.draft ls (text_so_far (o ∷ path))) levels (subst (λ d. holds d here.0 (text_so_far (o ∷ path))) (sym draft) here.2)) in
-    let added = segment_added holds new path p.below (due_with f.slot f.alternative f.element) (constructed o.tag o.trees) (at + marks) (drop marks rest) p.outer p.framed.is_due string h held in
+    let added = segment_added holds new path p.below (due_with (slot_in f.found) (alternative_of f.found) (read_as f.found)) (constructed o.tag o.trees) (at + marks) (drop marks rest) p.outer p.framed.is_due string h held in
     let none : element_fault profile_two o.element (text_all o.trees) ≡ None = sym (ap (λ x. element_fault profile_two x (text_all o.trees)) e) in
     subst (IsStep holds new (Ok false)) (sym (ending place marks at rest j end ∙ closing o path marks at rest none)) added
   where
@@ -106,8 +107,8 @@ right_text Segment text h = refl
 -- an element closes that is no segment, and its text is right
 pub element_closed : {D : Type 0} (holds : D → List Level → List ℕ → Type 0) (old : Path D) (shorter : List Frame) (f : Frame) (middle : D) (new : Path D) (place : List Open) (marks at : ℕ) (rest : List ℕ)
     (j : Judgement) (result : Bool) → HoldsAt holds old place → IsEnd place marks j → shorter ≡ take (length old.frames.open.items - 1) old.frames.open.items
-    → slice_get old.frames.open.items (length old.frames.open.items - 1) ≡ Some f → (f.element ≡ Segment → ⊥) → ((x : ⊤) → ChecksText holds old.draft f (Ok x)) → HasClosed holds old.draft f (next_at shorter) middle
-    → GoesOn f.after shorter new.frames.open.items result → new.draft ≡ middle → IsStep holds new (Ok result) (moved j place at rest)
+    → slice_get old.frames.open.items (length old.frames.open.items - 1) ≡ Some f → (read_as f.found ≡ Segment → ⊥) → ((x : ⊤) → ChecksText holds old.draft f (Ok x)) → HasClosed holds old.draft f (next_at shorter) middle
+    → GoesOn (next_place f.found) shorter new.frames.open.items result → new.draft ≡ middle → IsStep holds new (Ok result) (moved j place at rest)
 element_closed holds old shorter f middle new place marks at rest j result stands end frames last apart checks closed goes draft =
     let o = end.innermost in
     let path = end.outer in
@@ -118,12 +119,12 @@ element_closed holds old shorter f middle new place marks at rest j result stand
     let held = subst (λ ls. holds old.draft ls text) (p.held ∙ pushed_apart (level_of f o.tag p.entries) p.below apart) here.2 in
     let right = checks tt o.tag p.entries p.below text held in
     let none : element_fault profile_two o.element (text_all o.trees) ≡ None =
-    ap (λ x. element_fault profile_two x (text_all o.trees)) (sym p.framed.element) ∙ ends.fault ∙ right_text f.element text right in
-    let added = entry_added holds shorter p.below new path f.slot f.alternative f.element ends.content (constructed o.tag o.trees) (at + marks) (drop marks rest) result p.outer p.framed.is_due
-    (λ s. apart (only_segment f.element s)) f.after p.framed.after goes
+    ap (λ x. element_fault profile_two x (text_all o.trees)) (sym p.framed.element) ∙ ends.fault ∙ right_text (read_as f.found) text right in
+    let added = entry_added holds shorter p.below new path (slot_in f.found) (alternative_of f.found) (read_as f.found) ends.content (constructed o.tag o.trees) (at + marks) (drop marks rest) result p.outer p.framed.is_due
+    (λ s. apart (only_segment (read_as f.found) s)) (next_place f.found) p.framed.after goes
     (λ l below e d. (
       ends.value right,
-      subst (λ x. holds x (with_entry l f.slot (with_alternative f.alternative ends.content) ∷ below) []) (sym draft)
+      subst (λ x. holds x (with_entry l (slot_in f.found) (with_alternative (alternative_of f.found) ends.content) ∷ below) []) (sym draft)
           (closed o.tag p.entries o.trees l below text ends.content (subst (λ ls. holds old.draft (level_of f o.tag p.entries ∷ ls) text) e held) p.framed.held right ends.is (constructed o.tag o.trees, refl, ends.value right) d),
     )) in
     subst (IsStep holds new (Ok result)) (sym (ending place marks at rest j end ∙ closing o path marks at rest none)) added
@@ -131,7 +132,7 @@ element_closed holds old shorter f middle new place marks at rest j result stand
 -- or its text is at fault, or memory runs out
 pub element_refused : {D : Type 0} (holds : D → List Level → List ℕ → Type 0) (old : Path D) (shorter : List Frame) (f : Frame) (new : Path D) (place : List Open) (marks at : ℕ) (rest : List ℕ)
     (j : Judgement) (failure : Failure) → HoldsAt holds old place → IsEnd place marks j → shorter ≡ take (length old.frames.open.items - 1) old.frames.open.items
-    → slice_get old.frames.open.items (length old.frames.open.items - 1) ≡ Some f → (f.element ≡ Segment → ⊥) → ChecksText holds old.draft f (Err failure) → IsStep holds new (Err failure) (moved j place at rest)
+    → slice_get old.frames.open.items (length old.frames.open.items - 1) ≡ Some f → (read_as f.found ≡ Segment → ⊥) → ChecksText holds old.draft f (Err failure) → IsStep holds new (Err failure) (moved j place at rest)
 element_refused holds old shorter f new place marks at rest j Failure.OutOfMemory stands end frames last apart checks = tt
 element_refused holds old shorter f new place marks at rest j (Failure.Refused r) stands end frames last apart checks =
     let o = end.innermost in

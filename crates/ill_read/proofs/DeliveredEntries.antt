@@ -9,7 +9,7 @@ use Rattle.ill_refusals.specs.Place.{Open}
 use Rattle.ill_refusals.specs.code.Step.{with_tree}
 use Rattle.ill_read.specs.Elements.{component_of, element_is}
 use Rattle.ill_cells.specs.declared.at.At.{At}
-use Rattle.ill_read.specs.DueCode.{IsDueIn, behind, shape}
+use Rattle.ill_read.specs.DueCode.{IsDueIn, behind, shape, read_as}
 use Rattle.ill_read.specs.code.Drafts.{IsDueAt, due_with, with_entry}
 use Rattle.ill_read.specs.code.Judged.{IsStep}
 use Rattle.ill_read.specs.code.Stepping.{GoesOn}
@@ -19,7 +19,7 @@ use Rattle.ill_read.specs.declared.due.Next.TheVariants.{Rows, Inner, Items, Eit
 use Rattle.ill_read.specs.declared.due.Slot.{Slot}
 use Rattle.ill_read.specs.declared.element.Element.{Element as CodeElement}
 use Rattle.ill_read.specs.declared.element.Element.TheVariants.{Leaf, Sequence, List as ListOf, Wrapper, LooseWrapper, Segment}
-use Rattle.ill_read.specs.declared.element.Found.{Found}
+use Rattle.ill_read.specs.Found.{Found}
 use Rattle.ill_read.specs.declared.frame.Frame.{Frame}
 use Rattle.ill_read.specs.declared.path.Path.{Path}
 use Rattle.ill_read.proofs.AddedEntries.{held_added}
@@ -85,15 +85,15 @@ entry_added holds frames levels new (o ∷ path) slot alt el c T at rest false h
     let here : next_at frames ≡ (shape f.place) = ap next_at h.4 ∙ next_behind outer f in
     let due : IsDueIn (tag_of T) (shape f.place) (due_with slot alt el) = subst (λ n. IsDueIn (tag_of T) n (due_with slot alt el)) here d in
     let other : (shape f.place) ≡ Segments → ⊥ = next_apart (tag_of T) (shape f.place) slot alt el due apart in
-    let whole : f.element ≡ Segment → ⊥ = λ s. other (segment_next f.element (shape f.place) entries o.trees k.held s) in
+    let whole : read_as f.found ≡ Segment → ⊥ = λ s. other (segment_next (read_as f.found) (shape f.place) entries o.trees k.held s) in
     let l = level_of f o.tag entries in
     let x = given l below (h.5 ∙ pushed_apart l below whole) (record { trees = o.trees; held = k.held; next = sym here; is_due = due }) in
     let more = with_entry l slot (with_alternative alt c) in
     let going : shape after ≡ behind (shape f.place) slot = on ∙ ap (λ n. behind n slot) here in
-    let held = held_added f.element (shape f.place) entries o.trees T slot alt el c k.held due x.0 in
+    let held = held_added (read_as f.found) (shape f.place) entries o.trees T slot alt el c k.held due x.0 in
     let framed = frame_added f o path outer entries more.entries T (due_with slot alt el) k due after going held in
     let none : text_so_far (with_one o T ∷ path) ≡ [] =
-    ap (λ e. text_with e (text_so_far path) (with_one o T).trees) (sym k.element) ∙ text_apart f.element (shape f.place) entries o.trees k.held other (text_so_far path) (with_one o T).trees in (
+    ap (λ e. text_with e (text_so_far path) (with_one o T).trees) (sym k.element) ∙ text_apart (read_as f.found) (shape f.place) entries o.trees k.held other (text_so_far path) (with_one o T).trees in (
       more ∷ below,
       (
         outer,

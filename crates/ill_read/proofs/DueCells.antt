@@ -23,17 +23,18 @@ use Rattle.ill_cells.specs.declared.at.At.{At}
 use Rattle.ill_cells.specs.declared.at.Found.{Found as CellFound}
 use Rattle.ill_cells.specs.declared.cell.What.{What}
 use Rattle.ill_cells.specs.declared.cell.What.TheVariants as what
+use Rattle.ill_cells.proofs.Going.{element-due}
 use Rattle.ill_cells.proofs.Scanning.{same_tag-swap, sequence_starts}
 use Rattle.ill_cells.specs.declared.cell.Slot.{Slot as CellSlot}
 use Rattle.ill_cells.specs.declared.cell.Slot.TheVariants as cell
 use Rattle.ill_read.specs.Elements.{component_of, component_at, element_with, found_is}
-use Rattle.ill_read.specs.DueCode.{Begins, BeginsAt, IsDueIn, IsDueInRows, IsItemDue, IsInnerDue, IsRowDue, IsSegmentDue, MayAllLack, behind, found_as, next_is, shape, shape_of, slot_as}
+use Rattle.ill_read.specs.DueCode.{Begins, BeginsAt, Due, IsComing, IsDueIn, IsDueInRows, IsItemDue, IsInnerDue, IsRowDue, IsSegmentDue, MayAllLack, behind, due_as, element_as, found_as, next_is, shape, shape_of, slot_as}
 use Rattle.ill_read.specs.declared.due.Next.{Next}
 use Rattle.ill_read.specs.declared.due.Next.TheVariants.{Rows, Inner, Items, Either, Segments, Nothing}
 use Rattle.ill_read.proofs.DueElements.{first_due}
-use Rattle.ill_read.specs.declared.due.Due.{Due}
 use Rattle.ill_read.specs.declared.due.Slot.TheVariants.{Row as AtRow, Item, Inner as Inside, Segment as InString}
-use Rattle.ill_read.specs.declared.element.Found.{Found}
+use Rattle.ill_read.specs.Found.{Found}
+use Rattle.ill_read.specs.Found as found
 use Rattle.ill_read.specs.declared.element.Wrapped.{Wrapped}
 
 there : (node : NodeId) (k i : ℕ) (rs : List Row) (c : Component) (cs : List Component) → drop i (components_from profile_two node k rs) ≡ c ∷ cs
@@ -472,3 +473,31 @@ shape-next a = go (kind_of a.node) a.position
     go Kind.IllString zero = refl
     go Kind.IllString (suc zero) = refl
     go Kind.IllString (suc (suc n)) = refl
+
+-- what isn't left out is an element
+pub found-read : (w : What) (p : PartId) (node : NodeId) → (w ≡ what.LeftOut → ⊥) → found_as p node w ≡ found.Element (element_as p node w)
+found-read what.LeftOut p node h = absurd (h refl)
+found-read what.Boolean p node h = refl
+found-read what.Integer p node h = refl
+found-read what.Enumerated p node h = refl
+found-read what.General p node h = refl
+found-read what.Visible p node h = refl
+found-read what.Printable p node h = refl
+found-read what.Date p node h = refl
+found-read what.Time p node h = refl
+found-read what.Segment p node h = refl
+found-read what.Sequence p node h = refl
+found-read what.LooseWrapper p node h = refl
+found-read what.List p node h = refl
+found-read what.Wrapper p node h = refl
+
+-- what the cells find is due by the decoder's words
+pub is-coming : (t : Tag) (a : At) (f : CellFound) → IsDue t a f → IsComing t a f
+is-coming t a f h =
+    let k = kind_of a.node in
+    let placed = found-placed t a f h in
+    let element = element-due f.at.part f.at.node f.at.position f.slot (element_found f) in
+    record {
+      is_due = placed-due t k a.part a.node a.position f.at.position (row_of f) f.slot (due_of f) (due_as f) refl placed h.begins refl (found-means f.what f.part f.node ∙ sym element);
+      after = after-found f f.slot a.node h.round ∙ after-is t k a.part f.at.part a.node a.position f.at.position (row_of f) f.slot (due_of f) placed;
+    }

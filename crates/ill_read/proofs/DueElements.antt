@@ -11,7 +11,7 @@ use Rattle.ill_refusals.specs.Next as next
 use Rattle.ill_refusals.specs.Next.{part, octets, rows, items, element_of, next_of, due, due_in, opening, start_of}
 use Rattle.ill_read.specs.Elements.{component_of, component_at, element_with, found_is}
 use Rattle.ill_read.specs.DueCode.{IsDueIn, IsDueInRows, IsRowDue, IsInnerDue, next_is, behind}
-use Rattle.ill_read.specs.declared.due.Due.{Due}
+use Rattle.ill_read.specs.DueCode.{Due}
 use Rattle.ill_read.specs.declared.due.Slot.{Slot}
 use Rattle.ill_read.specs.declared.due.Slot.TheVariants.{Row as AtRow, Item, Inner as Inside, Segment}
 use Rattle.ill_read.specs.declared.due.Next.{Next}

@@ -12,7 +12,7 @@ use Rattle.ill_schema.specs.declared.node.NodeId.{NodeId}
 use Rattle.ill_refusals.specs.Fault.{element_fault}
 use Rattle.ill_refusals.specs.Next.{missing}
 use Rattle.ill_refusals.specs.Place.{Open, next_in}
-use Rattle.ill_read.specs.DueCode.{next_is, shape}
+use Rattle.ill_read.specs.DueCode.{next_is, shape, read_as}
 use Rattle.ill_read.specs.Elements.{element_is}
 use Rattle.ill_read.specs.LeafTypes.{leaf_is}
 use Rattle.ill_read.specs.code.Drafts.{IsContentOf, IsRightText, rows_left}
@@ -71,8 +71,8 @@ content_ended (LooseWrapper w) _ entries o before h apart m = absurd h
 content_ended Segment n entries o before h apart m = absurd (apart refl)
 
 -- of the innermost open element
-pub frame_ended : (f : Frame) (o : Open) (path : List Open) (outer : List Frame) (entries : List (Option Content)) → IsFrame f o path outer entries → (f.element ≡ Segment → ⊥)
-    → missing profile_two (next_in profile_two (o ∷ path)) ≡ None → EndsWith f.element (shape f.place) entries o (text_so_far (o ∷ path))
+pub frame_ended : (f : Frame) (o : Open) (path : List Open) (outer : List Frame) (entries : List (Option Content)) → IsFrame f o path outer entries → (read_as f.found ≡ Segment → ⊥)
+    → missing profile_two (next_in profile_two (o ∷ path)) ≡ None → EndsWith (read_as f.found) (shape f.place) entries o (text_so_far (o ∷ path))
 frame_ended f o path outer entries k apart m =
-    subst (λ x. EndsWith f.element (shape f.place) entries o (text_with x (text_so_far path) o.trees)) k.element
-    (content_ended f.element (shape f.place) entries o (text_so_far path) k.held apart (ap (missing profile_two) k.next ∙ m))
+    subst (λ x. EndsWith (read_as f.found) (shape f.place) entries o (text_with x (text_so_far path) o.trees)) k.element
+    (content_ended (read_as f.found) (shape f.place) entries o (text_so_far path) k.held apart (ap (missing profile_two) k.next ∙ m))

@@ -1,5 +1,5 @@
 -- What the decoder judges at a place, part by part.
-use Rattle.std.proofs.Common.{◌≡◌, ℕ, ◌+◌, ◌-◌, ◌<◌, ◌≤◌, Bool, true, false, List, [], ◌∷◌, ◌++◌, length, take, drop, Option, Some, None, Result, Ok, Err, IfOk, IsTrue, refl, sym, ap, ap₂, subst, ◌∙◌, arith, take-append-drop, if◌then◌else◌, length-append, length-drop}
+use Rattle.std.proofs.Common.{◌≡◌, ◌⊎◌, inl, inr, nat_eq, slice_get, ◌&&◌, ℕ, ◌+◌, ◌-◌, ◌<◌, ◌≤◌, Bool, true, false, List, [], ◌∷◌, ◌++◌, length, take, drop, Option, Some, None, Result, Ok, Err, IfOk, IsTrue, refl, sym, ap, ap₂, subst, ◌∙◌, arith, take-append-drop, if◌then◌else◌, length-append, length-drop}
 use Rattle.std.specs.Prelude.{nat_le}
 use Rattle.std.proofs.lemmas.List.{take-append-le, drop-append-le}
 use Rattle.ber_core.specs.Id.{tag_of_id, form_of_id}
@@ -12,27 +12,26 @@ use Rattle.ill_schema.specs.declared.part.PartId.{PartId}
 use Rattle.ill_schema.specs.declared.refusal.Cause.{Cause}
 use Rattle.ill_schema.specs.declared.refusal.Refusal.{Refusal}
 use Rattle.ill_read.specs.Elements.{element_is, found_is}
+use Rattle.ill_cells.specs.Places.{alternative_of, first_place}
 use Rattle.ill_cells.specs.declared.at.At.{At}
-use Rattle.ill_read.specs.DueCode.{IsDueIn, behind, next_is, shape}
+use Rattle.ill_cells.specs.declared.at.Found.{Found as CellFound}
+use Rattle.ill_read.specs.DueCode.{BeginsAt, IsComing, IsDueIn, behind, due_as, next_is, read_as, read_due, shape, slot_in}
 use Rattle.ill_refusals.specs.Element.{Element}
-use Rattle.ill_refusals.specs.Fault.{Fault, fault, element_fault, ends_at, wanting}
-use Rattle.ill_refusals.specs.code.Judge.{Judgement, faulty, closes, reads, or_faulty, judge_end, judge_size, judge_length, judge_form, judge_tag, judge_element, judge_octets, judge}
-use Rattle.ill_read.specs.code.JudgeCode.{IsFormed, IsIdentified, judge_identified}
+use Rattle.ill_refusals.specs.Fault.{Fault, fault, element_fault, ends_at, is_indefinite, wanting}
+use Rattle.ill_refusals.specs.code.Judge.{Judgement, faulty, closes, reads, or_faulty, judge_end, judge_size, judge_length, judge_form, judge_tag, judge_element, judge_mark, judge_octets, judge}
+use Rattle.ill_read.specs.code.JudgeCode.{IsFormed, judge_identified}
 use Rattle.ill_read.specs.code.Judged.{IsBegin, IsEnd, IsJudged, content_in}
 use Rattle.ill_refusals.specs.Next.{Due, due, element_of, missing}
-use Rattle.ill_refusals.specs.Place.{Open, next_in, bound, allows}
+use Rattle.ill_refusals.specs.Place.{Open, next_in, bound}
 use Rattle.ill_read.specs.code.Progress.{IsProgress}
 use Rattle.ill_refusals.specs.Reading.{IdentifierRead, identified, part_identifier, no_identifier, read_identifier, definite, read_length}
 use Rattle.ill_read.specs.Standing.{StandsAt, next_at}
-use Rattle.ill_read.specs.declared.due.Coming.{Coming}
-use Rattle.ill_read.specs.declared.due.Due.{Due as CodeDue}
-use Rattle.ill_read.specs.declared.due.Slot.{Slot}
-use Rattle.ill_read.specs.declared.element.Element.{Element as CodeElement}
-use Rattle.ill_read.specs.declared.element.Found.TheVariants as found
+use Rattle.ill_read.specs.DueCode.{Due as CodeDue}
+use Rattle.ill_read.specs.Found.{Found}
 use Rattle.ill_read.specs.declared.judge.Judgement.{Judgement as CodeJudgement}
 use Rattle.ill_read.specs.declared.judge.Judgement.TheVariants as code
-use Rattle.ill_read.specs.declared.judge.Started.{Started}
 use Rattle.ill_read.specs.declared.frames.Frames.{Frames}
+use Rattle.ill_read.proofs.DueCells.{begins-at}
 use Rattle.ill_read.proofs.DueElements.{due_element_is}
 use Rattle.ill_read.proofs.OpenFrames.{next_open}
 use Rattle.ill_refusals.proofs.Judgements.{form_judged, length_body}
@@ -89,20 +88,24 @@ due_judged frames place tag f d at i want w h s k =
     ∙ ap (tag_body place tag f at i want w) (ap (due profile_two tag) (sym (next_open place _ _ h.1)) ∙ e.1)
     ∙ ap (λ x. judge_form profile_two place x tag f at i want w) e.2
 
-pub identified_judged : (frames : Frames) (place : List Open) (at : ℕ) (id : Id) (c : Coming) (r : Result Started Refusal) → StandsAt frames place → length place < 32
-    → IsDueIn (tag_of_id id) (next_at frames.open.items) c.due → shape c.after ≡ behind (next_at frames.open.items) c.due.slot → IsFormed c at id r → IsIdentified frames place at id r
-identified_judged frames place at id c (Ok started) h s k g f = (
-  record {
-    is_due = subst (IsDueIn (tag_of_id id) (next_at frames.open.items)) f.0 k;
-    goes_on = ap shape f.4 ∙ g ∙ ap (λ (d : CodeDue). behind (next_at frames.open.items) d.slot) f.0;
-    allowed = ap (allows (element_is started.element)) f.2 ∙ f.3;
-    shallow = s;
-  },
-  f.2,
-  f.1,
-)
-identified_judged frames place at id c (Err refusal) h s k g f = λ i want w.
-    due_judged frames place (tag_of_id id) (form_of_id id) c.due at i want w h s k ∙ f profile_two place (tag_of_id id) i want w
+-- what is found is due there, and may have the form or not
+pub formed_judged : (frames : Frames) (place : List Open) (at : At) (id : Id) (f : CellFound) → StandsAt frames place → length place < 32 → shape at ≡ next_at frames.open.items → IsComing (tag_of_id id) at f
+    → IsFormed f (form_of_id id) None → IsBegin frames place (tag_of_id id) f (form_of_id id)
+formed_judged frames place at id f h s e k g = record {
+  is_due = subst (λ n. IsDueIn (tag_of_id id) n (read_due f)) e (subst (λ x. IsDueIn (tag_of_id id) (shape at) (due_found f x)) g.0 k.is_due);
+  begins = subst (λ x. BeginsAt x (first_place f)) g.0 (begins-at f.what f.part f.node f.opens);
+  goes_on = k.after ∙ ap (λ n. behind n (slot_in f)) e;
+  allowed = g.1;
+  shallow = s;
+}
+  where
+    due_found : CellFound → Found → CodeDue
+    due_found f x = record { slot = slot_in f; alternative = alternative_of f; found = x }
+
+pub misformed_judged : (frames : Frames) (place : List Open) (at : At) (k : ℕ) (id : Id) (f : CellFound) (cause : Cause) → StandsAt frames place → length place < 32 → shape at ≡ next_at frames.open.items
+    → IsComing (tag_of_id id) at f → IsFormed f (form_of_id id) (Some cause) → (i : ℕ) (want : Fault) (w : List ℕ) → judge_identified place (tag_of_id id) (form_of_id id) k i want w ≡ faulty (fault cause k)
+misformed_judged frames place at k id f cause h s e c g i want w =
+    due_judged frames place (tag_of_id id) (form_of_id id) (due_as f) k i want w h s (subst (λ n. IsDueIn (tag_of_id id) n (due_as f)) e c.is_due) ∙ g profile_two place (tag_of_id id) k i want w
 
 abbrev element_body : List Open → ℕ → Fault → List ℕ → IdentifierRead → Judgement
 element_body place at want w x = elim x as (λ _. Judgement) [
@@ -110,6 +113,20 @@ element_body place at want w x = elim x as (λ _. Judgement) [
   | no_identifier ↦ faulty (fault Cause.BadTag at)
   | identified tag f rest ↦ judge_identified place tag f at (length w - length rest) want rest
 ]
+
+-- where it is no end mark, an element is judged
+pub other_judged : (place : List Open) (at : ℕ) (want : Fault) (w : List ℕ) (first : ℕ) → slice_get w 0 ≡ Some first → (is_indefinite place ≡ false) ⊎ (nat_eq first 0 ≡ false)
+    → judge_octets profile_two place at want w ≡ judge_element profile_two place at want w
+other_judged place at want [] first e other = absurd cc
+other_judged place at want (x ∷ w) first e other =
+    let is : x ≡ first = cc in
+    let m : (b : Bool) → b ≡ false → (elim b as (λ _. Judgement) [ true ↦ judge_mark profile_two place at want w | false ↦ judge_element profile_two place at want (x ∷ w) ]) ≡ judge_element profile_two place at want (x ∷ w) =
+    λ b h. ap (λ y. elim y as (λ _. Judgement) [ true ↦ judge_mark profile_two place at want w | false ↦ judge_element profile_two place at want (x ∷ w) ]) h in
+    m (is_indefinite place && nat_eq x 0) (elim other [ inl a ↦ ap (λ y. y && nat_eq x 0) a | inr b ↦ and-false (is_indefinite place) (nat_eq x 0) (ap (λ y. nat_eq y 0) is ∙ b) ])
+  where
+    and-false : (a b : Bool) → b ≡ false → a && b ≡ false
+    and-false true b h = h
+    and-false false b h = refl
 
 -- an element is judged behind its identifier
 pub behind_identifier : (place : List Open) (at : ℕ) (want : Fault) (w front behind : List ℕ) (tag : Tag) (f : Bool) → w ≡ front ++ behind → read_identifier w ≡ identified tag f behind
@@ -119,12 +136,10 @@ behind_identifier place at want w front behind tag f e r =
     ap (element_body place at want w) r ∙ ap (λ i. judge_identified place tag f at i want behind) n
 
 -- an element that may begin there is judged by its length
-pub begun_judged : (frames : Frames) (place : List Open) (tag : Tag) (slot : Slot) (alternative : Option ℕ) (element : CodeElement) (after : At) (f : Bool) (at i : ℕ) (want : Fault) (w : List ℕ)
-    → StandsAt frames place → IsBegin frames place tag slot alternative element after f
-    → judge_identified place tag f at i want w ≡ judge_length profile_two place (element_is element) tag f at i want w
-begun_judged frames place tag slot alternative element after f at i want w h b =
-    due_judged frames place tag f (record { slot = slot; alternative = alternative; found = found.Element element }) at i want w h b.shallow b.is_due
-    ∙ form_judged profile_two place (element_is element) tag f at i want w b.allowed
+pub begun_judged : (frames : Frames) (place : List Open) (tag : Tag) (found : CellFound) (f : Bool) (at i : ℕ) (want : Fault) (w : List ℕ) → StandsAt frames place → IsBegin frames place tag found f
+    → judge_identified place tag f at i want w ≡ judge_length profile_two place (element_is (read_as found)) tag f at i want w
+begun_judged frames place tag found f at i want w h b =
+    due_judged frames place tag f (read_due found) at i want w h b.shallow b.is_due ∙ form_judged profile_two place (element_is (read_as found)) tag f at i want w b.allowed
 
 -- an element of definite length, whose header has so many octets
 pub definite_judged : (place : List Open) (e : Element) (tag : Tag) (f : Bool) (at : ℕ) (want : Fault) (w front behind : List ℕ) (header n : ℕ) → IsTrue (are_octets behind)
@@ -148,7 +163,7 @@ judged_further frames place at depth w y (Ok (code.Closes marks)) j k h = h
 judged_further frames place at depth w y (Ok (code.Opens opening)) j k h = h
 judged_further frames place at depth w y (Ok (code.Reads reading)) j k h =
     let c = content_further reading.header reading.size w y k.1 in
-    (h.0, h.1 ∙ ap (λ x. or_faulty (element_fault profile_two (element_is reading.element) x) at (reads (tag_of_id reading.id) reading.header x)) c)
+    (h.0, h.1 ∙ ap (λ x. or_faulty (element_fault profile_two (element_is (read_as reading.found)) x) at (reads (tag_of_id reading.id) reading.header x)) c)
 
 abbrev place_body : List Open → ℕ → List ℕ → Bool → Judgement
 place_body place at rest b = elim b as (λ _. Judgement) [

@@ -5,14 +5,14 @@ use Rattle.std.proofs.lemmas.List.{set_at, get_or_at}
 use Rattle.ber_core.specs.Tree.{Tree, Trees, none, more, tag_of}
 use Rattle.ber_leaf.specs.Profile.{profile_two}
 use Rattle.ill_schema.specs.Content.{Content}
-use Rattle.ill_read.specs.DueCode.{IsDueIn, behind, next_is, shape}
+use Rattle.ill_read.specs.DueCode.{IsDueIn, behind, next_is, shape, read_as}
 use Rattle.ill_cells.specs.declared.at.At.{At}
 use Rattle.ill_refusals.specs.Next.{due, next_of, next_after, opening}
 use Rattle.ill_refusals.specs.Next as following
 use Rattle.ill_refusals.specs.Place.{Open}
 use Rattle.ill_read.specs.Standing.{AreDue, IsHeld, IsFrame}
 use Rattle.ill_refusals.specs.code.Step.{snoc}
-use Rattle.ill_read.specs.declared.due.Due.{Due}
+use Rattle.ill_read.specs.DueCode.{Due}
 use Rattle.ill_read.specs.declared.frame.Frame.{Frame}
 use Rattle.ill_read.proofs.DueElements.{due_element_is}
 use Rattle.ill_refusals.proofs.Rows.{next_after-more}
@@ -30,7 +30,7 @@ with_one o T = record o { trees = snoc o.trees T }
 
 -- the frame of an open element, after a tree that was due
 pub frame_added : (f : Frame) (o : Open) (path : List Open) (outer : List Frame) (entries new : List (Option Content)) (T : Tree) (d : Due) → IsFrame f o path outer entries
-    → IsDueIn (tag_of T) (shape f.place) d → (after : At) → shape after ≡ behind (shape f.place) d.slot → IsHeld f.element (behind (shape f.place) d.slot) new (snoc o.trees T)
+    → IsDueIn (tag_of T) (shape f.place) d → (after : At) → shape after ≡ behind (shape f.place) d.slot → IsHeld (read_as f.found) (behind (shape f.place) d.slot) new (snoc o.trees T)
     → IsFrame (record f { place = after }) (with_one o T) path outer new
 frame_added f o path outer entries new T d h is after goes held =
     let D = due_element_is (tag_of T) (shape f.place) d is in
@@ -44,7 +44,7 @@ frame_added f o path outer entries new T d h is after goes held =
       next = ap next_is goes ∙ sym D.3 ∙ sym more.0;
       is_due = h.is_due;
       after = h.after;
-      held = subst (λ n. IsHeld f.element n new (snoc o.trees T)) (sym goes) held;
+      held = subst (λ n. IsHeld (read_as f.found) n new (snoc o.trees T)) (sym goes) held;
       were_due = more.1;
     }
 

@@ -21,8 +21,8 @@ use Rattle.ill_read.specs.Elements.{component_of, component_at, found_is}
 use Rattle.ill_read.specs.DueCode.{Begins, IsRowDue, IsItemDue, IsInnerDue}
 use Rattle.ill_read.specs.Standing.{IsValueOf, with_alternative}
 use Rattle.ill_read.specs.code.Written.{normal_element}
-use Rattle.ill_read.specs.declared.due.Due.{Due}
-use Rattle.ill_read.specs.declared.element.Found.{Found}
+use Rattle.ill_read.specs.DueCode.{Due}
+use Rattle.ill_read.specs.Found.{Found}
 use Rattle.ill_read.specs.declared.element.Wrapped.{Wrapped}
 
 -- what a value under a function comes from

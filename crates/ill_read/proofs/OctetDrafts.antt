@@ -11,7 +11,8 @@ use Rattle.ber_leaf.specs.Leaf.{boolean, is_string, normal_content, value, conte
 use Rattle.ber_leaf.specs.Profile.{profile_two}
 use Rattle.ill_schema.specs.Content.{Content, simple}
 use Rattle.ill_refusals.specs.Element.{segment}
-use Rattle.ill_read.specs.DueCode.{IsDueIn, shape, first_of}
+use Rattle.ill_cells.specs.Places.{alternative_of}
+use Rattle.ill_read.specs.DueCode.{IsDueIn, shape, first_of, read_as, slot_in}
 use Rattle.ill_read.specs.Elements.{element_is}
 use Rattle.ill_read.specs.LeafTypes.{leaf_is}
 use Rattle.ill_read.specs.Standing.{Level, level_of, with_alternative, IsValueOf, IsHeld}
@@ -43,12 +44,12 @@ written_first (Wrapper w) = refl
 written_first (LooseWrapper w) = refl
 written_first Segment = refl
 
-pub octets_opened : (old new : Octets) (o : Opening) (base : ℕ) (id : List ℕ) → (o.element ≡ Segment → ⊥) → (IsApartAs o → id ≡ identifier (tag_of_id o.id) (form_of o.element))
+pub octets_opened : (old new : Octets) (o : Opening) (base : ℕ) (id : List ℕ) → (read_as o.found ≡ Segment → ⊥) → (IsApartAs o → id ≡ identifier (tag_of_id o.id) (form_of (read_as o.found)))
     → new.octets ≡ old.octets ++ (id ++ 0 ∷ []) → base ≡ length new.octets → HasOpened AreOctets old o base new
 octets_opened old new o base id whole is e b levels text h apart = subst (λ ls. AreOctets new ls text) (sym (pushed_apart l levels whole)) (go levels h)
   where
     l : Level
-    l = record { element = o.element; tag = tag_of_id o.id; next = first_of o.element; base = base; entries = [] }
+    l = record { element = (read_as o.found); tag = tag_of_id o.id; next = first_of (read_as o.found); base = base; entries = [] }
 
     none : text ≡ []
     none = apart whole
@@ -59,7 +60,7 @@ octets_opened old new o base id whole is e b levels text h apart = subst (λ ls.
         let front : old.octets ≡ h.front = h.joined ∙ ap (λ t. h.front ++ t) none ∙ append-nil h.front in
         let header = id ++ 0 ∷ [] in
         let all : new.octets ≡ h.front ++ (header ++ written l.element l.next l.entries) =
-        e ∙ ap₂ (λ x y. x ++ y) front (sym (append-nil header) ∙ ap (λ x. header ++ x) (sym (written_first o.element))) in
+        e ∙ ap₂ (λ x y. x ++ y) front (sym (append-nil header) ∙ ap (λ x. header ++ x) (sym (written_first (read_as o.found)))) in
         record {
           front = new.octets;
           joined = sym (append-nil new.octets) ∙ ap (λ t. new.octets ++ t) (sym none);
@@ -88,16 +89,16 @@ added_octets new l below slot c front added w h e =
 
 -- a leaf is added, unless it is its row's default
 pub leaf_added : (old new : Octets) (l : Level) (below : List Level) (next : Next) (r : Reading) (leaf : LeafType) (octets : List ℕ) → AreOctets old (l ∷ below) []
-    → IsDueAt l next (tag_of_id r.id) r.slot r.alternative (LeafElement leaf) → IsTrue (are_octets octets) → content_fault profile_two (leaf_is leaf) octets ≡ None
-    → new.octets ≡ old.octets ++ unless_left next r.slot (with_alternative r.alternative (simple (value (leaf_is leaf) octets))) (encoding (primitive (tag_of_id r.id) (normal_content (value (leaf_is leaf) octets))))
-    → AreOctets new (with_entry l r.slot (with_alternative r.alternative (simple (value (leaf_is leaf) octets))) ∷ below) []
+    → IsDueAt l next (tag_of_id r.id) (slot_in r.found) (alternative_of r.found) (LeafElement leaf) → IsTrue (are_octets octets) → content_fault profile_two (leaf_is leaf) octets ≡ None
+    → new.octets ≡ old.octets ++ unless_left next (slot_in r.found) (with_alternative (alternative_of r.found) (simple (value (leaf_is leaf) octets))) (encoding (primitive (tag_of_id r.id) (normal_content (value (leaf_is leaf) octets))))
+    → AreOctets new (with_entry l (slot_in r.found) (with_alternative (alternative_of r.found) (simple (value (leaf_is leaf) octets))) ∷ below) []
 leaf_added old new l below next r leaf octets h due ok right e =
     let tag = tag_of_id r.id in
     let c = simple (value (leaf_is leaf) octets) in
-    let entry = entry_written l.element l.next l.entries due.trees (primitive tag octets) r.slot r.alternative (LeafElement leaf) c due.held due.is_due (tt, ok, right, refl) in
+    let entry = entry_written l.element l.next l.entries due.trees (primitive tag octets) (slot_in r.found) (alternative_of r.found) (LeafElement leaf) c due.held due.is_due (tt, ok, right, refl) in
     let front : old.octets ≡ h.front = h.joined ∙ append-nil h.front in
-    let there = ap (λ n. unless_left n r.slot (with_alternative r.alternative c) (encoding (primitive tag (normal_content (value (leaf_is leaf) octets))))) (sym due.next) in
-    added_octets new l below r.slot (with_alternative r.alternative c) h.front _ entry h.are (e ∙ ap₂ (λ x y. x ++ y) front there)
+    let there = ap (λ n. unless_left n (slot_in r.found) (with_alternative (alternative_of r.found) c) (encoding (primitive tag (normal_content (value (leaf_is leaf) octets))))) (sym due.next) in
+    added_octets new l below (slot_in r.found) (with_alternative (alternative_of r.found) c) h.front _ entry h.are (e ∙ ap₂ (λ x y. x ++ y) front there)
 
 -- the text of the innermost string
 pub text_at : (draft : Octets) (l : Level) (below : List Level) (text : List ℕ) → AreOctets draft (l ∷ below) text → written l.element l.next l.entries ≡ [] → drop l.base draft.octets ≡ text
@@ -145,33 +146,33 @@ no_segment e n entries text c k s = subst (λ x. IsContentOf x n entries text c)
 
 -- an element ends: its contents are made, and then its length is set
 pub octets_closed : (old new : Octets) (middle : List ℕ) (f : Frame) (next : Next) (tag : Tag) (entries : List (Option Content)) (trees : Trees) (l : Level) (below : List Level) (text : List ℕ) (c : Content)
-    → AreOctets old (level_of f tag entries ∷ l ∷ below) text → IsHeld f.element (shape f.place) entries trees → IsRightText f.element text → IsContentOf f.element (shape f.place) entries text c
-    → ((T : Tree) × (tag_of T ≡ tag) × IsValueOf (element_is f.element) c T) → IsDueAt l next tag f.slot f.alternative f.element
-    → ((before : List ℕ) → old.octets ≡ before ++ (written f.element (shape f.place) entries ++ text) → f.base ≡ length before → middle ≡ before ++ contents_of f.element (shape f.place) (written f.element (shape f.place) entries) text)
+    → AreOctets old (level_of f tag entries ∷ l ∷ below) text → IsHeld (read_as f.found) (shape f.place) entries trees → IsRightText (read_as f.found) text → IsContentOf (read_as f.found) (shape f.place) entries text c
+    → ((T : Tree) × (tag_of T ≡ tag) × IsValueOf (element_is (read_as f.found)) c T) → IsDueAt l next tag (slot_in f.found) (alternative_of f.found) (read_as f.found)
+    → ((before : List ℕ) → old.octets ≡ before ++ (written (read_as f.found) (shape f.place) entries ++ text) → f.base ≡ length before → middle ≡ before ++ contents_of (read_as f.found) (shape f.place) (written (read_as f.found) (shape f.place) entries) text)
     → ((before body : List ℕ) (t : Tag) (form : Bool) (x : ℕ) → middle ≡ before ++ (identifier t form ++ x ∷ body) → f.base ≡ length (before ++ (identifier t form ++ x ∷ []))
     → new.octets ≡ before ++ (identifier t form ++ (shortest_length (length body) ++ body)))
-    → AreOctets new (with_entry l f.slot (with_alternative f.alternative c) ∷ below) []
+    → AreOctets new (with_entry l (slot_in f.found) (with_alternative (alternative_of f.found) c) ∷ below) []
 octets_closed old new middle f next tag entries trees l below text c h held right is value due made closed =
     let a = h.are in
-    let w = written f.element (shape f.place) entries in
-    let contents = contents_of f.element (shape f.place) w text in
-    let id = identifier tag (form_of f.element) in
-    let apart = no_segment f.element (shape f.place) entries text c is in
-    let header : a.1 ≡ id ++ 0 ∷ [] = a.4 (λ class number. absurd (due_apart tag l.next f.slot f.alternative f.element due.is_due apart class number)) in
+    let w = written (read_as f.found) (shape f.place) entries in
+    let contents = contents_of (read_as f.found) (shape f.place) w text in
+    let id = identifier tag (form_of (read_as f.found)) in
+    let apart = no_segment (read_as f.found) (shape f.place) entries text c is in
+    let header : a.1 ≡ id ++ 0 ∷ [] = a.4 (λ class number. absurd (due_apart tag l.next (slot_in f.found) (alternative_of f.found) (read_as f.found) due.is_due apart class number)) in
     let all : old.octets ≡ (a.0 ++ a.1) ++ (w ++ text) =
     h.joined ∙ ap (λ x. x ++ text) (a.2 ∙ sym (append_assoc a.0 a.1 w)) ∙ append_assoc (a.0 ++ a.1) w text in
     let middle_is : middle ≡ a.0 ++ (id ++ 0 ∷ contents) =
     made (a.0 ++ a.1) all a.3 ∙ append_assoc a.0 a.1 contents ∙ ap (λ x. a.0 ++ x) (ap (λ x. x ++ contents) header ∙ append_assoc id (0 ∷ []) contents) in
     let base : f.base ≡ length (a.0 ++ (id ++ 0 ∷ [])) = a.3 ∙ ap (λ x. length (a.0 ++ x)) header in
-    let done = closed a.0 contents tag (form_of f.element) 0 middle_is base ∙ ap (λ x. a.0 ++ x) (sym (ended_octets f.element (shape f.place) entries trees text c tag held right is)) in
-    let here = subst (λ t. IsDueIn t l.next (due_with f.slot f.alternative f.element)) (sym value.1) due.is_due in
-    let entry = entry_written l.element l.next l.entries due.trees value.0 f.slot f.alternative f.element c due.held here value.2 in
-    let stays = kept tag l.next f.slot f.alternative f.element c due.is_due (may_open f.element (shape f.place) entries trees held) in
-    let octets = encoding (normal_element (element_is f.element) tag c) in
-    let added : unless_left l.next f.slot (with_alternative f.alternative c) (encoding (normal_element (element_is f.element) (tag_of value.0) c)) ≡ octets =
-    ap (λ b. elim b as (λ _. List ℕ) [ true ↦ [] | false ↦ encoding (normal_element (element_is f.element) (tag_of value.0) c) ]) stays
-    ∙ ap (λ t. encoding (normal_element (element_is f.element) t c)) value.1 in
-    added_octets new l below f.slot (with_alternative f.alternative c) a.0 octets (entry ∙ ap (λ x. written l.element l.next l.entries ++ x) added) a.5 done
+    let done = closed a.0 contents tag (form_of (read_as f.found)) 0 middle_is base ∙ ap (λ x. a.0 ++ x) (sym (ended_octets (read_as f.found) (shape f.place) entries trees text c tag held right is)) in
+    let here = subst (λ t. IsDueIn t l.next (due_with (slot_in f.found) (alternative_of f.found) (read_as f.found))) (sym value.1) due.is_due in
+    let entry = entry_written l.element l.next l.entries due.trees value.0 (slot_in f.found) (alternative_of f.found) (read_as f.found) c due.held here value.2 in
+    let stays = kept tag l.next (slot_in f.found) (alternative_of f.found) (read_as f.found) c due.is_due (may_open (read_as f.found) (shape f.place) entries trees held) in
+    let octets = encoding (normal_element (element_is (read_as f.found)) tag c) in
+    let added : unless_left l.next (slot_in f.found) (with_alternative (alternative_of f.found) c) (encoding (normal_element (element_is (read_as f.found)) (tag_of value.0) c)) ≡ octets =
+    ap (λ b. elim b as (λ _. List ℕ) [ true ↦ [] | false ↦ encoding (normal_element (element_is (read_as f.found)) (tag_of value.0) c) ]) stays
+    ∙ ap (λ t. encoding (normal_element (element_is (read_as f.found)) t c)) value.1 in
+    added_octets new l below (slot_in f.found) (with_alternative (alternative_of f.found) c) a.0 octets (entry ∙ ap (λ x. written l.element l.next l.entries ++ x) added) a.5 done
 
 -- a text that isn't a leaf's is right
 pub right_other : (e : CodeElement) (text : List ℕ) → ((l : LeafType) → e ≡ LeafElement l → ⊥) → IsRightText e text

@@ -4,8 +4,9 @@ use Rattle.ber_core.specs.Id.{tag_of_id}
 use Rattle.ber_core.specs.Identifier.{Tag}
 use Rattle.ber_core.specs.Tree.{none}
 use Rattle.ber_leaf.specs.Profile.{profile_two}
+use Rattle.ill_cells.specs.Places.{alternative_of}
 use Rattle.ill_read.specs.Elements.{element_is}
-use Rattle.ill_read.specs.DueCode.{IsDueIn, behind, first_of, next_is, shape}
+use Rattle.ill_read.specs.DueCode.{IsDueIn, behind, first_of, next_is, shape, read_as, slot_in, next_place}
 use Rattle.ill_refusals.specs.Element.{segment}
 use Rattle.ill_refusals.specs.Next.{opening}
 use Rattle.ill_refusals.specs.Place.{Open, allows, bound}
@@ -60,30 +61,30 @@ first_opening (LooseWrapper w) = refl
 first_opening Segment = refl
 
 pub opens_at : {D : Type 0} (holds : D → List Level → List ℕ → Type 0) (old new : Path D) (opening : Opening) (f : Frame) (place : List Open) (round : ℕ) → HoldsAt holds old place
-    → IsDueIn (tag_of_id opening.id) (next_at old.frames.open.items) (due_with f.slot f.alternative f.element) → shape f.after ≡ behind (next_at old.frames.open.items) f.slot → allows (element_is f.element) true ≡ true → (shape f.place) ≡ first_of f.element
-    → round ≡ bound profile_two place → f.bound ≡ unwrap_or f.end round → HasOpened holds old.draft opening f.base new.draft → new.frames.open.items ≡ old.frames.open.items ++ f ∷ [] → f.element ≡ opening.element
-    → HoldsAt holds new (opened (element_is f.element) (tag_of_id opening.id) f.start f.end ∷ place)
+    → IsDueIn (tag_of_id opening.id) (next_at old.frames.open.items) (due_with (slot_in f.found) (alternative_of f.found) (read_as f.found)) → shape (next_place f.found) ≡ behind (next_at old.frames.open.items) (slot_in f.found) → allows (element_is (read_as f.found)) true ≡ true → (shape f.place) ≡ first_of (read_as f.found)
+    → round ≡ bound profile_two place → f.bound ≡ unwrap_or f.end round → HasOpened holds old.draft opening f.base new.draft → new.frames.open.items ≡ old.frames.open.items ++ f ∷ [] → read_as f.found ≡ (read_as opening.found)
+    → HoldsAt holds new (opened (element_is (read_as f.found)) (tag_of_id opening.id) f.start f.end ∷ place)
 opens_at holds old new opening f place round h due after allowed first r b has frames is =
     let tag = tag_of_id opening.id in
-    let o : Open = opened (element_is f.element) tag f.start f.end in
+    let o : Open = opened (element_is (read_as f.found)) tag f.start f.end in
     let framed : IsFrame f o place old.frames.open.items [] = record {
       element = refl;
       start = refl;
       end = refl;
-      bound = b ∙ bound_opened f.end round f.element tag f.start place r;
-      next = ap next_is first ∙ first_opening f.element;
+      bound = b ∙ bound_opened f.end round (read_as f.found) tag f.start place r;
+      next = ap next_is first ∙ first_opening (read_as f.found);
       is_due = due;
       after = after;
-      held = holds_none f.element (shape f.place) first allowed;
+      held = holds_none (read_as f.found) (shape f.place) first allowed;
       were_due = tt;
     } in
-    let none_before : (element_is f.element ≡ segment → ⊥) → text_so_far place ≡ [] = λ apart.
-    no_text place old.frames.open.items h.0 h.1 (λ s. apart (due_segment tag (next_at old.frames.open.items) (due_with f.slot f.alternative f.element) due s)) in
-    let kept = has h.0 (text_so_far place) h.2 (λ apart. none_before (λ s. apart (sym is ∙ only_segment f.element s))) in
+    let none_before : (element_is (read_as f.found) ≡ segment → ⊥) → text_so_far place ≡ [] = λ apart.
+    no_text place old.frames.open.items h.0 h.1 (λ s. apart (due_segment tag (next_at old.frames.open.items) (due_with (slot_in f.found) (alternative_of f.found) (read_as f.found)) due s)) in
+    let kept = has h.0 (text_so_far place) h.2 (λ apart. none_before (λ s. apart (sym is ∙ only_segment (read_as f.found) s))) in
     let opened_as : CodeElement → Level = λ e. record { element = e; tag = tag; next = first_of e; base = f.base; entries = [] } in
-    let level : opened_as opening.element ≡ level_of f tag [] =
-    ap opened_as (sym is) ∙ ap (λ n. let l : Level = record { element = f.element; tag = tag; next = n; base = f.base; entries = [] } in l) (sym first) in (
+    let level : opened_as (read_as opening.found) ≡ level_of f tag [] =
+    ap opened_as (sym is) ∙ ap (λ n. let l : Level = record { element = (read_as f.found); tag = tag; next = n; base = f.base; entries = [] } in l) (sym first) in (
       pushed (level_of f tag []) h.0,
       (old.frames.open.items, f, h.0, [], frames, refl, framed, h.1),
-      subst (holds new.draft (pushed (level_of f tag []) h.0)) (text_opened f.element (text_so_far place) none_before) (subst (λ l. holds new.draft (pushed l h.0) (text_so_far place)) level kept),
+      subst (holds new.draft (pushed (level_of f tag []) h.0)) (text_opened (read_as f.found) (text_so_far place) none_before) (subst (λ l. holds new.draft (pushed l h.0) (text_so_far place)) level kept),
     )

@@ -16,8 +16,9 @@ use Rattle.ill_refusals.specs.Fault.{fault, fault_of, element_fault}
 use Rattle.ill_refusals.specs.Place.{Open, allows}
 use Rattle.ill_refusals.specs.code.Judge.{Judgement, or_faulty, reads}
 use Rattle.ill_refusals.specs.code.Step.{Step, moved}
+use Rattle.ill_cells.specs.Places.{alternative_of}
 use Rattle.ill_read.specs.Elements.{element_is}
-use Rattle.ill_read.specs.DueCode.{IsDueIn}
+use Rattle.ill_read.specs.DueCode.{IsDueIn, read_as, slot_in, next_place}
 use Rattle.ill_read.specs.LeafTypes.{leaf_is}
 use Rattle.ill_read.specs.code.Drafts.{HasLeaf, HasText, due_with}
 use Rattle.ill_read.specs.code.Judged.{IsBegin, IsJudgement, IsStep}
@@ -41,26 +42,26 @@ content_read e place tag header octets start at rest = moved (or_faulty (element
 
 -- a leaf
 pub leaf_read : {D : Type 0} (holds : D → List Level → List ℕ → Type 0) (old new : Path D) (place : List Open) (r : Reading) (l : LeafType) (start : ℕ) (octets : List ℕ) (result : Bool) (header at : ℕ) (rest : List ℕ)
-    → HoldsAt holds old place → IsBegin old.frames place (tag_of_id r.id) r.slot r.alternative r.element r.after false → r.element ≡ Leaf l → IsTrue (are_octets octets)
+    → HoldsAt holds old place → IsBegin old.frames place (tag_of_id r.id) r.found false → read_as r.found ≡ Leaf l → IsTrue (are_octets octets)
     → content_fault profile_two (leaf_is l) octets ≡ None → HasLeaf holds old.draft (next_at old.frames.open.items) r l octets new.draft
-    → GoesOn r.after old.frames.open.items new.frames.open.items result → IsStep holds new (Ok result) (content_read r.element place (tag_of_id r.id) header octets start at rest)
+    → GoesOn (next_place r.found) old.frames.open.items new.frames.open.items result → IsStep holds new (Ok result) (content_read (read_as r.found) place (tag_of_id r.id) header octets start at rest)
 leaf_read holds old new place r l start octets result header at rest stands begin is ok right has goes =
     let tag = tag_of_id r.id in
-    let due : IsDueIn tag (next_at old.frames.open.items) (due_with r.slot r.alternative (Leaf l)) = subst (λ x. IsDueIn tag (next_at old.frames.open.items) (due_with r.slot r.alternative x)) is begin.is_due in
+    let due : IsDueIn tag (next_at old.frames.open.items) (due_with (slot_in r.found) (alternative_of r.found) (Leaf l)) = subst (λ x. IsDueIn tag (next_at old.frames.open.items) (due_with (slot_in r.found) (alternative_of r.found) x)) is begin.is_due in
     let apart : element_is (Leaf l) ≡ segment → ⊥ = λ s. cc in
-    let no : text_so_far place ≡ [] = no_text place old.frames.open.items stands.0 stands.1 (λ s. apart (due_segment tag (next_at old.frames.open.items) (due_with r.slot r.alternative (Leaf l)) due s)) in
-    let added = entry_added holds old.frames.open.items stands.0 new place r.slot r.alternative (Leaf l) (simple (value (leaf_is l) octets)) (primitive tag octets)
-    (at + header + length octets) (drop (header + length octets) rest) result stands.1 due apart r.after begin.goes_on goes
+    let no : text_so_far place ≡ [] = no_text place old.frames.open.items stands.0 stands.1 (λ s. apart (due_segment tag (next_at old.frames.open.items) (due_with (slot_in r.found) (alternative_of r.found) (Leaf l)) due s)) in
+    let added = entry_added holds old.frames.open.items stands.0 new place (slot_in r.found) (alternative_of r.found) (Leaf l) (simple (value (leaf_is l) octets)) (primitive tag octets)
+    (at + header + length octets) (drop (header + length octets) rest) result stands.1 due apart (next_place r.found) begin.goes_on goes
     (λ level below e d. ((tt, ok, right, refl), has level below (subst (λ t. holds old.draft (level ∷ below) t) no (subst (λ ls. holds old.draft ls (text_so_far place)) e stands.2)) d)) in
-    let none : element_fault profile_two (element_is r.element) octets ≡ None = ap (λ x. element_fault profile_two (element_is x) octets) is ∙ right in
+    let none : element_fault profile_two (element_is (read_as r.found)) octets ≡ None = ap (λ x. element_fault profile_two (element_is x) octets) is ∙ right in
     subst (λ f. IsStep holds new (Ok result) (moved (or_faulty f start (reads tag header octets)) place at rest)) (sym none) added
 
 -- its contents are at fault
 pub leaf_refused : {D : Type 0} (holds : D → List Level → List ℕ → Type 0) (new : Path D) (place : List Open) (r : Reading) (l : LeafType) (start : ℕ) (octets : List ℕ) (fault' : LeafFault) (refusal : Refusal)
-    (header at : ℕ) (rest : List ℕ) → r.element ≡ Leaf l → content_fault profile_two (leaf_is l) octets ≡ Some fault' → fault (cause_of fault') start ≡ fault_of refusal
-    → IsStep holds new (Err (Failure.Refused refusal)) (content_read r.element place (tag_of_id r.id) header octets start at rest)
+    (header at : ℕ) (rest : List ℕ) → read_as r.found ≡ Leaf l → content_fault profile_two (leaf_is l) octets ≡ Some fault' → fault (cause_of fault') start ≡ fault_of refusal
+    → IsStep holds new (Err (Failure.Refused refusal)) (content_read (read_as r.found) place (tag_of_id r.id) header octets start at rest)
 leaf_refused holds new place r l start octets fault' refusal header at rest is wrong same =
-    let found : element_fault profile_two (element_is r.element) octets ≡ Some fault' = ap (λ x. element_fault profile_two (element_is x) octets) is ∙ wrong in
+    let found : element_fault profile_two (element_is (read_as r.found)) octets ≡ Some fault' = ap (λ x. element_fault profile_two (element_is x) octets) is ∙ wrong in
     subst (λ f. IsStep holds new (Err (Failure.Refused refusal)) (moved (or_faulty f start (reads (tag_of_id r.id) header octets)) place at rest)) (sym found) same
 
 primitive_segment : (e : CodeElement) → allows (element_is e) false ≡ true → ((l : LeafType) → e ≡ Leaf l → ⊥) → e ≡ Segment
@@ -73,19 +74,19 @@ primitive_segment Segment a h = refl
 
 -- a segment
 pub segment_read : {D : Type 0} (holds : D → List Level → List ℕ → Type 0) (old new : Path D) (place : List Open) (r : Reading) (start : ℕ) (octets : List ℕ) (header at : ℕ) (rest : List ℕ)
-    → HoldsAt holds old place → IsBegin old.frames place (tag_of_id r.id) r.slot r.alternative r.element r.after false → ((l : LeafType) → r.element ≡ Leaf l → ⊥)
+    → HoldsAt holds old place → IsBegin old.frames place (tag_of_id r.id) r.found false → ((l : LeafType) → read_as r.found ≡ Leaf l → ⊥)
     → new.frames.open.items ≡ old.frames.open.items → HasText holds old.draft octets new.draft
-    → IsStep holds new (Ok false) (content_read r.element place (tag_of_id r.id) header octets start at rest)
+    → IsStep holds new (Ok false) (content_read (read_as r.found) place (tag_of_id r.id) header octets start at rest)
 segment_read holds old new place r start octets header at rest stands begin apart frames has =
     let tag = tag_of_id r.id in
-    let is : r.element ≡ Segment = primitive_segment r.element begin.allowed apart in
-    let due : IsDueIn tag (next_at new.frames.open.items) (due_with r.slot r.alternative r.element) =
-    subst (λ fs. IsDueIn tag (next_at fs) (due_with r.slot r.alternative r.element)) (sym frames) begin.is_due in
-    let string : next_at new.frames.open.items ≡ Segments = segment_due tag (next_at new.frames.open.items) (due_with r.slot r.alternative r.element) due (ap element_is is) in
+    let is : read_as r.found ≡ Segment = primitive_segment (read_as r.found) begin.allowed apart in
+    let due : IsDueIn tag (next_at new.frames.open.items) (due_with (slot_in r.found) (alternative_of r.found) (read_as r.found)) =
+    subst (λ fs. IsDueIn tag (next_at fs) (due_with (slot_in r.found) (alternative_of r.found) (read_as r.found))) (sym frames) begin.is_due in
+    let string : next_at new.frames.open.items ≡ Segments = segment_due tag (next_at new.frames.open.items) (due_with (slot_in r.found) (alternative_of r.found) (read_as r.found)) due (ap element_is is) in
     let outer : AreFrames place new.frames.open.items stands.0 = subst (λ fs. AreFrames place fs stands.0) (sym frames) stands.1 in
-    let added = segment_added holds new place stands.0 (due_with r.slot r.alternative r.element) (primitive tag octets) (at + header + length octets) (drop (header + length octets) rest) outer due string tt
+    let added = segment_added holds new place stands.0 (due_with (slot_in r.found) (alternative_of r.found) (read_as r.found)) (primitive tag octets) (at + header + length octets) (drop (header + length octets) rest) outer due string tt
     (has stands.0 (text_so_far place) stands.2) in
-    let none : element_fault profile_two (element_is r.element) octets ≡ None = ap (λ x. element_fault profile_two (element_is x) octets) is in
+    let none : element_fault profile_two (element_is (read_as r.found)) octets ≡ None = ap (λ x. element_fault profile_two (element_is x) octets) is in
     subst (λ f. IsStep holds new (Ok false) (moved (or_faulty f start (reads tag header octets)) place at rest)) (sym none) added
 
 -- the contents lie behind the header
@@ -101,4 +102,4 @@ pub reads_judged : {D : Type 0} (holds : D → List Level → List ℕ → Type 
 reads_judged holds old new place r at m octets rest j result stands judged taken fits is reads_on =
     let content : take (length octets - m) (drop m octets) ≡ take r.size (drop r.header rest) = content_behind r.header r.size m octets rest taken fits is in
     let read = reads_on place r.header at rest stands judged.0 in
-    subst (λ x. IsStep holds new result (moved x place at rest)) (sym judged.1) (subst (λ c. IsStep holds new result (content_read r.element place (tag_of_id r.id) r.header c at at rest)) content read)
+    subst (λ x. IsStep holds new result (moved x place at rest)) (sym judged.1) (subst (λ c. IsStep holds new result (content_read (read_as r.found) place (tag_of_id r.id) r.header c at at rest)) content read)

@@ -11,11 +11,11 @@ use Rattle.ill_schema.specs.Content.{Content}
 use Rattle.ill_schema.specs.Table.{kind_of}
 use Rattle.ill_schema.specs.Tagging.{Tagging, untagged, implicit, explicit, explicit_or_bare, same_tag}
 use Rattle.ill_read.specs.Elements.{component_of, element_is, element_with, found_is}
-use Rattle.ill_read.specs.DueCode.{Begins, IsDueIn, IsDueInRows, IsRowDue, shape}
+use Rattle.ill_read.specs.DueCode.{Begins, IsDueIn, IsDueInRows, IsRowDue, shape, read_as}
 use Rattle.ill_refusals.specs.Element.{Component, Element, leaf, segment, Start, own_starts, retag, leave_out, tagged_starts, component_starts}
 use Rattle.ill_refusals.specs.Place.{Open}
 use Rattle.ill_read.specs.Standing.{Level, next_at, text_so_far, IsValueOf, IsHeld, IsFrame, AreFrames}
-use Rattle.ill_read.specs.declared.due.Due.{Due}
+use Rattle.ill_read.specs.DueCode.{Due}
 use Rattle.ill_read.specs.declared.due.Next.{Next}
 use Rattle.ill_read.specs.declared.due.Next.TheVariants.{Rows, Inner, Items, Either, Segments, Nothing}
 use Rattle.ill_read.specs.declared.due.Slot.{Slot}
@@ -125,4 +125,4 @@ no_text (o ∷ path) frames levels h apart =
     let f = h.1 in
     let k : IsFrame f o path h.0 _ = h.6 in
     ap (λ e. text_with e (text_so_far path) o.trees) (sym k.element)
-    ∙ text_apart f.element (shape f.place) _ o.trees k.held (λ e. apart (ap next_at h.4 ∙ next_behind h.0 f ∙ e)) (text_so_far path) o.trees
+    ∙ text_apart (read_as f.found) (shape f.place) _ o.trees k.held (λ e. apart (ap next_at h.4 ∙ next_behind h.0 f ∙ e)) (text_so_far path) o.trees

@@ -5,13 +5,13 @@ use Rattle.ber_core.specs.Tree.{Tree, Trees, none, more, tag_of, octet_string, I
 use Rattle.ber_leaf.specs.Profile.{profile_two}
 use Rattle.ill_schema.specs.Content.{Content}
 use Rattle.ill_read.specs.Elements.{element_is}
-use Rattle.ill_read.specs.DueCode.{IsDueIn, next_is, behind, shape}
+use Rattle.ill_read.specs.DueCode.{IsDueIn, next_is, behind, shape, read_as}
 use Rattle.ill_read.specs.code.Judged.{IsStep}
 use Rattle.ill_refusals.specs.Next.{due, next_after, opening}
 use Rattle.ill_refusals.specs.Place.{Open}
 use Rattle.ill_read.specs.Standing.{Level, next_at, top, text_so_far, IsHeld, IsFrame, AreFrames}
 use Rattle.ill_refusals.specs.code.Step.{snoc, with_tree}
-use Rattle.ill_read.specs.declared.due.Due.{Due}
+use Rattle.ill_read.specs.DueCode.{Due}
 use Rattle.ill_read.specs.declared.due.Next.{Next}
 use Rattle.ill_read.specs.declared.due.Next.TheVariants.{Segments}
 use Rattle.ill_read.specs.declared.element.Element.{Element as CodeElement}
@@ -60,7 +60,7 @@ string_frame f o path outer entries T d h is e s =
     let found : due profile_two (tag_of T) (next_after profile_two (opening profile_two o.element) o.trees) ≡ Some D.0 = ap (due profile_two (tag_of T)) (sym h.next) ∙ D.1 in
     let one_more = next-added (opening profile_two o.element) o.trees T D.0 h.were_due found in
     let stays : behind (shape f.place) d.slot ≡ (shape f.place) = ap (λ n. behind n d.slot) e ∙ sym e in
-    let held : IsHeld f.element Segments entries o.trees = subst (λ n. IsHeld f.element n entries o.trees) e h.held in
+    let held : IsHeld (read_as f.found) Segments entries o.trees = subst (λ n. IsHeld (read_as f.found) n entries o.trees) e h.held in
     record {
       element = h.element;
       start = h.start;
@@ -69,7 +69,7 @@ string_frame f o path outer entries T d h is e s =
       next = ap next_is (sym stays) ∙ sym D.3 ∙ sym one_more.0;
       is_due = h.is_due;
       after = h.after;
-      held = subst (λ n. IsHeld f.element n entries (snoc o.trees T)) (sym e) (string_held f.element entries o.trees T held (segment_tag (tag_of T) (shape f.place) d is e) s);
+      held = subst (λ n. IsHeld (read_as f.found) n entries (snoc o.trees T)) (sym e) (string_held (read_as f.found) entries o.trees T held (segment_tag (tag_of T) (shape f.place) d is e) s);
       were_due = one_more.1;
     }
 
@@ -84,8 +84,8 @@ segment_added holds path (o ∷ outside) levels d T at rest h is e s t =
     let here : next_at path.frames.open.items ≡ (shape f.place) = ap next_at h.4 ∙ next_behind h.0 f in
     let due : IsDueIn (tag_of T) (shape f.place) d = subst (λ n. IsDueIn (tag_of T) n d) here is in
     let string : (shape f.place) ≡ Segments = sym here ∙ e in
-    let held : IsHeld f.element Segments h.3 o.trees = subst (λ n. IsHeld f.element n h.3 o.trees) string k.held in
-    let joined = string_text f.element h.3 o.trees T (text_so_far outside) held in
+    let held : IsHeld (read_as f.found) Segments h.3 o.trees = subst (λ n. IsHeld (read_as f.found) n h.3 o.trees) string k.held in
+    let joined = string_text (read_as f.found) h.3 o.trees T (text_so_far outside) held in
     let as_element = λ (us : Trees). ap (λ x. text_with x (text_so_far outside) us) k.element in
     let text_is : text_so_far (o ∷ outside) ++ text T ≡ text_so_far (with_one o T ∷ outside) = ap (λ xs. xs ++ text T) (sym (as_element o.trees)) ∙ sym joined ∙ as_element (snoc o.trees T) in
     (levels, (h.0, f, h.2, h.3, h.4, h.5, string_frame f o outside h.0 h.3 T d k due string s, h.7), subst (λ x. holds path.draft levels x) text_is t)

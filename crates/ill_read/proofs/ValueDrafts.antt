@@ -32,14 +32,14 @@ use Rattle.ill_read.specs.declared.frame.Frame.{Frame}
 use Rattle.ill_read.specs.declared.judge.Opening.{Opening}
 use Rattle.ill_read.specs.declared.leaf_type.LeafType.{LeafType}
 use Rattle.ill_read.specs.declared.values.Values.{Values}
-use Rattle.ill_read.specs.DueCode.{shape, first_of}
+use Rattle.ill_read.specs.DueCode.{shape, first_of, read_as}
 
 -- an element that opens has no entries
 pub values_opened : (v : Values) (opening : Opening) (base : ℕ) → base ≡ length v.held.entries.items → HasOpened AreValues v opening base v
-values_opened v opening base e levels text h apart = go opening.element
+values_opened v opening base e levels text h apart = go (read_as opening.found)
   where
     l : Level
-    l = record { element = opening.element; tag = tag_of_id opening.id; next = first_of opening.element; base = base; entries = [] }
+    l = record { element = (read_as opening.found); tag = tag_of_id opening.id; next = first_of (read_as opening.found); base = base; entries = [] }
 
     more : AreValues v (l ∷ levels) text
     more = record { held = (v.held.entries.items, [], sym (append-nil v.held.entries.items), e, refl, h.held); text = h.text }
@@ -86,7 +86,7 @@ sequence_left old new f tag entries below text v c h s same empty is =
     let all : map g (x.1 ++ s.entries) ≡ entries ++ map absent_content (rows_left (shape f.place)) = map-append g x.1 s.entries ∙ ap₂ (λ (xs ys : List (Option Content)). xs ++ ys) x.4 s.are in
     (taken.1 ∙ ap (λ es. content.sequence (entries_of es)) all ∙ sym is, left new below x.0 x.5 taken.0 (same ∙ h.text ∙ empty))
 
-pub sequence_ends : (old new : Values) (f : Frame) (v : Value) (node : NodeId) → f.element ≡ Sequence node → IsSequence (rows_left (shape f.place)) f.base v old.held.entries.items new.held.entries.items
+pub sequence_ends : (old new : Values) (f : Frame) (v : Value) (node : NodeId) → read_as f.found ≡ Sequence node → IsSequence (rows_left (shape f.place)) f.base v old.held.entries.items new.held.entries.items
     → new.text.items ≡ old.text.items → EndsExactly old f new (Ok (Some v))
 sequence_ends old new f v node is s same tag entries below text h =
     subst (λ x. IsRightText x text × ((trees : Trees) (c : Content) → IsHeld x (shape f.place) entries trees → IsContentOf x (shape f.place) entries text c → IsFound (Some v) c × AreValues new below [])) (sym is)
@@ -101,7 +101,7 @@ loose_content w (Items node) entries text c apart k = k
 loose_content w (Either x) entries text c apart k = k
 loose_content w Segments entries text c apart k = k
 
-pub loose_ends : (old new : Values) (f : Frame) (v : Value) (w : Wrapped) → f.element ≡ LooseWrapper w → ((shape f.place) ≡ Nothing → ⊥)
+pub loose_ends : (old new : Values) (f : Frame) (v : Value) (w : Wrapped) → read_as f.found ≡ LooseWrapper w → ((shape f.place) ≡ Nothing → ⊥)
     → IsSequence (rows_left (shape f.place)) f.base v old.held.entries.items new.held.entries.items → new.text.items ≡ old.text.items → EndsExactly old f new (Ok (Some v))
 loose_ends old new f v w is apart s same tag entries below text h =
     subst (λ x. IsRightText x text × ((trees : Trees) (c : Content) → IsHeld x (shape f.place) entries trees → IsContentOf x (shape f.place) entries text c → IsFound (Some v) c × AreValues new below [])) (sym is)
@@ -118,7 +118,7 @@ all_there (Some v ∷ es) (c ∷ cs) e =
     let is : content_of v ≡ c = cc in
     (v ∷ r.0, ap (λ xs. Some v ∷ xs) r.1, ap₂ (λ (x : Content) (xs : List Content). x ∷ xs) is r.2)
 
-pub list_ends : (old new : Values) (f : Frame) (v : Value) (node : NodeId) → f.element ≡ ListOf node → IsList f.base v old.held.entries.items new.held.entries.items → new.text.items ≡ old.text.items
+pub list_ends : (old new : Values) (f : Frame) (v : Value) (node : NodeId) → read_as f.found ≡ ListOf node → IsList f.base v old.held.entries.items new.held.entries.items → new.text.items ≡ old.text.items
     → EndsExactly old f new (Ok (Some v))
 list_ends old new f v node is s same tag entries below text h =
     subst (λ x. IsRightText x text × ((trees : Trees) (c : Content) → IsHeld x (shape f.place) entries trees → IsContentOf x (shape f.place) entries text c → IsFound (Some v) c × AreValues new below [])) (sym is) (
@@ -146,13 +146,13 @@ last_left old new f tag entries below text found c h s same empty is =
     let taken = s x.0 (Some there.0) (x.2 ∙ ap (λ xs. x.0 ++ xs) there.1) in
     (subst (λ y. IsFound y c) (sym taken.0) there.2, left new below x.0 x.5 taken.1 (same ∙ h.text ∙ empty))
 
-pub wrapper_ends : (old new : Values) (f : Frame) (found : Option Value) (w : Wrapped) → f.element ≡ Wrapper w → IsLast found old.held.entries.items new.held.entries.items
+pub wrapper_ends : (old new : Values) (f : Frame) (found : Option Value) (w : Wrapped) → read_as f.found ≡ Wrapper w → IsLast found old.held.entries.items new.held.entries.items
     → new.text.items ≡ old.text.items → EndsExactly old f new (Ok found)
 wrapper_ends old new f found w is s same tag entries below text h =
     subst (λ x. IsRightText x text × ((trees : Trees) (c : Content) → IsHeld x (shape f.place) entries trees → IsContentOf x (shape f.place) entries text c → IsFound found c × AreValues new below [])) (sym is)
     (tt, λ trees c held k. last_left old new f tag entries below text found c h s same k.0 k.1)
 
-pub loose_wrapper_ends : (old new : Values) (f : Frame) (found : Option Value) (w : Wrapped) → f.element ≡ LooseWrapper w → (shape f.place) ≡ Nothing
+pub loose_wrapper_ends : (old new : Values) (f : Frame) (found : Option Value) (w : Wrapped) → read_as f.found ≡ LooseWrapper w → (shape f.place) ≡ Nothing
     → IsLast found old.held.entries.items new.held.entries.items → new.text.items ≡ old.text.items → EndsExactly old f new (Ok found)
 loose_wrapper_ends old new f found w is nothing s same tag entries below text h =
     subst (λ x. IsRightText x text × ((trees : Trees) (c : Content) → IsHeld x (shape f.place) entries trees → IsContentOf x (shape f.place) entries text c → IsFound found c × AreValues new below [])) (sym is) (
@@ -171,7 +171,7 @@ no_entries : (es : List (Option Value)) (entries : List (Option Content)) → ma
 no_entries [] entries e n = refl
 no_entries (x ∷ es) entries e n = absurd (let q : map (option_map content_of) (x ∷ es) ≡ [] = e ∙ n in cc)
 
-pub string_ends : (old new : Values) (f : Frame) (v : Value) (l : LeafType) (octets : List ℕ) → f.element ≡ Leaf l → octets ≡ old.text.items → IsTrue (are_octets octets)
+pub string_ends : (old new : Values) (f : Frame) (v : Value) (l : LeafType) (octets : List ℕ) → read_as f.found ≡ Leaf l → octets ≡ old.text.items → IsTrue (are_octets octets)
     → content_fault profile_two (leaf_is l) octets ≡ None → content_of v ≡ simple (value (leaf_is l) octets) → new.held.entries.items ≡ old.held.entries.items → new.text.items ≡ []
     → EndsExactly old f new (Ok (Some v))
 string_ends old new f v l octets is same ok right value_is kept empty tag entries below text h =
@@ -184,12 +184,12 @@ string_ends old new f v l octets is same ok right value_is kept empty tag entrie
           (value_is ∙ ap (λ o. simple (value (leaf_is l) o)) joined ∙ sym k, left new below x.0 x.5 (kept ∙ x.2 ∙ ap (λ xs. x.0 ++ xs) none ∙ append-nil x.0) empty),
     )
 
-pub string_fails : (old new : Values) (f : Frame) (l : LeafType) (octets : List ℕ) (wrong : LeafFault) (r : Refusal) → f.element ≡ Leaf l → octets ≡ old.text.items
+pub string_fails : (old new : Values) (f : Frame) (l : LeafType) (octets : List ℕ) (wrong : LeafFault) (r : Refusal) → read_as f.found ≡ Leaf l → octets ≡ old.text.items
     → content_fault profile_two (leaf_is l) octets ≡ Some wrong → fault (cause_of wrong) f.start ≡ fault_of r → EndsExactly old f new (Err (Failure.Refused r))
 string_fails old new f l octets wrong r is same e at tag entries below text h =
     (wrong, ap (λ x. element_fault profile_two (element_is x) text) is ∙ ap (content_fault profile_two (leaf_is l)) (sym (same ∙ h.text)) ∙ e, at)
 
-pub segment_ends : (old new : Values) (f : Frame) → f.element ≡ Segment → EndsExactly old f new (Ok None)
+pub segment_ends : (old new : Values) (f : Frame) → read_as f.found ≡ Segment → EndsExactly old f new (Ok None)
 segment_ends old new f is tag entries below text h =
     subst (λ x. IsRightText x text × ((trees : Trees) (c : Content) → IsHeld x (shape f.place) entries trees → IsContentOf x (shape f.place) entries text c → IsFound None c × AreValues new below [])) (sym is)
     (tt, λ trees c held k. absurd k)

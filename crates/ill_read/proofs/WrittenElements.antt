@@ -27,7 +27,7 @@ use Rattle.ill_read.specs.declared.due.Slot.{Slot}
 use Rattle.ill_read.specs.declared.due.Slot.TheVariants.{Row as AtRow, Item, Inner as Inside, Segment as InString}
 use Rattle.ill_read.specs.declared.element.Element.{Element as CodeElement}
 use Rattle.ill_read.specs.declared.element.Element.TheVariants.{Leaf as LeafElement, Sequence, List as ListOf, Wrapper, LooseWrapper, Segment}
-use Rattle.ill_read.specs.declared.element.Found.{Found}
+use Rattle.ill_read.specs.Found.{Found}
 use Rattle.ill_read.specs.declared.element.Wrapped.{Wrapped}
 use Rattle.std.proofs.lemmas.Option.{slice_get_within}
 use Rattle.ill_read.proofs.NormalElements.{row_normal, item_normal, inner_normal}

@@ -11,24 +11,23 @@ use Rattle.ill_schema.specs.Table.{kind_of, rows_of}
 use Rattle.ill_schema.specs.Tagging.{untagged, same_tag, sequence_tag}
 use Rattle.ill_refusals.specs.Element.{Component, Element, list, segment, components, component_starts, starts}
 use Rattle.ill_refusals.specs.Next as next
-use Rattle.ill_cells.specs.Places.{part_in, node_in, position_in}
+use Rattle.ill_cells.specs.Places.{part_in, node_in, position_in, part_of, node_of, what_of, alternative_of, slot_of, row_of, place_after}
 use Rattle.ill_cells.specs.declared.at.At.{At}
+use Rattle.ill_cells.specs.declared.at.Found.{Found as CellFound}
 use Rattle.ill_cells.specs.declared.cell.Slot.{Slot as CellSlot}
 use Rattle.ill_cells.specs.declared.cell.What.{What}
 use Rattle.ill_cells.specs.declared.cell.What.TheVariants as what
 use Rattle.ill_cells.specs.declared.cell.Slot.TheVariants as cell
 use Rattle.ill_read.specs.Elements.{component_of, component_at, element_with, found_is}
 use Rattle.ill_schema.specs.declared.part.Presence.{Presence}
-use Rattle.ill_read.specs.declared.due.Due.{Due}
-use Rattle.ill_read.specs.declared.due.Coming.{Coming}
 use Rattle.ill_read.specs.declared.due.Slot.TheVariants.{Row as AtRow, Item, Inner as Inside, Segment}
 use Rattle.ill_read.specs.declared.due.Next.{Next}
 use Rattle.ill_read.specs.declared.due.Next.TheVariants.{Rows, Inner, Items, Either, Segments, Nothing}
 use Rattle.ill_read.specs.declared.due.Slot.{Slot}
 use Rattle.ill_read.specs.declared.element.Element.{Element as CodeElement}
 use Rattle.ill_read.specs.declared.element.Element.TheVariants.{Leaf, Sequence, List as ListOf, Wrapper, LooseWrapper, Segment as InString}
-use Rattle.ill_read.specs.declared.element.Found.{Found}
-use Rattle.ill_read.specs.declared.element.Found.TheVariants as found
+use Rattle.ill_read.specs.Found.{Found}
+use Rattle.ill_read.specs.Found as found
 use Rattle.ill_read.specs.declared.element.Wrapped.{Wrapped}
 use Rattle.ill_read.specs.declared.leaf_type.LeafType.TheVariants as leaf
 
@@ -59,22 +58,27 @@ abbrev pub BeginsAt : Found → At → Type 0
 BeginsAt (found.Element e) first = shape first ≡ first_of e
 BeginsAt (found.LeftOut part) first = Unit {0}
 
+-- as what an element of a part with this node is read; one that is left out never is
+abbrev pub element_as : PartId → NodeId → What → CodeElement
+element_as p node what.Boolean = Leaf leaf.Boolean
+element_as p node what.Integer = Leaf leaf.Integer
+element_as p node what.Enumerated = Leaf leaf.Enumerated
+element_as p node what.General = Leaf leaf.General
+element_as p node what.Visible = Leaf leaf.Visible
+element_as p node what.Printable = Leaf leaf.Printable
+element_as p node what.Date = Leaf leaf.Date
+element_as p node what.Time = Leaf leaf.Time
+element_as p node what.Sequence = Sequence node
+element_as p node what.List = ListOf node
+element_as p node what.Wrapper = Wrapper (record { part = p; node = node })
+element_as p node what.LooseWrapper = LooseWrapper (record { part = p; node = node })
+element_as p node what.Segment = InString
+element_as p node what.LeftOut = ListOf node
+
 -- what a part with this node is
 abbrev pub found_as : PartId → NodeId → What → Found
-found_as p node what.Boolean = found.Element (Leaf leaf.Boolean)
-found_as p node what.Integer = found.Element (Leaf leaf.Integer)
-found_as p node what.Enumerated = found.Element (Leaf leaf.Enumerated)
-found_as p node what.General = found.Element (Leaf leaf.General)
-found_as p node what.Visible = found.Element (Leaf leaf.Visible)
-found_as p node what.Printable = found.Element (Leaf leaf.Printable)
-found_as p node what.Date = found.Element (Leaf leaf.Date)
-found_as p node what.Time = found.Element (Leaf leaf.Time)
-found_as p node what.Sequence = found.Element (Sequence node)
-found_as p node what.List = found.Element (ListOf node)
-found_as p node what.Wrapper = found.Element (Wrapper (record { part = p; node = node }))
-found_as p node what.LooseWrapper = found.Element (LooseWrapper (record { part = p; node = node }))
-found_as p node what.Segment = found.Element InString
 found_as p node what.LeftOut = found.LeftOut p
+found_as p node w = found.Element (element_as p node w)
 
 -- where what is found stands
 abbrev pub slot_as : ℕ → CellSlot → Slot
@@ -82,6 +86,32 @@ slot_as row cell.Row = AtRow row
 slot_as row cell.Inner = Inside
 slot_as row cell.Item = Item
 slot_as row cell.Segment = Segment
+
+-- the same of what the cells find, with the place after it
+abbrev pub read_as : CellFound → CodeElement
+read_as f = element_as (part_of f) (node_of f) (what_of f)
+
+abbrev pub found_in : CellFound → Found
+found_in f = found_as (part_of f) (node_of f) (what_of f)
+
+abbrev pub slot_in : CellFound → Slot
+slot_in f = slot_as (row_of f) (slot_of f)
+
+abbrev pub next_place : CellFound → At
+next_place f = place_after f (slot_of f)
+
+-- what a tag begins, where that stands, and the alternative of a choice without a tag that it is
+pub record Due : Type 0 where
+  pub slot : Slot
+  pub alternative : Option ℕ
+  pub found : Found
+
+abbrev pub due_as : CellFound → Due
+due_as f = record { slot = slot_in f; alternative = alternative_of f; found = found_in f }
+
+-- the same where it isn't left out
+abbrev pub read_due : CellFound → Due
+read_due f = record { slot = slot_in f; alternative = alternative_of f; found = found.Element (read_as f) }
 
 abbrev pub next_is : Next → next.Next
 next_is (Rows node n) = next.rows (drop n (components profile_two node))
@@ -156,8 +186,7 @@ IsDueIn t (Either w) d = ((same_tag t sequence_tag ≡ true) × IsInnerDue t w d
 IsDueIn t Segments d = IsSegmentDue t d
 IsDueIn t Nothing d = ⊥
 
--- the same, with the first place in it and the place after it
-pub record IsComing (t : Tag) (at : At) (c : Coming) : Type 0 where
-  pub is_due : IsDueIn t (shape at) c.due
-  pub first : BeginsAt c.due.found c.first
-  pub after : shape c.after ≡ behind (shape at) c.due.slot
+-- what the cells find is due there, and is left at the place after it
+pub record IsComing (t : Tag) (at : At) (f : CellFound) : Type 0 where
+  pub is_due : IsDueIn t (shape at) (due_as f)
+  pub after : shape (next_place f) ≡ behind (shape at) (slot_in f)

@@ -10,8 +10,8 @@ use Rattle.ill_refusals.specs.Element.{Component, Element, leaf, sequence, list,
 use Rattle.ill_read.specs.LeafTypes.{leaf_is}
 use Rattle.ill_read.specs.declared.element.Element.{Element as CodeElement}
 use Rattle.ill_read.specs.declared.element.Element.TheVariants as code
-use Rattle.ill_read.specs.declared.element.Found.{Found}
-use Rattle.ill_read.specs.declared.element.Found.TheVariants as found
+use Rattle.ill_read.specs.Found.{Found}
+use Rattle.ill_read.specs.Found as found
 use Rattle.ill_read.specs.declared.element.Wrapped.{Wrapped}
 
 abbrev pub component_of : Wrapped → Component

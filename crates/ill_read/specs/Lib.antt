@@ -1,4 +1,5 @@
 pub mod LeafTypes
+pub mod Found
 pub mod Elements
 pub mod DueCode
 pub mod Failures

@@ -24,13 +24,12 @@ use Rattle.ill_refusals.specs.Next.{due, next_of, opening}
 use Rattle.ill_refusals.specs.Next as following
 use Rattle.ill_refusals.specs.Place.{Open, next_in, bound, IsPlace}
 use Rattle.ill_read.specs.Elements.{element_is}
-use Rattle.ill_read.specs.DueCode.{next_is, IsDueIn, behind, shape}
+use Rattle.ill_read.specs.DueCode.{next_is, IsDueIn, behind, shape, read_as, read_due, slot_in, next_place}
 use Rattle.ill_read.specs.LeafTypes.{leaf_is}
 use Rattle.ill_read.specs.declared.due.Next.{Next}
 use Rattle.ill_read.specs.declared.due.Next.TheVariants.{Rows, Inner, Items, Either, Segments, Nothing}
 use Rattle.ill_read.specs.declared.element.Element.{Element as CodeElement}
 use Rattle.ill_read.specs.declared.element.Element.TheVariants.{Leaf, Sequence, List as ListOf, Wrapper, LooseWrapper, Segment}
-use Rattle.ill_read.specs.declared.element.Found.TheVariants as found
 use Rattle.ill_read.specs.declared.element.Wrapped.{Wrapped}
 use Rattle.ill_read.specs.declared.frame.Frame.{Frame}
 use Rattle.ill_read.specs.declared.frames.Frames.{Frames}
@@ -115,7 +114,7 @@ abbrev pub whole_level : Content → Level
 whole_level c = record top_level { next = Nothing; entries = Some c ∷ [] }
 
 abbrev pub level_of : Frame → Tag → List (Option Content) → Level
-level_of f tag entries = record { element = f.element; tag = tag; next = (shape f.place); base = f.base; entries = entries }
+level_of f tag entries = record { element = read_as f.found; tag = tag; next = shape f.place; base = f.base; entries = entries }
 
 -- segments have nothing of their own
 abbrev pub pushed : Level → List Level → List Level
@@ -128,14 +127,14 @@ AreDue n (more T ts) = (d : following.Due) × (due profile_two (tag_of T) n ≡ 
 
 -- a frame is an open element in a path, where the frames of the path are these and it has these entries
 pub record IsFrame (f : Frame) (o : Open) (path : List Open) (outer : List Frame) (entries : List (Option Content)) : Type 0 where
-  pub element : element_is f.element ≡ o.element
+  pub element : element_is (read_as f.found) ≡ o.element
   pub start : f.start ≡ o.start
   pub end : f.end ≡ o.end
   pub bound : f.bound ≡ bound profile_two (o ∷ path)
   pub next : next_is (shape f.place) ≡ next_in profile_two (o ∷ path)
-  pub is_due : IsDueIn o.tag (next_at outer) (record { slot = f.slot; alternative = f.alternative; found = found.Element f.element })
-  pub after : shape f.after ≡ behind (next_at outer) f.slot
-  pub held : IsHeld f.element (shape f.place) entries o.trees
+  pub is_due : IsDueIn o.tag (next_at outer) (read_due f.found)
+  pub after : shape (next_place f.found) ≡ behind (next_at outer) (slot_in f.found)
+  pub held : IsHeld (read_as f.found) (shape f.place) entries o.trees
   pub were_due : AreDue (opening profile_two o.element) o.trees
 
 -- the frames are the open elements, outermost first, and have this in them, innermost first

@@ -2,15 +2,16 @@
 ghost use Rattle.std.specs.Prelude.{ℕ, List, IfOk, OnOk};
 ghost use Rattle.ber_leaf.specs.Content.{IsContent};
 ghost use Rattle.ill_schema.specs.Apdu.{Apdu};
+ghost use Rattle.ill_read.specs.DueCode.{shape};
 ghost use Rattle.ill_read.specs.LeafTypes.{leaf_is};
 ghost use Rattle.ill_read.specs.Standing.{Level};
 ghost use Rattle.ill_read.specs.code.Drafts.{HasOpened, HasText, HasLeaf, ChecksText, HasClosed, HoldsApdu, HasEnded};
 
-use crate::due::Next;
 use crate::failure::Failure;
 use crate::frame::Frame;
 use crate::judge::{Opening, Reading};
 use crate::leaf_type::LeafType;
+use ill_cells::At;
 use std::alloc::AllocError;
 
 /// What is made of a message while its elements are read.
@@ -29,25 +30,25 @@ pub trait Draft: Drop {
     fn text(&mut self, octets: &[u8]) -> Result<(), AllocError>
         ensures { OnOk result (HasText holds self.old octets.now self.new) };
 
-    /// A primitive element, where this may come next.
+    /// A primitive element, at this place.
     fn leaf(
         &mut self,
-        next: Next,
+        place: At,
         reading: Reading,
         leaf: LeafType,
         content: &[u8],
     ) -> Result<(), AllocError>
         requires { IsContent (leaf_is leaf) content.now }
-        ensures { OnOk result (HasLeaf holds self.old next reading leaf content.now self.new) };
+        ensures { OnOk result (HasLeaf holds self.old (shape place) reading leaf content.now self.new) };
 
-    /// The innermost element ends, where this may come next round it.
+    /// The innermost element ends, which began at this place.
     ///
     /// # Errors
     ///
     /// The fault of its text, at its start; or out of memory.
-    fn close(&mut self, frame: Frame, next: Next) -> Result<(), Failure>
+    fn close(&mut self, frame: Frame, place: At) -> Result<(), Failure>
         ensures text { ChecksText holds self.old frame result }
-        ensures closed { OnOk result (HasClosed holds self.old frame next self.new) };
+        ensures closed { OnOk result (HasClosed holds self.old frame (shape place) self.new) };
 
     /// The message is whole, and has as many octets. Returns whether its normal form is within the limit.
     fn end(&mut self, octets: u32) -> bool

@@ -1,23 +1,16 @@
 //! The open elements of a message.
 ghost use Rattle.std.specs.Prelude.{◌≡◌, ◌≤◌};
 
-use crate::due::{Next, Slot};
-use crate::element::Element;
-use crate::leaf_type::LeafType;
-use ill_cells::At;
+use crate::due::Next;
+use ill_cells::{At, Found};
 
 /// An open element: a constructed one whose header has been read.
 #[derive(Clone, Copy)]
 pub struct Frame {
-    pub element: Element,
-    /// Where its value goes in the element round it.
-    pub slot: Slot,
-    /// The alternative of a choice without a tag that it is.
-    pub alternative: Option<u8>,
+    /// As what it was found in the element round it.
+    pub found: Found,
     /// The place that has been reached in it.
     pub place: At,
-    /// The place after it, in the element round it.
-    pub after: At,
     /// The offset of its first octet.
     pub start: u32,
     /// The offset of its end, where its length is definite.
@@ -55,11 +48,8 @@ impl Frame {
 impl Default for Frame {
     fn default() -> Frame {
         Frame {
-            element: Element::Leaf(LeafType::Boolean),
-            slot: Slot::Row(0),
-            alternative: None,
+            found: Found::default(),
             place: At::default(),
-            after: At::default(),
             start: 0,
             end: None,
             bound: 0,

@@ -2,15 +2,12 @@
 ghost use Rattle.std.specs.Prelude.{◌≡◌, ◌≤◌, false, IfOk, length};
 ghost use Rattle.ber_core.specs.Id.{form_of_id};
 ghost use Rattle.std.specs.Option.{ForSome};
-ghost use Rattle.std.proofs.Props.{props};
-ghost use Rattle.ill_read.specs.DueCode.{BeginsAt, first_of, shape};
 
-use crate::due::{Coming, Slot, find};
-use crate::element::{Element, Found};
+use crate::element::form_fault;
 use crate::frames::{DEPTH, Frames};
 use crate::header::{HeaderRead, LengthRead, read_header};
 use ber_core::{Id, Len};
-use ill_cells::At;
+use ill_cells::Found;
 use ill_schema::{Cause, Refusal};
 
 /// What is done at a place where nothing is at fault but, perhaps, the text or content of a leaf.
@@ -41,86 +38,21 @@ impl Judgement {
 /// A constructed element: the size of its header, and its end.
 #[derive(Clone, Copy)]
 pub struct Opening {
-    pub slot: Slot,
-    pub alternative: Option<u8>,
-    pub element: Element,
-    /// The first place in it.
-    pub first: At,
-    /// The place after it.
-    pub after: At,
+    pub found: Found,
     pub id: Id,
     pub header: u32,
     pub end: Option<u32>,
     ghost within: { ForSome end (λ e. e ≤ 1_048_576) },
-    ghost first_is: { shape first ≡ first_of element } by { Prim.hlevel props },
 }
 
 /// A primitive element: the sizes of its header and its content.
 #[derive(Clone, Copy)]
 pub struct Reading {
-    pub slot: Slot,
-    pub alternative: Option<u8>,
-    pub element: Element,
-    /// The first place in it.
-    pub first: At,
-    /// The place after it.
-    pub after: At,
+    pub found: Found,
     pub id: Id,
     pub header: u32,
     pub size: u32,
     ghost form: { form_of_id id ≡ false },
-}
-
-/// An element that is due and has the form that it may have.
-// The order of the fields lets the processor load each from one store.
-#[derive(Clone, Copy)]
-struct Started {
-    constructed: bool,
-    id: Id,
-    slot: Slot,
-    element: Element,
-    alternative: Option<u8>,
-    first: At,
-    after: At,
-    ghost form: { constructed ≡ form_of_id id },
-    ghost first_is: { shape first ≡ first_of element } by { Prim.hlevel props },
-}
-
-impl Started {
-    ghost use Rattle.ill_read.specs.code.JudgeCode.{IsFormed};
-
-    /// The form of an element that is due.
-    #[inline(always)]
-    fn judge_form(at: u32, coming: Coming, id: Id) -> Result<Started, Refusal>
-        requires { BeginsAt coming.due.found coming.first }
-        ensures { IsFormed coming at id result }
-    {
-        let Coming { due, first, after } = coming;
-        let constructed = id.constructed();
-        match due.found {
-            Found::LeftOut(part) => Err(Refusal {
-                at,
-                cause: Cause::LeftOut(part),
-            }),
-            Found::Element(element) => {
-                if !element.allows(constructed) {
-                    return Err(Refusal {
-                        at,
-                        cause: Cause::WrongForm,
-                    });
-                }
-                Ok(Started {
-                    id,
-                    slot: due.slot,
-                    alternative: due.alternative,
-                    element,
-                    first,
-                    after,
-                    constructed,
-                })
-            }
-        }
-    }
 }
 
 impl Frames {
@@ -129,7 +61,9 @@ impl Frames {
     ghost use Rattle.ill_refusals.specs.Fault.{fault_of, wanting};
     ghost use Rattle.ill_refusals.specs.code.Judge.{judge_end, judge_mark, judge_octets, judge_element, judge_length, judge_size};
     ghost use Rattle.ill_read.specs.code.Judged.{JudgesExactly};
-    ghost use Rattle.ill_read.specs.code.JudgeCode.{WhereItStands, Judges, JudgesWithin, JudgesStarted, IsIdentified};
+    ghost use Rattle.ill_read.specs.code.JudgeCode.{WhereItStands, Judges, JudgesWithin, JudgesBegun, IsIdentified};
+    ghost use Rattle.ber_core.specs.Id.{tag_of_id};
+    ghost use Rattle.ill_read.specs.DueCode.{read_as};
     ghost use Rattle.ill_read.specs.Elements.{element_is};
     ghost use Rattle.ill_read.specs.HeaderCode.{IsLengthRead};
     ghost use Rattle.ill_refusals.specs.Reading.{read_length};
@@ -152,37 +86,41 @@ impl Frames {
         } else {
             &rest[..room]
         };
-        self.judge_octets(at, window, self.wanting(at, rest.len()))
+        self.judge_octets(at, window, rest.len())
     }
 
-    /// An end mark or an element, in the octets that may be read.
+    /// An end mark or an element, in the octets that may be read, of as many that came.
     #[inline(always)]
-    fn judge_octets(&self, at: u32, window: &[u8], want: Refusal) -> Result<Judgement, Refusal>
+    fn judge_octets(&self, at: u32, window: &[u8], came: usize) -> Result<Judgement, Refusal>
         requires { at + length window.now ≤ 1_048_576 }
-        ensures exact { JudgesWithin self.now at window.now result (λ place. judge_octets profile_two place at (fault_of want) window.now) }
+        ensures exact { (rest : List ℕ) → length rest ≡ came
+            → JudgesWithin self.now at window.now result (λ place. judge_octets profile_two place at (wanting profile_two place at rest) window.now) }
         ensures progress { IfOk result (λ judgement. IsProgress (depth_of self.now) (length window.now) judgement) }
         ensures small { IfOk result (λ judgement. at + size_of judgement ≤ 1_048_576) }
     {
-        match window {
-            [] => Err(want),
-            [0, ..] if self.awaits_end_mark() => self.judge_mark(at, window, want),
-            _ => self.judge_element(at, window, want),
+        let Some(first) = window.first() else {
+            return Err(self.wanting(at, came));
+        };
+        if *first == 0 && self.awaits_end_mark() {
+            return self.judge_mark(at, window, came);
         }
+        self.judge_element(at, window, came)
     }
 
-    /// The fault where an octet is wanting: the bound comes first, or the input's end.
-    fn wanting(&self, at: u32, rest: usize) -> Refusal
-        ensures { (octets : List ℕ) → length octets ≡ rest → WhereItStands self.now (λ place. fault_of result ≡ wanting profile_two place at octets) }
+    /// The fault where an octet is missing: the bound comes first, or the input's end.
+    #[cold]
+    fn wanting(&self, at: u32, came: usize) -> Refusal
+        ensures { (rest : List ℕ) → length rest ≡ came → WhereItStands self.now (λ place. fault_of result ≡ wanting profile_two place at rest) }
     {
         let room = self.bound().saturating_sub(at);
-        if rest >= room as usize {
+        if came >= room as usize {
             Refusal {
                 at,
                 cause: self.past_end(),
             }
         } else {
             Refusal {
-                at: at.saturating_add(rest as u32),
+                at: at.saturating_add(came as u32),
                 cause: Cause::Truncated,
             }
         }
@@ -208,10 +146,11 @@ impl Frames {
     }
 
     /// An end mark, whose first octet is there.
-    fn judge_mark(&self, at: u32, window: &[u8], want: Refusal) -> Result<Judgement, Refusal>
+    fn judge_mark(&self, at: u32, window: &[u8], came: usize) -> Result<Judgement, Refusal>
         requires fits { at + length window.now ≤ 1_048_576 }
         requires open { 0 < depth_of self.now }
-        ensures exact { Judges self.now at window.now result (λ place. judge_mark profile_two place at (fault_of want) (drop 1 window.now)) }
+        ensures exact { (rest : List ℕ) → length rest ≡ came
+            → Judges self.now at window.now result (λ place. judge_mark profile_two place at (wanting profile_two place at rest) (drop 1 window.now)) }
         ensures progress { IfOk result (λ judgement. IsProgress (depth_of self.now) (length window.now) judgement) }
         ensures small { IfOk result (λ judgement. at + size_of judgement ≤ 1_048_576) }
     {
@@ -221,34 +160,35 @@ impl Frames {
                 at,
                 cause: Cause::BadEnd,
             }),
-            _ => Err(want),
+            _ => Err(self.wanting(at, came)),
         }
     }
 
     /// An element from its first octet on.
     #[inline(always)]
-    fn judge_element(&self, at: u32, window: &[u8], want: Refusal) -> Result<Judgement, Refusal>
+    fn judge_element(&self, at: u32, window: &[u8], came: usize) -> Result<Judgement, Refusal>
         requires { at + length window.now ≤ 1_048_576 }
-        ensures exact { JudgesWithin self.now at window.now result (λ place. judge_element profile_two place at (fault_of want) window.now) }
+        ensures exact { (rest : List ℕ) → length rest ≡ came
+            → JudgesWithin self.now at window.now result (λ place. judge_element profile_two place at (wanting profile_two place at rest) window.now) }
         ensures progress { IfOk result (λ judgement. IsProgress (depth_of self.now) (length window.now) judgement) }
         ensures small { IfOk result (λ judgement. at + size_of judgement ≤ 1_048_576) }
     {
         match read_header(window) {
-            HeaderRead::PartIdentifier => Err(want),
+            HeaderRead::PartIdentifier => Err(self.wanting(at, came)),
             HeaderRead::NoIdentifier => Err(Refusal {
                 at,
                 cause: Cause::BadTag,
             }),
             HeaderRead::Identified(id, length) => {
-                let started = self.judge_tag(at, id)?;
-                self.judge_length(at, started, length, window, want)
+                let found = self.judge_tag(at, id)?;
+                self.judge_length(at, found, id, length, window, came)
             }
         }
     }
 
     /// The depth, tag and form of an element.
     #[inline(always)]
-    fn judge_tag(&self, at: u32, id: Id) -> Result<Started, Refusal>
+    fn judge_tag(&self, at: u32, id: Id) -> Result<Found, Refusal>
         ensures { WhereItStands self.now (λ place. IsIdentified self.now place at id result) }
     {
         if self.depth() >= DEPTH {
@@ -257,13 +197,16 @@ impl Frames {
                 cause: Cause::TooDeep,
             });
         }
-        let Some(coming) = find(self.place(), id) else {
+        let Some(found) = self.place().find(id) else {
             return Err(Refusal {
                 at,
                 cause: Cause::UnexpectedTag,
             });
         };
-        Started::judge_form(at, coming, id)
+        match form_fault(found, id.constructed()) {
+            Some(cause) => Err(Refusal { at, cause }),
+            None => Ok(found),
+        }
     }
 
     /// The length of an element.
@@ -271,37 +214,34 @@ impl Frames {
     fn judge_length(
         &self,
         at: u32,
-        started: Started,
+        found: Found,
+        id: Id,
         length_read: LengthRead,
         window: &[u8],
-        want: Refusal,
+        came: usize,
     ) -> Result<Judgement, Refusal>
         requires fits { at + length window.now ≤ 1_048_576 }
         requires header { HeaderIsIn length_read (length window.now) }
-        ensures exact { (front behind : List ℕ) → window.now ≡ front ++ behind → IsLengthRead length_read (read_length started.constructed behind) window.now
-            → JudgesStarted self.now started at window.now result
-            (λ place tag. judge_length profile_two place (element_is started.element) tag started.constructed at (length front) (fault_of want) behind) }
+        ensures exact { (rest front behind : List ℕ) → length rest ≡ came → window.now ≡ front ++ behind
+            → IsLengthRead length_read (read_length (form_of_id id) behind) window.now → JudgesBegun self.now found id at window.now result
+            (λ place. judge_length profile_two place (element_is (read_as found)) (tag_of_id id) (form_of_id id) at (length front) (wanting profile_two place at rest) behind) }
         ensures progress { IfOk result (λ judgement. IsProgress (depth_of self.now) (length window.now) judgement) }
         ensures small { IfOk result (λ judgement. at + size_of judgement ≤ 1_048_576) }
     {
         match length_read {
-            LengthRead::PartLength(_) => Err(want),
+            LengthRead::PartLength(_) => Err(self.wanting(at, came)),
             LengthRead::NoLength => Err(Refusal {
                 at,
                 cause: Cause::BadLength,
             }),
             LengthRead::Whole(Len::Indefinite, header) => Ok(Judgement::Opens(Opening {
-                slot: started.slot,
-                alternative: started.alternative,
-                element: started.element,
-                first: started.first,
-                after: started.after,
-                id: started.id,
+                found,
+                id,
                 header,
                 end: None,
             })),
             LengthRead::Whole(Len::Definite(size), header) => {
-                self.judge_size(at, started, header, size, window, want)
+                self.judge_size(at, found, id, header, size, window, came)
             }
         }
     }
@@ -311,16 +251,17 @@ impl Frames {
     fn judge_size(
         &self,
         at: u32,
-        started: Started,
+        found: Found,
+        id: Id,
         header: u32,
         size: u32,
         window: &[u8],
-        want: Refusal,
+        came: usize,
     ) -> Result<Judgement, Refusal>
         requires fits { at + length window.now ≤ 1_048_576 }
         requires header { (0 < header) × (header ≤ length window.now) }
-        ensures exact { (n : ℕ) → size ≡ min n 4_294_967_295 → JudgesStarted self.now started at window.now result
-            (λ place tag. judge_size profile_two place (element_is started.element) tag started.constructed at header (fault_of want) n (drop header window.now)) }
+        ensures exact { (rest : List ℕ) (n : ℕ) → length rest ≡ came → size ≡ min n 4_294_967_295 → JudgesBegun self.now found id at window.now result
+            (λ place. judge_size profile_two place (element_is (read_as found)) (tag_of_id id) (form_of_id id) at header (wanting profile_two place at rest) n (drop header window.now)) }
         ensures progress { IfOk result (λ judgement. IsProgress (depth_of self.now) (length window.now) judgement) }
         ensures small { IfOk result (λ judgement. at + size_of judgement ≤ 1_048_576) }
     {
@@ -331,28 +272,20 @@ impl Frames {
                 cause: self.past_end(),
             });
         }
-        if started.constructed {
+        if id.constructed() {
             return Ok(Judgement::Opens(Opening {
-                slot: started.slot,
-                alternative: started.alternative,
-                element: started.element,
-                first: started.first,
-                after: started.after,
-                id: started.id,
+                found,
+                id,
                 header,
                 end: Some(at.saturating_add(header).saturating_add(size)),
             }));
         }
         if window.len().saturating_sub(header as usize) < size as usize {
-            return Err(want);
+            return Err(self.wanting(at, came));
         }
         Ok(Judgement::Reads(Reading {
-            slot: started.slot,
-            alternative: started.alternative,
-            element: started.element,
-            first: started.first,
-            after: started.after,
-            id: started.id,
+            found,
+            id,
             header,
             size,
         }))

@@ -7,6 +7,8 @@ ghost use Rattle.ber_leaf.specs.Leaf.{normal_content, value};
 ghost use Rattle.ill_schema.specs.Content.{simple};
 ghost use Rattle.ill_read.specs.LeafTypes.{leaf_is};
 ghost use Rattle.ill_read.specs.declared.element.Wrapped.{Wrapped};
+ghost use Rattle.ill_cells.specs.Places.{alternative_of};
+ghost use Rattle.ill_read.specs.DueCode.{read_as, shape, slot_in};
 ghost use Rattle.ill_read.specs.Standing.{top_level, with_alternative};
 ghost use Rattle.ill_read.specs.code.OctetDrafts.{AreNormal, AreOctets, IsApartAs, enclosed, form_of, left_away, row_slot};
 
@@ -19,6 +21,7 @@ use crate::judge::{Opening, Reading};
 use crate::leaf_type::LeafType;
 use ber_buffer::DerBuffer;
 use ber_core::{Class, Id, universal};
+use ill_cells::At;
 use ill_schema::{Cause, LIMIT, PartId, Presence, Row, is_default, row};
 use std::alloc::{AllocError, Global};
 
@@ -78,21 +81,21 @@ impl Octets {
         Ok(())
     }
 
-    /// Whether a leaf is its row's default, where this may come next.
+    /// Whether a leaf at this place is its row's default.
     fn is_left_away(
         &self,
-        next: Next,
+        place: At,
         reading: Reading,
         leaf: LeafType,
         content: &[u8],
     ) -> Result<bool, AllocError>
         requires { IsContent (leaf_is leaf) content.now }
-        ensures { IfOk result (λ left. left ≡ left_away next reading.slot (with_alternative reading.alternative (simple (value (leaf_is leaf) content.now)))) }
+        ensures { IfOk result (λ left. left ≡ left_away (shape place) (slot_in reading.found) (with_alternative (alternative_of reading.found) (simple (value (leaf_is leaf) content.now)))) }
     {
-        let Some(row) = row_at(next, reading.slot) else {
+        let Some(row) = row_at(Next::at(place), Slot::of(reading.found)) else {
             return Ok(false);
         };
-        if reading.alternative.is_some() || !matches!(row.presence, Presence::Default(_)) {
+        if reading.found.alternative().is_some() || !matches!(row.presence, Presence::Default(_)) {
             return Ok(false);
         }
         let value = leaf.value(Vec::from_slice(self.alloc, content)?);
@@ -107,7 +110,7 @@ impl Draft for Octets {
 
     #[inline(always)]
     fn open(&mut self, opening: Opening) -> Result<usize, AllocError> {
-        if let Element::Segment = opening.element {
+        if let Element::Segment = Element::of(opening.found) {
             return Ok(self.octets.len());
         }
         let base = self.octets.open(opening_id(opening))?;
@@ -122,12 +125,12 @@ impl Draft for Octets {
     #[inline(always)]
     fn leaf(
         &mut self,
-        next: Next,
+        place: At,
         reading: Reading,
         leaf: LeafType,
         content: &[u8],
     ) -> Result<(), AllocError> {
-        if self.is_left_away(next, reading, leaf, content)? {
+        if self.is_left_away(place, reading, leaf, content)? {
             return Ok(());
         }
         self.octets
@@ -135,8 +138,8 @@ impl Draft for Octets {
         Ok(())
     }
 
-    fn close(&mut self, frame: Frame, _next: Next) -> Result<(), Failure> {
-        match frame.element {
+    fn close(&mut self, frame: Frame, _place: At) -> Result<(), Failure> {
+        match Element::of(frame.found) {
             Element::Segment => return Ok(()),
             Element::Leaf(leaf) => {
                 if let Some(fault) = leaf.fault(self.written_from(frame.base)) {
@@ -159,10 +162,10 @@ impl Draft for Octets {
 /// The identifier of an element that opens, as DER has it: a string is primitive (X.690, 10.2).
 #[inline(always)]
 fn opening_id(opening: Opening) -> Id
-    ensures { IsApartAs opening → id_octets result ≡ identifier (tag_of_id opening.id) (form_of opening.element) }
+    ensures { IsApartAs opening → id_octets result ≡ identifier (tag_of_id opening.id) (form_of (read_as opening.found)) }
 {
     let id = opening.id;
-    let constructed = !matches!(&opening.element, Element::Leaf(_));
+    let constructed = !matches!(Element::of(opening.found), Element::Leaf(_));
     Id::new(id.class(), constructed, id.number()).unwrap_or(id)
 }
 

@@ -68,25 +68,12 @@ impl<D: Draft> Path<D> {
             return Ok(());
         }
         let base = self.draft.open(opening)?;
-        let Opening {
-            slot,
-            alternative,
-            element,
-            first,
-            after,
-            id: _,
-            header: _,
-            end,
-        } = opening;
         let frame = Frame {
-            element,
-            slot,
-            alternative,
-            place: first,
-            after,
+            found: opening.found,
+            place: opening.found.first(),
             start,
-            end,
-            bound: end.unwrap_or(self.frames.bound()),
+            end: opening.end,
+            bound: opening.end.unwrap_or(self.frames.bound()),
             base,
         };
         self.frames.open.push(frame);
@@ -98,15 +85,16 @@ impl<D: Draft> Path<D> {
         ensures exact { ReadsExactly D.holds self.old reading start content.now self.new result }
         ensures depth { depth_of self.new.frames ≡ depth_of self.old.frames }
     {
-        let Element::Leaf(leaf) = reading.element else {
+        let Element::Leaf(leaf) = Element::of(reading.found) else {
             self.draft.text(content)?;
             return Ok(false);
         };
         if let Some(fault) = leaf.fault(content) {
             return Err(Failure::refused(start, Cause::from(fault)));
         }
-        self.draft.leaf(self.frames.next(), reading, leaf, content)?;
-        Ok(self.pass(reading.after))
+        self.draft
+            .leaf(self.frames.place(), reading, leaf, content)?;
+        Ok(self.pass(reading.found.after()))
     }
 
     /// Closes the innermost element, in which nothing is missing. Returns whether the message is whole.
@@ -116,11 +104,11 @@ impl<D: Draft> Path<D> {
         ensures depth { depth_of self.new.frames + 1 ≡ depth_of self.old.frames }
     {
         let frame = self.frames.open.pop().unwrap();
-        if let Element::Segment = frame.element {
+        if let Element::Segment = Element::of(frame.found) {
             return Ok(false);
         }
-        self.draft.close(frame, self.frames.next())?;
-        Ok(self.pass(frame.after))
+        self.draft.close(frame, self.frames.place())?;
+        Ok(self.pass(frame.found.after()))
     }
 
     /// Goes on at the place after an element. Returns whether the message is whole.

@@ -9,7 +9,7 @@ ghost use Rattle.ill_read.specs.code.ReaderCode.{IsMessageOf};
 ghost use Rattle.ill_read.specs.Standing.{AreMessage, AreValues, top_level, whole_level, with_alternative};
 
 use crate::draft::Draft;
-use crate::due::Next;
+use crate::due::{Next, Slot};
 use crate::element::Element;
 use crate::failure::Failure;
 use crate::frame::Frame;
@@ -17,6 +17,7 @@ use crate::held::Held;
 use crate::judge::{Opening, Reading};
 use crate::leaf_type::LeafType;
 use crate::whole::message_of;
+use ill_cells::At;
 use ill_schema::{Cause, Message, Value};
 use std::alloc::{AllocError, Global};
 use std::mem;
@@ -95,7 +96,7 @@ impl Values {
     fn ended(&mut self, frame: Frame) -> Result<Option<Value>, Failure>
         ensures { EndsExactly self.old frame self.new result }
     {
-        match frame.element {
+        match Element::of(frame.found) {
             Element::Segment => Ok(None),
             Element::Leaf(leaf) => {
                 let text = mem::replace(&mut self.text, Vec::new(self.alloc));
@@ -131,23 +132,25 @@ impl Draft for Values {
 
     fn leaf(
         &mut self,
-        next: Next,
+        place: At,
         reading: Reading,
         leaf: LeafType,
         content: &[u8],
     ) -> Result<(), AllocError> {
         let value = leaf.value(Vec::from_slice(self.alloc, content)?);
-        let value = chosen(self.alloc, reading.alternative, value)?;
-        self.held.add(next, reading.slot, value)?;
+        let value = chosen(self.alloc, reading.found.alternative(), value)?;
+        self.held
+            .add(Next::at(place), Slot::of(reading.found), value)?;
         Ok(())
     }
 
-    fn close(&mut self, frame: Frame, next: Next) -> Result<(), Failure> {
+    fn close(&mut self, frame: Frame, place: At) -> Result<(), Failure> {
         let Some(value) = self.ended(frame)? else {
             return Ok(());
         };
-        let value = chosen(self.alloc, frame.alternative, value)?;
-        self.held.add(next, frame.slot, value)?;
+        let value = chosen(self.alloc, frame.found.alternative(), value)?;
+        self.held
+            .add(Next::at(place), Slot::of(frame.found), value)?;
         Ok(())
     }
 

@@ -57,8 +57,8 @@ fn defaults_are_those_of_the_rows(rt: HostRuntime) -> Result<(), Fail> {
     let third = found(second.after(), Class::Context, 2)?;
     let kind = found(third.after(), Class::Context, 5)?;
     assert_eq!(rt; kind.what(), What::Enumerated);
-    assert_eq!(rt; kind.default(), Some(1));
-    assert_eq!(rt; third.default(), None);
+    assert_eq!(rt; kind.default_value(), Some(1));
+    assert_eq!(rt; third.default_value(), None);
     let delivery = found(kind.after(), Class::Context, 7)?;
     assert_eq!(rt; delivery.alternative(), Some(0));
     assert_eq!(rt; delivery.what(), What::Wrapper);

@@ -15,18 +15,18 @@ use Rattle.ill_schema.specs.Table.{rows_of}
 use Rattle.ill_schema.specs.Value.{entries_of, items_of}
 use Rattle.ill_schema.specs.declared.part.Row.{Row}
 use Rattle.ill_refusals.specs.Fault.{fault, element_fault, fault_of}
-use Rattle.ill_read.specs.DueCode.{IsDueIn, behind, first_of, shape}
+use Rattle.ill_cells.specs.Places.{alternative_of}
+use Rattle.ill_read.specs.DueCode.{Due, IsDueIn, behind, first_of, shape, read_as, slot_in}
 use Rattle.ill_read.specs.Elements.{element_is}
 use Rattle.ill_read.specs.LeafTypes.{leaf_is}
 use Rattle.ill_read.specs.Standing.{Level, IsHeld, IsValueOf, absent_content, level_of, pushed, whole_level, with_alternative}
-use Rattle.ill_read.specs.declared.due.Due.{Due}
 use Rattle.ill_read.specs.declared.due.Next.{Next}
 use Rattle.ill_read.specs.declared.due.Next.TheVariants.{Rows, Either, Nothing}
 use Rattle.ill_read.specs.declared.due.Slot.{Slot}
 use Rattle.ill_read.specs.declared.due.Slot.TheVariants.{Row as AtRow}
 use Rattle.ill_read.specs.declared.element.Element.{Element as CodeElement}
 use Rattle.ill_read.specs.declared.element.Element.TheVariants.{Leaf, Sequence, List as ListOf, Wrapper, LooseWrapper, Segment}
-use Rattle.ill_read.specs.declared.element.Found.TheVariants as found
+use Rattle.ill_read.specs.Found as found
 use Rattle.ill_read.specs.declared.failure.Failure.{Failure}
 use Rattle.ill_read.specs.declared.frame.Frame.{Frame}
 use Rattle.ill_read.specs.declared.judge.Opening.{Opening}
@@ -81,13 +81,13 @@ IsRightText _ text = Unit {0}
 
 -- the text is right, or at fault, or there is no memory
 abbrev pub IsChecked : Frame → List ℕ → Result ⊤ Failure → Type 0
-IsChecked f text (Ok _) = IsRightText f.element text
-IsChecked f text (Err failure) = IsTextFault f.element f.start text failure
+IsChecked f text (Ok _) = IsRightText (read_as f.found) text
+IsChecked f text (Err failure) = IsTextFault (read_as f.found) f.start text failure
 
 -- an element opened
 abbrev pub HasOpened : {D : Type 0} → (D → List Level → List ℕ → Type 0) → D → Opening → ℕ → D → Type 0
-HasOpened holds old o base new = (levels : List Level) (text : List ℕ) → holds old levels text → ((o.element ≡ Segment → ⊥) → text ≡ [])
-    → holds new (pushed (record { element = o.element; tag = tag_of_id o.id; next = first_of o.element; base = base; entries = [] }) levels) text
+HasOpened holds old o base new = (levels : List Level) (text : List ℕ) → holds old levels text → ((read_as o.found ≡ Segment → ⊥) → text ≡ [])
+    → holds new (pushed (record { element = read_as o.found; tag = tag_of_id o.id; next = first_of (read_as o.found); base = base; entries = [] }) levels) text
 
 -- the text grew
 abbrev pub HasText : {D : Type 0} → (D → List Level → List ℕ → Type 0) → D → List ℕ → D → Type 0
@@ -95,8 +95,8 @@ HasText holds old octets new = (levels : List Level) (text : List ℕ) → holds
 
 -- a leaf was added
 abbrev pub HasLeaf : {D : Type 0} → (D → List Level → List ℕ → Type 0) → D → Next → Reading → LeafType → List ℕ → D → Type 0
-HasLeaf holds old next r leaf octets new = (l : Level) (below : List Level) → holds old (l ∷ below) [] → IsDueAt l next (tag_of_id r.id) r.slot r.alternative (Leaf leaf)
-    → holds new (with_entry l r.slot (with_alternative r.alternative (simple (value (leaf_is leaf) octets))) ∷ below) []
+HasLeaf holds old next r leaf octets new = (l : Level) (below : List Level) → holds old (l ∷ below) [] → IsDueAt l next (tag_of_id r.id) (slot_in r.found) (alternative_of r.found) (Leaf leaf)
+    → holds new (with_entry l (slot_in r.found) (with_alternative (alternative_of r.found) (simple (value (leaf_is leaf) octets))) ∷ below) []
 
 -- the text of the innermost element was checked
 abbrev pub ChecksText : {D : Type 0} → (D → List Level → List ℕ → Type 0) → D → Frame → Result ⊤ Failure → Type 0
@@ -105,9 +105,9 @@ ChecksText holds old f result = (tag : Tag) (entries : List (Option Content)) (b
 -- an element ended, and its content is in the level round it
 abbrev pub HasClosed : {D : Type 0} → (D → List Level → List ℕ → Type 0) → D → Frame → Next → D → Type 0
 HasClosed holds old f next new = (tag : Tag) (entries : List (Option Content)) (trees : Trees) (l : Level) (below : List Level) (text : List ℕ) (c : Content)
-    → holds old (level_of f tag entries ∷ l ∷ below) text → IsHeld f.element (shape f.place) entries trees → IsRightText f.element text → IsContentOf f.element (shape f.place) entries text c
-    → ((T : Tree) × (tag_of T ≡ tag) × IsValueOf (element_is f.element) c T)
-    → IsDueAt l next tag f.slot f.alternative f.element → holds new (with_entry l f.slot (with_alternative f.alternative c) ∷ below) []
+    → holds old (level_of f tag entries ∷ l ∷ below) text → IsHeld (read_as f.found) (shape f.place) entries trees → IsRightText (read_as f.found) text → IsContentOf (read_as f.found) (shape f.place) entries text c
+    → ((T : Tree) × (tag_of T ≡ tag) × IsValueOf (element_is (read_as f.found)) c T)
+    → IsDueAt l next tag (slot_in f.found) (alternative_of f.found) (read_as f.found) → holds new (with_entry l (slot_in f.found) (with_alternative (alternative_of f.found) c) ∷ below) []
 
 -- the draft holds the whole APDU, whose octets these are
 abbrev pub HoldsApdu : {D : Type 0} → (D → List Level → List ℕ → Type 0) → D → Apdu → List ℕ → Type 0

@@ -13,7 +13,7 @@ use Rattle.ill_read.specs.declared.failure.Failure.{Failure}
 use Rattle.ill_read.specs.declared.frame.Frame.{Frame}
 use Rattle.ill_read.specs.declared.values.Body.{Body}
 use Rattle.ill_read.specs.declared.values.Values.{Values}
-use Rattle.ill_read.specs.DueCode.{shape}
+use Rattle.ill_read.specs.DueCode.{shape, read_as}
 
 -- the entries of rows that have no element
 abbrev pub ArePassed : List (Option Value) → List Row → Type 0
@@ -52,9 +52,9 @@ IsFound None c = ⊥
 
 -- the value of an element that has ended, with these levels round it, where its text is right
 abbrev pub IsEnded : Frame → List (Option Content) → List Level → List ℕ → Values → Result (Option Value) Failure → Type 0
-IsEnded f entries below text new (Ok found) = IsRightText f.element text × ((trees : Trees) (c : Content)
-    → IsHeld f.element (shape f.place) entries trees → IsContentOf f.element (shape f.place) entries text c → IsFound found c × AreValues new below [])
-IsEnded f entries below text new (Err failure) = IsTextFault f.element f.start text failure
+IsEnded f entries below text new (Ok found) = IsRightText (read_as f.found) text × ((trees : Trees) (c : Content)
+    → IsHeld (read_as f.found) (shape f.place) entries trees → IsContentOf (read_as f.found) (shape f.place) entries text c → IsFound found c × AreValues new below [])
+IsEnded f entries below text new (Err failure) = IsTextFault (read_as f.found) f.start text failure
 
 abbrev pub EndsExactly : Values → Frame → Values → Result (Option Value) Failure → Type 0
 EndsExactly old f new result = (tag : Tag) (entries : List (Option Content)) (below : List Level) (text : List ℕ)

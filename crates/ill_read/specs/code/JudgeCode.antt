@@ -9,14 +9,14 @@ use Rattle.ill_schema.specs.declared.refusal.Refusal.{Refusal}
 use Rattle.ill_read.specs.Elements.{element_is, found_is}
 use Rattle.ill_refusals.specs.Fault.{Fault, fault, fault_of}
 use Rattle.ill_refusals.specs.code.Judge.{Judgement, faulty, judge_form, judge_tag}
+use Rattle.ill_cells.specs.declared.at.Found.{Found}
+use Rattle.ill_read.specs.DueCode.{found_in, read_as}
 use Rattle.ill_read.specs.code.Judged.{IsBegin, IsJudged}
 use Rattle.ill_refusals.specs.Place.{Open, bound, allows}
 use Rattle.ill_read.specs.Standing.{StandsAt}
-use Rattle.ill_read.specs.declared.due.Coming.{Coming}
-use Rattle.ill_read.specs.declared.element.Found.TheVariants as found
+use Rattle.ill_read.specs.Found as found
 use Rattle.ill_read.specs.declared.frame.Frame.{Frame}
 use Rattle.ill_read.specs.declared.judge.Judgement.{Judgement as CodeJudgement}
-use Rattle.ill_read.specs.declared.judge.Started.{Started}
 use Rattle.ill_read.specs.declared.frames.Frames.{Frames}
 
 -- a fact of the place that the path stands at
@@ -41,13 +41,11 @@ abbrev pub JudgesWithin : Frames → ℕ → List ℕ → Result CodeJudgement R
 JudgesWithin frames at octets result judged =
     (place : List Open) → StandsAt frames place → length octets ≤ bound profile_two place - at → IsJudged frames place at octets result (judged place)
 
--- what is due may have the form, or is at fault
-abbrev pub IsFormed : Coming → ℕ → Id → Result Started Refusal → Type 0
-IsFormed coming at id (Ok started) =
-    (coming.due ≡ record { slot = started.slot; alternative = started.alternative; found = found.Element started.element })
-    × (started.id ≡ id) × (started.constructed ≡ form_of_id id) × (allows (element_is started.element) (form_of_id id) ≡ true) × (started.after ≡ coming.after)
-IsFormed coming at id (Err refusal) =
-    (p : Profile) (place : List Open) (tag : Tag) (i : ℕ) (want : Fault) (w : List ℕ) → judge_form p place (found_is coming.due.found) tag (form_of_id id) at i want w ≡ faulty (fault_of refusal)
+-- what is found may have the form, or is at fault
+abbrev pub IsFormed : Found → Bool → Option Cause → Type 0
+IsFormed f constructed None = (found_in f ≡ found.Element (read_as f)) × (allows (element_is (read_as f)) constructed ≡ true)
+IsFormed f constructed (Some cause) =
+    (p : Profile) (place : List Open) (tag : Tag) (at i : ℕ) (want : Fault) (w : List ℕ) → judge_form p place (found_is (found_in f)) tag constructed at i want w ≡ faulty (fault cause at)
 
 -- what is judged behind an identifier of i octets
 abbrev pub judge_identified : List Open → Tag → Bool → ℕ → ℕ → Fault → List ℕ → Judgement
@@ -55,14 +53,13 @@ judge_identified place tag constructed at i want w =
     if nat_le 32 (length place) then faulty (fault Cause.TooDeep at) else judge_tag profile_two place tag constructed at i want w
 
 -- an element with the identifier may begin there, or is at fault
-abbrev pub IsIdentified : Frames → List Open → ℕ → Id → Result Started Refusal → Type 0
-IsIdentified frames place at id (Ok started) =
-    IsBegin frames place (tag_of_id id) started.slot started.alternative started.element started.after started.constructed × (started.constructed ≡ form_of_id id) × (started.id ≡ id)
+abbrev pub IsIdentified : Frames → List Open → ℕ → Id → Result Found Refusal → Type 0
+IsIdentified frames place at id (Ok f) = IsBegin frames place (tag_of_id id) f (form_of_id id)
 IsIdentified frames place at id (Err refusal) =
     (i : ℕ) (want : Fault) (w : List ℕ) → judge_identified place (tag_of_id id) (form_of_id id) at i want w ≡ faulty (fault_of refusal)
 
 -- the judgement is the definitions', of an element that may begin there
-abbrev pub JudgesStarted : Frames → Started → ℕ → List ℕ → Result CodeJudgement Refusal → (List Open → Tag → Judgement) → Type 0
-JudgesStarted frames started at octets result judged =
-    (place : List Open) → StandsAt frames place → IsBegin frames place (tag_of_id started.id) started.slot started.alternative started.element started.after started.constructed
-    → length octets ≤ bound profile_two place - at → IsJudged frames place at octets result (judged place (tag_of_id started.id))
+abbrev pub JudgesBegun : Frames → Found → Id → ℕ → List ℕ → Result CodeJudgement Refusal → (List Open → Judgement) → Type 0
+JudgesBegun frames f id at octets result judged =
+    (place : List Open) → StandsAt frames place → IsBegin frames place (tag_of_id id) f (form_of_id id)
+    → length octets ≤ bound profile_two place - at → IsJudged frames place at octets result (judged place)

@@ -1,5 +1,5 @@
 -- What the decoder judges at a place, and where a step leads, in the words of the definitions.
-use Rattle.std.specs.Prelude.{◌≡◌, ℕ, ◌<◌, Bool, true, false, List, [], ◌∷◌, length, take, drop, Option, None, Result, Ok, Err}
+use Rattle.std.specs.Prelude.{◌≡◌, ℕ, ◌<◌, Bool, true, false, List, [], ◌∷◌, length, take, drop, None, Result, Ok, Err}
 use Rattle.ber_core.specs.Id.{tag_of_id}
 use Rattle.ber_core.specs.Identifier.{Tag}
 use Rattle.ber_core.specs.Tree.{Tree, text_all}
@@ -13,15 +13,13 @@ use Rattle.ill_refusals.specs.Next.{missing}
 use Rattle.ill_refusals.specs.Place.{Open, next_in, allows}
 use Rattle.ill_refusals.specs.Fault.{fault_of, element_fault}
 use Rattle.ill_refusals.specs.code.Judge.{Judgement, faulty, closes, opens, reads, or_faulty, judge}
+use Rattle.ill_cells.specs.Places.{first_place}
+use Rattle.ill_cells.specs.declared.at.Found.{Found as CellFound}
 use Rattle.ill_read.specs.Elements.{element_is}
-use Rattle.ill_cells.specs.declared.at.At.{At}
-use Rattle.ill_read.specs.DueCode.{IsDueIn, behind, shape}
+use Rattle.ill_read.specs.DueCode.{IsDueIn, behind, first_of, shape, read_as, read_due, slot_in, next_place}
 use Rattle.ill_read.specs.Standing.{Level, whole_level, next_at, StandsAt, HoldsAt}
 use Rattle.ill_read.specs.code.Progress.{size_of}
 use Rattle.ill_refusals.specs.code.Step.{Step, refused, goes, whole, moved}
-use Rattle.ill_read.specs.declared.due.Slot.{Slot}
-use Rattle.ill_read.specs.declared.element.Element.{Element as CodeElement}
-use Rattle.ill_read.specs.declared.element.Found.TheVariants as found
 use Rattle.ill_read.specs.declared.failure.Failure.{Failure}
 use Rattle.ill_read.specs.declared.judge.Judgement.{Judgement as CodeJudgement}
 use Rattle.ill_read.specs.declared.judge.Judgement.TheVariants as code
@@ -37,10 +35,11 @@ pub record IsEnd (place : List Open) (marks : ℕ) (j : Judgement) : Type 0 wher
   pub is : j ≡ or_faulty (element_fault profile_two innermost.element (text_all innermost.trees)) innermost.start (closes marks)
 
 -- an element is due there and may have the form
-pub record IsBegin (frames : Frames) (place : List Open) (tag : Tag) (slot : Slot) (alternative : Option ℕ) (element : CodeElement) (after : At) (constructed : Bool) : Type 0 where
-  pub is_due : IsDueIn tag (next_at frames.open.items) (record { slot = slot; alternative = alternative; found = found.Element element })
-  pub goes_on : shape after ≡ behind (next_at frames.open.items) slot
-  pub allowed : allows (element_is element) constructed ≡ true
+pub record IsBegin (frames : Frames) (place : List Open) (tag : Tag) (f : CellFound) (constructed : Bool) : Type 0 where
+  pub is_due : IsDueIn tag (next_at frames.open.items) (read_due f)
+  pub begins : shape (first_place f) ≡ first_of (read_as f)
+  pub goes_on : shape (next_place f) ≡ behind (next_at frames.open.items) (slot_in f)
+  pub allowed : allows (element_is (read_as f)) constructed ≡ true
   pub shallow : length place < 32
 
 -- the octets behind a header
@@ -51,9 +50,9 @@ content_in header size rest = take size (drop header rest)
 abbrev pub IsJudgement : Frames → List Open → ℕ → List ℕ → CodeJudgement → Judgement → Type 0
 IsJudgement frames place at rest (code.Closes marks) j = IsEnd place marks j
 IsJudgement frames place at rest (code.Opens o) j =
-    IsBegin frames place (tag_of_id o.id) o.slot o.alternative o.element o.after true × (j ≡ opens (tag_of_id o.id) (element_is o.element) o.header o.end)
-IsJudgement frames place at rest (code.Reads r) j = IsBegin frames place (tag_of_id r.id) r.slot r.alternative r.element r.after false
-    × (j ≡ or_faulty (element_fault profile_two (element_is r.element) (content_in r.header r.size rest)) at (reads (tag_of_id r.id) r.header (content_in r.header r.size rest)))
+    IsBegin frames place (tag_of_id o.id) o.found true × (j ≡ opens (tag_of_id o.id) (element_is (read_as o.found)) o.header o.end)
+IsJudgement frames place at rest (code.Reads r) j = IsBegin frames place (tag_of_id r.id) r.found false
+    × (j ≡ or_faulty (element_fault profile_two (element_is (read_as r.found)) (content_in r.header r.size rest)) at (reads (tag_of_id r.id) r.header (content_in r.header r.size rest)))
 
 abbrev pub IsJudged : Frames → List Open → ℕ → List ℕ → Result CodeJudgement Refusal → Judgement → Type 0
 IsJudged frames place at rest (Ok judgement) j = IsJudgement frames place at rest judgement j

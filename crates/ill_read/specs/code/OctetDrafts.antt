@@ -13,6 +13,7 @@ use Rattle.ill_schema.specs.Table.{rows_of}
 use Rattle.ill_schema.specs.Tagging.{untagged, sequence_tag}
 use Rattle.ill_schema.specs.Value.{entries_of, items_of}
 use Rattle.ill_schema.specs.declared.part.Row.{Row}
+use Rattle.ill_read.specs.DueCode.{read_as}
 use Rattle.ill_read.specs.Standing.{Level}
 use Rattle.ill_read.specs.declared.due.Next.{Next}
 use Rattle.ill_read.specs.declared.due.Next.TheVariants.{Rows, Either, Nothing}
@@ -68,7 +69,7 @@ abbrev pub IsApart : Level → Type 0
 IsApart l = l.tag.class ≡ Universal → l.tag.number ≡ 0 → form_of l.element ≡ true
 
 abbrev pub IsApartAs : Opening → Type 0
-IsApartAs o = (tag_of_id o.id).class ≡ Universal → (tag_of_id o.id).number ≡ 0 → form_of o.element ≡ true
+IsApartAs o = (tag_of_id o.id).class ≡ Universal → (tag_of_id o.id).number ≡ 0 → form_of (read_as o.found) ≡ true
 
 -- the octets are those of the levels, outermost first: each has its identifier, an octet for its length, and its entries; the message stands in no element
 abbrev pub AreWritten : List Level → List ℕ → Type 0

@@ -6,6 +6,7 @@ use Rattle.ill_refusals.specs.Place.{Open}
 use Rattle.ill_refusals.specs.Fault.{element_fault}
 use Rattle.ill_refusals.specs.code.Judge.{Judgement, or_faulty, reads}
 use Rattle.ill_refusals.specs.code.Step.{moved, opened}
+use Rattle.ill_read.specs.DueCode.{read_as}
 use Rattle.ill_read.specs.Elements.{element_is}
 use Rattle.ill_cells.specs.declared.at.At.{At}
 use Rattle.ill_read.specs.code.Judged.{IsEnd, IsBegin, IsStep}
@@ -27,10 +28,10 @@ ClosesExactly holds old new result = (place : List Open) (marks at : ℕ) (rest 
     → IsStep holds new result (moved j place at rest)
 
 abbrev pub OpensExactly : {D : Type 0} → (D → List Level → List ℕ → Type 0) → Path D → Opening → ℕ → Path D → Type 0
-OpensExactly holds old o start new = (place : List Open) → HoldsAt holds old place → IsBegin old.frames place (tag_of_id o.id) o.slot o.alternative o.element o.after true
-    → HoldsAt holds new (opened (element_is o.element) (tag_of_id o.id) start o.end ∷ place)
+OpensExactly holds old o start new = (place : List Open) → HoldsAt holds old place → IsBegin old.frames place (tag_of_id o.id) o.found true
+    → HoldsAt holds new (opened (element_is (read_as o.found)) (tag_of_id o.id) start o.end ∷ place)
 
 abbrev pub ReadsExactly : {D : Type 0} → (D → List Level → List ℕ → Type 0) → Path D → Reading → ℕ → List ℕ → Path D → Result Bool Failure → Type 0
 ReadsExactly holds old r start octets new result = (place : List Open) (header at : ℕ) (rest : List ℕ) → HoldsAt holds old place
-    → IsBegin old.frames place (tag_of_id r.id) r.slot r.alternative r.element r.after false
-    → IsStep holds new result (moved (or_faulty (element_fault profile_two (element_is r.element) octets) start (reads (tag_of_id r.id) header octets)) place at rest)
+    → IsBegin old.frames place (tag_of_id r.id) r.found false
+    → IsStep holds new result (moved (or_faulty (element_fault profile_two (element_is (read_as r.found)) octets) start (reads (tag_of_id r.id) header octets)) place at rest)

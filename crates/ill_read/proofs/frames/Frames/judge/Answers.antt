@@ -1,6 +1,6 @@
 use Rattle.std.proofs.Common.{◌≡◌, ◌≤◌, ◌-◌, List, ℕ, Bor, length, take, refl, sym, ap, ◌∙◌, arith, length-take, take_all}
 use Rattle.ber_leaf.specs.Profile.{profile_two}
-use Rattle.ill_refusals.specs.Fault.{fault_of}
+use Rattle.ill_refusals.specs.Fault.{wanting}
 use Rattle.ill_refusals.specs.Place.{bound}
 use Rattle.ill_read.specs.code.Progress.{depth_of}
 use Rattle.ill_read.proofs.Judgements.{octets_judged}
@@ -18,6 +18,6 @@ returns-clause-exact c place h =
     let window = front ∙ ap (λ m. take m c.args.rest.now) at in
     let within : length c.if-rest-room.window.now ≤ bound profile_two place - c.args.at =
     omega (arith, ap length window, length-take (bound profile_two place - c.args.at) c.args.rest.now) in
-    octets_judged c.args.self.now place c.args.at (depth_of c.args.self.now) c.args.rest.now c.if-rest-room.window.now (fault_of c.wanting.result) c.judge_octets.result
-    (sym (c.ends_at.ensures.exact place h) ∙ c.if-ends_at.false) window (c.wanting.ensures c.args.rest.now refl place h) c.judge_octets.ensures.progress
-    (c.judge_octets.ensures.exact place h within)
+    octets_judged c.args.self.now place c.args.at (depth_of c.args.self.now) c.args.rest.now c.if-rest-room.window.now (wanting profile_two place c.args.at c.args.rest.now) c.judge_octets.result
+    (sym (c.ends_at.ensures.exact place h) ∙ c.if-ends_at.false) window refl c.judge_octets.ensures.progress
+    (c.judge_octets.ensures.exact c.args.rest.now refl place h within)

@@ -1,10 +1,12 @@
-use Rattle.std.proofs.Common.{◌<◌, ◌≤◌, ℕ, sym, ap, subst, ◌∙◌}
+use Rattle.std.proofs.Common.{◌<◌, ◌≤◌, ℕ, None, Some, sym, ap, subst, ◌∙◌}
 use Rattle.ber_core.specs.Id.{tag_of_id}
 use Rattle.ber_leaf.specs.Profile.{profile_two}
-use Rattle.ill_read.specs.DueCode.{IsDueIn, behind, next_is}
+use Rattle.ill_read.specs.DueCode.{next_is}
+use Rattle.ill_read.specs.code.JudgeCode.{IsFormed}
 use Rattle.ill_refusals.specs.Next.{due}
+use Rattle.ill_read.proofs.DueCells.{is-coming, shape-next}
 use Rattle.ill_read.proofs.OpenFrames.{frames_open}
-use Rattle.ill_read.proofs.Judgements.{deep_judged, unexpected_judged, identified_judged}
+use Rattle.ill_read.proofs.Judgements.{deep_judged, unexpected_judged, formed_judged, misformed_judged}
 use Rattle.ill_read.proofs.frames.Frames.judge_tag.Goals as goal
 
 pub returns-then-depth-ge-DEPTH : goal.returns-then-depth-ge-DEPTH
@@ -14,11 +16,16 @@ returns-then-depth-ge-DEPTH c place h i want w =
 pub returns-in_default : goal.returns-in_default
 returns-in_default c place h i want w =
     unexpected_judged c.args.self.now place _ _ c.args.at i want w h (subst (λ (x : ℕ). x < 32) (c.depth.ensures ∙ frames_open place _ _ h.1) c.if-depth-ge-DEPTH.false)
-    (ap (λ n. due profile_two (tag_of_id c.args.id) (next_is n)) (sym c.place.ensures) ∙ c.in_default.ensures)
+    (ap (λ n. due profile_two (tag_of_id c.args.id) (next_is n)) (sym c.place.ensures) ∙ ap (due profile_two (tag_of_id c.args.id)) (sym (shape-next c.place.result)) ∙ c.in_default.ensures)
 
-pub returns : goal.returns
-returns c place h =
-    identified_judged c.args.self.now place c.args.at c.args.id c.in-Some.coming _ h (subst (λ (x : ℕ). x < 32) (c.depth.ensures ∙ frames_open place _ _ h.1) c.if-depth-ge-DEPTH.false)
-    (subst (λ n. IsDueIn (tag_of_id c.args.id) n c.in-Some.coming.due) c.place.ensures c.in-Some.ensures.is_due)
-    (c.in-Some.ensures.after ∙ ap (λ n. behind n c.in-Some.coming.due.slot) c.place.ensures)
-    c.judge_form.ensures
+pub returns-in-Some-form_fault : goal.returns-in-Some-form_fault
+returns-in-Some-form_fault c place h i want w =
+    let f = c.in-Some.found in
+    misformed_judged c.args.self.now place c.place.result c.args.at c.args.id f _ h (subst (λ (x : ℕ). x < 32) (c.depth.ensures ∙ frames_open place _ _ h.1) c.if-depth-ge-DEPTH.false) c.place.ensures
+    (is-coming (tag_of_id c.args.id) c.place.result f c.in-Some.ensures) (subst (λ b. IsFormed f b (Some c.in-Some-form_fault.cause)) c.constructed.ensures (subst (IsFormed f c.constructed.result) c.in-Some-form_fault.is c.form_fault.ensures)) i want w
+
+pub returns-in-None : goal.returns-in-None
+returns-in-None c place h =
+    let f = c.in-Some.found in
+    formed_judged c.args.self.now place c.place.result c.args.id f h (subst (λ (x : ℕ). x < 32) (c.depth.ensures ∙ frames_open place _ _ h.1) c.if-depth-ge-DEPTH.false) c.place.ensures
+    (is-coming (tag_of_id c.args.id) c.place.result f c.in-Some.ensures) (subst (λ b. IsFormed f b None) c.constructed.ensures (subst (IsFormed f c.constructed.result) c.in-None.is c.form_fault.ensures))

@@ -4,6 +4,7 @@ use Rattle.ber_core.specs.Id.{tag_of_id}
 use Rattle.ber_core.specs.Tree.{primitive}
 use Rattle.ber_leaf.specs.Leaf.{normal_content, value}
 use Rattle.ber_leaf.proofs.Leaves.{content_holds}
+use Rattle.ill_read.specs.DueCode.{shape}
 use Rattle.ill_read.specs.LeafTypes.{leaf_is}
 use Rattle.ill_read.proofs.OctetDrafts.{leaf_added}
 use Rattle.ill_read.proofs.octets.OctetsDraft.leaf.Goals as goal
@@ -15,7 +16,7 @@ returns-then-branch c l below h due =
     let right = content_holds (leaf_is leaf) octets c.requires in
     let x = encoding (primitive (tag_of_id c.args.reading.id) (normal_content (value (leaf_is leaf) octets))) in
     let left = sym c.in_ok-is_left_away.ensures ∙ c.if-branch.true in
-    leaf_added c.args.self.now c.args.self.now l below c.args.next c.args.reading leaf octets h due right.0 right.1
+    leaf_added c.args.self.now c.args.self.now l below (shape c.args.place) c.args.reading leaf octets h due right.0 right.1
     (sym (append-nil c.args.self.now.octets) ∙ ap (λ (b : Bool). c.args.self.now.octets ++ elim b as (λ _. List ℕ) [ true ↦ [] | false ↦ x ]) (sym left))
 
 pub returns : goal.returns
@@ -25,6 +26,6 @@ returns c l below h due =
     let right = content_holds (leaf_is leaf) octets c.requires in
     let x = encoding (primitive (tag_of_id c.args.reading.id) (normal_content (value (leaf_is leaf) octets))) in
     let kept = sym c.in_ok-is_left_away.ensures ∙ c.if-branch.false in
-    leaf_added c.args.self.now (record c.args.self.now { octets = c.primitive.new.self }) l below c.args.next c.args.reading leaf octets h due right.0 right.1
+    leaf_added c.args.self.now (record c.args.self.now { octets = c.primitive.new.self }) l below (shape c.args.place) c.args.reading leaf octets h due right.0 right.1
     (c.in_ok-primitive.ensures.encoding c.args.reading.form ∙ ap (λ o. c.args.self.now.octets ++ encoding (primitive (tag_of_id c.args.reading.id) o)) c.normal_content.ensures
     ∙ ap (λ (b : Bool). c.args.self.now.octets ++ elim b as (λ _. List ℕ) [ true ↦ [] | false ↦ x ]) (sym kept))

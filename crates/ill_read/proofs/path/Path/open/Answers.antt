@@ -1,4 +1,5 @@
-use Rattle.std.proofs.Common.{◌≡◌, ◌∙◌, ℕ, length, true, nat_eq, refl, sym, arith}
+use Rattle.std.proofs.Common.{◌≡◌, ◌∙◌, ℕ, length, true, nat_eq, refl, sym, ap, arith}
+use Rattle.ill_read.specs.DueCode.{shape}
 use Rattle.ill_read.proofs.OpenFrames.{frames_open}
 use Rattle.ill_read.proofs.OpenedElements.{opens_at}
 use Rattle.ill_read.proofs.path.Path.open.Goals as goal
@@ -16,4 +17,4 @@ returns-then-is_full-clause-exact g c place stands begin =
 pub returns-clause-exact : goal.returns-clause-exact
 returns-clause-exact g c place stands begin =
     opens_at g.D.Draft.holds c.args.self.now (record { frames = record { «open» = c.push.new.self }; draft = c.open.new.self }) c.args.opening _ place c.bound.result stands
-    begin.is_due begin.goes_on begin.allowed c.args.opening.first_is (c.bound.ensures.exact place (stands.0, stands.1)) c.unwrap_or.ensures c.in_ok-base.ensures c.push.ensures.items refl
+    begin.is_due begin.goes_on begin.allowed (ap shape c.first.ensures.place ∙ begin.begins) (c.bound.ensures.exact place (stands.0, stands.1)) c.unwrap_or.ensures c.in_ok-base.ensures c.push.ensures.items refl

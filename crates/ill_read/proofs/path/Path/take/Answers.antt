@@ -1,20 +1,23 @@
-use Rattle.std.proofs.Common.{refl, sym, subst}
+use Rattle.std.proofs.Common.{refl, sym, subst, ◌∙◌}
 use Rattle.ber_leaf.proofs.Leaves.{content_holds}
 use Rattle.ill_read.specs.LeafTypes.{leaf_is}
+use Rattle.ill_read.specs.DueCode.{shape}
 use Rattle.ill_read.specs.code.Drafts.{HasLeaf}
+use Rattle.ill_read.specs.code.Stepping.{GoesOn}
 use Rattle.ill_read.proofs.PrimitiveElements.{leaf_read, segment_read}
 use Rattle.ill_read.proofs.path.Path.take.Goals as goal
 
 pub returns-in_default-clause-exact : goal.returns-in_default-clause-exact
 returns-in_default-clause-exact g c place header at rest stands begin =
     segment_read g.D.Draft.holds c.args.self.now (record { frames = c.args.self.now.frames; draft = c.text.new.self }) place c.args.reading c.args.start c.args.content.now header at rest stands begin
-    c.in_default.not-Leaf refl c.in_ok-text.ensures
+    (λ l s. c.in_default.not-Leaf l (c.of.ensures ∙ s)) refl c.in_ok-text.ensures
 
 pub returns-clause-exact : goal.returns-clause-exact
 returns-clause-exact g c place header at rest stands begin =
     let leaf = c.in-Leaf.leaf in
     let content = c.args.content.now in
     let right = content_holds (leaf_is leaf) content (c.in_default-fault.ensures.none.0 refl) in
-    let has = subst (λ d. HasLeaf g.D.Draft.holds c.args.self.now.draft c.next.result c.args.reading leaf content d) (sym c.pass.ensures.draft) c.in_ok-leaf.ensures in
-    leaf_read g.D.Draft.holds c.args.self.now c.pass.new.self place c.args.reading leaf c.args.start content c.pass.result header at rest stands begin c.in-Leaf.is right.0 right.1
-    (subst (λ n. HasLeaf g.D.Draft.holds c.args.self.now.draft n c.args.reading leaf content c.pass.new.self.draft) c.next.ensures has) c.pass.ensures.passed
+    let has = subst (λ d. HasLeaf g.D.Draft.holds c.args.self.now.draft (shape c.place.result) c.args.reading leaf content d) (sym c.pass.ensures.draft) c.in_ok-leaf.ensures in
+    leaf_read g.D.Draft.holds c.args.self.now c.pass.new.self place c.args.reading leaf c.args.start content c.pass.result header at rest stands begin (sym c.of.ensures ∙ c.in-Leaf.is) right.0 right.1
+    (subst (λ n. HasLeaf g.D.Draft.holds c.args.self.now.draft n c.args.reading leaf content c.pass.new.self.draft) c.place.ensures has)
+    (subst (λ a. GoesOn a c.args.self.now.frames.open.items c.pass.new.self.frames.open.items c.pass.result) c.after.ensures.place c.pass.ensures.passed)

@@ -1,6 +1,8 @@
-use Rattle.std.proofs.Common.{◌∙◌, ◌∷◌, ap, subst}
-use Rattle.ill_read.specs.code.Drafts.{IsChecked}
-use Rattle.ill_read.specs.code.Held.{IsFound}
+use Rattle.std.proofs.Common.{◌∙◌, ◌∷◌, ap₂, subst}
+use Rattle.ill_cells.specs.Places.{alternative_of}
+use Rattle.ill_read.specs.DueCode.{shape, slot_in}
+use Rattle.ill_read.specs.code.Drafts.{IsChecked, rows_before}
+use Rattle.ill_read.specs.code.Held.{HasAdded, IsFound}
 use Rattle.ill_read.specs.Standing.{with_alternative}
 use Rattle.ill_read.proofs.ClosedElements.{handed_on}
 use Rattle.ill_read.proofs.ValueDrafts.{values_added}
@@ -25,5 +27,10 @@ pub returns-clause-closed : goal.returns-clause-closed
 returns-clause-closed c tag entries trees l below text content h held right is value_of due =
     let found = (c.in_ok-value.ensures tag entries (l ∷ below) text h).1 trees content held is in
     let value = subst (λ x. IsFound x content) c.in-Some.is found.0 in
-    values_added c.ended.new.self (record c.ended.new.self { held = c.add.new.self }) l below c.args.next c.args.frame.slot c.in_ok-value-2.value (with_alternative c.args.frame.alternative content)
-    found.1.held due.next (c.in_ok-value-2.ensures ∙ ap (with_alternative c.args.frame.alternative) value) c.in_ok-add.ensures found.1.text
+    let f = c.args.frame.found in
+    let is = c.in_ok-value-2.ensures ∙ ap₂ with_alternative c.alternative.ensures value in
+    let old = c.ended.new.self.held.entries.items in
+    let new = c.add.new.self.entries.items in
+    let added = subst (λ rows. HasAdded rows c.in_ok-value-2.value old new) (ap₂ rows_before c.at.ensures c.of.ensures) c.in_ok-add.ensures in
+    values_added c.ended.new.self (record c.ended.new.self { held = c.add.new.self }) l below (shape c.args.place) (slot_in f) c.in_ok-value-2.value (with_alternative (alternative_of f) content)
+    found.1.held due.next is added found.1.text
