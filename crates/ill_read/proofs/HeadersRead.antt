@@ -1,5 +1,5 @@
 -- What headers, parts of them and faults of them say of octets that begin with them.
-use Rattle.std.proofs.Common.{◌≡◌, ◌⊎◌, ℕ, Bool, true, List, [], ◌∷◌, ◌++◌, IsTrue, refl, sym, ap, subst, ◌∙◌, inl, inr, append_assoc, append-nil}
+use Rattle.std.proofs.Common.{◌≡◌, ◌⊎◌, ℕ, ◌<◌, ◌≤◌, Bool, true, List, [], ◌∷◌, ◌++◌, length, drop, slice_index_or, nat_lt, IsTrue, refl, sym, ap, subst, ◌∙◌, arith, inl, inr, append_assoc, append-nil}
 use Rattle.ber_core.specs.declared.id.Id.{Id}
 use Rattle.ber_core.specs.declared.header.Header.{Header}
 use Rattle.ber_core.specs.declared.header.HeaderFault.TheVariants.{BadTag, BadLength}
@@ -110,3 +110,9 @@ part_length_read w id ok part begins =
           let rest : q.2 ≡ begins.0 = cc in
           (begins.0, is, ap (λ r. read_length (form_of_id id) r) (sym rest) ∙ ap (λ f. read_length f q.2) (sym form) ∙ q.4)
     ]
+
+-- a length in the short form, behind an identifier of one octet
+pub short_length : (f : Bool) (w : List ℕ) → 2 ≤ length w → slice_index_or w 1 0 < 128 → read_length f (drop 1 w) ≡ definite (slice_index_or w 1 0) (drop 2 w)
+short_length f [] h short = absurd (omega (arith, h))
+short_length f (a ∷ []) h short = absurd (omega (arith, h))
+short_length f (a ∷ (n ∷ w)) h short = let e : nat_lt n 128 ≡ true = grind (arith, short) in rw e refl

@@ -32,7 +32,10 @@ pub fn read_header(octets: &[u8]) -> HeaderRead
     requires { length octets.now ≤ 1_048_576 }
     ensures { IsHeaderRead result octets.now }
 {
-    match read_short(octets) {
+    if let Some(read) = read_short(octets) {
+        return read;
+    }
+    match read_long(octets) {
         Some(read) => read,
         None => read_any(octets),
     }
@@ -69,30 +72,24 @@ fn read_any(octets: &[u8]) -> HeaderRead
     }
 }
 
-/// A header whose identifier is of one octet, as most elements have. None where the octets begin with no such.
+/// A header of two octets, as most elements have. None where the octets begin with no such.
 #[inline(always)]
-fn read_short(octets: &[u8]) -> Option<HeaderRead>
+pub fn read_short(octets: &[u8]) -> Option<HeaderRead>
     ensures { IfSome result (λ read. IsHeaderRead read octets.now) }
 {
-    let [first, length, ..] = octets else {
-        return None;
-    };
-    if *first == 0 || *first % 32 == 31 {
+    let id = first_identifier(octets)?;
+    if octets.len() < 2 || octets[1] >= 128 {
         return None;
     }
-    let id = Id::new(class_in(*first), *first % 64 >= 32, (*first % 32) as u32)?;
-    if *length >= 128 {
-        return read_long(id, octets);
-    }
-    Some(HeaderRead::Identified(id, LengthRead::Whole(Len::Definite(*length as u32), 2)))
+    Some(HeaderRead::Identified(id, LengthRead::Whole(Len::Definite(octets[1] as u32), 2)))
 }
 
-/// The same where the length isn't in the short form (X.690, 8.1.3.5 and 8.1.3.6).
+/// A header whose identifier is of one octet, and whose length isn't in the short form (X.690, 8.1.3.5 and 8.1.3.6).
 #[inline(never)]
-fn read_long(id: Id, octets: &[u8]) -> Option<HeaderRead>
-    requires { read_identifier octets.now ≡ identified (tag_of_id id) (form_of_id id) (drop 1 octets.now) }
+fn read_long(octets: &[u8]) -> Option<HeaderRead>
     ensures { IfSome result (λ read. IsHeaderRead read octets.now) }
 {
+    let id = first_identifier(octets)?;
     if octets.len() < 2 || octets[1] < 128 || octets[1] == 255 {
         return None;
     }
@@ -108,6 +105,18 @@ fn read_long(id: Id, octets: &[u8]) -> Option<HeaderRead>
     }
     let size = number(&octets[2..count + 2]);
     Some(HeaderRead::Identified(id, LengthRead::Whole(Len::Definite(size), count as u32 + 2)))
+}
+
+/// The identifier at the front, where it is of one octet (X.690, 8.1.2.2 to 8.1.2.5). None where there is no such.
+#[inline(always)]
+fn first_identifier(octets: &[u8]) -> Option<Id>
+    ensures { IfSome result (λ id. read_identifier octets.now ≡ identified (tag_of_id id) (form_of_id id) (drop 1 octets.now)) }
+{
+    let first = *octets.first()?;
+    if first == 0 || first % 32 == 31 {
+        return None;
+    }
+    Id::new(class_in(first), first % 64 >= 32, (first % 32) as u32)
 }
 
 /// The number that these digits in base 256 spell, or 4,294,967,295 where it is larger.

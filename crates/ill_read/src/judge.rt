@@ -1,11 +1,11 @@
 //! What is done at a place: the conditions in their one order, of which the first that holds gives the fault.
-ghost use Rattle.std.specs.Prelude.{◌≡◌, ◌≤◌, false, IfOk, length};
+ghost use Rattle.std.specs.Prelude.{◌≡◌, ◌≤◌, false, true, IfOk, length};
 ghost use Rattle.ber_core.specs.Id.{form_of_id};
 ghost use Rattle.std.specs.Option.{ForSome};
 
 use crate::element::form_fault;
 use crate::frames::{DEPTH, Frames};
-use crate::header::{HeaderRead, LengthRead, read_header};
+use crate::header::{HeaderRead, LengthRead, read_header, read_short};
 use ber_core::{Id, Len};
 use ill_cells::Found;
 use ill_schema::{Cause, Refusal};
@@ -43,6 +43,7 @@ pub struct Opening {
     pub header: u32,
     pub end: Option<u32>,
     ghost within: { ForSome end (λ e. e ≤ 1_048_576) },
+    ghost form: { form_of_id id ≡ true },
 }
 
 /// A primitive element: the sizes of its header and its content.
@@ -61,11 +62,11 @@ impl Frames {
     ghost use Rattle.ill_refusals.specs.Fault.{fault_of, wanting};
     ghost use Rattle.ill_refusals.specs.code.Judge.{judge_end, judge_mark, judge_octets, judge_element, judge_length, judge_size};
     ghost use Rattle.ill_read.specs.code.Judged.{JudgesExactly};
-    ghost use Rattle.ill_read.specs.code.JudgeCode.{WhereItStands, Judges, JudgesWithin, JudgesBegun, IsIdentified};
+    ghost use Rattle.ill_read.specs.code.JudgeCode.{WhereItStands, Judges, JudgesWithin, JudgesBegun, IsIdentified, IsRoom};
     ghost use Rattle.ber_core.specs.Id.{tag_of_id};
     ghost use Rattle.ill_read.specs.DueCode.{read_as};
     ghost use Rattle.ill_read.specs.Elements.{element_is};
-    ghost use Rattle.ill_read.specs.HeaderCode.{IsLengthRead};
+    ghost use Rattle.ill_read.specs.HeaderCode.{IsHeaderRead, IsLengthRead};
     ghost use Rattle.ill_refusals.specs.Reading.{read_length};
     ghost use Rattle.ber_leaf.specs.Profile.{profile_two};
 
@@ -80,21 +81,27 @@ impl Frames {
         if self.ends_at(at) {
             return self.judge_end(at, 0);
         }
-        let room = self.bound().saturating_sub(at) as usize;
-        let window = if rest.len() < room {
+        let room = self.bound().saturating_sub(at);
+        let window = if rest.len() < room as usize {
             rest
         } else {
-            &rest[..room]
+            &rest[..room as usize]
         };
-        self.judge_octets(at, window, rest.len())
+        self.judge_octets(at, window, room, rest.len())
     }
 
-    /// An end mark or an element, in the octets that may be read, of as many that came.
+    /// An end mark or an element, in the octets that may be read: at most `room`, of as many that came.
     #[inline(always)]
-    fn judge_octets(&self, at: u32, window: &[u8], came: usize) -> Result<Judgement, Refusal>
-        requires { at + length window.now ≤ 1_048_576 }
+    fn judge_octets(
+        &self,
+        at: u32,
+        window: &[u8],
+        room: u32,
+        came: usize,
+    ) -> Result<Judgement, Refusal>
+        requires fits { IsRoom at room window.now }
         ensures exact { (rest : List ℕ) → length rest ≡ came
-            → JudgesWithin self.now at window.now result (λ place. judge_octets profile_two place at (wanting profile_two place at rest) window.now) }
+            → JudgesWithin self.now at room window.now result (λ place. judge_octets profile_two place at (wanting profile_two place at rest) window.now) }
         ensures progress { IfOk result (λ judgement. IsProgress (depth_of self.now) (length window.now) judgement) }
         ensures small { IfOk result (λ judgement. at + size_of judgement ≤ 1_048_576) }
     {
@@ -104,7 +111,7 @@ impl Frames {
         if *first == 0 && self.awaits_end_mark() {
             return self.judge_mark(at, window, came);
         }
-        self.judge_element(at, window, came)
+        self.judge_element(at, window, room, came)
     }
 
     /// The fault where an octet is missing: the bound comes first, or the input's end.
@@ -166,10 +173,39 @@ impl Frames {
 
     /// An element from its first octet on.
     #[inline(always)]
-    fn judge_element(&self, at: u32, window: &[u8], came: usize) -> Result<Judgement, Refusal>
-        requires { at + length window.now ≤ 1_048_576 }
+    fn judge_element(
+        &self,
+        at: u32,
+        window: &[u8],
+        room: u32,
+        came: usize,
+    ) -> Result<Judgement, Refusal>
+        requires fits { IsRoom at room window.now }
         ensures exact { (rest : List ℕ) → length rest ≡ came
-            → JudgesWithin self.now at window.now result (λ place. judge_element profile_two place at (wanting profile_two place at rest) window.now) }
+            → JudgesWithin self.now at room window.now result (λ place. judge_element profile_two place at (wanting profile_two place at rest) window.now) }
+        ensures progress { IfOk result (λ judgement. IsProgress (depth_of self.now) (length window.now) judgement) }
+        ensures small { IfOk result (λ judgement. at + size_of judgement ≤ 1_048_576) }
+    {
+        match read_short(window) {
+            Some(HeaderRead::Identified(id, length)) => {
+                self.judge_headed(at, id, length, window, room, came)
+            }
+            _ => self.judge_other(at, window, room, came),
+        }
+    }
+
+    /// The same where the header isn't of two octets.
+    #[inline(never)]
+    fn judge_other(
+        &self,
+        at: u32,
+        window: &[u8],
+        room: u32,
+        came: usize,
+    ) -> Result<Judgement, Refusal>
+        requires fits { IsRoom at room window.now }
+        ensures exact { (rest : List ℕ) → length rest ≡ came
+            → JudgesWithin self.now at room window.now result (λ place. judge_element profile_two place at (wanting profile_two place at rest) window.now) }
         ensures progress { IfOk result (λ judgement. IsProgress (depth_of self.now) (length window.now) judgement) }
         ensures small { IfOk result (λ judgement. at + size_of judgement ≤ 1_048_576) }
     {
@@ -180,10 +216,31 @@ impl Frames {
                 cause: Cause::BadTag,
             }),
             HeaderRead::Identified(id, length) => {
-                let found = self.judge_tag(at, id)?;
-                self.judge_length(at, found, id, length, window, came)
+                self.judge_headed(at, id, length, window, room, came)
             }
         }
+    }
+
+    /// An element whose header was read.
+    #[inline(always)]
+    fn judge_headed(
+        &self,
+        at: u32,
+        id: Id,
+        length_read: LengthRead,
+        window: &[u8],
+        room: u32,
+        came: usize,
+    ) -> Result<Judgement, Refusal>
+        requires fits { IsRoom at room window.now }
+        requires header { IsHeaderRead (HeaderRead.Identified id length_read) window.now }
+        ensures exact { (rest : List ℕ) → length rest ≡ came
+            → JudgesWithin self.now at room window.now result (λ place. judge_element profile_two place at (wanting profile_two place at rest) window.now) }
+        ensures progress { IfOk result (λ judgement. IsProgress (depth_of self.now) (length window.now) judgement) }
+        ensures small { IfOk result (λ judgement. at + size_of judgement ≤ 1_048_576) }
+    {
+        let found = self.judge_tag(at, id)?;
+        self.judge_length(at, found, id, length_read, window, room, came)
     }
 
     /// The depth, tag and form of an element.
@@ -218,12 +275,14 @@ impl Frames {
         id: Id,
         length_read: LengthRead,
         window: &[u8],
+        room: u32,
         came: usize,
     ) -> Result<Judgement, Refusal>
-        requires fits { at + length window.now ≤ 1_048_576 }
+        requires fits { IsRoom at room window.now }
         requires header { HeaderIsIn length_read (length window.now) }
+        requires form { (header : ℕ) → length_read ≡ LengthRead.Whole Len.Indefinite header → form_of_id id ≡ true }
         ensures exact { (rest front behind : List ℕ) → length rest ≡ came → window.now ≡ front ++ behind
-            → IsLengthRead length_read (read_length (form_of_id id) behind) window.now → JudgesBegun self.now found id at window.now result
+            → IsLengthRead length_read (read_length (form_of_id id) behind) window.now → JudgesBegun self.now found id at room window.now result
             (λ place. judge_length profile_two place (element_is (read_as found)) (tag_of_id id) (form_of_id id) at (length front) (wanting profile_two place at rest) behind) }
         ensures progress { IfOk result (λ judgement. IsProgress (depth_of self.now) (length window.now) judgement) }
         ensures small { IfOk result (λ judgement. at + size_of judgement ≤ 1_048_576) }
@@ -241,7 +300,7 @@ impl Frames {
                 end: None,
             })),
             LengthRead::Whole(Len::Definite(size), header) => {
-                self.judge_size(at, found, id, header, size, window, came)
+                self.judge_size(at, found, id, header, size, window, room, came)
             }
         }
     }
@@ -256,17 +315,17 @@ impl Frames {
         header: u32,
         size: u32,
         window: &[u8],
+        room: u32,
         came: usize,
     ) -> Result<Judgement, Refusal>
-        requires fits { at + length window.now ≤ 1_048_576 }
+        requires fits { IsRoom at room window.now }
         requires header { (0 < header) × (header ≤ length window.now) }
-        ensures exact { (rest : List ℕ) (n : ℕ) → length rest ≡ came → size ≡ min n 4_294_967_295 → JudgesBegun self.now found id at window.now result
+        ensures exact { (rest : List ℕ) (n : ℕ) → length rest ≡ came → size ≡ min n 4_294_967_295 → JudgesBegun self.now found id at room window.now result
             (λ place. judge_size profile_two place (element_is (read_as found)) (tag_of_id id) (form_of_id id) at header (wanting profile_two place at rest) n (drop header window.now)) }
         ensures progress { IfOk result (λ judgement. IsProgress (depth_of self.now) (length window.now) judgement) }
         ensures small { IfOk result (λ judgement. at + size_of judgement ≤ 1_048_576) }
     {
-        let room = self.bound().saturating_sub(at).saturating_sub(header);
-        if size > room {
+        if size > room - header {
             return Err(Refusal {
                 at,
                 cause: self.past_end(),
@@ -277,10 +336,10 @@ impl Frames {
                 found,
                 id,
                 header,
-                end: Some(at.saturating_add(header).saturating_add(size)),
+                end: Some(at + header + size),
             }));
         }
-        if window.len().saturating_sub(header as usize) < size as usize {
+        if window.len() - (header as usize) < size as usize {
             return Err(self.wanting(at, came));
         }
         Ok(Judgement::Reads(Reading {

@@ -165,8 +165,10 @@ fn opening_id(opening: Opening) -> Id
     ensures { IsApartAs opening → id_octets result ≡ identifier (tag_of_id opening.id) (form_of (read_as opening.found)) }
 {
     let id = opening.id;
-    let constructed = !matches!(Element::of(opening.found), Element::Leaf(_));
-    Id::new(id.class(), constructed, id.number()).unwrap_or(id)
+    match Element::of(opening.found) {
+        Element::Leaf(_) => Id::new(id.class(), false, id.number()).unwrap_or(id),
+        _ => id,
+    }
 }
 
 /// The content of a leaf as DER has it: TRUE is FF (X.690, 11.1).

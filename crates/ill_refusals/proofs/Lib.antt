@@ -15,5 +15,4 @@ pub mod Continuations
 pub mod PlaceOrder
 pub mod HeaderFaults
 pub mod Truncation
-pub mod ShortHeaders
 pub mod Bounds

@@ -1,5 +1,5 @@
 -- What the decoder's functions answer of the place that the path stands at, in the words of the definitions.
-use Rattle.std.specs.Prelude.{◌≡◌, ℕ, ◌-◌, ◌≤◌, Bool, true, false, nat_eq, nat_le, List, [], ◌∷◌, length, Option, Some, None, Result, Ok, Err, if◌then◌else◌}
+use Rattle.std.specs.Prelude.{◌≡◌, ℕ, ◌+◌, ◌-◌, ◌≤◌, Bool, true, false, nat_eq, nat_le, List, [], ◌∷◌, length, Option, Some, None, Result, Ok, Err, if◌then◌else◌}
 use Rattle.ber_core.specs.Id.{tag_of_id, form_of_id}
 use Rattle.ber_core.specs.Identifier.{Tag}
 use Rattle.ber_core.specs.declared.id.Id.{Id}
@@ -36,10 +36,14 @@ end_at end at = elim end as (λ _. Bool) [ Some e ↦ nat_eq e at | None ↦ fal
 abbrev pub Judges : Frames → ℕ → List ℕ → Result CodeJudgement Refusal → (List Open → Judgement) → Type 0
 Judges frames at octets result judged = (place : List Open) → StandsAt frames place → IsJudged frames place at octets result (judged place)
 
--- the same where the octets lie before the bound
-abbrev pub JudgesWithin : Frames → ℕ → List ℕ → Result CodeJudgement Refusal → (List Open → Judgement) → Type 0
-JudgesWithin frames at octets result judged =
-    (place : List Open) → StandsAt frames place → length octets ≤ bound profile_two place - at → IsJudged frames place at octets result (judged place)
+-- the octets lie before the bound, where there is room for so many
+abbrev pub IsRoom : ℕ → ℕ → List ℕ → Type 0
+IsRoom at room octets = (at + room ≤ 1_048_576) × (length octets ≤ room)
+
+-- the same where there is this room before the bound
+abbrev pub JudgesWithin : Frames → ℕ → ℕ → List ℕ → Result CodeJudgement Refusal → (List Open → Judgement) → Type 0
+JudgesWithin frames at room octets result judged =
+    (place : List Open) → StandsAt frames place → room ≡ bound profile_two place - at → IsJudged frames place at octets result (judged place)
 
 -- what is found may have the form, or is at fault
 abbrev pub IsFormed : Found → Bool → Option Cause → Type 0
@@ -59,7 +63,7 @@ IsIdentified frames place at id (Err refusal) =
     (i : ℕ) (want : Fault) (w : List ℕ) → judge_identified place (tag_of_id id) (form_of_id id) at i want w ≡ faulty (fault_of refusal)
 
 -- the judgement is the definitions', of an element that may begin there
-abbrev pub JudgesBegun : Frames → Found → Id → ℕ → List ℕ → Result CodeJudgement Refusal → (List Open → Judgement) → Type 0
-JudgesBegun frames f id at octets result judged =
+abbrev pub JudgesBegun : Frames → Found → Id → ℕ → ℕ → List ℕ → Result CodeJudgement Refusal → (List Open → Judgement) → Type 0
+JudgesBegun frames f id at room octets result judged =
     (place : List Open) → StandsAt frames place → IsBegin frames place (tag_of_id id) f (form_of_id id)
-    → length octets ≤ bound profile_two place - at → IsJudged frames place at octets result (judged place)
+    → room ≡ bound profile_two place - at → IsJudged frames place at octets result (judged place)

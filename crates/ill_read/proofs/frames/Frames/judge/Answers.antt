@@ -1,4 +1,4 @@
-use Rattle.std.proofs.Common.{◌≡◌, ◌≤◌, ◌-◌, List, ℕ, Bor, length, take, refl, sym, ap, ◌∙◌, arith, length-take, take_all}
+use Rattle.std.proofs.Common.{◌≡◌, ◌-◌, List, ℕ, Bor, take, refl, sym, ap, ◌∙◌, arith, take_all}
 use Rattle.ber_leaf.specs.Profile.{profile_two}
 use Rattle.ill_refusals.specs.Fault.{wanting}
 use Rattle.ill_refusals.specs.Place.{bound}
@@ -16,8 +16,6 @@ returns-clause-exact c place h =
     ] in
     let at : room ≡ bound profile_two place - c.args.at = c.saturating_sub-room.ensures ∙ ap (λ b. b - c.args.at) (c.bound.ensures.exact place h) in
     let window = front ∙ ap (λ m. take m c.args.rest.now) at in
-    let within : length c.if-rest-room.window.now ≤ bound profile_two place - c.args.at =
-    omega (arith, ap length window, length-take (bound profile_two place - c.args.at) c.args.rest.now) in
     octets_judged c.args.self.now place c.args.at (depth_of c.args.self.now) c.args.rest.now c.if-rest-room.window.now (wanting profile_two place c.args.at c.args.rest.now) c.judge_octets.result
     (sym (c.ends_at.ensures.exact place h) ∙ c.if-ends_at.false) window refl c.judge_octets.ensures.progress
-    (c.judge_octets.ensures.exact c.args.rest.now refl place h within)
+    (c.judge_octets.ensures.exact c.args.rest.now refl place h at)

@@ -16,7 +16,7 @@ use Rattle.ill_refusals.proofs.Headers.{octets_right}
 use Rattle.ill_read.proofs.frames.Frames.judge_length.Goals as goal
 
 pub returns-in-Whole-Definite-default-clause-exact : goal.returns-in-Whole-Definite-default-clause-exact
-returns-in-Whole-Definite-default-clause-exact c rest front behind came spelled read place h begun within =
+returns-in-Whole-Definite-default-clause-exact c rest front behind came spelled read place h begun room =
     let w = c.args.window.now in
     let header = c.in-Whole-Definite-default.header in
     let size = c.in-Whole-Definite-default.size in
@@ -30,4 +30,4 @@ returns-in-Whole-Definite-default-clause-exact c rest front behind came spelled 
     let whole = subst (λ l. IsLengthRead l (read_length f behind) w) is read in
     let length : IsWholeLength (read_length f behind) (Definite size) (drop header w) = whole.2 in
     let same = definite_judged place e (tag_of_id id) f c.args.at (wanting profile_two place c.args.at rest) w front behind header length.0 right spelled whole.1 length.1 in
-    subst (IsJudged c.args.self.now place c.args.at w c.judge_size.result) (sym same) (c.judge_size.ensures.exact rest length.0 came length.2 place h begun within)
+    subst (IsJudged c.args.self.now place c.args.at w c.judge_size.result) (sym same) (c.judge_size.ensures.exact rest length.0 came length.2 place h begun room)
