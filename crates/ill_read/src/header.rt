@@ -32,9 +32,18 @@ pub fn read_header(octets: &[u8]) -> HeaderRead
     requires { length octets.now ≤ 1_048_576 }
     ensures { IsHeaderRead result octets.now }
 {
-    if let Some(read) = read_short(octets) {
-        return read;
+    match read_short(octets) {
+        Some(read) => read,
+        None => read_other(octets),
     }
+}
+
+/// The same where the header isn't of two octets, or not whole.
+#[inline(always)]
+pub fn read_other(octets: &[u8]) -> HeaderRead
+    requires { length octets.now ≤ 1_048_576 }
+    ensures { IsHeaderRead result octets.now }
+{
     match read_long(octets) {
         Some(read) => read,
         None => read_any(octets),

@@ -5,7 +5,7 @@ ghost use Rattle.std.specs.Option.{ForSome};
 
 use crate::element::form_fault;
 use crate::frames::{DEPTH, Frames};
-use crate::header::{HeaderRead, LengthRead, read_header, read_short};
+use crate::header::{HeaderRead, LengthRead, read_other, read_short};
 use ber_core::{Id, Len};
 use ill_cells::Found;
 use ill_schema::{Cause, Refusal};
@@ -195,7 +195,7 @@ impl Frames {
     }
 
     /// The same where the header isn't of two octets.
-    #[inline(never)]
+    #[inline(always)]
     fn judge_other(
         &self,
         at: u32,
@@ -209,7 +209,7 @@ impl Frames {
         ensures progress { IfOk result (λ judgement. IsProgress (depth_of self.now) (length window.now) judgement) }
         ensures small { IfOk result (λ judgement. at + size_of judgement ≤ 1_048_576) }
     {
-        match read_header(window) {
+        match read_other(window) {
             HeaderRead::PartIdentifier => Err(self.wanting(at, came)),
             HeaderRead::NoIdentifier => Err(Refusal {
                 at,
