@@ -25,19 +25,18 @@ pub struct At {
 }
 
 /// An element that is due.
-// The order and the sizes of the fields let the processor move four octets at a time.
 #[derive(Clone, Copy)]
 pub struct Found {
     /// Where it is due: the position of its row's cell.
     at: At,
+    slot: Slot,
     what: What,
     /// The node that the element is, or that is in the wrapper.
     node: NodeId,
     /// The row of the tables, or the alternative, that the element is.
     part: PartId,
-    slot: Slot,
+    default: Option<u8>,
     alternative: Option<u8>,
-    default: Option<u32>,
     ghost opens: { IsTrue (opens_in what node) },
     ghost placed: { IsTrue (is_placed (kind_of at.node) at.position slot) },
     ghost there: { IsTrue (row_there slot at.position (components profile_two at.node)) },

@@ -49,5 +49,5 @@ pub struct Cell {
     pub stops: bool,
     /// This row or one behind it is mandatory.
     pub lacks: bool,
-    pub default: Option<u32>,
+    pub default: Option<u8>,
 }
