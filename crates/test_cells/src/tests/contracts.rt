@@ -20,7 +20,7 @@ fn one_thing_is_due(at: At, id: Id) {
 fn one_thing_goes_one_way(one: Found, other: Found)
     requires { due_of one ≡ due_of other }
 {
-    prove!(one.default_value() == other.default());
+    prove!(one.default_value() == other.default_value());
     prove!(one.first().missing() == other.first().missing());
     prove!(one.after().missing() == other.after().missing());
     prove!(one.after().is_missing() == other.after().is_missing());
