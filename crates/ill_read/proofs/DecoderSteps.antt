@@ -23,8 +23,8 @@ use Rattle.ill_refusals.specs.Place.{Open}
 use Rattle.ill_read.specs.code.Progress.{size_of, depth_of, IsProgress}
 use Rattle.ill_refusals.specs.code.Step.{Step, refused, goes, whole, stuck, with_tree, close, moved}
 use Rattle.ill_read.specs.declared.failure.Failure.{Failure}
-use Rattle.ill_read.specs.declared.judge.Judgement.{Judgement as CodeJudgement}
-use Rattle.ill_read.specs.declared.judge.Judgement.TheVariants as code
+use Rattle.ill_read.specs.code.Progress.{Judgement as CodeJudgement}
+use Rattle.ill_read.specs.code.Progress as code
 use Rattle.ill_read.specs.declared.frames.Frames.{Frames}
 use Rattle.ill_read.specs.declared.path.Path.{Path}
 use Rattle.ill_read.proofs.MessageEnds.{refuses_alone}

@@ -1,5 +1,5 @@
 -- What the decoder judges at a place, part by part.
-use Rattle.std.proofs.Common.{◌≡◌, ◌⊎◌, inl, inr, nat_eq, slice_get, ◌&&◌, ℕ, ◌+◌, ◌-◌, ◌<◌, ◌≤◌, Bool, true, false, List, [], ◌∷◌, ◌++◌, length, take, drop, Option, Some, None, Result, Ok, Err, IfOk, IsTrue, refl, sym, ap, ap₂, subst, ◌∙◌, arith, take-append-drop, if◌then◌else◌, length-append, length-drop}
+use Rattle.std.proofs.Common.{◌≡◌, ◌⊎◌, inl, inr, nat_eq, slice_get, ◌&&◌, ℕ, ◌+◌, ◌-◌, ◌<◌, ◌≤◌, Bool, true, false, List, [], ◌∷◌, ◌++◌, length, take, drop, Option, Some, None, IsTrue, refl, sym, ap, ap₂, subst, ◌∙◌, arith, take-append-drop, if◌then◌else◌, length-append, length-drop}
 use Rattle.std.specs.Prelude.{nat_le}
 use Rattle.std.proofs.lemmas.List.{take-append-le, drop-append-le}
 use Rattle.ber_core.specs.Id.{tag_of_id, form_of_id}
@@ -10,7 +10,6 @@ use Rattle.ber_core.specs.declared.id.Id.{Id}
 use Rattle.ber_leaf.specs.Profile.{profile_two}
 use Rattle.ill_schema.specs.declared.part.PartId.{PartId}
 use Rattle.ill_schema.specs.declared.refusal.Cause.{Cause}
-use Rattle.ill_schema.specs.declared.refusal.Refusal.{Refusal}
 use Rattle.ill_read.specs.Elements.{element_is, found_is}
 use Rattle.ill_cells.specs.Places.{alternative_of, first_place}
 use Rattle.ill_cells.specs.declared.at.At.{At}
@@ -18,18 +17,15 @@ use Rattle.ill_cells.specs.declared.at.Found.{Found as CellFound}
 use Rattle.ill_read.specs.DueCode.{BeginsAt, IsComing, IsDueIn, behind, due_as, next_is, read_as, read_due, shape, slot_in}
 use Rattle.ill_refusals.specs.Element.{Element}
 use Rattle.ill_refusals.specs.Fault.{Fault, fault, element_fault, ends_at, is_indefinite, wanting}
-use Rattle.ill_refusals.specs.code.Judge.{Judgement, faulty, closes, reads, or_faulty, judge_end, judge_size, judge_length, judge_form, judge_tag, judge_element, judge_mark, judge_octets, judge}
+use Rattle.ill_refusals.specs.code.Judge.{Judgement, faulty, closes, or_faulty, judge_end, judge_size, judge_length, judge_form, judge_tag, judge_element, judge_mark, judge_octets, judge}
 use Rattle.ill_read.specs.code.JudgeCode.{IsFormed, judge_identified}
-use Rattle.ill_read.specs.code.Judged.{IsBegin, IsEnd, IsJudged, content_in}
+use Rattle.ill_read.specs.code.Judged.{IsBegin, IsEnd, content_in}
 use Rattle.ill_refusals.specs.Next.{Due, due, element_of, missing}
 use Rattle.ill_refusals.specs.Place.{Open, next_in, bound}
-use Rattle.ill_read.specs.code.Progress.{IsProgress}
 use Rattle.ill_refusals.specs.Reading.{IdentifierRead, identified, part_identifier, no_identifier, read_identifier, definite, read_length}
 use Rattle.ill_read.specs.Standing.{StandsAt, next_at}
 use Rattle.ill_read.specs.DueCode.{Due as CodeDue}
 use Rattle.ill_read.specs.Found.{Found}
-use Rattle.ill_read.specs.declared.judge.Judgement.{Judgement as CodeJudgement}
-use Rattle.ill_read.specs.declared.judge.Judgement.TheVariants as code
 use Rattle.ill_read.specs.declared.frames.Frames.{Frames}
 use Rattle.ill_read.proofs.DueCells.{begins-at}
 use Rattle.ill_read.proofs.DueElements.{due_element_is}
@@ -114,6 +110,13 @@ element_body place at want w x = elim x as (λ _. Judgement) [
   | identified tag f rest ↦ judge_identified place tag f at (length w - length rest) want rest
 ]
 
+-- an end mark begins
+pub mark_judged : (place : List Open) (at : ℕ) (want : Fault) (w : List ℕ) → slice_get w 0 ≡ Some 0 → is_indefinite place ≡ true → judge_octets profile_two place at want w ≡ judge_mark profile_two place at want (drop 1 w)
+mark_judged place at want [] e i = absurd cc
+mark_judged place at want (x ∷ w) e i =
+    let is : x ≡ 0 = cc in
+    ap (λ b. elim b as (λ _. Judgement) [ true ↦ judge_mark profile_two place at want w | false ↦ judge_element profile_two place at want (x ∷ w) ]) (ap₂ (λ a b. a && b) i (ap (λ y. nat_eq y 0) is))
+
 -- where it is no end mark, an element is judged
 pub other_judged : (place : List Open) (at : ℕ) (want : Fault) (w : List ℕ) (first : ℕ) → slice_get w 0 ≡ Some first → (is_indefinite place ≡ false) ⊎ (nat_eq first 0 ≡ false)
     → judge_octets profile_two place at want w ≡ judge_element profile_two place at want w
@@ -151,19 +154,17 @@ definite_judged place e tag f at want w front behind header n ok s h r =
     omega (arith, h, ap length s, length-append front behind, length-drop header w, ap length l.2, length-append l.0 (drop header w)) in
     ap (length_body profile_two place e tag f at (length front) want behind) r ∙ ap (λ x. judge_size profile_two place e tag f at x want n (drop header w)) i
 
-content_further : (header size : ℕ) (w y : List ℕ) → header + size ≤ length w → content_in header size w ≡ content_in header size (w ++ y)
+-- an element that may begin there, with this identifier, is judged by its length
+pub headed_judged : (frames : Frames) (place : List Open) (tag : Tag) (found : CellFound) (f : Bool) (at : ℕ) (want : Fault) (w front behind : List ℕ) → StandsAt frames place
+    → IsBegin frames place tag found f → w ≡ front ++ behind → read_identifier w ≡ identified tag f behind
+    → judge_element profile_two place at want w ≡ judge_length profile_two place (element_is (read_as found)) tag f at (length front) want behind
+headed_judged frames place tag found f at want w front behind h b e r =
+    behind_identifier place at want w front behind tag f e r ∙ begun_judged frames place tag found f at (length front) want behind h b
+
+-- a content in the octets before the bound is the same in all of them
+pub content_further : (header size : ℕ) (w y : List ℕ) → header + size ≤ length w → content_in header size w ≡ content_in header size (w ++ y)
 content_further header size w y h =
     sym (ap (take size) (drop-append-le header w y (omega (arith, h))) ∙ take-append-le size (drop header w) y (omega (arith, h, length-drop header w)))
-
--- what is judged in the octets before the bound is judged where the others follow
-pub judged_further : (frames : Frames) (place : List Open) (at depth : ℕ) (w y : List ℕ) (r : Result CodeJudgement Refusal) (j : Judgement)
-    → IfOk r (λ judgement. IsProgress depth (length w) judgement) → IsJudged frames place at w r j → IsJudged frames place at (w ++ y) r j
-judged_further frames place at depth w y (Err refusal) j k h = h
-judged_further frames place at depth w y (Ok (code.Closes marks)) j k h = h
-judged_further frames place at depth w y (Ok (code.Opens opening)) j k h = h
-judged_further frames place at depth w y (Ok (code.Reads reading)) j k h =
-    let c = content_further reading.header reading.size w y k.1 in
-    (h.0, h.1 ∙ ap (λ x. or_faulty (element_fault profile_two (element_is (read_as reading.found)) x) at (reads (tag_of_id reading.id) reading.header x)) c)
 
 abbrev place_body : List Open → ℕ → List ℕ → Bool → Judgement
 place_body place at rest b = elim b as (λ _. Judgement) [
@@ -171,14 +172,11 @@ place_body place at rest b = elim b as (λ _. Judgement) [
   | false ↦ judge_octets profile_two place at (wanting profile_two place at rest) (take (bound profile_two place - at) rest)
 ]
 
--- no definite element ends there
-pub octets_judged : (frames : Frames) (place : List Open) (at depth : ℕ) (rest window : List ℕ) (want : Fault) (r : Result CodeJudgement Refusal) → ends_at place at ≡ false
-    → window ≡ take (bound profile_two place - at) rest → want ≡ wanting profile_two place at rest
-    → IfOk r (λ judgement. IsProgress depth (length window) judgement) → IsJudged frames place at window r (judge_octets profile_two place at want window)
-    → IsJudged frames place at rest r (judge profile_two place at rest)
-octets_judged frames place at depth rest window want r e s f k h =
-    let m = bound profile_two place - at in
-    let same : judge_octets profile_two place at want window ≡ judge profile_two place at rest = ap₂ (judge_octets profile_two place at) f s ∙ sym (ap (place_body place at rest) e) in
-    let whole : window ++ drop m rest ≡ rest = ap (λ x. x ++ drop m rest) s ∙ take-append-drop m rest in
-    subst (λ x. IsJudged frames place at x r (judge profile_two place at rest)) whole
-    (judged_further frames place at depth window (drop m rest) r _ k (subst (IsJudged frames place at window r) same h))
+-- a definite element ends there
+pub ended_judged : (place : List Open) (at : ℕ) (rest : List ℕ) → ends_at place at ≡ true → judge profile_two place at rest ≡ judge_end profile_two place at 0
+ended_judged place at rest e = ap (place_body place at rest) e
+
+-- none does
+pub within_judged : (place : List Open) (at : ℕ) (rest window : List ℕ) → ends_at place at ≡ false → window ≡ take (bound profile_two place - at) rest
+    → judge profile_two place at rest ≡ judge_octets profile_two place at (wanting profile_two place at rest) window
+within_judged place at rest window e s = ap (place_body place at rest) e ∙ ap (judge_octets profile_two place at (wanting profile_two place at rest)) (sym s)

@@ -1,6 +1,5 @@
 -- A primitive element is read.
 use Rattle.std.proofs.Common.{◌≡◌, ℕ, ◌+◌, ◌-◌, ◌≤◌, List, [], ◌∷◌, length, take, drop, min, Some, None, Result, Ok, Err, Bool, true, false, IsTrue, refl, sym, ap, subst, ◌∙◌, arith}
-use Rattle.std.proofs.lemmas.List.{drop-take, take_rest}
 use Rattle.ber_core.specs.Id.{tag_of_id}
 use Rattle.ber_core.specs.Identifier.{Tag}
 use Rattle.ber_core.specs.Octets.{are_octets}
@@ -21,14 +20,14 @@ use Rattle.ill_read.specs.Elements.{element_is}
 use Rattle.ill_read.specs.DueCode.{IsDueIn, read_as, slot_in, next_place}
 use Rattle.ill_read.specs.LeafTypes.{leaf_is}
 use Rattle.ill_read.specs.code.Drafts.{HasLeaf, HasText, due_with}
-use Rattle.ill_read.specs.code.Judged.{IsBegin, IsJudgement, IsStep}
+use Rattle.ill_read.specs.code.Judged.{IsBegin, IsJudgement, IsStep, content_in}
 use Rattle.ill_read.specs.code.Stepping.{GoesOn, ReadsExactly}
 use Rattle.ill_read.specs.Standing.{Level, next_at, text_so_far, AreFrames, HoldsAt}
 use Rattle.ill_read.specs.declared.due.Next.TheVariants.{Segments}
 use Rattle.ill_read.specs.declared.element.Element.{Element as CodeElement}
 use Rattle.ill_read.specs.declared.element.Element.TheVariants.{Leaf, Sequence, List as ListOf, Wrapper, LooseWrapper, Segment}
 use Rattle.ill_read.specs.declared.failure.Failure.{Failure}
-use Rattle.ill_read.specs.declared.judge.Judgement.TheVariants.{Reads}
+use Rattle.ill_read.specs.code.Progress.{Reads}
 use Rattle.ill_read.specs.declared.judge.Reading.{Reading}
 use Rattle.ill_read.specs.declared.leaf_type.LeafType.{LeafType}
 use Rattle.ill_read.specs.declared.path.Path.{Path}
@@ -89,17 +88,8 @@ segment_read holds old new place r start octets header at rest stands begin apar
     let none : element_fault profile_two (element_is (read_as r.found)) octets ≡ None = ap (λ x. element_fault profile_two (element_is x) octets) is in
     subst (λ f. IsStep holds new (Ok false) (moved (or_faulty f start (reads tag header octets)) place at rest)) (sym none) added
 
--- the contents lie behind the header
-content_behind : (header size m : ℕ) (octets rest : List ℕ) → octets ≡ take (header + size) rest → header + size ≤ length octets → m ≡ min header (length octets) → take (length octets - m) (drop m octets) ≡ take size (drop header rest)
-content_behind header size m octets rest e h is =
-    let q : m ≡ header = omega (arith, is, h) in
-    take_rest octets m ∙ ap (λ i. drop i octets) q ∙ ap (drop header) e ∙ drop-take header size rest
-
 -- what was judged to be read is
-pub reads_judged : {D : Type 0} (holds : D → List Level → List ℕ → Type 0) (old new : Path D) (place : List Open) (r : Reading) (at m : ℕ) (octets rest : List ℕ) (j : Judgement) (result : Result Bool Failure)
-    → HoldsAt holds old place → IsJudgement old.frames place at rest (Reads r) j → octets ≡ take (r.header + r.size) rest → r.header + r.size ≤ length octets → m ≡ min r.header (length octets)
-    → ReadsExactly holds old r at (take (length octets - m) (drop m octets)) new result → IsStep holds new result (moved j place at rest)
-reads_judged holds old new place r at m octets rest j result stands judged taken fits is reads_on =
-    let content : take (length octets - m) (drop m octets) ≡ take r.size (drop r.header rest) = content_behind r.header r.size m octets rest taken fits is in
-    let read = reads_on place r.header at rest stands judged.0 in
-    subst (λ x. IsStep holds new result (moved x place at rest)) (sym judged.1) (subst (λ c. IsStep holds new result (content_read (read_as r.found) place (tag_of_id r.id) r.header c at at rest)) content read)
+pub reads_judged : {D : Type 0} (holds : D → List Level → List ℕ → Type 0) (old new : Path D) (place : List Open) (r : Reading) (at : ℕ) (rest : List ℕ) (j : Judgement) (result : Result Bool Failure)
+    → HoldsAt holds old place → IsJudgement old.frames place at rest (Reads r) j → ReadsExactly holds old r at (content_in r.header r.size rest) new result → IsStep holds new result (moved j place at rest)
+reads_judged holds old new place r at rest j result stands judged reads_on =
+    subst (λ x. IsStep holds new result (moved x place at rest)) (sym judged.1) (reads_on place r.header at rest stands judged.0)

@@ -1,5 +1,5 @@
 //! The path of open elements, with the draft of what has been read.
-ghost use Rattle.std.specs.Prelude.{◌≡◌, ◌+◌, ◌<◌, ◌≤◌, ℕ, List, [], ◌∷◌, IfOk, length};
+ghost use Rattle.std.specs.Prelude.{◌≡◌, ◌+◌, ◌<◌, ◌≤◌, [], ◌∷◌, IfOk};
 ghost use Rattle.ill_read.specs.Standing.{HoldsAt, top_level};
 
 use crate::draft::Draft;
@@ -7,7 +7,7 @@ use crate::element::Element;
 use crate::failure::Failure;
 use crate::frame::Frame;
 use crate::frames::Frames;
-use crate::judge::{Judgement, Opening, Reading};
+use crate::judge::{Opening, Reading};
 use ill_cells::At;
 use ill_schema::Cause;
 use std::alloc::AllocError;
@@ -20,8 +20,7 @@ pub struct Path<D: Drop> {
 }
 
 impl<D: Draft> Path<D> {
-    ghost use Rattle.ill_read.specs.code.Progress.{depth_of, StepsTo, IsProgress};
-    ghost use Rattle.ill_read.specs.code.Judged.{StepsExactly};
+    ghost use Rattle.ill_read.specs.code.Progress.{depth_of};
     ghost use Rattle.ill_read.specs.code.Stepping.{ClosesExactly, OpensExactly, ReadsExactly, GoesOn};
 
     pub fn new(draft: D) -> Path<D>
@@ -40,27 +39,9 @@ impl<D: Draft> Path<D> {
         draft
     }
 
-    /// Does what was judged at this offset, with the octets that it takes. Returns whether the message is whole.
-    pub fn step(&mut self, judgement: Judgement, at: u32, octets: &[u8]) -> Result<bool, Failure>
-        requires { IsProgress (depth_of self.old.frames) (length octets.now) judgement }
-        ensures exact { StepsExactly D.holds self.old judgement at octets.now self.new result }
-        ensures depth { IfOk result (λ _. StepsTo judgement (depth_of self.old.frames) (depth_of self.new.frames)) }
-    {
-        match judgement {
-            Judgement::Closes(_) => self.close(),
-            Judgement::Opens(opening) => {
-                self.open(opening, at)?;
-                Ok(false)
-            }
-            Judgement::Reads(reading) => {
-                let header = (reading.header as usize).min(octets.len());
-                self.take(reading, at, &octets[header..])
-            }
-        }
-    }
-
     /// Opens the element that is due and begins at `start`.
-    fn open(&mut self, opening: Opening, start: u32) -> Result<(), AllocError>
+    #[inline(always)]
+    pub fn open(&mut self, opening: Opening, start: u32) -> Result<(), AllocError>
         ensures exact { IfOk result (λ _. OpensExactly D.holds self.old opening start self.new) }
         ensures depth { depth_of self.new.frames ≤ depth_of self.old.frames + 1 }
     {
@@ -81,7 +62,8 @@ impl<D: Draft> Path<D> {
     }
 
     /// Takes the content of a primitive element that is due and begins at `start`. Returns whether the message is whole.
-    fn take(&mut self, reading: Reading, start: u32, content: &[u8]) -> Result<bool, Failure>
+    #[inline(always)]
+    pub fn take(&mut self, reading: Reading, start: u32, content: &[u8]) -> Result<bool, Failure>
         ensures exact { ReadsExactly D.holds self.old reading start content.now self.new result }
         ensures depth { depth_of self.new.frames ≡ depth_of self.old.frames }
     {
@@ -98,7 +80,8 @@ impl<D: Draft> Path<D> {
     }
 
     /// Closes the innermost element, in which nothing is missing. Returns whether the message is whole.
-    fn close(&mut self) -> Result<bool, Failure>
+    #[inline(always)]
+    pub fn close(&mut self) -> Result<bool, Failure>
         requires { 0 < depth_of self.old.frames }
         ensures exact { ClosesExactly D.holds self.old self.new result }
         ensures depth { depth_of self.new.frames + 1 ≡ depth_of self.old.frames }
@@ -112,6 +95,7 @@ impl<D: Draft> Path<D> {
     }
 
     /// Goes on at the place after an element. Returns whether the message is whole.
+    #[inline(always)]
     fn pass(&mut self, after: At) -> bool
         ensures passed { GoesOn after self.old.frames.open.items self.new.frames.open.items result }
         ensures draft { self.new.draft ≡ self.old.draft }

@@ -3,10 +3,11 @@ ghost use Rattle.std.specs.Prelude.{◌≤◌};
 
 use crate::draft::Draft;
 use crate::failure::Failure;
-use crate::frames::Frames;
-use crate::judge::Judgement;
+use crate::header::{HeaderRead, LengthRead, read_header};
+use crate::judge::{Extent, Opening, Reading};
 use crate::need::need_at;
 use crate::path::Path;
+use ber_core::Id;
 use ill_schema::{Cause, LIMIT, Refusal};
 use std::alloc::Global;
 use std::mem;
@@ -34,17 +35,23 @@ pub enum State {
 }
 
 impl<D: Draft> Reader<D> {
-    ghost use Rattle.std.specs.Prelude.{◌≡◌, ◌≢◌, ℕ, ◌+◌, ◌-◌, ◌*◌, ◌<◌, List, [], ◌∷◌, ◌++◌, length, drop, take, true, IfSome, OnSome, IsTrue, Ok, Err, Some};
+    ghost use Rattle.std.specs.Prelude.{◌≡◌, ◌≢◌, ℕ, ◌+◌, ◌<◌, List, [], ◌∷◌, ◌++◌, length, drop, take, true, IsTrue, Ok, Err, Some, None};
     ghost use Rattle.ber_core.specs.Octets.{are_octets};
     ghost use Rattle.ber_leaf.specs.Profile.{profile_two};
     ghost use Rattle.ill_schema.specs.Apdu.{Apdu, Accepts};
     ghost use Rattle.ill_read.specs.Need.{NeedsAfter};
     ghost use Rattle.ill_read.specs.Feeding.{IsOpenAt};
-    ghost use Rattle.ill_read.specs.Standing.{top_level};
+    ghost use Rattle.ill_read.specs.Standing.{HoldsAt, StandsBefore, top_level};
+    ghost use Rattle.ill_read.specs.Answers.{IsRefused};
+    ghost use Rattle.ill_read.specs.HeaderCode.{IsHeaderRead};
+    ghost use Rattle.ill_refusals.specs.code.Judge.{faulty, judge, judge_element, judge_end, judge_mark, judge_octets};
+    ghost use Rattle.ill_refusals.specs.code.Step.{moved};
     ghost use Rattle.ill_read.specs.code.Drafts.{HoldsApdu};
     ghost use Rattle.ill_read.specs.code.Filling.{HasLooked, NoneEndsWithin};
-    ghost use Rattle.ill_read.specs.code.Progress.{depth_of, size_of, IsProgress, StepsTo};
-    ghost use Rattle.ill_read.specs.code.ReaderCode.{CanRefuse, CanStep, HasAdvanced, HasClosed, HasOutcome, HasStopped, IsFed, IsRunning, ended};
+    ghost use Rattle.ill_read.specs.code.Judged.{IsJudgement, IsStep};
+    ghost use Rattle.ill_read.specs.code.JudgeCode.{IsRoom};
+    ghost use Rattle.ill_read.specs.code.Progress.{Judgement, Closes, Opens, Reads, depth_of, size_of, IsProgress};
+    ghost use Rattle.ill_read.specs.code.ReaderCode.{CanRefuse, CanStep, HasAdvanced, HasClosed, HasOutcome, HasStopped, IsFed, IsRunning, LeadsOn, Progresses, Steps, ended};
 
     /// Begins with nothing.
     pub fn new(alloc: Global, draft: D) -> Reader<D>
@@ -215,57 +222,249 @@ impl<D: Draft> Reader<D> {
     /// Goes on to the next place, and returns how many octets that took, or None where the rest doesn't reach it or nothing is open.
     fn advance(&mut self, rest: &[u8]) -> Option<usize>
         ensures pending { self.new.pending ≡ self.old.pending }
-        ensures progress { IfSome result (λ size. (size ≤ length rest.now)
-            × (2 * (length rest.now - size) + depth_of self.new.path.frames < 2 * length rest.now + depth_of self.old.path.frames)) }
+        ensures progress { Progresses (length rest.now) self.old.path.frames self.new.path.frames result }
         ensures goes { (s : List ℕ) → IsRunning D.holds D.has self.old s rest.now → HasAdvanced D.holds D.has self.new s rest.now result }
     {
         if !matches!(&self.state, State::Open) {
             return None;
         }
-        match self.path.frames.judge(self.at, rest) {
-            Ok(judgement) => self.step(judgement, rest),
-            Err(refusal) => {
-                self.refuse(refusal);
-                None
+        if self.path.frames.ends_at(self.at) {
+            return self.end_element(0);
+        }
+        let room = self.path.frames.bound().saturating_sub(self.at);
+        let window = if rest.len() < room as usize {
+            rest
+        } else {
+            &rest[..room as usize]
+        };
+        self.advance_within(window, room, rest.len())
+    }
+
+    /// An end mark or an element, in the octets before the bound: at most `room`, of as many that came.
+    #[inline(always)]
+    fn advance_within(&mut self, window: &[u8], room: u32, came: usize) -> Option<usize>
+        requires open { self.old.state ≡ State.Open }
+        requires fits { IsRoom self.old.at room window.now }
+        ensures pending { self.new.pending ≡ self.old.pending }
+        ensures progress { Progresses (length window.now) self.old.path.frames self.new.path.frames result }
+        ensures goes { LeadsOn D.holds D.has self.old window.now room came self.new result (λ place want. judge_octets profile_two place self.old.at want window.now) }
+    {
+        let Some(first) = window.first() else {
+            return self.want(came);
+        };
+        if *first == 0 && self.path.frames.awaits_end_mark() {
+            return self.end_mark(window, came);
+        }
+        self.element(window, room, came)
+    }
+
+    /// An end mark, whose first octet is there.
+    fn end_mark(&mut self, window: &[u8], came: usize) -> Option<usize>
+        requires open { self.old.state ≡ State.Open }
+        requires fits { self.old.at + length window.now ≤ 1_048_576 }
+        requires depth { 0 < depth_of self.old.path.frames }
+        ensures pending { self.new.pending ≡ self.old.pending }
+        ensures progress { Progresses (length window.now) self.old.path.frames self.new.path.frames result }
+        ensures goes { (room : ℕ) → LeadsOn D.holds D.has self.old window.now room came self.new result
+            (λ place want. judge_mark profile_two place self.old.at want (drop 1 window.now)) }
+    {
+        match window {
+            [_, 0, ..] => self.end_element(2),
+            [_, _, ..] => self.refuse(Refusal {
+                at: self.at,
+                cause: Cause::BadEnd,
+            }),
+            _ => self.want(came),
+        }
+    }
+
+    /// The innermost element ends, after this number of octets of an end mark.
+    #[inline(never)]
+    fn end_element(&mut self, marks: u32) -> Option<usize>
+        requires open { self.old.state ≡ State.Open }
+        requires depth { 0 < depth_of self.old.path.frames }
+        requires fits { self.old.at + marks ≤ 1_048_576 }
+        ensures pending { self.new.pending ≡ self.old.pending }
+        ensures progress { Progresses marks self.old.path.frames self.new.path.frames result }
+        ensures goes { (window : List ℕ) (room came : ℕ) → marks ≤ length window
+            → LeadsOn D.holds D.has self.old window room came self.new result (λ place want. judge_end profile_two place self.old.at marks) }
+    {
+        match self.path.frames.end_fault(self.at) {
+            Some(refusal) => self.refuse(refusal),
+            None => self.close(marks),
+        }
+    }
+
+    /// An element from its first octet on.
+    #[inline(always)]
+    fn element(&mut self, window: &[u8], room: u32, came: usize) -> Option<usize>
+        requires open { self.old.state ≡ State.Open }
+        requires fits { IsRoom self.old.at room window.now }
+        ensures pending { self.new.pending ≡ self.old.pending }
+        ensures progress { Progresses (length window.now) self.old.path.frames self.new.path.frames result }
+        ensures goes { LeadsOn D.holds D.has self.old window.now room came self.new result (λ place want. judge_element profile_two place self.old.at want window.now) }
+    {
+        match read_header(window) {
+            HeaderRead::PartIdentifier => self.want(came),
+            HeaderRead::NoIdentifier => self.refuse(Refusal {
+                at: self.at,
+                cause: Cause::BadTag,
+            }),
+            HeaderRead::Identified(id, length) => {
+                self.identified(id, length, window, room, came)
             }
         }
     }
 
-    /// Fails with a refusal, unless it is only that the octets end.
-    fn refuse(&mut self, refusal: Refusal)
+    /// An element whose identifier was read.
+    #[inline(always)]
+    fn identified(
+        &mut self,
+        id: Id,
+        length_read: LengthRead,
+        window: &[u8],
+        room: u32,
+        came: usize,
+    ) -> Option<usize>
         requires open { self.old.state ≡ State.Open }
+        requires fits { IsRoom self.old.at room window.now }
+        requires header { IsHeaderRead (HeaderRead.Identified id length_read) window.now }
         ensures pending { self.new.pending ≡ self.old.pending }
-        ensures stopped { (s rest : List ℕ) → CanRefuse D.holds self.old s rest refusal → HasStopped D.holds D.has self.new s rest }
+        ensures progress { Progresses (length window.now) self.old.path.frames self.new.path.frames result }
+        ensures goes { LeadsOn D.holds D.has self.old window.now room came self.new result (λ place want. judge_element profile_two place self.old.at want window.now) }
+    {
+        let at = self.at;
+        let found = match self.path.frames.judge_tag(at, id) {
+            Ok(found) => found,
+            Err(refusal) => return self.refuse(refusal),
+        };
+        match self.path.frames.judge_length(at, id, length_read, window, room, came) {
+            Ok(Extent::Opens(header, end)) => self.open(Opening {
+                found,
+                id,
+                header,
+                end,
+            }),
+            Ok(Extent::Reads(header, size)) => self.read(
+                Reading {
+                    found,
+                    id,
+                    header,
+                    size,
+                },
+                window,
+            ),
+            Err(refusal) => self.refuse(refusal),
+        }
+    }
+
+    /// Opens an element.
+    #[inline(always)]
+    fn open(&mut self, opening: Opening) -> Option<usize>
+        requires open { self.old.state ≡ State.Open }
+        requires header { 0 < opening.header }
+        requires fits { self.old.at + opening.header ≤ 1_048_576 }
+        ensures pending { self.new.pending ≡ self.old.pending }
+        ensures progress { Progresses opening.header self.old.path.frames self.new.path.frames result }
+        ensures goes { Steps D.holds D.has self.old (Opens opening) self.new result }
+    {
+        match self.path.open(opening, self.at) {
+            Ok(()) => self.go_on(opening.header, false),
+            Err(error) => self.fail(Failure::from(error)),
+        }
+    }
+
+    /// Takes a primitive element, which begins the octets.
+    #[inline(always)]
+    fn read(&mut self, reading: Reading, octets: &[u8]) -> Option<usize>
+        requires open { self.old.state ≡ State.Open }
+        requires header { (0 < reading.header) × (reading.header + reading.size ≤ length octets.now) }
+        requires fits { self.old.at + length octets.now ≤ 1_048_576 }
+        ensures pending { self.new.pending ≡ self.old.pending }
+        ensures progress { Progresses (length octets.now) self.old.path.frames self.new.path.frames result }
+        ensures goes { (s rest more : List ℕ) (b : StandsBefore (HoldsAt D.holds self.old.path) self.old.at s rest) → rest ≡ octets.now ++ more
+            → IsJudgement self.old.path.frames b.place self.old.at octets.now (Reads reading) (judge profile_two b.place self.old.at rest)
+            → HasAdvanced D.holds D.has self.new s rest result }
+    {
+        let size = reading.header + reading.size;
+        let content = &octets[reading.header as usize..size as usize];
+        match self.path.take(reading, self.at, content) {
+            Ok(whole) => self.go_on(size, whole),
+            Err(failure) => self.fail(failure),
+        }
+    }
+
+    /// Closes the innermost element, in which nothing is missing.
+    #[inline(always)]
+    fn close(&mut self, marks: u32) -> Option<usize>
+        requires open { self.old.state ≡ State.Open }
+        requires depth { 0 < depth_of self.old.path.frames }
+        requires fits { self.old.at + marks ≤ 1_048_576 }
+        ensures pending { self.new.pending ≡ self.old.pending }
+        ensures progress { Progresses marks self.old.path.frames self.new.path.frames result }
+        ensures goes { Steps D.holds D.has self.old (Closes marks) self.new result }
+    {
+        match self.path.close() {
+            Ok(whole) => self.go_on(marks, whole),
+            Err(failure) => self.fail(failure),
+        }
+    }
+
+    /// Goes on after what was done, which took so many octets; the message may be whole.
+    #[inline(always)]
+    fn go_on(&mut self, size: u32, whole: bool) -> Option<usize>
+        requires open { self.old.state ≡ State.Open }
+        requires fits { self.old.at + size ≤ 1_048_576 }
+        ensures pending { self.new.pending ≡ self.old.pending }
+        ensures frames { self.new.path.frames ≡ self.old.path.frames }
+        ensures size { result ≡ Some size }
+        ensures goes { (path : Path D) (s rest : List ℕ) (judgement : Judgement) (b : StandsBefore (HoldsAt D.holds path) self.old.at s rest)
+            → IsProgress (depth_of path.frames) (length rest) judgement → IsJudgement path.frames b.place self.old.at rest judgement (judge profile_two b.place self.old.at rest)
+            → size ≡ size_of judgement → IsStep D.holds self.old.path (Ok whole) (moved (judge profile_two b.place self.old.at rest) b.place self.old.at rest)
+            → HasAdvanced D.holds D.has self.new s rest result }
+    {
+        self.at += size;
+        if whole {
+            self.end();
+        }
+        Some(size as usize)
+    }
+
+    /// Fails.
+    #[cold]
+    fn fail(&mut self, failure: Failure) -> Option<usize>
+        ensures none { result ≡ None }
+        ensures pending { self.new.pending ≡ self.old.pending }
+        ensures goes { (s rest : List ℕ) → IsRefused s failure → HasAdvanced D.holds D.has self.new s rest result }
+    {
+        self.state = State::Failed(failure);
+        None
+    }
+
+    /// Fails where an octet is missing before the bound, unless it is only that the octets end.
+    #[cold]
+    fn want(&mut self, came: usize) -> Option<usize>
+        requires open { self.old.state ≡ State.Open }
+        ensures none { result ≡ None }
+        ensures pending { self.new.pending ≡ self.old.pending }
+        ensures goes { (window : List ℕ) (room : ℕ) → LeadsOn D.holds D.has self.old window room came self.new result (λ place want. faulty want) }
+    {
+        let refusal = self.path.frames.wanting(self.at, came);
+        self.refuse(refusal)
+    }
+
+    /// Fails with a refusal, unless it is only that the octets end.
+    #[cold]
+    fn refuse(&mut self, refusal: Refusal) -> Option<usize>
+        requires open { self.old.state ≡ State.Open }
+        ensures none { result ≡ None }
+        ensures pending { self.new.pending ≡ self.old.pending }
+        ensures goes { (s rest : List ℕ) → CanRefuse D.holds self.old s rest refusal → HasAdvanced D.holds D.has self.new s rest result }
     {
         if !matches!(&refusal.cause, Cause::Truncated) {
             self.state = State::Failed(Failure::Refused(refusal));
         }
-    }
-
-    /// Does what was judged, and returns how many octets that took, or None where it failed.
-    fn step(&mut self, judgement: Judgement, rest: &[u8]) -> Option<usize>
-        requires open { self.old.state ≡ State.Open }
-        requires progress { IsProgress (depth_of self.old.path.frames) (length rest.now) judgement }
-        requires small { self.old.at + size_of judgement ≤ 1_048_576 }
-        ensures pending { self.new.pending ≡ self.old.pending }
-        ensures size { IfSome result (λ size. size ≡ size_of judgement) }
-        ensures depth { OnSome result (StepsTo judgement (depth_of self.old.path.frames) (depth_of self.new.path.frames)) }
-        ensures goes { (s : List ℕ) → CanStep D.holds self.old s rest.now judgement → HasAdvanced D.holds D.has self.new s rest.now result }
-    {
-        let size = judgement.size() as usize;
-        match self.path.step(judgement, self.at, &rest[..size]) {
-            Ok(whole) => {
-                self.at += size as u32;
-                if whole {
-                    self.end();
-                }
-                Some(size)
-            }
-            Err(failure) => {
-                self.state = State::Failed(failure);
-                None
-            }
-        }
+        None
     }
 
     /// The message is whole.

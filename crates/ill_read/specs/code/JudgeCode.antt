@@ -1,5 +1,6 @@
 -- What the decoder's functions answer of the place that the path stands at, in the words of the definitions.
-use Rattle.std.specs.Prelude.{◌≡◌, ℕ, ◌+◌, ◌-◌, ◌≤◌, Bool, true, false, nat_eq, nat_le, List, [], ◌∷◌, length, Option, Some, None, Result, Ok, Err, if◌then◌else◌}
+use Rattle.std.specs.Option.{ForSome}
+use Rattle.std.specs.Prelude.{◌≡◌, ℕ, ◌+◌, ◌-◌, ◌<◌, ◌≤◌, Bool, true, false, nat_eq, nat_le, List, [], ◌∷◌, length, Option, Some, None, Result, Ok, Err, if◌then◌else◌}
 use Rattle.ber_core.specs.Id.{tag_of_id, form_of_id}
 use Rattle.ber_core.specs.Identifier.{Tag}
 use Rattle.ber_core.specs.declared.id.Id.{Id}
@@ -7,16 +8,17 @@ use Rattle.ber_leaf.specs.Profile.{Profile, profile_two}
 use Rattle.ill_schema.specs.declared.refusal.Cause.{Cause}
 use Rattle.ill_schema.specs.declared.refusal.Refusal.{Refusal}
 use Rattle.ill_read.specs.Elements.{element_is, found_is}
-use Rattle.ill_refusals.specs.Fault.{Fault, fault, fault_of}
-use Rattle.ill_refusals.specs.code.Judge.{Judgement, faulty, judge_form, judge_tag}
+use Rattle.ill_refusals.specs.Fault.{Fault, element_fault, fault, fault_of}
+use Rattle.ill_refusals.specs.code.Judge.{Judgement, faulty, opens, or_faulty, reads, judge_end, judge_form, judge_tag}
 use Rattle.ill_cells.specs.declared.at.Found.{Found}
 use Rattle.ill_read.specs.DueCode.{found_in, read_as}
-use Rattle.ill_read.specs.code.Judged.{IsBegin, IsJudged}
+use Rattle.ill_read.specs.code.Judged.{IsBegin, IsEnd, content_in}
 use Rattle.ill_refusals.specs.Place.{Open, bound, allows}
 use Rattle.ill_read.specs.Standing.{StandsAt}
 use Rattle.ill_read.specs.Found as found
 use Rattle.ill_read.specs.declared.frame.Frame.{Frame}
-use Rattle.ill_read.specs.declared.judge.Judgement.{Judgement as CodeJudgement}
+use Rattle.ill_read.specs.declared.judge.Extent.{Extent}
+use Rattle.ill_read.specs.declared.judge.Extent.TheVariants.{Opens, Reads}
 use Rattle.ill_read.specs.declared.frames.Frames.{Frames}
 
 -- a fact of the place that the path stands at
@@ -32,18 +34,14 @@ outermost_end (f ∷ fs) = elim f.end as (λ _. Option ℕ) [ Some e ↦ Some e 
 abbrev pub end_at : Option ℕ → ℕ → Bool
 end_at end at = elim end as (λ _. Bool) [ Some e ↦ nat_eq e at | None ↦ false ]
 
--- the judgement is the definitions', where these are the octets
-abbrev pub Judges : Frames → ℕ → List ℕ → Result CodeJudgement Refusal → (List Open → Judgement) → Type 0
-Judges frames at octets result judged = (place : List Open) → StandsAt frames place → IsJudged frames place at octets result (judged place)
+-- the innermost element ends there, or a part of it is missing
+abbrev pub EndsAs : List Open → ℕ → Option Refusal → Type 0
+EndsAs place at None = (marks : ℕ) → IsEnd place marks (judge_end profile_two place at marks)
+EndsAs place at (Some refusal) = (marks : ℕ) → judge_end profile_two place at marks ≡ faulty (fault_of refusal)
 
 -- the octets lie before the bound, where there is room for so many
 abbrev pub IsRoom : ℕ → ℕ → List ℕ → Type 0
 IsRoom at room octets = (at + room ≤ 1_048_576) × (length octets ≤ room)
-
--- the same where there is this room before the bound
-abbrev pub JudgesWithin : Frames → ℕ → ℕ → List ℕ → Result CodeJudgement Refusal → (List Open → Judgement) → Type 0
-JudgesWithin frames at room octets result judged =
-    (place : List Open) → StandsAt frames place → room ≡ bound profile_two place - at → IsJudged frames place at octets result (judged place)
 
 -- what is found may have the form, or is at fault
 abbrev pub IsFormed : Found → Bool → Option Cause → Type 0
@@ -62,8 +60,19 @@ IsIdentified frames place at id (Ok f) = IsBegin frames place (tag_of_id id) f (
 IsIdentified frames place at id (Err refusal) =
     (i : ℕ) (want : Fault) (w : List ℕ) → judge_identified place (tag_of_id id) (form_of_id id) at i want w ≡ faulty (fault_of refusal)
 
--- the judgement is the definitions', of an element that may begin there
-abbrev pub JudgesBegun : Frames → Found → Id → ℕ → ℕ → List ℕ → Result CodeJudgement Refusal → (List Open → Judgement) → Type 0
-JudgesBegun frames f id at room octets result judged =
-    (place : List Open) → StandsAt frames place → IsBegin frames place (tag_of_id id) f (form_of_id id)
-    → room ≡ bound profile_two place - at → IsJudged frames place at octets result (judged place)
+-- what is judged of an element of this extent, in these octets
+abbrev pub IsExtent : Found → Id → ℕ → List ℕ → Result Extent Refusal → Judgement → Type 0
+IsExtent f id at octets (Ok (Opens header end)) j = j ≡ opens (tag_of_id id) (element_is (read_as f)) header end
+IsExtent f id at octets (Ok (Reads header size)) j =
+    j ≡ or_faulty (element_fault profile_two (element_is (read_as f)) (content_in header size octets)) at (reads (tag_of_id id) header (content_in header size octets))
+IsExtent f id at octets (Err refusal) j = j ≡ faulty (fault_of refusal)
+
+-- the judgement is the definitions', of whatever element begins there, where there is this room before the bound
+abbrev pub Reaches : Frames → Id → ℕ → ℕ → List ℕ → Result Extent Refusal → (Found → List Open → Judgement) → Type 0
+Reaches frames id at room octets result judged =
+    (f : Found) (place : List Open) → StandsAt frames place → room ≡ bound profile_two place - at → IsExtent f id at octets result (judged f place)
+
+-- an element that is constructed exactly where it opens, and lies in so many octets
+abbrev pub Fits : Id → ℕ → Extent → Type 0
+Fits id size (Opens header end) = (form_of_id id ≡ true) × (0 < header) × (header ≤ size) × ForSome end (λ e. e ≤ 1_048_576)
+Fits id size (Reads header content) = (form_of_id id ≡ false) × (0 < header) × (header + content ≤ size)

@@ -21,8 +21,8 @@ use Rattle.ill_read.specs.Standing.{Level, whole_level, next_at, StandsAt, Holds
 use Rattle.ill_read.specs.code.Progress.{size_of}
 use Rattle.ill_refusals.specs.code.Step.{Step, refused, goes, whole, moved}
 use Rattle.ill_read.specs.declared.failure.Failure.{Failure}
-use Rattle.ill_read.specs.declared.judge.Judgement.{Judgement as CodeJudgement}
-use Rattle.ill_read.specs.declared.judge.Judgement.TheVariants as code
+use Rattle.ill_read.specs.code.Progress.{Judgement as CodeJudgement}
+use Rattle.ill_read.specs.code.Progress as code
 use Rattle.ill_read.specs.declared.frames.Frames.{Frames}
 use Rattle.ill_read.specs.declared.path.Path.{Path}
 
@@ -54,10 +54,6 @@ IsJudgement frames place at rest (code.Opens o) j =
 IsJudgement frames place at rest (code.Reads r) j = IsBegin frames place (tag_of_id r.id) r.found false
     × (j ≡ or_faulty (element_fault profile_two (element_is (read_as r.found)) (content_in r.header r.size rest)) at (reads (tag_of_id r.id) r.header (content_in r.header r.size rest)))
 
-abbrev pub IsJudged : Frames → List Open → ℕ → List ℕ → Result CodeJudgement Refusal → Judgement → Type 0
-IsJudged frames place at rest (Ok judgement) j = IsJudgement frames place at rest judgement j
-IsJudged frames place at rest (Err refusal) j = j ≡ faulty (fault_of refusal)
-
 -- the draft holds the content of a whole message, which is what the tree means
 abbrev pub HoldsWhole : {D : Type 0} → (D → List Level → List ℕ → Type 0) → D → Tree → Type 0
 HoldsWhole holds draft T = (c : Content) × holds draft (whole_level c ∷ []) [] × Means profile_two c IllApdu untagged T
@@ -69,12 +65,3 @@ IsStep holds path (Ok true) (whole T n) = HoldsWhole holds path.draft T
 IsStep holds path (Err (Failure.Refused refusal)) (refused f) = f ≡ fault_of refusal
 IsStep holds path (Err Failure.OutOfMemory) st = Unit {0}
 IsStep _ _ _ _ = ⊥
-
--- at whatever place the frames stand, it judges as the definitions do
-abbrev pub JudgesExactly : Frames → ℕ → List ℕ → Result CodeJudgement Refusal → Type 0
-JudgesExactly frames at rest result = (place : List Open) → StandsAt frames place → IsJudged frames place at rest result (judge profile_two place at rest)
-
--- from whatever place, it steps where the judgement leads
-abbrev pub StepsExactly : {D : Type 0} → (D → List Level → List ℕ → Type 0) → Path D → CodeJudgement → ℕ → List ℕ → Path D → Result Bool Failure → Type 0
-StepsExactly holds old judgement at octets new result = (place : List Open) (rest : List ℕ) (j : Judgement)
-    → HoldsAt holds old place → IsJudgement old.frames place at rest judgement j → octets ≡ take (size_of judgement) rest → IsStep holds new result (moved j place at rest)

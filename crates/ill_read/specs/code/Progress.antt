@@ -3,9 +3,16 @@ use Rattle.std.specs.Prelude.{◌≡◌, ◌+◌, ◌<◌, ◌≤◌, ℕ}
 use Rattle.arrayvec.specs.ArrayVec.{array_vec_len}
 use Rattle.ill_read.specs.declared.header.LengthRead.{LengthRead}
 use Rattle.ill_read.specs.declared.header.LengthRead.TheVariants.{Whole}
-use Rattle.ill_read.specs.declared.judge.Judgement.{Judgement}
-use Rattle.ill_read.specs.declared.judge.Judgement.TheVariants.{Closes, Opens, Reads}
+use Rattle.ill_read.specs.declared.judge.Opening.{Opening}
+use Rattle.ill_read.specs.declared.judge.Reading.{Reading}
 use Rattle.ill_read.specs.declared.frames.Frames.{Frames}
+
+-- what is done at a place where nothing is at fault but, perhaps, the text or content of a leaf
+pub data Judgement : Type 0 where
+  -- the innermost element ends, after this number of octets of an end mark
+  Closes : ℕ → Judgement
+  Opens : Opening → Judgement
+  Reads : Reading → Judgement
 
 abbrev pub depth_of : Frames → ℕ
 depth_of frames = array_vec_len frames.open
@@ -15,12 +22,6 @@ abbrev pub IsProgress : ℕ → ℕ → Judgement → Type 0
 IsProgress depth rest (Closes marks) = (0 < depth) × (marks ≤ rest)
 IsProgress depth rest (Opens opening) = (0 < opening.header) × (opening.header ≤ rest)
 IsProgress depth rest (Reads reading) = (0 < reading.header) × (reading.header + reading.size ≤ rest)
-
--- the depth after what was judged
-abbrev pub StepsTo : Judgement → ℕ → ℕ → Type 0
-StepsTo (Closes marks) old new = new + 1 ≡ old
-StepsTo (Opens opening) old new = new ≤ old + 1
-StepsTo (Reads reading) old new = new ≡ old
 
 abbrev pub size_of : Judgement → ℕ
 size_of (Closes marks) = marks

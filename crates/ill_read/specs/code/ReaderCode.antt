@@ -1,5 +1,5 @@
 -- What a reader's functions say: how it stands for the octets that it has been fed.
-use Rattle.std.specs.Prelude.{◌≡◌, ℕ, ◌+◌, ◌<◌, ◌≤◌, Bool, true, false, List, [], ◌∷◌, length, drop, Option, Some, None, Result, Ok, Err}
+use Rattle.std.specs.Prelude.{◌≡◌, ℕ, ◌+◌, ◌-◌, ◌*◌, ◌<◌, ◌≤◌, Bool, true, false, List, [], ◌∷◌, ◌++◌, length, drop, Option, Some, None, IfSome, Result, Ok, Err}
 use Rattle.ber_leaf.specs.Profile.{profile_two}
 use Rattle.ill_schema.specs.declared.message.Message.{Message}
 use Rattle.ill_schema.specs.declared.refusal.Cause.{Cause}
@@ -7,16 +7,18 @@ use Rattle.ill_schema.specs.declared.refusal.Refusal.{Refusal}
 use Rattle.ill_schema.specs.Apdu.{Apdu, SpellsApdu, normal_form}
 use Rattle.ill_schema.specs.Message.{apdu_of, octets_of}
 use Rattle.ill_schema.specs.Value.{apdu_with}
-use Rattle.ill_refusals.specs.Fault.{fault_of}
+use Rattle.ill_refusals.specs.Fault.{Fault, fault_of, wanting}
 use Rattle.ill_refusals.specs.Outcome.{OnlyAccepts, OnlyRefuses}
-use Rattle.ill_refusals.specs.code.Judge.{faulty, judge}
+use Rattle.ill_refusals.specs.Place.{Open, bound}
+use Rattle.ill_refusals.specs.code.Judge.{Judgement as Judged, faulty, judge}
 use Rattle.ill_read.specs.Answers.{IsPart, IsRead, IsRefused}
 use Rattle.ill_read.specs.Standing.{HoldsAt, Level, StandsBefore, StandsLast}
 use Rattle.ill_read.specs.code.Judged.{IsJudgement}
 use Rattle.ill_read.specs.Failures.{read_failure}
 use Rattle.ill_read.specs.declared.failure.Failure.{Failure}
 use Rattle.ill_read.specs.declared.failure.ReadFailure.{ReadFailure}
-use Rattle.ill_read.specs.declared.judge.Judgement.{Judgement}
+use Rattle.ill_read.specs.code.Progress.{Judgement, IsProgress, depth_of}
+use Rattle.ill_read.specs.declared.frames.Frames.{Frames}
 use Rattle.ill_read.specs.declared.reader.Reader.{Reader}
 use Rattle.ill_read.specs.declared.reader.State.{State}
 use Rattle.ill_read.specs.declared.reader.State.TheVariants as state
@@ -55,6 +57,21 @@ CanRefuse holds r s rest refusal = (b : StandsBefore (HoldsAt holds r.path) r.at
 abbrev pub HasAdvanced : {D : Type 0} → (D → List Level → List ℕ → Type 0) → (D → Apdu → ℕ → Type 0) → Reader D → List ℕ → List ℕ → Option ℕ → Type 0
 HasAdvanced holds has r s rest (Some size) = IsRunning holds has r s (drop size rest)
 HasAdvanced holds has r s rest None = HasStopped holds has r s rest
+
+-- from the place, it does what is judged there
+abbrev pub Steps : {D : Type 0} → (D → List Level → List ℕ → Type 0) → (D → Apdu → ℕ → Type 0) → Reader D → Judgement → Reader D → Option ℕ → Type 0
+Steps holds has old judgement new result = (s rest : List ℕ) → CanStep holds old s rest judgement → IsProgress (depth_of old.path.frames) (length rest) judgement
+    → HasAdvanced holds has new s rest result
+
+-- from the place it goes on, or fails, where this is judged in the octets before the bound, of as many that came
+abbrev pub LeadsOn : {D : Type 0} → (D → List Level → List ℕ → Type 0) → (D → Apdu → ℕ → Type 0) → Reader D → List ℕ → ℕ → ℕ → Reader D → Option ℕ → (List Open → Fault → Judged) → Type 0
+LeadsOn holds has old window room came new result judged = (s rest more : List ℕ) (b : StandsBefore (HoldsAt holds old.path) old.at s rest) → length rest ≡ came
+    → rest ≡ window ++ more → room ≡ bound profile_two b.place - old.at
+    → judge profile_two b.place old.at rest ≡ judged b.place (wanting profile_two b.place old.at rest) → HasAdvanced holds has new s rest result
+
+-- a place is left after so many octets, or an element is closed
+abbrev pub Progresses : ℕ → Frames → Frames → Option ℕ → Type 0
+Progresses room old new result = IfSome result (λ size. (size ≤ room) × (depth_of new < 2 * size + depth_of old))
 
 -- nothing is open any more
 abbrev pub HasClosed : {D : Type 0} → (D → Apdu → ℕ → Type 0) → Reader D → List ℕ → Type 0

@@ -8,7 +8,7 @@ use Rattle.ill_read.specs.HeaderCode.{IsLengthRead, IsWholeLength}
 use Rattle.ber_leaf.specs.Profile.{profile_two}
 use Rattle.ill_read.specs.DueCode.{read_as}
 use Rattle.ill_refusals.specs.Fault.{wanting}
-use Rattle.ill_read.specs.code.Judged.{IsJudged}
+use Rattle.ill_read.specs.code.JudgeCode.{IsExtent}
 use Rattle.ill_refusals.specs.Reading.{read_length}
 use Rattle.ill_read.specs.declared.header.LengthRead.TheVariants.{Whole}
 use Rattle.ill_read.proofs.Judgements.{definite_judged}
@@ -16,13 +16,13 @@ use Rattle.ill_refusals.proofs.Headers.{octets_right}
 use Rattle.ill_read.proofs.frames.Frames.judge_length.Goals as goal
 
 pub returns-in-Whole-Definite-default-clause-exact : goal.returns-in-Whole-Definite-default-clause-exact
-returns-in-Whole-Definite-default-clause-exact c rest front behind came spelled read place h begun room =
+returns-in-Whole-Definite-default-clause-exact c rest front behind came spelled read found place h room =
     let w = c.args.window.now in
     let header = c.in-Whole-Definite-default.header in
     let size = c.in-Whole-Definite-default.size in
     let id = c.args.id in
     let f = form_of_id id in
-    let e = element_is (read_as c.args.found) in
+    let e = element_is (read_as found) in
     let ok : IsTrue (are_octets w) = octets_fit w (λ k. let l : get_or w k 0 < 256 = omega (arith, c.type_inv.window k) in l) in
     let right = octets_right front behind (subst (λ x. IsTrue (are_octets x)) spelled ok) in
     let field : c.in-Whole-Definite-default.field-0 ≡ Definite size = rw c.in-Whole-Definite-default.is at c.in-Whole-Definite-default.field-0-is in
@@ -30,4 +30,4 @@ returns-in-Whole-Definite-default-clause-exact c rest front behind came spelled 
     let whole = subst (λ l. IsLengthRead l (read_length f behind) w) is read in
     let length : IsWholeLength (read_length f behind) (Definite size) (drop header w) = whole.2 in
     let same = definite_judged place e (tag_of_id id) f c.args.at (wanting profile_two place c.args.at rest) w front behind header length.0 right spelled whole.1 length.1 in
-    subst (IsJudged c.args.self.now place c.args.at w c.judge_size.result) (sym same) (c.judge_size.ensures.exact rest length.0 came length.2 place h begun room)
+    subst (IsExtent found id c.args.at w c.judge_size.result) (sym same) (c.judge_size.ensures.exact rest length.0 came length.2 found place h room)

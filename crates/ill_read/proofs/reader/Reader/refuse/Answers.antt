@@ -6,8 +6,8 @@ use Rattle.ill_read.proofs.MessageEnds.{stops_open, stops_refused}
 use Rattle.ill_read.proofs.reader.Reader.refuse.Goals as goal
 use Rattle.ill_read.proofs.reader.Reader.refuse.Goals.{in-Truncated, in_default}
 
-pub returns-then-not-matches-clause-stopped : goal.returns-then-not-matches-clause-stopped
-returns-then-not-matches-clause-stopped g c s rest can =
+pub returns-then-not-matches-clause-goes : goal.returns-then-not-matches-clause-goes
+returns-then-not-matches-clause-goes g c s rest can =
     let d = c.args.self.now in
     let other : c.args.refusal.cause ≢ Cause.Truncated = elim c.match-matches.branch [
       | in-Truncated w ↦ absurd (let q : false ≡ true = sym c.if-not-matches.true ∙ w.matches-is in cc)
@@ -15,8 +15,8 @@ returns-then-not-matches-clause-stopped g c s rest can =
     ] in
     stops_refused (HoldsAt g.D.Draft.holds d.path) d.at s rest c.args.refusal can.0 can.1 other
 
-pub returns-else-not-matches-clause-stopped : goal.returns-else-not-matches-clause-stopped
-returns-else-not-matches-clause-stopped g c s rest can =
+pub returns-else-not-matches-clause-goes : goal.returns-else-not-matches-clause-goes
+returns-else-not-matches-clause-goes g c s rest can =
     let d = c.args.self.now in
     let ends : c.args.refusal.cause ≡ Cause.Truncated = elim c.match-matches.branch [
       | in-Truncated w ↦ w.in-Truncated.is
