@@ -1,5 +1,5 @@
 -- What the decoder judges at a place, part by part.
-use Rattle.std.proofs.Common.{◌≡◌, ◌⊎◌, inl, inr, nat_eq, slice_get, ◌&&◌, ℕ, ◌+◌, ◌-◌, ◌<◌, ◌≤◌, Bool, true, false, List, [], ◌∷◌, ◌++◌, length, take, drop, Option, Some, None, IsTrue, refl, sym, ap, ap₂, subst, ◌∙◌, arith, take-append-drop, if◌then◌else◌, length-append, length-drop}
+use Rattle.std.proofs.Common.{◌≡◌, ◌⊎◌, inl, inr, nat_eq, get_or, slice_get, ◌&&◌, ℕ, ◌+◌, ◌-◌, ◌<◌, ◌≤◌, Bool, true, false, List, [], ◌∷◌, ◌++◌, length, take, drop, Option, Some, None, IsTrue, refl, sym, ap, ap₂, subst, ◌∙◌, arith, if◌then◌else◌, length-append, length-drop}
 use Rattle.std.specs.Prelude.{nat_le}
 use Rattle.std.proofs.lemmas.List.{take-append-le, drop-append-le}
 use Rattle.ber_core.specs.Id.{tag_of_id, form_of_id}
@@ -110,12 +110,49 @@ element_body place at want w x = elim x as (λ _. Judgement) [
   | identified tag f rest ↦ judge_identified place tag f at (length w - length rest) want rest
 ]
 
+-- no octet is there
+pub empty_judged : (place : List Open) (at : ℕ) (want : Fault) (w : List ℕ) → slice_get w 0 ≡ None → judge_octets profile_two place at want w ≡ faulty want
+empty_judged place at want [] e = refl
+empty_judged place at want (x ∷ w) e = absurd cc
+
+-- the identifier isn't whole
+pub part_judged : (place : List Open) (at : ℕ) (want : Fault) (w : List ℕ) → read_identifier w ≡ part_identifier → judge_element profile_two place at want w ≡ faulty want
+part_judged place at want w e = ap (element_body place at want w) e
+
+-- no identifier begins so
+pub no_identifier_judged : (place : List Open) (at : ℕ) (want : Fault) (w : List ℕ) → read_identifier w ≡ no_identifier → judge_element profile_two place at want w ≡ faulty (fault Cause.BadTag at)
+no_identifier_judged place at want w e = ap (element_body place at want w) e
+
 -- an end mark begins
 pub mark_judged : (place : List Open) (at : ℕ) (want : Fault) (w : List ℕ) → slice_get w 0 ≡ Some 0 → is_indefinite place ≡ true → judge_octets profile_two place at want w ≡ judge_mark profile_two place at want (drop 1 w)
 mark_judged place at want [] e i = absurd cc
 mark_judged place at want (x ∷ w) e i =
     let is : x ≡ 0 = cc in
     ap (λ b. elim b as (λ _. Judgement) [ true ↦ judge_mark profile_two place at want w | false ↦ judge_element profile_two place at want (x ∷ w) ]) (ap₂ (λ a b. a && b) i (ap (λ y. nat_eq y 0) is))
+
+-- the octet after the first
+second_octet : (w : List ℕ) (y : ℕ) → 1 < length w → ((d : ℕ) → y ≡ get_or w 1 d) → (rest : List ℕ) × (drop 1 w ≡ y ∷ rest)
+second_octet [] y h e = absurd (omega (arith, h))
+second_octet (x ∷ []) y h e = absurd (omega (arith, h))
+second_octet (x ∷ (z ∷ w)) y h e = (w, ap (λ t. t ∷ w) (sym (e 0)))
+
+-- the end mark is whole
+pub mark_ends : (place : List Open) (at : ℕ) (want : Fault) (w : List ℕ) (y : ℕ) → 1 < length w → ((d : ℕ) → y ≡ get_or w 1 d) → y ≡ 0
+    → judge_mark profile_two place at want (drop 1 w) ≡ judge_end profile_two place at 2
+mark_ends place at want w y h e z = let s = second_octet w y h e in ap (judge_mark profile_two place at want) (s.1 ∙ ap (λ x. x ∷ s.0) z)
+
+-- the second octet isn't there
+pub mark_part : (place : List Open) (at : ℕ) (want : Fault) (w : List ℕ) → length w ≤ 1 → judge_mark profile_two place at want (drop 1 w) ≡ faulty want
+mark_part place at want [] h = refl
+mark_part place at want (x ∷ []) h = refl
+mark_part place at want (x ∷ (z ∷ w)) h = absurd (omega (arith, h))
+
+-- the second octet is another
+pub mark_wrong : (place : List Open) (at : ℕ) (want : Fault) (w : List ℕ) (y : ℕ) → 1 < length w → ((d : ℕ) → y ≡ get_or w 1 d) → nat_eq y 0 ≡ false
+    → judge_mark profile_two place at want (drop 1 w) ≡ faulty (fault Cause.BadEnd at)
+mark_wrong place at want w y h e n =
+    ap (judge_mark profile_two place at want) (second_octet w y h e).1
+    ∙ ap (λ b. elim b as (λ _. Judgement) [ true ↦ judge_end profile_two place at 2 | false ↦ faulty (fault Cause.BadEnd at) ]) n
 
 -- where it is no end mark, an element is judged
 pub other_judged : (place : List Open) (at : ℕ) (want : Fault) (w : List ℕ) (first : ℕ) → slice_get w 0 ≡ Some first → (is_indefinite place ≡ false) ⊎ (nat_eq first 0 ≡ false)

@@ -268,14 +268,16 @@ impl<D: Draft> Reader<D> {
         ensures goes { (room : ℕ) → LeadsOn D.holds D.has self.old window.now room came self.new result
             (λ place want. judge_mark profile_two place self.old.at want (drop 1 window.now)) }
     {
-        match window {
-            [_, 0, ..] => self.end_element(2),
-            [_, _, ..] => self.refuse(Refusal {
-                at: self.at,
-                cause: Cause::BadEnd,
-            }),
-            _ => self.want(came),
+        let Some(second) = window.get(1) else {
+            return self.want(came);
+        };
+        if *second == 0 {
+            return self.end_element(2);
         }
+        self.refuse(Refusal {
+            at: self.at,
+            cause: Cause::BadEnd,
+        })
     }
 
     /// The innermost element ends, after this number of octets of an end mark.
@@ -338,14 +340,19 @@ impl<D: Draft> Reader<D> {
             Ok(found) => found,
             Err(refusal) => return self.refuse(refusal),
         };
-        match self.path.frames.judge_length(at, id, length_read, window, room, came) {
-            Ok(Extent::Opens(header, end)) => self.open(Opening {
+        let frames = &self.path.frames;
+        let extent = match frames.judge_length(at, id, length_read, window, room, came) {
+            Ok(extent) => extent,
+            Err(refusal) => return self.refuse(refusal),
+        };
+        match extent {
+            Extent::Opens(header, end) => self.open(Opening {
                 found,
                 id,
                 header,
                 end,
             }),
-            Ok(Extent::Reads(header, size)) => self.read(
+            Extent::Reads(header, size) => self.read(
                 Reading {
                     found,
                     id,
@@ -354,7 +361,6 @@ impl<D: Draft> Reader<D> {
                 },
                 window,
             ),
-            Err(refusal) => self.refuse(refusal),
         }
     }
 

@@ -5,21 +5,20 @@ use Rattle.ber_core.specs.Identifier.{Tag}
 use Rattle.ber_core.specs.Tree.{Tree, text_all}
 use Rattle.ber_leaf.specs.Profile.{profile_two}
 use Rattle.ill_schema.specs.declared.node.NodeId.TheVariants.{IllApdu}
-use Rattle.ill_schema.specs.declared.refusal.Refusal.{Refusal}
 use Rattle.ill_schema.specs.Content.{Content}
 use Rattle.ill_schema.specs.Meaning.{Means}
 use Rattle.ill_schema.specs.Tagging.{untagged}
 use Rattle.ill_refusals.specs.Next.{missing}
 use Rattle.ill_refusals.specs.Place.{Open, next_in, allows}
 use Rattle.ill_refusals.specs.Fault.{fault_of, element_fault}
-use Rattle.ill_refusals.specs.code.Judge.{Judgement, faulty, closes, opens, reads, or_faulty, judge}
+use Rattle.ill_refusals.specs.code.Judge.{Judgement, closes, opens, reads, or_faulty}
 use Rattle.ill_cells.specs.Places.{first_place}
 use Rattle.ill_cells.specs.declared.at.Found.{Found as CellFound}
 use Rattle.ill_read.specs.Elements.{element_is}
 use Rattle.ill_read.specs.DueCode.{IsDueIn, behind, first_of, shape, read_as, read_due, slot_in, next_place}
-use Rattle.ill_read.specs.Standing.{Level, whole_level, next_at, StandsAt, HoldsAt}
+use Rattle.ill_read.specs.Standing.{Level, whole_level, next_at, HoldsAt}
 use Rattle.ill_read.specs.code.Progress.{size_of}
-use Rattle.ill_refusals.specs.code.Step.{Step, refused, goes, whole, moved}
+use Rattle.ill_refusals.specs.code.Step.{Step, refused, goes, whole}
 use Rattle.ill_read.specs.declared.failure.Failure.{Failure}
 use Rattle.ill_read.specs.code.Progress.{Judgement as CodeJudgement}
 use Rattle.ill_read.specs.code.Progress as code

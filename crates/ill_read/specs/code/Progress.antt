@@ -1,5 +1,5 @@
 -- How the path of open elements grows and shrinks.
-use Rattle.std.specs.Prelude.{◌≡◌, ◌+◌, ◌<◌, ◌≤◌, ℕ}
+use Rattle.std.specs.Prelude.{◌+◌, ◌<◌, ◌≤◌, ℕ}
 use Rattle.arrayvec.specs.ArrayVec.{array_vec_len}
 use Rattle.ill_read.specs.declared.header.LengthRead.{LengthRead}
 use Rattle.ill_read.specs.declared.header.LengthRead.TheVariants.{Whole}

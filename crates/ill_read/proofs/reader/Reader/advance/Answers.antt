@@ -1,1 +1,39 @@
+use Rattle.std.proofs.Common.{◌≡◌, ◌-◌, ◌++◌, ◌∙◌, ℕ, List, [], Bor, true, false, take, drop, length, refl, sym, ap, subst, arith, take_all, take-append-drop}
+use Rattle.ber_leaf.specs.Profile.{profile_two}
+use Rattle.ill_refusals.specs.Place.{bound}
+use Rattle.ill_read.specs.Standing.{HoldsAt, StandsAt, StandsBefore}
+use Rattle.ill_read.specs.code.ReaderCode.{HasRead, InState}
+use Rattle.ill_read.specs.declared.reader.State.TheVariants.{Open}
+use Rattle.ill_read.proofs.Judgements.{ended_judged, within_judged}
 use Rattle.ill_read.proofs.reader.Reader.advance.Goals as goal
+use Rattle.ill_read.proofs.reader.Reader.advance.Goals.{in-Open, in_default, then-rest-room, else-rest-room}
+
+pub returns-then-ends_at-clause-goes : goal.returns-then-ends_at-clause-goes
+returns-then-ends_at-clause-goes g c s h =
+    let d = c.args.self.now in let rest = c.args.rest.now in
+    let is_open : d.state ≡ Open = elim c.match-matches.branch [
+      | in-Open w ↦ w.in-Open.is
+      | in_default w ↦ absurd (let q : true ≡ false = sym c.if-not-matches.false ∙ w.matches-is in cc)
+    ] in
+    let b = subst (λ st. InState st s (HasRead g.D.Draft.has d s) (StandsBefore (HoldsAt g.D.Draft.holds d.path) d.at s rest)) is_open h in
+    c.end_element.ensures.goes [] (bound profile_two b.place - d.at) (length rest) (omega arith) s rest rest b refl refl refl
+    (ended_judged b.place d.at rest (sym (c.ends_at.ensures.exact b.place (b.stands.0, b.stands.1)) ∙ c.if-ends_at.true))
+
+pub returns-clause-goes : goal.returns-clause-goes
+returns-clause-goes g c s h =
+    let d = c.args.self.now in let rest = c.args.rest.now in
+    let is_open : d.state ≡ Open = elim c.match-matches.branch [
+      | in-Open w ↦ w.in-Open.is
+      | in_default w ↦ absurd (let q : true ≡ false = sym c.if-not-matches.false ∙ w.matches-is in cc)
+    ] in
+    let b = subst (λ st. InState st s (HasRead g.D.Draft.has d s) (StandsBefore (HoldsAt g.D.Draft.holds d.path) d.at s rest)) is_open h in
+    let stands : StandsAt c.args.self.now.path.frames b.place = (b.stands.0, b.stands.1) in
+    let room = c.saturating_sub-room.result in
+    let front : c.if-rest-room.window.now ≡ take room rest = elim c.if-rest-room.branch [
+      | then-rest-room w ↦ ap (λ (x : Bor (List ℕ)). x.now) w.window-is ∙ sym (take_all room rest (omega (arith, w.if-rest-room.true)))
+      | else-rest-room w ↦ ap (λ (x : Bor (List ℕ)). x.now) w.window-is
+    ] in
+    let here : room ≡ bound profile_two b.place - d.at = c.saturating_sub-room.ensures ∙ ap (λ n. n - d.at) (c.bound.ensures.exact b.place stands) in
+    let joined : rest ≡ c.if-rest-room.window.now ++ drop room rest = sym (ap (λ x. x ++ drop room rest) front ∙ take-append-drop room rest) in
+    c.advance_within.ensures.goes s rest (drop room rest) b refl joined here
+    (within_judged b.place d.at rest c.if-rest-room.window.now (sym (c.ends_at.ensures.exact b.place stands) ∙ c.if-ends_at.false) (front ∙ ap (λ m. take m rest) here))

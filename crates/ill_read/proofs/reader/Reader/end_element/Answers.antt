@@ -1,4 +1,4 @@
-use Rattle.std.proofs.Common.{◌∙◌, ap, arith, length-append, subst, sym}
+use Rattle.std.proofs.Common.{◌∙◌, ap, arith, length, length-append, subst, sym}
 use Rattle.ill_read.specs.code.Judged.{IsEnd}
 use Rattle.ill_read.proofs.reader.Reader.end_element.Goals as goal
 

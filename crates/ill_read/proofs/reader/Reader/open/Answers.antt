@@ -1,5 +1,4 @@
 use Rattle.std.proofs.Common.{refl, sym, subst, Ok, false}
-use Rattle.ber_leaf.specs.Profile.{profile_two}
 use Rattle.ill_refusals.specs.code.Step.{moved}
 use Rattle.ill_read.specs.code.Judged.{IsStep}
 use Rattle.ill_read.specs.code.Progress.{Opens}
