@@ -251,6 +251,7 @@ impl At {
     }
 
     /// Whether something mandatory is still to come.
+    #[inline(always)]
     pub fn is_missing(self) -> bool
         ensures { result ≡ is_some (missing profile_two (next_at self)) }
     {
@@ -307,6 +308,7 @@ impl Found {
     ghost use Rattle.ill_cells.specs.Cells.{default_due};
 
     /// The place in the element, once it is open.
+    #[inline(always)]
     pub fn first(self) -> At
         ensures place { result ≡ first_place self }
         ensures next { next_at result ≡ opening profile_two (element_of (due_of self)) }
@@ -319,6 +321,7 @@ impl Found {
     }
 
     /// The place after the element.
+    #[inline(always)]
     pub fn after(self) -> At
         ensures place { result ≡ place_after self (slot_of self) }
         ensures next { next_at result ≡ next_of (due_of self) }

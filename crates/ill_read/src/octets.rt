@@ -81,8 +81,27 @@ impl Octets {
         Ok(())
     }
 
-    /// Whether a leaf at this place is its row's default.
+    /// Whether a leaf at this place is its row's default. A string never is.
+    #[inline(always)]
     fn is_left_away(
+        &self,
+        place: At,
+        reading: Reading,
+        leaf: LeafType,
+        content: &[u8],
+    ) -> Result<bool, AllocError>
+        requires { IsContent (leaf_is leaf) content.now }
+        ensures { IfOk result (λ left. left ≡ left_away (shape place) (slot_in reading.found) (with_alternative (alternative_of reading.found) (simple (value (leaf_is leaf) content.now)))) }
+    {
+        if leaf.is_string() {
+            return Ok(false);
+        }
+        self.is_default(place, reading, leaf, content)
+    }
+
+    /// The same of a leaf that may be a string.
+    #[inline(never)]
+    fn is_default(
         &self,
         place: At,
         reading: Reading,
