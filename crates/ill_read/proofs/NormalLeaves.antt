@@ -1,5 +1,5 @@
 -- The normal content of a leaf that was read.
-use Rattle.std.proofs.Common.{◌≡◌, ℕ, zero, suc, Bool, true, false, List, [], ◌∷◌, Option, Some, None, IsTrue, refl, arith}
+use Rattle.std.proofs.Common.{◌≡◌, ℕ, zero, suc, Bool, true, false, List, [], ◌∷◌, Option, Some, None, IsTrue, is_some, refl, arith}
 use Rattle.std.specs.Prelude.{nat_eq, if◌then◌else◌}
 use Rattle.ber_core.specs.Octets.{are_octets}
 use Rattle.ber_leaf.specs.Leaf.{Leaf, boolean, integer, enumerated, general_string, visible_string, printable_string, iso_date, iso_time, is_string, value, normal_content, content_fault}
@@ -67,3 +67,17 @@ string_kept l o next slot chosen h = in_row (row_slot next slot) chosen
     in_row None chosen = refl
     in_row (Some row) None = simple_kept row.presence (kind_of row.node) (value l o) (λ v. string_same l o v h)
     in_row (Some row) (Some n) = alternative_kept row.presence (kind_of row.node) n (simple (value l o))
+
+-- nor is a value of a choice
+pub choice_kept : (c : Content) (next : Next) (slot : Slot) (chosen : Option ℕ) → is_some chosen ≡ true → left_away next slot (with_alternative chosen c) ≡ false
+choice_kept c next slot None h = absurd cc
+choice_kept c next slot (Some n) h = in_row (row_slot next slot)
+  where
+    in_row : (r : Option Row) → (elim r as (λ _. Bool) [ Some row ↦ is_default row (alternative n c) | None ↦ false ]) ≡ false
+    in_row None = refl
+    in_row (Some row) = alternative_kept row.presence (kind_of row.node) n c
+
+-- one that isn't of a choice is as it is
+pub unchosen : (c : Content) (next : Next) (slot : Slot) (chosen : Option ℕ) → is_some chosen ≡ false → left_away next slot (with_alternative chosen c) ≡ left_away next slot c
+unchosen c next slot None h = refl
+unchosen c next slot (Some n) h = absurd cc

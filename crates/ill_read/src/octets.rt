@@ -81,7 +81,7 @@ impl Octets {
         Ok(())
     }
 
-    /// Whether a leaf at this place is its row's default. A string never is.
+    /// Whether a leaf at this place is its row's default. Strings and the values of choices never are.
     #[inline(always)]
     fn is_left_away(
         &self,
@@ -96,25 +96,28 @@ impl Octets {
         if leaf.is_string() {
             return Ok(false);
         }
-        self.is_default(place, reading, leaf, content)
+        if reading.found.alternative().is_some() {
+            return Ok(false);
+        }
+        self.is_default(place, Slot::of(reading.found), leaf, content)
     }
 
-    /// The same of a leaf that may be a string.
+    /// Whether a leaf is the default of its row, where it stands at this place in the slot.
     #[inline(never)]
     fn is_default(
         &self,
         place: At,
-        reading: Reading,
+        slot: Slot,
         leaf: LeafType,
         content: &[u8],
     ) -> Result<bool, AllocError>
         requires { IsContent (leaf_is leaf) content.now }
-        ensures { IfOk result (λ left. left ≡ left_away (shape place) (slot_in reading.found) (with_alternative (alternative_of reading.found) (simple (value (leaf_is leaf) content.now)))) }
+        ensures { IfOk result (λ left. left ≡ left_away (shape place) slot (simple (value (leaf_is leaf) content.now))) }
     {
-        let Some(row) = row_at(Next::at(place), Slot::of(reading.found)) else {
+        let Some(row) = row_at(Next::at(place), slot) else {
             return Ok(false);
         };
-        if reading.found.alternative().is_some() || !matches!(row.presence, Presence::Default(_)) {
+        if !matches!(row.presence, Presence::Default(_)) {
             return Ok(false);
         }
         let value = leaf.value(Vec::from_slice(self.alloc, content)?);

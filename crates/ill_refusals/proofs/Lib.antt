@@ -16,3 +16,4 @@ pub mod PlaceOrder
 pub mod HeaderFaults
 pub mod Truncation
 pub mod Bounds
+pub mod Refusals

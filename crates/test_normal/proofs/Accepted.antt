@@ -1,12 +1,9 @@
 -- What a known input accepts, of what a call says that it took.
-use Rattle.std.proofs.Common.{◌≡◌, ℕ, List, length, take, Some, Result, Ok, Err, IfOk, sym, ap, ap₂, ◌∙◌}
+use Rattle.std.proofs.Common.{◌≡◌, ℕ, List, length, take, Some, Result, Ok, Err, IfOk, sym, ap, ◌∙◌}
 use Rattle.std.specs.Io.KnownBytes.{Consumes}
 use Rattle.ber_leaf.specs.Profile.{profile_two}
 use Rattle.ill_schema.specs.Apdu.{Apdu, Accepts, SpellsApdu}
 use Rattle.ill_schema.proofs.Streams.{accepts_once, parts_accept, take_front}
-use Rattle.ill_schema.specs.declared.refusal.Cause.{Cause}
-use Rattle.ill_schema.specs.declared.refusal.Refusal.{Refusal}
-use Rattle.ill_refusals.specs.Fault.{fault_of}
 
 -- what holds of a good result holds of it with what follows
 pub if_ok : {T E : Type 0} (r : Result T E) (P Q : T → Type 0) → ((x : T) → P x → Q x) → IfOk r P → IfOk r Q
@@ -19,9 +16,3 @@ pub taken_once : (s t b : List ℕ) (a c : Apdu) (n : ℕ) → Consumes (Some s)
 taken_once s t b a c n taken spells accepts =
     let one = accepts_once profile_two s c a (length b) n (parts_accept profile_two s c b t taken spells) accepts in
     (one.0, one.1, sym (take_front b t) ∙ ap (take (length b)) (sym taken) ∙ ap (λ k. take k s) one.1)
-
-abbrev made : ℕ → Cause → Refusal
-made at cause = record { at = at; cause = cause }
-
-pub same_refusal : (x y : Refusal) → fault_of x ≡ fault_of y → x ≡ y
-same_refusal x y e = ap₂ (λ at cause. made at cause) (ap (λ f. f.at) e) (ap (λ f. f.cause) e)

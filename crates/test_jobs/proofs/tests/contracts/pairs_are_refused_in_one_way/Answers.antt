@@ -2,6 +2,7 @@ use Rattle.std.proofs.Common.{◌≡◌, ◌+◌, ◌≤◌, ℕ, Bool, false, L
 use Rattle.ill_schema.specs.declared.refusal.Cause.{Cause}
 use Rattle.ill_schema.specs.declared.refusal.Refusal.{Refusal}
 use Rattle.ill_refusals.specs.Fault.{fault_of}
+use Rattle.ill_refusals.proofs.Refusals.{same_refusal}
 use Rattle.ill_normal.specs.declared.compare.Side.{Side}
 use Rattle.ill_normal.specs.Calls.{taking, putting}
 use Rattle.ill_jobs.specs.Compared.{AnswersSide, RefusesOne, SameDone, SameFails, SameStops}
@@ -10,12 +11,6 @@ use Rattle.ill_jobs.specs.declared.job.Verdict.{Verdict}
 use Rattle.ill_jobs.proofs.PairAnswers.{side_is}
 use Rattle.test_jobs.proofs.Bounds.{bounded, unread_bound}
 use Rattle.test_jobs.proofs.tests.contracts.pairs_are_refused_in_one_way.Goals as goal
-
-abbrev made : ℕ → Cause → Refusal
-made at cause = record { at = at; cause = cause }
-
-same_refusal : (x y : Refusal) → fault_of x ≡ fault_of y → x ≡ y
-same_refusal x y e = ap₂ (λ at cause. made at cause) (ap (λ f. f.at) e) (ap (λ f. f.cause) e)
 
 stopped : (s t a b : List ℕ) (held held' : Option (List ℕ)) (u w z : Bool) (r : Result Verdict RunFault) (side : Side) (x : Refusal)
     → SameStops false (taking (Some s) (Some a) u) (taking (Some t) (Some b) w) (putting held held' z) (RunFault.RefusedSide side x) → RefusesOne false s t r → AnswersSide r side (fault_of x)

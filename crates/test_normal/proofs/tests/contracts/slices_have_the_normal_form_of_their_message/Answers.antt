@@ -4,7 +4,7 @@ use Rattle.ill_schema.specs.Message.{apdu_of}
 use Rattle.ill_refusals.specs.Fault.{fault_of}
 use Rattle.ill_read.specs.Answers.{DecodeAnswers, NormalAnswers}
 use Rattle.ill_normal.proofs.Canonical.{refuses_once, refuses_whole, spells_once}
-use Rattle.test_normal.proofs.Accepted.{same_refusal}
+use Rattle.ill_refusals.proofs.Refusals.{same_refusal}
 use Rattle.test_normal.proofs.tests.contracts.slices_have_the_normal_form_of_their_message.Goals as goal
 
 pub returns-clause-form : goal.returns-clause-form

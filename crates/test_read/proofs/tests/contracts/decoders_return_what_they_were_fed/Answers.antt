@@ -3,17 +3,12 @@ use Rattle.ill_schema.specs.declared.refusal.Cause.{Cause}
 use Rattle.ill_schema.specs.declared.refusal.Refusal.{Refusal}
 use Rattle.ill_schema.specs.Message.{apdu_of, octets_of}
 use Rattle.ill_refusals.specs.Fault.{fault_of}
+use Rattle.ill_refusals.proofs.Refusals.{same_refusal}
 use Rattle.ill_read.specs.Feeding.{FeedsTo}
 use Rattle.ill_read.specs.declared.decoder.Decoder.{Decoder}
 use Rattle.ill_read.specs.declared.decoder.Progress.{Progress}
 use Rattle.ill_read.specs.declared.failure.Failure.{Failure}
 use Rattle.test_read.proofs.tests.contracts.decoders_return_what_they_were_fed.Goals as goal
-
-abbrev made : ℕ → Cause → Refusal
-made at cause = record { at = at; cause = cause }
-
-same_refusal : (x y : Refusal) → fault_of x ≡ fault_of y → x ≡ y
-same_refusal x y e = ap₂ (λ at cause. made at cause) (ap (λ f. f.at) e) (ap (λ f. f.cause) e)
 
 fed_once : (d e : Decoder) (fed : List ℕ) (q r : Result Progress Failure) → FeedsTo d fed q → FeedsTo e fed r
     → q ≢ Err Failure.OutOfMemory → r ≢ Err Failure.OutOfMemory → q ≡ r
