@@ -1,4 +1,4 @@
-//! What is done at a place: the conditions in their one order, of which the first that holds gives the fault.
+//! What is judged of an element at a place: its tag, form and length, or whether something is missing where an element ends.
 ghost use Rattle.std.specs.Prelude.{◌≡◌, ◌≤◌, false, true, IfOk, length};
 ghost use Rattle.ber_core.specs.Id.{form_of_id};
 ghost use Rattle.std.specs.Option.{ForSome};
