@@ -13,6 +13,7 @@ mod status;
 #[cfg(test)]
 mod tests;
 mod verdict;
+mod whole;
 
 pub use laws::{calls_have_one_result, parts_are_short};
 pub use next::illcanon_next;

@@ -8,8 +8,9 @@ ghost use Rattle.ill_c.specs.Status.{EndsWith};
 use crate::put::put;
 use crate::refusal::{IllcanonRefusal, tell};
 use crate::status::Status;
+use crate::whole::read_whole;
 use ill_digest::message_digest;
-use ill_normal::{Failure, decode, decode_normal};
+use ill_normal::decode;
 use ill_text::show_text;
 use std::alloc::Global;
 
@@ -36,7 +37,7 @@ fn normalise(
 ) -> Status
     ensures { Writes normal_form octets.now (change buffer.old buffer.new) (change size.old size.new) (change refusal.old refusal.new) result }
 {
-    match decode_normal(alloc, octets) {
+    match read_whole(alloc, octets) {
         Ok(normal) => put(&normal.octets, buffer, size),
         Err(failure) => tell(failure, refusal),
     }
