@@ -2,7 +2,7 @@
 //! forms in an archive. What it wants to know of all that is proved here, from the contracts of public calls and laws alone.
 #![tactic(auto)]
 
-ghost use Rattle.std.specs.Prelude.{◌≡◌, ◌≢◌, ℕ, length, IfOk, IfErr, IsErrOf};
+ghost use Rattle.std.specs.Prelude.{◌≡◌, ◌≢◌, ◌⊎◌, ◌<◌, ℕ, length, IfOk, IfErr, IsErrOf};
 ghost use Rattle.std.specs.Io.KnownBytes.{Appends};
 ghost use Rattle.ber_leaf.specs.Profile.{profile_two};
 ghost use Rattle.ill_schema.specs.Apdu.{Apdu as NumberedBody, SpellsApdu, normal_form};
@@ -33,8 +33,8 @@ pub enum Fault {
 pub fn sent(alloc: Global, apdu: &Apdu) -> Result<Vec<u8>, Fault>
     ensures octets { IfOk result (λ octets. octets.items ≡ normal_form (view_of apdu.now)) }
     ensures spells { IfOk result (λ octets. SpellsApdu profile_two (view_of apdu.now) octets.items) }
-    // What isn't too long is not refused, so memory ran out.
-    ensures fails { IfErr result (λ fault. fault ≢ Fault.Refused) }
+    ensures too_long { IsErrOf result Fault.TooLong → profile_two.limit < length (normal_form (view_of apdu.now)) }
+    ensures fails { IfErr result (λ fault. (fault ≡ Fault.TooLong) ⊎ (fault ≡ Fault.OutOfMemory)) }
 {
     match apdu.to_message(alloc) {
         Ok(message) => written(alloc, &message),
@@ -72,10 +72,11 @@ pub fn received(alloc: Global, octets: &[u8]) -> Result<Message, Fault>
     }
 }
 
-/// An APDU that is sent and received comes back: as the same struct, and never refused.
+/// An APDU that is sent and received comes back, and is never refused. What comes back is equal, since its view is
+/// ([`Apdu::one_view`]).
 pub fn returned(alloc: Global, apdu: &Apdu) -> Result<Apdu, Fault>
     ensures back { IfOk result (λ back. view_of back ≡ view_of apdu.now) }
-    ensures fails { IfErr result (λ fault. fault ≢ Fault.Refused) }
+    ensures fails { IfErr result (λ fault. (fault ≡ Fault.TooLong) ⊎ (fault ≡ Fault.OutOfMemory)) }
 {
     let octets = match sent(alloc, apdu) {
         Ok(octets) => octets,
