@@ -1,9 +1,10 @@
-/* Eight threads make each call on the same messages at once, and each gets what one thread alone gets. */
+/* Eight threads with 32 KB of stack make each call on the same messages at once, and each gets what one thread alone gets. */
 #include "support.h"
 
 #include <pthread.h>
 
 #define THREADS 8
+#define STACK (32 * 1024)
 #define MESSAGES 64
 #define ROOM 65536
 #define ROUNDS 200
@@ -46,7 +47,8 @@ static void *run(void *start) {
 
 int main(int words, char **names) {
     pthread_t threads[THREADS];
-    if (words != 2)
+    pthread_attr_t attributes;
+    if (words != 2 || pthread_attr_init(&attributes) != 0 || pthread_attr_setstacksize(&attributes, STACK) != 0)
         return 2;
     count = read_messages(names[1], messages, MESSAGES);
     wanted = calloc(count, sizeof *wanted);
@@ -55,7 +57,7 @@ int main(int words, char **names) {
         EXPECT(all_are((uint8_t *)wanted[i].statuses, sizeof wanted[i].statuses, ILLCANON_DONE));
     }
     for (size_t i = 0; i < THREADS; i++)
-        if (pthread_create(&threads[i], NULL, run, (void *)(3 * i)) != 0)
+        if (pthread_create(&threads[i], &attributes, run, (void *)(3 * i)) != 0)
             return 2;
     for (size_t i = 0; i < THREADS; i++) {
         void *differ = (void *)1;
