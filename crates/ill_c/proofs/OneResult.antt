@@ -29,6 +29,7 @@ module _ (make : Apdu → List ℕ) (s : List ℕ) (buffer : Change (List ℕ)) 
     no_room = λ a h lt ne. let e = ap length (one_made octets a made h) in absurd (let fits = fills.fits in omega (arith, e, lt, fits));
     refused = λ f h ne. absurd (refuses_whole s f made.0 h made.1);
     buffer_stays = λ ne. absurd (ne refl);
+    size_stays = λ ne ne'. absurd (ne refl);
     refusal_stays = λ ne. stays;
   }
   wrote Status.NoRoom ((octets, made, lacks), stays) = record {
@@ -36,6 +37,7 @@ module _ (make : Apdu → List ℕ) (s : List ℕ) (buffer : Change (List ℕ)) 
     no_room = λ a h lt ne. (refl, subst (λ o. Lacks o buffer size) (one_made octets a made h) lacks);
     refused = λ f h ne. absurd (refuses_whole s f made.0 h made.1);
     buffer_stays = λ ne. lacks.kept;
+    size_stays = λ ne ne'. absurd (ne' refl);
     refusal_stays = λ ne. stays;
   }
   wrote Status.Refused (tells, stays, size_stays) = record {
@@ -43,6 +45,7 @@ module _ (make : Apdu → List ℕ) (s : List ℕ) (buffer : Change (List ℕ)) 
     no_room = λ a h lt ne. absurd (refuses_whole s tells.0 a tells.1 h);
     refused = λ f h ne. (refl, tells_once s refusal f tells h);
     buffer_stays = λ ne. stays;
+    size_stays = λ ne ne'. size_stays;
     refusal_stays = λ ne. absurd (ne refl);
   }
   wrote Status.OutOfMemory (stays, size_stays, refusal_stays) = record {
@@ -50,6 +53,7 @@ module _ (make : Apdu → List ℕ) (s : List ℕ) (buffer : Change (List ℕ)) 
     no_room = λ a h lt ne. absurd (ne refl);
     refused = λ f h ne. absurd (ne refl);
     buffer_stays = λ ne. stays;
+    size_stays = λ ne ne'. size_stays;
     refusal_stays = λ ne. refusal_stays;
   }
   wrote Status.SecondRefused h = absurd h

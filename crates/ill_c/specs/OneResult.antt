@@ -20,6 +20,7 @@ pub record WritesOnce (make : Apdu → List ℕ) (s : List ℕ) (buffer : Change
   pub no_room : (a : Apdu) → SpellsApdu profile_two a s → length buffer.before < length (make a) → n ≢ 5 → (n ≡ 4) × Lacks (make a) buffer size
   pub refused : (f : Fault) → RefusesWhole s f → IsRefusal 1 f refusal n
   pub buffer_stays : n ≢ 0 → Stays buffer
+  pub size_stays : n ≢ 0 → n ≢ 4 → Stays size
   pub refusal_stays : n ≢ 1 → Stays refusal
 
 -- of the call that checks a message
