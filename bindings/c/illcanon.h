@@ -125,7 +125,8 @@ uint32_t illcanon_show(const uint8_t *octets, size_t octets_size, uint32_t numbe
 uint32_t illcanon_digest(const uint8_t *octets, size_t octets_size, uint8_t *buffer, size_t buffer_size, size_t *size,
                          struct illcanon_refusal *refusal);
 
-/* Finds where the message ends that the octets begin with, whatever follows it. So a stream of messages is taken apart.
+/* Finds where the message ends that the octets begin with, whatever follows it. So a stream of messages is taken apart. Each call reads
+ * from the first octet on: after NEEDS_MORE, call again with all the octets, once more of them are there.
  *
  *   DONE           the message is the first *size octets.
  *   NEEDS_MORE     the octets, which may be none, may be the beginning of a message, and none ends among them.
