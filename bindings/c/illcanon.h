@@ -1,0 +1,142 @@
+/* illcanon: messages of the ISO interlibrary loan protocol (ILL APDUs of ISO 10161-1, in BER) in memory, and their one DER normal form.
+ *
+ * Octets are a pointer and their number. A call reads the octets that it is given, writes what it says below, and keeps nothing.
+ *
+ * What each call leaves is proved, for all octets and all sizes, where the caller keeps these rules:
+ *
+ *   - No pointer is NULL, even where its number is 0.
+ *   - Each pointer is to that many octets of the caller's memory, or to one value of its type, aligned as C aligns it. No number is
+ *     greater than PTRDIFF_MAX.
+ *   - What a call writes (buffer, size, answer, refusal) overlaps nothing else that it is given. Octets that are only read may overlap.
+ *     What is written need not be set before.
+ *   - No other thread writes what a call reads, or reads or writes what it writes, while it runs.
+ *
+ * Any number of threads may make calls at the same time. Calls take memory by malloc and realloc, and free all of it before they return.
+ * They are not for signal handlers, nor for the child of a fork in a program with threads.
+ *
+ * Each call returns an illcanon_status. Where it is not one of those that the call names, memory is as it was.
+ */
+#ifndef ILLCANON_H
+#define ILLCANON_H
+
+#include <stddef.h>
+#include <stdint.h>
+
+#define ILLCANON_VERSION "0.1.0"
+
+/* The greatest number of octets of a message, and of its normal form. */
+#define ILLCANON_LIMIT 1048576
+
+/* How many octets a digest has. */
+#define ILLCANON_DIGEST_SIZE 32
+
+#ifdef __cplusplus
+extern "C" {
+#endif
+
+/* How a call ended. The numbers don't change. */
+enum illcanon_status {
+    ILLCANON_DONE = 0,           /* what was asked for is there */
+    ILLCANON_REFUSED = 1,        /* the octets are not a message, and the refusal says why */
+    ILLCANON_SECOND_REFUSED = 2, /* of two, the first is a message and the second is not, and the refusal says why */
+    ILLCANON_NEEDS_MORE = 3,     /* the octets may be the beginning of a message: at least one more is needed */
+    ILLCANON_NO_ROOM = 4,        /* the buffer is too short; the size says how many octets it needs */
+    ILLCANON_OUT_OF_MEMORY = 5   /* malloc or realloc returned NULL; nothing was written */
+};
+
+/* Why octets are not a message. The numbers don't change. docs/DEFINITIONS.md says when each comes, and which offset it has. */
+enum illcanon_cause {
+    ILLCANON_TRUNCATED = 1,         /* the octets end inside the message */
+    ILLCANON_BAD_TAG = 2,           /* no identifier begins so (X.690, 8.1.2), or the tag number has more than four octets */
+    ILLCANON_BAD_LENGTH = 3,        /* no length begins so (X.690, 8.1.3) */
+    ILLCANON_TOO_LONG = 4,          /* the message would pass ILLCANON_LIMIT octets */
+    ILLCANON_OVERRUN = 5,           /* the element would pass the end of one round it */
+    ILLCANON_TOO_DEEP = 6,          /* 32 elements are open */
+    ILLCANON_UNEXPECTED_TAG = 7,    /* the tag is not due here */
+    ILLCANON_LEFT_OUT = 8,          /* the part is one that this profile does not read */
+    ILLCANON_WRONG_FORM = 9,        /* primitive where constructed is due, or the reverse */
+    ILLCANON_MISSING = 10,          /* a mandatory part is missing */
+    ILLCANON_BAD_END = 11,          /* 00 and then another octet than 00, in the indefinite form (X.690, 8.1.5) */
+    ILLCANON_BAD_BOOLEAN = 12,      /* a BOOLEAN of another size than one octet */
+    ILLCANON_BAD_INTEGER = 13,      /* an INTEGER of no octets, or whose first nine bits are equal (X.690, 8.3) */
+    ILLCANON_INTEGER_TOO_LONG = 14, /* an INTEGER of more than eight octets */
+    ILLCANON_BAD_TEXT = 15,         /* an octet outside the alphabet of the string */
+    ILLCANON_BAD_DATE = 16,         /* not eight digits of a day that exists */
+    ILLCANON_BAD_TIME = 17,         /* not six digits of a time of day */
+    ILLCANON_TRAILING_BYTES = 18,   /* octets follow the message, which ends at the offset */
+    ILLCANON_NORMAL_TOO_LONG = 19   /* the normal form would pass ILLCANON_LIMIT octets */
+};
+
+/* A refusal. It is set where a call says so, and is as it was otherwise. */
+struct illcanon_refusal {
+    uint32_t at;    /* the offset, in octets from the first one */
+    uint32_t cause; /* an illcanon_cause */
+    char part[64];  /* of LEFT_OUT and MISSING the part, as "Expired.service-date-time"; "" otherwise. Zeros to its end */
+};
+
+/* Writes the normal form of the message that the octets are, all of them.
+ *
+ *   DONE           the normal form is the first *size octets of the buffer. No octet after it is touched.
+ *   NO_ROOM        it has *size octets, more than buffer_size. The buffer is as it was.
+ *   REFUSED        *refusal says why the octets are not exactly one message.
+ *   OUT_OF_MEMORY
+ *
+ * A buffer of ILLCANON_LIMIT octets has room for any. Most normal forms are no longer than the message, but some are by a few octets.
+ */
+uint32_t illcanon_normalise(const uint8_t *octets, size_t octets_size, uint8_t *buffer, size_t buffer_size, size_t *size,
+                            struct illcanon_refusal *refusal);
+
+/* Says whether the octets are the normal form of the message that they are.
+ *
+ *   DONE           *normal is 1 where they are, and 0 where the message is spelled in another way.
+ *   REFUSED        *refusal says why the octets are not exactly one message.
+ *   OUT_OF_MEMORY
+ */
+uint32_t illcanon_check(const uint8_t *octets, size_t octets_size, uint32_t *normal, struct illcanon_refusal *refusal);
+
+/* Says whether two messages are the same: of one APDU, however each is spelled. They are exactly where their normal forms are equal.
+ *
+ *   DONE            *same is 1 where they are, and 0 where they are different.
+ *   REFUSED         *refusal says why the first is not exactly one message.
+ *   SECOND_REFUSED  the first is one, and *refusal says why the second is not.
+ *   OUT_OF_MEMORY
+ */
+uint32_t illcanon_same(const uint8_t *first, size_t first_size, const uint8_t *second, size_t second_size, uint32_t *same,
+                       struct illcanon_refusal *refusal);
+
+/* Writes the message that the octets are as text in ASCII, under a number: "message", the number and the name of the APDU, and a line
+ * for each leaf. Each line ends with a newline, and no zero follows.
+ *
+ *   DONE           the text is the first *size octets of the buffer. No octet after it is touched.
+ *   NO_ROOM        it has *size octets, more than buffer_size. The buffer is as it was.
+ *   REFUSED        *refusal says why the octets are not exactly one message.
+ *   OUT_OF_MEMORY
+ */
+uint32_t illcanon_show(const uint8_t *octets, size_t octets_size, uint32_t number, uint8_t *buffer, size_t buffer_size, size_t *size,
+                       struct illcanon_refusal *refusal);
+
+/* Writes the digest of the message that the octets are: SHA-256 (FIPS 180-4) of its normal form. So it is one for all spellings.
+ *
+ *   DONE           the digest is the first *size octets of the buffer, which are ILLCANON_DIGEST_SIZE. No octet after it is touched.
+ *   NO_ROOM        buffer_size is less than *size, which is ILLCANON_DIGEST_SIZE. The buffer is as it was.
+ *   REFUSED        *refusal says why the octets are not exactly one message.
+ *   OUT_OF_MEMORY
+ */
+uint32_t illcanon_digest(const uint8_t *octets, size_t octets_size, uint8_t *buffer, size_t buffer_size, size_t *size,
+                         struct illcanon_refusal *refusal);
+
+/* Finds where the message ends that the octets begin with, whatever follows it. So a stream of messages is taken apart. Each call reads
+ * from the first octet on: after NEEDS_MORE, call again with all the octets, once more of them are there.
+ *
+ *   DONE           the message is the first *size octets.
+ *   NEEDS_MORE     the octets, which may be none, may be the beginning of a message, and none ends among them.
+ *   REFUSED        no message begins so, whatever follows the octets, and *refusal says why.
+ *   OUT_OF_MEMORY
+ */
+uint32_t illcanon_next(const uint8_t *octets, size_t octets_size, size_t *size, struct illcanon_refusal *refusal);
+
+#ifdef __cplusplus
+}
+#endif
+
+#endif

@@ -1,0 +1,99 @@
+/* The k-th call of malloc or realloc returns NULL, for each k until none is refused: each result before that is OUT_OF_MEMORY with
+ * nothing written, and the last one DONE. What is taken is freed. Linked with --wrap of malloc, realloc and free. */
+#include "support.h"
+
+void *__real_malloc(size_t size);
+void *__real_realloc(void *block, size_t size);
+void __real_free(void *block);
+
+static long left = -1, refusals = 0, blocks = 0;
+
+static int refused(void) {
+    if (left < 0 || --left >= 0)
+        return 0;
+    left = 0;
+    refusals++;
+    return 1;
+}
+
+void *__wrap_malloc(size_t size) {
+    void *block = refused() ? NULL : __real_malloc(size);
+    blocks += block != NULL;
+    return block;
+}
+
+void *__wrap_realloc(void *block, size_t size) {
+    return refused() ? NULL : __real_realloc(block, size);
+}
+
+void __wrap_free(void *block) {
+    blocks -= block != NULL;
+    __real_free(block);
+}
+
+static struct octets message;
+static uint8_t *buffer;
+static size_t size;
+static uint32_t answer;
+static struct illcanon_refusal refusal;
+
+#define ROOM 65536
+
+static uint32_t normalise(void) {
+    return illcanon_normalise(message.at, message.count, buffer, ROOM, &size, &refusal);
+}
+
+static uint32_t show(void) {
+    return illcanon_show(message.at, message.count, 1, buffer, ROOM, &size, &refusal);
+}
+
+static uint32_t digest(void) {
+    return illcanon_digest(message.at, message.count, buffer, ROOM, &size, &refusal);
+}
+
+static uint32_t check(void) {
+    return illcanon_check(message.at, message.count, &answer, &refusal);
+}
+
+static uint32_t same(void) {
+    return illcanon_same(message.at, message.count, message.at, message.count, &answer, &refusal);
+}
+
+static uint32_t next(void) {
+    return illcanon_next(message.at, message.count, &size, &refusal);
+}
+
+static void refuse_each(const char *name, uint32_t (*call)(void)) {
+    uint32_t status = ILLCANON_OUT_OF_MEMORY;
+    long k = 0;
+    for (; status == ILLCANON_OUT_OF_MEMORY && k < 100000; k++) {
+        memset(buffer, UNTOUCHED, ROOM);
+        refusal = untouched();
+        size = answer = 77;
+        left = k;
+        refusals = blocks = 0;
+        status = call();
+        left = -1;
+        EXPECT(blocks == 0 && is_untouched(&refusal));
+        if (refusals > 0)
+            EXPECT(status == ILLCANON_OUT_OF_MEMORY && size == 77 && answer == 77 && all_are(buffer, ROOM, UNTOUCHED));
+    }
+    EXPECT(status == ILLCANON_DONE && refusals == 0 && k > 1);
+    printf("%s: %ld refused\n", name, k - 1);
+}
+
+int main(int count, char **words) {
+    struct octets messages[64];
+    if (count != 2)
+        return 2;
+    read_messages(words[1], messages, 64);
+    message = messages[0];
+    buffer = fenced(ROOM);
+    refuse_each("illcanon_normalise", normalise);
+    refuse_each("illcanon_show", show);
+    refuse_each("illcanon_digest", digest);
+    refuse_each("illcanon_check", check);
+    refuse_each("illcanon_same", same);
+    refuse_each("illcanon_next", next);
+    return failures != 0;
+}

@@ -1,0 +1,154 @@
+"""The calls of libillcanon, as functions over bytes."""
+from __future__ import annotations
+
+import ctypes
+import enum
+from typing import Callable, Iterator, Optional, Union
+
+from ._library import Refusal, library
+
+Octets = Union[bytes, bytearray, memoryview]
+
+# The causes, by their numbers from 1.
+CAUSES = (
+    "Truncated BadTag BadLength TooLong Overrun TooDeep UnexpectedTag LeftOut WrongForm Missing BadEnd BadBoolean BadInteger "
+    "IntegerTooLong BadText BadDate BadTime TrailingBytes NormalTooLong"
+).split()
+
+
+class Status(enum.IntEnum):
+    """How a call ends."""
+
+    DONE = 0
+    REFUSED = 1
+    SECOND_REFUSED = 2
+    NEEDS_MORE = 3
+    NO_ROOM = 4
+    OUT_OF_MEMORY = 5
+
+
+class Refused(ValueError):
+    """Octets that are not a message.
+
+    `offset` counts octets from the first one of the message, `cause` is a word such as `Missing` (docs/DEFINITIONS.md lists them),
+    `part` is the part that is missing or left out, such as `Expired.service-date-time`, or None. `message` is the number of the
+    message, from 1, where there are more: of `same` and `messages`.
+    """
+
+    def __init__(self, offset: int, cause: str, part: Optional[str] = None, message: int = 1) -> None:
+        self.offset = offset
+        self.cause = cause
+        self.part = part
+        self.message = message
+        super().__init__(offset, cause, part, message)
+
+    def __str__(self) -> str:
+        part = f" {self.part}" if self.part else ""
+        return f"refused at {self.offset} in message {self.message}: {self.cause}{part}"
+
+
+def _bytes(octets: Octets) -> bytes:
+    """The octets as bytes, which end in C where they end here; a number or a text is a TypeError."""
+    return octets if isinstance(octets, bytes) else bytes(memoryview(octets))
+
+
+def _refused(refusal: Refusal, message: int = 1) -> Refused:
+    return Refused(refusal.at, CAUSES[refusal.cause - 1], refusal.part.decode("ascii") or None, message)
+
+
+def _raise(status: int, refusal: Refusal, message: int = 1) -> None:
+    """Raises what a status other than DONE and NO_ROOM says."""
+    if status == Status.REFUSED:
+        raise _refused(refusal, message)
+    if status == Status.SECOND_REFUSED:
+        raise _refused(refusal, 2)
+    if status == Status.OUT_OF_MEMORY:
+        raise MemoryError
+
+
+def _written(call: Callable[..., int], room: int) -> bytes:
+    """What a call writes: it is called once more where the room was too small."""
+    refusal, size = Refusal(), ctypes.c_size_t()
+    while True:
+        buffer = ctypes.create_string_buffer(max(room, 1))
+        status = call(buffer, room, ctypes.byref(size), ctypes.byref(refusal))
+        if status == Status.DONE:
+            return buffer.raw[: size.value]
+        _raise(status, refusal)
+        room = size.value
+
+
+def normalise(octets: Octets) -> bytes:
+    """The normal form of the message that the octets are.
+
+    Raises `Refused` where they are not exactly one message.
+    """
+    octets = _bytes(octets)
+    return _written(lambda *memory: library.illcanon_normalise(octets, len(octets), *memory), len(octets))
+
+
+def check(octets: Octets) -> bool:
+    """Whether the octets are the normal form of the message that they are.
+
+    Raises `Refused` where they are not exactly one message.
+    """
+    octets = _bytes(octets)
+    refusal, normal = Refusal(), ctypes.c_uint32()
+    _raise(library.illcanon_check(octets, len(octets), ctypes.byref(normal), ctypes.byref(refusal)), refusal)
+    return normal.value == 1
+
+
+def same(first: Octets, second: Octets) -> bool:
+    """Whether two messages are the same, however each is spelled.
+
+    Raises `Refused` where one is not exactly one message: the first, or where that is one, the second. `message` is 1 or 2.
+    """
+    first, second = _bytes(first), _bytes(second)
+    refusal, answer = Refusal(), ctypes.c_uint32()
+    status = library.illcanon_same(first, len(first), second, len(second), ctypes.byref(answer), ctypes.byref(refusal))
+    _raise(status, refusal)
+    return answer.value == 1
+
+
+def show(octets: Octets, number: int = 1) -> str:
+    """The message that the octets are as text, a line for each leaf, under a number from 0 to 4,294,967,295.
+
+    Raises `Refused` where they are not exactly one message.
+    """
+    octets = _bytes(octets)
+    if not 0 <= number < 2**32:
+        raise ValueError("number")
+    return _written(lambda *memory: library.illcanon_show(octets, len(octets), number, *memory), 16 * len(octets)).decode("ascii")
+
+
+def digest(octets: Octets) -> bytes:
+    """SHA-256 of the normal form of the message that the octets are: the same for all spellings.
+
+    Raises `Refused` where they are not exactly one message.
+    """
+    octets = _bytes(octets)
+    return _written(lambda *memory: library.illcanon_digest(octets, len(octets), *memory), 32)
+
+
+def messages(octets: Octets) -> Iterator[bytes]:
+    """The messages that the octets are, one after another, each as it is spelled.
+
+    Raises `Refused` at the first octets that begin with none, after the messages before them. `message` is its number.
+    """
+    octets = _bytes(octets)
+    at, number = 0, 1
+    while at < len(octets):
+        size = _front(octets, at, number)
+        yield octets[at : at + size]
+        at, number = at + size, number + 1
+
+
+def _front(octets: bytes, at: int, number: int) -> int:
+    """How many octets the message has that begins there."""
+    refusal, size = Refusal(), ctypes.c_size_t()
+    start = (ctypes.cast(octets, ctypes.c_void_p).value or 0) + at
+    status = library.illcanon_next(start, len(octets) - at, ctypes.byref(size), ctypes.byref(refusal))
+    if status == Status.NEEDS_MORE:
+        raise Refused(len(octets) - at, "Truncated", None, number)
+    _raise(status, refusal, number)
+    return size.value

@@ -1,0 +1,182 @@
+"""The calls on the files of examples/, and on octets that are refused."""
+import glob
+import hashlib
+import json
+import os
+import subprocess
+import threading
+import unittest
+
+import illcanon
+from illcanon import Refused
+
+TOP = os.path.join(os.path.dirname(os.path.abspath(__file__)), "..", "..", "..")
+PROGRAM = os.path.join(TOP, "crates", "illcanon", "out", "illcanon")
+EXPIRED = bytes.fromhex("741f301d800102a10aa1031b0147a2031b0151a20ca00a80083230323430323239")
+REQUEST = bytes.fromhex("61343032800102a10aa1031b0147a2031b0151a20ca00a80083230323430323239a9030a0101ab0c800100810100820101830101b000")
+
+
+def octets_of(name):
+    with open(os.path.join(TOP, "examples", name), "rb") as file:
+        return file.read()
+
+
+# Each file, and the normal forms of its messages, which an encoder in Python wrote.
+FILES = [
+    ("every-part.ber", octets_of("every-part.der")),
+    ("every-part.der", octets_of("every-part.der")),
+    ("expired-long-form.ber", EXPIRED),
+]
+
+
+class Messages(unittest.TestCase):
+    def test_streams_are_taken_apart(self):
+        for name, forms in FILES:
+            found = list(illcanon.messages(octets_of(name)))
+            self.assertEqual(b"".join(found), octets_of(name))
+            self.assertEqual(b"".join(illcanon.normalise(message) for message in found), forms)
+        self.assertEqual(list(illcanon.messages(b"")), [])
+
+    def test_normal_forms_are_normal(self):
+        for name, _ in FILES:
+            for message in illcanon.messages(octets_of(name)):
+                form = illcanon.normalise(message)
+                self.assertTrue(illcanon.check(form))
+                self.assertEqual(illcanon.check(message), form == message)
+                self.assertTrue(illcanon.same(message, form))
+                self.assertFalse(illcanon.same(message, REQUEST))
+
+    def test_digests_are_of_the_normal_form(self):
+        for name, forms in FILES:
+            for message, form in zip(illcanon.messages(octets_of(name)), illcanon.messages(forms)):
+                self.assertEqual(illcanon.digest(message), hashlib.sha256(form).digest())
+
+    def test_texts_are_those_of_the_program(self):
+        for name, _ in FILES:
+            texts = "".join(illcanon.show(message, i) for i, message in enumerate(illcanon.messages(octets_of(name)), 1))
+            wanted = subprocess.run([PROGRAM, "show", os.path.join(TOP, "examples", name)], stdout=subprocess.PIPE, check=True)
+            self.assertEqual(texts, wanted.stdout.decode("ascii"))
+
+    def test_a_number_stands_before_the_text(self):
+        self.assertEqual(illcanon.show(EXPIRED).split("\n")[0], "message 1 Expired")
+        self.assertEqual(illcanon.show(EXPIRED, 4294967295).split("\n")[0], "message 4294967295 Expired")
+        for number in (-1, 2**32):
+            self.assertRaises(ValueError, illcanon.show, EXPIRED, number)
+
+    def test_octets_are_anything_like_bytes(self):
+        self.assertEqual(illcanon.normalise(bytearray(EXPIRED)), EXPIRED)
+        self.assertEqual(illcanon.normalise(memoryview(b"x" + EXPIRED)[1:]), EXPIRED)
+        self.assertRaises(TypeError, illcanon.normalise, "text")
+
+    def test_a_normal_form_may_be_longer(self):
+        bare = bytes.fromhex("741d800102a10aa1031b0147a2031b0151a20ca00a80083230323430323239")
+        self.assertEqual(illcanon.normalise(bare), EXPIRED)
+
+    def test_threads_run_at_once(self):
+        messages = list(illcanon.messages(octets_of("every-part.ber")))
+        wanted, found = [illcanon.normalise(message) for message in messages], []
+
+        def run():
+            for _ in range(50):
+                found.append([illcanon.normalise(message) for message in messages] == wanted)
+
+        threads = [threading.Thread(target=run) for _ in range(8)]
+        for thread in threads:
+            thread.start()
+        for thread in threads:
+            thread.join()
+        self.assertEqual(found, [True] * 400)
+
+
+class Refusals(unittest.TestCase):
+    def refused(self, call, *octets):
+        with self.assertRaises(Refused) as caught:
+            call(*octets)
+        it = caught.exception
+        return it.offset, it.cause, it.part, it.message
+
+    def test_each_call_refuses_alike(self):
+        rows = [
+            (b"", (0, "Truncated", None)),
+            (EXPIRED[:-1], (32, "Truncated", None)),
+            (EXPIRED + b"\0", (33, "TrailingBytes", None)),
+            (bytes.fromhex("741f301d800102a2"), (7, "UnexpectedTag", None)),
+            (bytes.fromhex("748030808001020000"), (7, "Missing", "Expired.transaction-id")),
+            (bytes.fromhex("6280"), (0, "LeftOut", "ILL-APDU.Forward-Notification")),
+        ]
+        for octets, wanted in rows:
+            for call in (illcanon.normalise, illcanon.check, illcanon.show, illcanon.digest):
+                self.assertEqual(self.refused(call, octets), (*wanted, 1))
+            self.assertEqual(self.refused(illcanon.same, octets, octets), (*wanted, 1))
+            self.assertEqual(self.refused(illcanon.same, EXPIRED, octets), (*wanted, 2))
+
+    def test_a_stream_stops_at_the_first_refusal(self):
+        stream = illcanon.messages(EXPIRED + REQUEST + bytes.fromhex("748030808001020000"))
+        self.assertEqual([next(stream), next(stream)], [EXPIRED, REQUEST])
+        self.assertEqual(self.refused(next, stream), (7, "Missing", "Expired.transaction-id", 3))
+        self.assertEqual(self.refused(list, illcanon.messages(EXPIRED + EXPIRED[:20])), (20, "Truncated", None, 2))
+
+    def test_a_refusal_is_a_line(self):
+        with self.assertRaises(ValueError) as caught:
+            illcanon.normalise(bytes.fromhex("748030808001020000"))
+        self.assertEqual(str(caught.exception), "refused at 7 in message 1: Missing Expired.transaction-id")
+
+
+def octets_in(vector, name="octets", runs="runs"):
+    if name in vector:
+        return bytes.fromhex(vector[name])
+    return b"".join(bytes.fromhex(unit) * count for unit, count in vector.get(runs, []))
+
+
+class Vectors(unittest.TestCase):
+    """The test vectors of vectors/, whose results are written from the rules."""
+
+    def vectors(self, wanted):
+        for name in sorted(glob.glob(os.path.join(TOP, "vectors", "*.json"))):
+            with open(name, encoding="utf-8") as file:
+                for group in json.load(file).get("groups", []):
+                    for vector in group["vectors"]:
+                        if ("messages" in vector) == (wanted == "streams"):
+                            yield vector
+
+    def result_of(self, call):
+        """What a call makes of octets, and why it refuses any."""
+        try:
+            return call(), None
+        except Refused as it:
+            return None, (it.cause, it.offset, it.part)
+
+    def test_messages(self):
+        count = 0
+        for vector in self.vectors("messages"):
+            octets, count = octets_in(vector), count + 1
+            normal, fault = self.result_of(lambda: illcanon.normalise(octets))
+            with self.subTest(vector["id"]):
+                if vector["result"] == "valid":
+                    wanted = octets_in(vector, "normal", "normal_runs")
+                    self.assertEqual((normal, fault), (wanted, None))
+                    self.assertEqual(illcanon.digest(octets), hashlib.sha256(wanted).digest())
+                    self.assertEqual(illcanon.check(octets), octets == wanted)
+                    self.assertEqual(list(illcanon.messages(octets)), [octets])
+                else:
+                    self.assertEqual(fault, (vector["cause"], vector["offset"], vector.get("part")))
+        self.assertGreater(count, 3000)
+
+    def test_streams(self):
+        for vector in self.vectors("streams"):
+            if vector["messages"] > 1000:
+                continue
+            forms, fault = [], None
+            try:
+                for message in illcanon.messages(octets_in(vector)):
+                    forms.append(illcanon.normalise(message))
+            except Refused as it:
+                fault = it.cause, it.offset, it.part
+            with self.subTest(vector["id"]):
+                self.assertEqual(b"".join(forms), octets_in(vector, "normal", "normal_runs"))
+                wanted = None if vector["result"] == "valid" else (vector["cause"], vector["offset"], vector.get("part"))
+                self.assertEqual(fault, wanted)
+
+
+if __name__ == "__main__":
+    unittest.main()

@@ -1,0 +1,4 @@
+pub mod CTexts
+pub mod Fronts
+pub mod OneResult
+pub mod Parts

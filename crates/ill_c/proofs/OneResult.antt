@@ -1,0 +1,166 @@
+-- What calls leave is one result.
+use Rattle.std.proofs.Common.{◌≡◌, ◌∙◌, ℕ, List, length, refl, sym, ap, subst, arith}
+use Rattle.ber_leaf.specs.Profile.{profile_two}
+use Rattle.ill_schema.specs.Apdu.{Apdu, SpellsApdu, normal_form}
+use Rattle.ill_schema.proofs.Streams.{accepts_once}
+use Rattle.ill_refusals.specs.Fault.{Fault}
+use Rattle.ill_read.specs.Answers.{RefusesWhole}
+use Rattle.ill_normal.proofs.Canonical.{refuses_once, refuses_whole, spells_once}
+use Rattle.ill_c.specs.declared.refusal.IllcanonRefusal.{IllcanonRefusal}
+use Rattle.ill_c.specs.declared.status.Status.{Status}
+use Rattle.ill_c.specs.Calls.{IsMade, Writes, Checks, Compares, Finds}
+use Rattle.ill_c.specs.Memory.{Change, Fills, Lacks, Tells, IsFlag}
+use Rattle.ill_c.specs.OneResult.{WritesOnce, ChecksOnce, ComparesOnce, FindsOnce}
+use Rattle.ill_c.specs.Refusals.{told}
+use Rattle.ill_c.specs.Status.{EndsWith, status_number}
+
+-- a call whose octets are refused in one way tells that refusal
+tells_once : (s : List ℕ) (refusal : Change IllcanonRefusal) (f : Fault) → Tells (RefusesWhole s) refusal → RefusesWhole s f → refusal.after ≡ told f
+tells_once s refusal f (g, refuses, e) h = e ∙ ap told (refuses_once s g f refuses h)
+
+module _ (make : Apdu → List ℕ) (s : List ℕ) (buffer : Change (List ℕ)) (size : Change ℕ) (refusal : Change IllcanonRefusal) where
+  -- what was made is what this APDU makes
+  one_made : (octets : List ℕ) (a : Apdu) → IsMade make s octets → SpellsApdu profile_two a s → octets ≡ make a
+  one_made octets a (b, spells, e) h = e ∙ ap make (spells_once b a s spells h)
+
+  wrote : (status : Status) → Writes make s buffer size refusal status → WritesOnce make s buffer size refusal (status_number status)
+  wrote Status.Done ((octets, made, fills), stays) = record {
+    room = λ a h le ne. (refl, subst (λ o. Fills o buffer size) (one_made octets a made h) fills);
+    no_room = λ a h lt ne. let e = ap length (one_made octets a made h) in absurd (let fits = fills.fits in omega (arith, e, lt, fits));
+    refused = λ f h ne. absurd (refuses_whole s f made.0 h made.1);
+    buffer_stays = λ ne. absurd (ne refl);
+    size_stays = λ ne ne'. absurd (ne refl);
+    refusal_stays = λ ne. stays;
+  }
+  wrote Status.NoRoom ((octets, made, lacks), stays) = record {
+    room = λ a h le ne. let e = ap length (one_made octets a made h) in absurd (let short = lacks.short in omega (arith, e, le, short));
+    no_room = λ a h lt ne. (refl, subst (λ o. Lacks o buffer size) (one_made octets a made h) lacks);
+    refused = λ f h ne. absurd (refuses_whole s f made.0 h made.1);
+    buffer_stays = λ ne. lacks.kept;
+    size_stays = λ ne ne'. absurd (ne' refl);
+    refusal_stays = λ ne. stays;
+  }
+  wrote Status.Refused (tells, stays, size_stays) = record {
+    room = λ a h le ne. absurd (refuses_whole s tells.0 a tells.1 h);
+    no_room = λ a h lt ne. absurd (refuses_whole s tells.0 a tells.1 h);
+    refused = λ f h ne. (refl, tells_once s refusal f tells h);
+    buffer_stays = λ ne. stays;
+    size_stays = λ ne ne'. size_stays;
+    refusal_stays = λ ne. absurd (ne refl);
+  }
+  wrote Status.OutOfMemory (stays, size_stays, refusal_stays) = record {
+    room = λ a h le ne. absurd (ne refl);
+    no_room = λ a h lt ne. absurd (ne refl);
+    refused = λ f h ne. absurd (ne refl);
+    buffer_stays = λ ne. stays;
+    size_stays = λ ne ne'. size_stays;
+    refusal_stays = λ ne. refusal_stays;
+  }
+  wrote Status.SecondRefused h = absurd h
+  wrote Status.NeedsMore h = absurd h
+
+  pub writes_once : (n : ℕ) → EndsWith n (Writes make s buffer size refusal) → WritesOnce make s buffer size refusal n
+  writes_once n (status, e, h) = subst (WritesOnce make s buffer size refusal) (sym e) (wrote status h)
+
+module _ (s : List ℕ) (normal : Change ℕ) (refusal : Change IllcanonRefusal) where
+  checked : (status : Status) → Checks s normal refusal status → ChecksOnce s normal refusal (status_number status)
+  checked Status.Done ((b, spells, flag), stays) = record {
+    checked = λ a h ne. (refl, subst (λ x. IsFlag normal.after (s ≡ normal_form x)) (spells_once b a s spells h) flag);
+    refused = λ f h ne. absurd (refuses_whole s f b h spells);
+    answer_stays = λ ne. absurd (ne refl);
+    refusal_stays = λ ne. stays;
+  }
+  checked Status.Refused (tells, stays) = record {
+    checked = λ a h ne. absurd (refuses_whole s tells.0 a tells.1 h);
+    refused = λ f h ne. (refl, tells_once s refusal f tells h);
+    answer_stays = λ ne. stays;
+    refusal_stays = λ ne. absurd (ne refl);
+  }
+  checked Status.OutOfMemory (stays, refusal_stays) = record {
+    checked = λ a h ne. absurd (ne refl);
+    refused = λ f h ne. absurd (ne refl);
+    answer_stays = λ ne. stays;
+    refusal_stays = λ ne. refusal_stays;
+  }
+  checked Status.SecondRefused h = absurd h
+  checked Status.NeedsMore h = absurd h
+  checked Status.NoRoom h = absurd h
+
+  pub checks_once : (n : ℕ) → EndsWith n (Checks s normal refusal) → ChecksOnce s normal refusal n
+  checks_once n (status, e, h) = subst (ChecksOnce s normal refusal) (sym e) (checked status h)
+
+module _ (s t : List ℕ) (same : Change ℕ) (refusal : Change IllcanonRefusal) where
+  compared : (status : Status) → Compares s t same refusal status → ComparesOnce s t same refusal (status_number status)
+  compared Status.Done ((x, y, spells, spells', flag), stays) = record {
+    compared = λ a b h k ne. (
+      refl,
+      subst (λ z. IsFlag same.after (a ≡ z)) (spells_once y b t spells' k)
+          (subst (λ z. IsFlag same.after (z ≡ y)) (spells_once x a s spells h) flag),
+    );
+    first = λ f h ne. absurd (refuses_whole s f x h spells);
+    second = λ a f h k ne. absurd (refuses_whole t f y k spells');
+    answer_stays = λ ne. absurd (ne refl);
+    refusal_stays = λ ne ne'. stays;
+  }
+  compared Status.Refused ((g, refuses, e), stays) = record {
+    compared = λ a b h k ne. absurd (refuses_whole s g a refuses h);
+    first = λ f h ne. (refl, e ∙ ap told (refuses_once s g f refuses h));
+    second = λ a f h k ne. absurd (refuses_whole s g a refuses h);
+    answer_stays = λ ne. stays;
+    refusal_stays = λ ne ne'. absurd (ne refl);
+  }
+  compared Status.SecondRefused ((g, (spelled, refuses), e), stays) = record {
+    compared = λ a b h k ne. absurd (refuses_whole t g b refuses k);
+    first = λ f h ne. absurd (refuses_whole s f spelled.0 h spelled.1);
+    second = λ a f h k ne. (refl, e ∙ ap told (refuses_once t g f refuses k));
+    answer_stays = λ ne. stays;
+    refusal_stays = λ ne ne'. absurd (ne' refl);
+  }
+  compared Status.OutOfMemory (stays, refusal_stays) = record {
+    compared = λ a b h k ne. absurd (ne refl);
+    first = λ f h ne. absurd (ne refl);
+    second = λ a f h k ne. absurd (ne refl);
+    answer_stays = λ ne. stays;
+    refusal_stays = λ ne ne'. refusal_stays;
+  }
+  compared Status.NeedsMore h = absurd h
+  compared Status.NoRoom h = absurd h
+
+  pub compares_once : (n : ℕ) → EndsWith n (Compares s t same refusal) → ComparesOnce s t same refusal n
+  compares_once n (status, e, h) = subst (ComparesOnce s t same refusal) (sym e) (compared status h)
+
+module _ (s : List ℕ) (size : Change ℕ) (refusal : Change IllcanonRefusal) where
+  found : (status : Status) → Finds s size refusal status → FindsOnce s size refusal (status_number status)
+  found Status.Done ((b, accepts), stays) = record {
+    found = λ a m h ne. (refl, (accepts_once profile_two s b a size.after m accepts h).1);
+    part = λ h ne. absurd (h.2 b size.after accepts);
+    refused = λ f h ends ne. absurd (h.2 b size.after accepts);
+    size_stays = λ ne. absurd (ne refl);
+    refusal_stays = λ ne. stays;
+  }
+  found Status.NeedsMore (part, stays, refusal_stays) = record {
+    found = λ a m h ne. absurd (part.2 a m h);
+    part = λ h ne. refl;
+    refused = λ f h ends ne. absurd (ends (ap (λ (g : Fault). g.cause) (part.1 f h.0)));
+    size_stays = λ ne. stays;
+    refusal_stays = λ ne. refusal_stays;
+  }
+  found Status.Refused ((g, (refuses, goes_on), e), stays) = record {
+    found = λ a m h ne. absurd (refuses.2 a m h);
+    part = λ h ne. absurd (goes_on (ap (λ (x : Fault). x.cause) (h.1 g refuses.0)));
+    refused = λ f h ends ne. (refl, e ∙ ap told (h.1 g refuses.0));
+    size_stays = λ ne. stays;
+    refusal_stays = λ ne. absurd (ne refl);
+  }
+  found Status.OutOfMemory (stays, refusal_stays) = record {
+    found = λ a m h ne. absurd (ne refl);
+    part = λ h ne. absurd (ne refl);
+    refused = λ f h ends ne. absurd (ne refl);
+    size_stays = λ ne. stays;
+    refusal_stays = λ ne. refusal_stays;
+  }
+  found Status.SecondRefused h = absurd h
+  found Status.NoRoom h = absurd h
+
+  pub finds_once : (n : ℕ) → EndsWith n (Finds s size refusal) → FindsOnce s size refusal n
+  finds_once n (status, e, h) = subst (FindsOnce s size refusal) (sym e) (found status h)

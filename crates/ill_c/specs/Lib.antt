@@ -1,0 +1,6 @@
+pub mod Status
+pub mod Refusals
+pub mod Memory
+pub mod Calls
+pub mod OneResult
+pub mod code

@@ -1,0 +1,47 @@
+-- A refusal, as it is told to C.
+use Rattle.std.specs.Prelude.{ℕ, ◌-◌, List, [], ◌++◌, codes, length, replicate, Option, Some, None}
+use Rattle.ill_schema.specs.Names.{part_name_of}
+use Rattle.ill_schema.specs.declared.refusal.Cause.{Cause}
+use Rattle.ill_refusals.specs.Fault.{Fault}
+use Rattle.ill_c.specs.declared.refusal.IllcanonRefusal.{IllcanonRefusal}
+
+-- the number of a cause
+abbrev pub cause_number : Cause → ℕ
+cause_number Cause.Truncated = 1
+cause_number Cause.BadTag = 2
+cause_number Cause.BadLength = 3
+cause_number Cause.TooLong = 4
+cause_number Cause.Overrun = 5
+cause_number Cause.TooDeep = 6
+cause_number Cause.UnexpectedTag = 7
+cause_number (Cause.LeftOut part) = 8
+cause_number Cause.WrongForm = 9
+cause_number (Cause.Missing part) = 10
+cause_number Cause.BadEnd = 11
+cause_number Cause.BadBoolean = 12
+cause_number Cause.BadInteger = 13
+cause_number Cause.IntegerTooLong = 14
+cause_number Cause.BadText = 15
+cause_number Cause.BadDate = 16
+cause_number Cause.BadTime = 17
+cause_number Cause.TrailingBytes = 18
+cause_number Cause.NormalTooLong = 19
+
+-- the name of a node, and that of its row
+abbrev pub dotted : Option (List ℕ × List ℕ) → List ℕ
+dotted None = []
+dotted (Some names) = names.0 ++ codes "." ++ names.1
+
+-- the part that a cause is about
+abbrev pub part_text : Cause → List ℕ
+part_text (Cause.LeftOut part) = dotted (part_name_of part)
+part_text (Cause.Missing part) = dotted (part_name_of part)
+part_text _ = []
+
+-- a text in 64 octets, the rest of which are zeros
+abbrev pub c_text : List ℕ → List ℕ
+c_text text = text ++ replicate (64 - length text) 0
+
+-- a fault, as it is told
+abbrev pub told : Fault → IllcanonRefusal
+told f = record { at = f.at; cause = cause_number f.cause; part = c_text (part_text f.cause) }

@@ -1,0 +1,19 @@
+-- What the steps of a call do.
+use Rattle.std.specs.Prelude.{◌≡◌, ℕ, List}
+use Rattle.ill_refusals.specs.Fault.{fault_of}
+use Rattle.ill_read.specs.declared.failure.Failure.{Failure}
+use Rattle.ill_c.specs.declared.refusal.IllcanonRefusal.{IllcanonRefusal}
+use Rattle.ill_c.specs.declared.status.Status.{Status}
+use Rattle.ill_c.specs.Memory.{Change, Stays, Fills, Lacks}
+use Rattle.ill_c.specs.Refusals.{told}
+
+-- the octets were put into the buffer, where it has room for them
+abbrev pub Puts : List ℕ → Change (List ℕ) → Change ℕ → Status → Type 0
+Puts octets buffer size Status.Done = Fills octets buffer size
+Puts octets buffer size Status.NoRoom = Lacks octets buffer size
+Puts octets buffer size _ = ⊥
+
+-- a failure was told
+abbrev pub IsTold : Failure → Change IllcanonRefusal → Status → Type 0
+IsTold (Failure.Refused it) refusal status = (status ≡ Status.Refused) × (refusal.after ≡ told (fault_of it))
+IsTold Failure.OutOfMemory refusal status = (status ≡ Status.OutOfMemory) × Stays refusal

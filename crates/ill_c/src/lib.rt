@@ -1,0 +1,23 @@
+//! The calls for C, over messages in memory. `bindings/c/illcanon.h` declares them, and says what a caller owes.
+//!
+//! A slice is a pointer and a length there. Each call returns the number of a [`Status`]. What it leaves in the caller's memory is
+//! exactly what its contract says: a buffer is written only where the call is done, and nothing after the octets.
+#![tactic(auto)]
+
+mod laws;
+mod next;
+mod octets;
+mod put;
+mod refusal;
+mod status;
+#[cfg(test)]
+mod tests;
+mod verdict;
+mod whole;
+
+pub use laws::{calls_have_one_result, parts_are_short};
+pub use next::illcanon_next;
+pub use octets::{illcanon_digest, illcanon_normalise, illcanon_show};
+pub use refusal::IllcanonRefusal;
+pub use status::Status;
+pub use verdict::{illcanon_check, illcanon_same};

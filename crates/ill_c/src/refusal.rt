@@ -1,0 +1,97 @@
+//! Refusals that are told to C.
+ghost use Rattle.std.specs.Prelude.{◌≡◌, ◌+◌};
+ghost use Rattle.ill_schema.specs.Names.{part_name_of};
+ghost use Rattle.ill_refusals.specs.Fault.{fault_of};
+ghost use Rattle.ill_c.specs.Memory.{change};
+ghost use Rattle.ill_c.specs.Refusals.{c_text, cause_number, dotted, part_text, told};
+ghost use Rattle.ill_c.specs.code.Steps.{IsTold};
+
+use crate::put::copy_at;
+use crate::status::Status;
+use ill_normal::{Cause, Failure, PartId, Refusal, part_name};
+
+/// Why octets are refused.
+#[repr(C)]
+#[derive(Clone, Copy)]
+pub struct IllcanonRefusal {
+    /// The offset of what the refusal is about, in octets from 0.
+    pub at: u32,
+    /// The number of the cause.
+    pub cause: u32,
+    /// The part that is left out or missing, as `Node.row-name`, and zeros after it. Of other causes zeros alone.
+    pub part: [u8; 64],
+}
+
+/// Tells a refusal, and returns how the call ends.
+pub(crate) fn tell(failure: Failure, refusal: &mut IllcanonRefusal) -> Status
+    ensures { IsTold failure (change refusal.old refusal.new) result }
+{
+    match failure {
+        Failure::Refused(it) => {
+            *refusal = told(it);
+            Status::Refused
+        }
+        Failure::OutOfMemory => Status::OutOfMemory,
+    }
+}
+
+/// A refusal as it is told.
+pub(crate) fn told(refusal: Refusal) -> IllcanonRefusal
+    ensures { result ≡ told (fault_of refusal) }
+{
+    IllcanonRefusal {
+        at: refusal.at,
+        cause: cause_number(refusal.cause),
+        part: part_of(refusal.cause),
+    }
+}
+
+fn cause_number(cause: Cause) -> u32
+    ensures { result ≡ cause_number cause }
+{
+    match cause {
+        Cause::Truncated => 1,
+        Cause::BadTag => 2,
+        Cause::BadLength => 3,
+        Cause::TooLong => 4,
+        Cause::Overrun => 5,
+        Cause::TooDeep => 6,
+        Cause::UnexpectedTag => 7,
+        Cause::LeftOut(_) => 8,
+        Cause::WrongForm => 9,
+        Cause::Missing(_) => 10,
+        Cause::BadEnd => 11,
+        Cause::BadBoolean => 12,
+        Cause::BadInteger => 13,
+        Cause::IntegerTooLong => 14,
+        Cause::BadText => 15,
+        Cause::BadDate => 16,
+        Cause::BadTime => 17,
+        Cause::TrailingBytes => 18,
+        Cause::NormalTooLong => 19,
+    }
+}
+
+/// The part that a cause is about, as a text of C.
+fn part_of(cause: Cause) -> [u8; 64]
+    ensures { result ≡ c_text (part_text cause) }
+{
+    match cause {
+        Cause::LeftOut(part) | Cause::Missing(part) => names_of(part),
+        _ => [0; 64],
+    }
+}
+
+/// The names of a part, as a text of C.
+fn names_of(part: PartId) -> [u8; 64]
+    ensures { result ≡ c_text (dotted (part_name_of part)) }
+{
+    let mut text = [0; 64];
+    if let Some((node, row)) = part_name(part) {
+        let dot = node.len();
+        copy_at(node.as_bytes(), &mut text, 0);
+        copy_at(b".", &mut text, dot);
+        copy_at(row.as_bytes(), &mut text, dot + 1);
+    }
+    text
+}

@@ -1,0 +1,36 @@
+//! How a call ends.
+ghost use Rattle.std.specs.Prelude.{◌≡◌};
+ghost use Rattle.ill_c.specs.Status.{status_number};
+
+/// How a call ends. In C it is a number.
+#[derive(Clone, Copy)]
+pub enum Status {
+    /// What was asked for is there.
+    Done,
+    /// The octets are not what the call reads, and the refusal says why.
+    Refused,
+    /// Of two messages the first is one, and the second is refused.
+    SecondRefused,
+    /// The octets may be the beginning of a message: at least one more is needed.
+    NeedsMore,
+    /// The buffer is too short, and the size says how many octets it needs.
+    NoRoom,
+    /// Out of memory.
+    OutOfMemory,
+}
+
+impl Status {
+    /// The number that C gets.
+    pub fn number(self) -> u32
+        ensures { result ≡ status_number self }
+    {
+        match self {
+            Status::Done => 0,
+            Status::Refused => 1,
+            Status::SecondRefused => 2,
+            Status::NeedsMore => 3,
+            Status::NoRoom => 4,
+            Status::OutOfMemory => 5,
+        }
+    }
+}

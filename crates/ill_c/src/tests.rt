@@ -1,0 +1,2 @@
+//! Each call on a message, and on octets that are refused.
+mod calls;

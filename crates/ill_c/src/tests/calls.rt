@@ -1,0 +1,90 @@
+//! Each call once, on an EXPIRED in indefinite form and on what isn't one.
+use crate::{
+    IllcanonRefusal, Status, illcanon_check, illcanon_digest, illcanon_next, illcanon_normalise,
+    illcanon_same, illcanon_show, parts_are_short,
+};
+
+const EXPIRED: &[u8] =
+    b"\x74\x1f\x30\x1d\x80\x01\x02\xa1\x0a\xa1\x03\x1b\x01\x47\xa2\x03\x1b\x01\x51\xa2\x0c\xa0\x0a\x80\x08\x32\x30\x32\x34\x30\x32\x32\x39";
+
+/// The same with indefinite lengths, in 47 octets.
+const INDEFINITE: &[u8] =
+    b"\x74\x80\x30\x80\x80\x01\x02\xa1\x80\xa1\x80\x1b\x01\x47\x00\x00\xa2\x80\x1b\x01\x51\x00\x00\x00\x00\xa2\x80\xa0\x80\x80\x08\x32\x30\x32\x34\x30\x32\x32\x39\x00\x00\x00\x00\x00\x00\x00\x00";
+
+/// An EXPIRED that ends after its version.
+const INCOMPLETE: &[u8] = b"\x74\x80\x30\x80\x80\x01\x02\x00\x00";
+
+/// SHA-256 of EXPIRED, by another program.
+const DIGEST: &[u8] =
+    b"\x41\xb0\xdc\xa8\x4b\x6d\xb1\xdb\x58\x78\x80\x99\x5c\xae\x8f\x2a\xe6\x40\xc5\xaf\x02\x6d\x4d\x97\x45\xa5\xbc\x56\xba\x11\xa7\x82";
+
+const TEXT: &[u8] = b"message 7 Expired
+protocol-version-num = 2
+transaction-id.transaction-group-qualifier = general \"G\"
+transaction-id.transaction-qualifier = general \"Q\"
+service-date-time.date-time-of-this-service.date = 20240229
+";
+
+/// A refusal that no call sets.
+const UNSET: IllcanonRefusal = IllcanonRefusal {
+    at: 77,
+    cause: 77,
+    part: [77; 64],
+};
+
+/// Whether exactly these octets were put at the front of the buffer.
+fn begins(buffer: &[u8], size: usize, want: &[u8]) -> bool {
+    match buffer.get(..size) {
+        Some(front) => front == want,
+        None => false,
+    }
+}
+
+#[test]
+fn octets_are_written(rt: HostRuntime) {
+    let alloc = rt.alloc();
+    let (mut buffer, mut size, mut refusal) = ([77; 256], 0, UNSET);
+    let status = illcanon_normalise(alloc, INDEFINITE, &mut buffer, &mut size, &mut refusal);
+    assert!(rt;
+        status == Status::Done.number() && begins(&buffer, size, EXPIRED),
+        "normalise"
+    );
+    let status = illcanon_digest(alloc, INDEFINITE, &mut buffer, &mut size, &mut refusal);
+    assert!(rt;
+        status == Status::Done.number() && begins(&buffer, size, DIGEST),
+        "digest"
+    );
+    let status = illcanon_show(alloc, INDEFINITE, 7, &mut buffer, &mut size, &mut refusal);
+    assert!(rt;
+        status == Status::Done.number() && begins(&buffer, size, TEXT),
+        "show"
+    );
+}
+
+#[test]
+fn messages_are_told_apart(rt: HostRuntime) {
+    let alloc = rt.alloc();
+    let (mut answer, mut size, mut refusal) = (77, 77, UNSET);
+    let status = illcanon_check(alloc, INDEFINITE, &mut answer, &mut refusal);
+    assert!(rt; status == Status::Done.number() && answer == 0, "check");
+    let status = illcanon_same(alloc, INDEFINITE, EXPIRED, &mut answer, &mut refusal);
+    assert!(rt; status == Status::Done.number() && answer == 1, "same");
+    let status = illcanon_next(alloc, INDEFINITE, &mut size, &mut refusal);
+    assert!(rt; status == Status::Done.number() && size == 47, "next");
+    let status = illcanon_next(alloc, &[], &mut size, &mut refusal);
+    assert!(rt; status == Status::NeedsMore.number(), "next of nothing");
+}
+
+#[test]
+fn a_refusal_names_its_part(rt: HostRuntime) {
+    let alloc = rt.alloc();
+    let (mut answer, mut refusal) = (77, UNSET);
+    let status = illcanon_check(alloc, INCOMPLETE, &mut answer, &mut refusal);
+    assert!(rt; status == Status::Refused.number(), "refused");
+    assert!(rt; refusal.at == 7 && refusal.cause == 10, "at 7: Missing");
+    assert!(rt;
+        refusal.part.starts_with(b"Expired.transaction-id\0"),
+        "part"
+    );
+    parts_are_short();
+}

@@ -1,0 +1,41 @@
+//! The normal form of octets that are one message.
+ghost use Rattle.std.specs.Prelude.{◌≡◌, List, ℕ, ◌++◌, length};
+ghost use Rattle.ill_read.specs.Answers.{IsNormalOf, NormalAnswers};
+
+use ill_normal::{
+    AtHand, Cause, Failure, FromSlice, LIMIT, Normal, ReadFailure, Refusal, read_normal_in,
+};
+use std::alloc::Global;
+
+/// The normal form of the message that the octets are, as [`decode_normal`](ill_normal::decode_normal) gives it. Memory is taken once,
+/// as much as the message has, since a normal form is seldom longer.
+pub(crate) fn read_whole(alloc: Global, octets: &[u8]) -> Result<Normal, Failure>
+    ensures { NormalAnswers octets.now result }
+{
+    let room = Vec::with_capacity(alloc, octets.len().min(LIMIT as usize))?;
+    let mut source = FromSlice::new(octets);
+    match read_normal_in::<FromSlice, AtHand>(alloc, &mut source, room) {
+        Ok(Some(normal)) => whole(normal, octets.len()),
+        Ok(None) => refused(0, Cause::Truncated),
+        Err(ReadFailure::Refused(refusal)) => Err(Failure::Refused(refusal)),
+        // A slice doesn't break.
+        Err(ReadFailure::OutOfMemory | ReadFailure::ReadFault) => Err(Failure::OutOfMemory),
+    }
+}
+
+/// The normal form of a message at the front of octets, if there are no more.
+fn whole(normal: Normal, count: usize) -> Result<Normal, Failure>
+    ensures { (front rest : List ℕ) → count ≡ length (front ++ rest) → IsNormalOf normal front → NormalAnswers (front ++ rest) result }
+{
+    if normal.read as usize == count {
+        Ok(normal)
+    } else {
+        refused(normal.read, Cause::TrailingBytes)
+    }
+}
+
+fn refused(at: u32, cause: Cause) -> Result<Normal, Failure>
+    ensures { result ≡ Err (Failure.Refused (record { at = at; cause = cause })) }
+{
+    Err(Failure::Refused(Refusal { at, cause }))
+}
