@@ -30,4 +30,3 @@ returns-in-Enumerated-clause-adds g c h =
     let fits : FitsSigned w64 c.number_in-in-Enumerated.result = search rules in
     let n = to_z-of_z w64 c.number_in-in-Enumerated.result fits ∙ c.number_in-in-Enumerated.ensures few.0 few.1 in
     adds_as _ _ _ _ (ap (λ (z : ℤ). line p (leaf_text c.args.name.now (whole z))) n ∙ ap (λ l. line p (leaf_text c.args.name.now (value (leaf_is l) o))) (sym c.in-Enumerated.is)) c.put_number-in-Enumerated.ensures.adds
-
