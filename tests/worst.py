@@ -7,14 +7,15 @@ program built, and GNU time (Debian's package `time`). Usage: worst.py
 import subprocess
 import sys
 import tempfile
+from itertools import chain
 from pathlib import Path
 
 from encoder import Writer
 from tables import CHOICES, LISTS, PROGRAM, ROWS, default_of
 
 LIMIT = 1_048_576
-# in kilobytes, beyond the input: of check and canonicalise, of show, and of show where no list is large
-LEAN, SHOWN, SMALL = 8 * 1024, 128 * 1024, 16 * 1024
+# in kilobytes, beyond the input: of check and canonicalise, and of show
+LEAN, SHOWN = 8 * 1024, 16 * 1024
 LEAST = {"Boolean": False, "Integer": 0, "Enumerated": 0, "IsoDate": "20240229", "IsoTime": "000000", "PrintableString": ""}
 
 
@@ -99,18 +100,17 @@ def main():
     failed, most = 0, []
     with tempfile.TemporaryDirectory() as name:
         folder = Path(name)
-        for kind, small in ((smalls, True), (lists, False)):
-            for title, message, words in kind():
-                (folder / "message").write_bytes(message)
-                for command in ("check", "show", "canonicalise"):
-                    seconds, kilobytes, status, said = run(command, words, folder)
-                    most.append((kilobytes, title, command))
-                    slow = seconds > max(1, len(message) / 1_000_000)
-                    bound = LEAN if command != "show" else SMALL if small else SHOWN
-                    large = kilobytes > bound + len(message) // 1024
-                    wrong = status not in ((0, 1) if command == "check" else (0,)) or said
-                    failed += slow or large or bool(wrong)
-                    print(f"{seconds:5.2f} s {kilobytes / 1024:6.1f} MB  {command:12} {title}{'  FAILED ' + said if slow or large or wrong else ''}")
+        for title, message, words in chain(smalls(), lists()):
+            (folder / "message").write_bytes(message)
+            for command in ("check", "show", "canonicalise"):
+                seconds, kilobytes, status, said = run(command, words, folder)
+                most.append((kilobytes, title, command))
+                slow = seconds > max(1, len(message) / 1_000_000)
+                bound = SHOWN if command == "show" else LEAN
+                large = kilobytes > bound + len(message) // 1024
+                wrong = status not in ((0, 1) if command == "check" else (0,)) or said
+                failed += slow or large or bool(wrong)
+                print(f"{seconds:5.2f} s {kilobytes / 1024:6.1f} MB  {command:12} {title}{'  FAILED ' + said if slow or large or wrong else ''}")
     print(f"the most: {max(most)[0] / 1024:.1f} MB, {max(most)[2]} of {max(most)[1]}; {len(most) - failed} passed, {failed} failed")
     sys.exit(1 if failed else 0)
 

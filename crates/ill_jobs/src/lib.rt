@@ -8,6 +8,7 @@ mod messages;
 mod piece;
 mod same;
 mod text;
+mod written;
 
 pub use fault::RunFault;
 pub use job::{Job, Verdict};

@@ -5,13 +5,14 @@ ghost use Rattle.ill_read.specs.Answers.{ReadsNext};
 ghost use Rattle.ill_jobs.specs.declared.job.Job.{Job};
 ghost use Rattle.ill_normal.specs.Messages.{Makes};
 ghost use Rattle.ill_jobs.specs.Output.{is_good, line_of_check, message_output};
+ghost use Rattle.ill_jobs.specs.code.Writing.{IsWritten};
 
 use crate::job::Job;
+use crate::written::Written;
 use ber_core::{Look, Source};
-use ill_normal::{
-    Checked, Maker, NormalForms, Piece, ReadFailure, apdu_name, check_one_in, read_message_by,
-};
-use ill_text::show_text;
+use ill_normal::{Checked, Maker, NormalForms, Piece, ReadFailure, apdu_name, check_one_in};
+use ill_read::{Outline, read_outline_in};
+use ill_text::Text;
 use itoa::Buffer;
 use std::alloc::{AllocError, Global};
 
@@ -24,6 +25,8 @@ pub struct Work {
 }
 
 impl Maker for Work {
+    type Out = Written;
+
     ghost use Rattle.ill_jobs.specs.Output.{is_good, message_output};
 
     ghost text = { λ work. message_output work.job work.hex };
@@ -35,31 +38,27 @@ impl Maker for Work {
         alloc: Global,
         number: u32,
         source: &mut R,
-        room: Vec<u8>,
-    ) -> Result<Option<Piece>, ReadFailure> {
+        room: Written,
+    ) -> Result<Option<Piece<Written>>, ReadFailure> {
         next_piece::<R, L>(alloc, *self, number, source, room)
     }
 }
 
-/// Reads the next message, and makes its whole output; None at the end of the input.
+/// Reads the next message, and makes its output; None at the end of the input.
 fn next_piece<R: Source, L: Look<R>>(
     alloc: Global,
     work: Work,
     number: u32,
     source: &mut R,
-    room: Vec<u8>,
-) -> Result<Option<Piece>, ReadFailure>
+    room: Written,
+) -> Result<Option<Piece<Written>>, ReadFailure>
     ensures { ReadsNext (R.left source.old) (R.left source.new) (R.is_broken source.old) (R.is_broken source.new)
-        (Makes (message_output work.job work.hex number) (is_good work.job)) result }
+        (Makes IsWritten (message_output work.job work.hex number) (is_good work.job)) result }
 {
     match work.job {
-        // The text before is let go, so that two are never held.
-        Job::Show => {
-            drop(room);
-            shown::<R, L>(alloc, number, source)
-        }
-        Job::Check => checked::<R, L>(alloc, number, source, room),
-        Job::Canonicalise => canonical::<R, L>(alloc, work.hex, source, room),
+        Job::Show => shown::<R, L>(alloc, number, source, room.into_outline(alloc)),
+        Job::Check => checked::<R, L>(alloc, number, source, room.into_octets(alloc)),
+        Job::Canonicalise => canonical::<R, L>(alloc, work.hex, source, room.into_octets(alloc)),
     }
 }
 
@@ -67,18 +66,20 @@ fn shown<R: Source, L: Look<R>>(
     alloc: Global,
     number: u32,
     source: &mut R,
-) -> Result<Option<Piece>, ReadFailure>
+    room: Outline,
+) -> Result<Option<Piece<Written>>, ReadFailure>
     ensures { ReadsNext (R.left source.old) (R.left source.new) (R.is_broken source.old) (R.is_broken source.new)
-        (λ p octets. (hex : Bool) → Makes (message_output Job.Show hex number) (is_good Job.Show) p octets) result }
+        (λ p octets. (hex : Bool) → Makes IsWritten (message_output Job.Show hex number) (is_good Job.Show) p octets) result }
 {
-    let Some(message) = read_message_by::<R, L>(alloc, source)? else {
+    let Some(read) = read_outline_in::<R, L>(alloc, source, room)? else {
         return Ok(None);
     };
-    match show_text(alloc, number, &message) {
+    let octets = read.read;
+    match Text::new(number, read.outline) {
         Ok(text) => Ok(Some(Piece {
-            text,
+            text: Written::Shown(text),
             is_good: true,
-            octets: message.octets(),
+            octets,
         })),
         Err(AllocError) => Err(ReadFailure::OutOfMemory),
     }
@@ -89,16 +90,16 @@ fn checked<R: Source, L: Look<R>>(
     number: u32,
     source: &mut R,
     room: Vec<u8>,
-) -> Result<Option<Piece>, ReadFailure>
+) -> Result<Option<Piece<Written>>, ReadFailure>
     ensures { ReadsNext (R.left source.old) (R.left source.new) (R.is_broken source.old) (R.is_broken source.new)
-        (λ p octets. (hex : Bool) → Makes (message_output Job.Check hex number) (is_good Job.Check) p octets) result }
+        (λ p octets. (hex : Bool) → Makes IsWritten (message_output Job.Check hex number) (is_good Job.Check) p octets) result }
 {
     let Some((found, normal)) = check_one_in::<R, L>(alloc, source, room)? else {
         return Ok(None);
     };
     match check_line(normal, number, found) {
         Ok(text) => Ok(Some(Piece {
-            text,
+            text: Written::Octets(text),
             is_good: found.is_normal,
             octets: found.octets,
         })),
@@ -138,19 +139,23 @@ fn canonical<R: Source, L: Look<R>>(
     hex: bool,
     source: &mut R,
     room: Vec<u8>,
-) -> Result<Option<Piece>, ReadFailure>
+) -> Result<Option<Piece<Written>>, ReadFailure>
     ensures { ReadsNext (R.left source.old) (R.left source.new) (R.is_broken source.old) (R.is_broken source.new)
-        (λ p octets. (number : ℕ) → Makes (message_output Job.Canonicalise hex number) (is_good Job.Canonicalise) p octets) result }
+        (λ p octets. (number : ℕ) → Makes IsWritten (message_output Job.Canonicalise hex number) (is_good Job.Canonicalise) p octets) result }
 {
     let Some(normal) = NormalForms.next::<R, L>(alloc, 1, source, room)? else {
         return Ok(None);
     };
     if !hex {
-        return Ok(Some(normal));
+        return Ok(Some(Piece {
+            text: Written::Octets(normal.text),
+            is_good: normal.is_good,
+            octets: normal.octets,
+        }));
     }
     match hex_line(alloc, &normal.text) {
         Ok(text) => Ok(Some(Piece {
-            text,
+            text: Written::Octets(text),
             is_good: true,
             octets: normal.octets,
         })),

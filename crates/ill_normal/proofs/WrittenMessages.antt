@@ -68,12 +68,13 @@ reached_none text is_good left held = record {
 }
 
 -- the octets of the next message were taken, and the piece was made of them
-abbrev pub Made : (ℕ → Spelling → List ℕ) → (Spelling → Bool) → ℕ → Option (List ℕ) → Option (List ℕ) → Piece → Type 0
-Made text is_good i left left' piece = (b : List ℕ) × Consumes left left' b × Makes (text i) is_good piece b
+abbrev pub Made : {T : Type 0} → (T → List ℕ → Type 0) → (ℕ → Spelling → List ℕ) → (Spelling → Bool) → ℕ → Option (List ℕ) → Option (List ℕ) → Piece T → Type 0
+Made is text is_good i left left' piece = (b : List ℕ) × Consumes left left' b × Makes is (text i) is_good piece b
 
 -- a message has at most 1,048,576 octets
-pub made_bound : (text : ℕ → Spelling → List ℕ) (is_good : Spelling → Bool) (i : ℕ) (left left' : Option (List ℕ)) (piece : Piece) → Made text is_good i left left' piece → piece.octets ≤ 1_048_576
-made_bound text is_good i left left' piece p = let h : length p.0 ≤ 1_048_576 = p.2.spells.encodes.short in omega (arith, p.2.size)
+pub made_bound : {T : Type 0} (is : T → List ℕ → Type 0) (text : ℕ → Spelling → List ℕ) (is_good : Spelling → Bool) (i : ℕ) (left left' : Option (List ℕ)) (piece : Piece T)
+    → Made is text is_good i left left' piece → piece.octets ≤ 1_048_576
+made_bound is text is_good i left left' piece p = let h : length p.0 ≤ 1_048_576 = p.2.spells.encodes.short in omega (arith, p.2.size)
 
 module _ (text : ℕ → Spelling → List ℕ) (is_good : Spelling → Bool) (left left' left'' held held' held'' : Option (List ℕ)) (whole before written : ℕ) (good : Bool)
     (r : Reached text is_good left left' held held' whole before written good) where
@@ -81,12 +82,13 @@ module _ (text : ℕ → Spelling → List ℕ) (is_good : Spelling → Bool) (l
   pushed m = let e : 1 + length r.messages ≡ whole + 1 = omega (arith, r.count) in
       output_push text 1 r.messages m ∙ ap (λ (n : ℕ). output_from text 1 r.messages ++ text n m) e
 
-  pub reached_more : (piece : Piece) → Made text is_good (whole + 1) left' left'' piece → Appends held' held'' piece.text.items
-      → Reached text is_good left left'' held held'' (whole + 1) (before + piece.octets) (written + length piece.text.items) (next_good good piece.is_good)
-  reached_more piece p w =
+  pub reached_more : {T : Type 0} (is : T → List ℕ → Type 0) (piece : Piece T) (p : Made is text is_good (whole + 1) left' left'' piece) (size : ℕ)
+      → size ≡ length (text (whole + 1) (spelling p.2.apdu p.0)) → Appends held' held'' (text (whole + 1) (spelling p.2.apdu p.0))
+      → Reached text is_good left left'' held held'' (whole + 1) (before + piece.octets) (written + size) (next_good good piece.is_good)
+  reached_more is piece p size n w =
       let m : Spelling = spelling p.2.apdu p.0 in
       let so_far = output_from text 1 r.messages in
-      let all : so_far ++ piece.text.items ≡ output_from text 1 (r.messages ++ m ∷ []) = ap (λ l. so_far ++ l) p.2.text ∙ sym (pushed m) in
+      let all : so_far ++ text (whole + 1) m ≡ output_from text 1 (r.messages ++ m ∷ []) = sym (pushed m) in
       record {
         messages = r.messages ++ m ∷ [];
         writes = record {
@@ -97,7 +99,7 @@ module _ (text : ℕ → Spelling → List ℕ) (is_good : Spelling → Bool) (l
         };
         count = omega (arith, r.count, length-append r.messages (m ∷ []));
         input = omega (arith, r.input, p.2.size, length-append r.writes.octets p.0);
-        size = omega (arith, r.size, ap length all, length-append so_far piece.text.items);
+        size = omega (arith, r.size, n, ap length all, length-append so_far (text (whole + 1) m));
         all = ap (λ (b : Bool). next_good b piece.is_good) r.all ∙ ap (λ (b : Bool). next_good (list_all is_good r.messages) b) p.2.good ∙ sym (good_push is_good r.messages m);
       }
 
@@ -140,10 +142,10 @@ module _ (text : ℕ → Spelling → List ℕ) (is_good : Spelling → Bool) (l
     }
 
     -- the sink broke
-    pub ends_writing : (piece : Piece) (n : ℕ) → whole < 1_000_000 → TakesFront left' left'' → Made text is_good (whole + 1) left' left'' piece
-        → Appends held' held'' (take n piece.text.items) → n < length piece.text.items → IsTrue y
+    pub ends_writing : {T : Type 0} (is : T → List ℕ → Type 0) (piece : Piece T) (n : ℕ) → whole < 1_000_000 → TakesFront left' left'' → (p : Made is text is_good (whole + 1) left' left'' piece)
+        → Appends held' held'' (take n (text (whole + 1) (spelling p.2.apdu p.0))) → n < length (text (whole + 1) (spelling p.2.apdu p.0)) → IsTrue y
         → EndsAfter text (taking left left'' x) (putting held held'' y) (record { whole = whole; before = before; written = written + n; why = Why.Write n })
-    ends_writing piece n lt t p w fewer broken = record {
+    ends_writing is piece n lt t p w fewer broken = record {
       messages = r.messages;
       rest = left';
       grown = held';
@@ -158,8 +160,8 @@ module _ (text : ℕ → Spelling → List ℕ) (is_good : Spelling → Bool) (l
           message = spelling p.2.apdu p.0;
           spells = p.2.spells;
           taken = p.1;
-          written = subst (λ z. Appends held' held'' (take n z)) p.2.text w;
-          fewer = subst (λ z. n < length z) p.2.text fewer;
+          written = w;
+          fewer = fewer;
           broken = broken;
         },
       );

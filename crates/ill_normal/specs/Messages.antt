@@ -32,11 +32,11 @@ abbrev pub output_from : (ℕ → Spelling → List ℕ) → ℕ → List Spelli
 output_from text i [] = []
 output_from text i (m ∷ ms) = text i m ++ output_from text (suc i) ms
 
--- the octets spell an APDU, and the piece says what is written of it, whether it is as it should be, and how many octets it has
-pub record Makes (output : Spelling → List ℕ) (is_good : Spelling → Bool) (piece : Piece) (octets : List ℕ) : Type 0 where
+-- the octets spell an APDU, and the piece has what is written of it, and says whether it is as it should be, and how many octets it has
+pub record Makes {T : Type 0} (is : T → List ℕ → Type 0) (output : Spelling → List ℕ) (is_good : Spelling → Bool) (piece : Piece T) (octets : List ℕ) : Type 0 where
   pub apdu : Apdu
   pub spells : SpellsApdu profile_two apdu octets
-  pub text : piece.text.items ≡ output (spelling apdu octets)
+  pub text : is piece.text (output (spelling apdu octets))
   pub good : piece.is_good ≡ is_good (spelling apdu octets)
   pub size : piece.octets ≡ length octets
 

@@ -1,6 +1,6 @@
 //! The messages of an input, one after another.
-ghost use Rattle.std.specs.Prelude.{◌≡◌, ℕ, ◌+◌, Bool, List, [], ◌∷◌, IfOk, IfErr, OnOk, IsTrue};
-ghost use Rattle.std.specs.Io.KnownBytes.{Consumes, IsAtEnd, Keeps};
+ghost use Rattle.std.specs.Prelude.{◌≡◌, ℕ, ◌+◌, ◌<◌, ◌≤◌, ◌^◌, Bool, List, [], ◌∷◌, length, take, IfOk, IfErr, OnOk, IsErr, IsTrue};
+ghost use Rattle.std.specs.Io.KnownBytes.{Appends, Consumes, IsAtEnd, Keeps};
 ghost use Rattle.ill_read.specs.Answers.{ReadsNext};
 ghost use Rattle.ill_normal.specs.Calls.{taking, putting};
 ghost use Rattle.ill_normal.specs.Messages.{EndsAfter, Makes, PassesAll, Spelling};
@@ -16,17 +16,55 @@ const MESSAGES: u32 = 1_000_000;
 
 /// What is made of a message.
 #[derive(Drop)]
-pub struct Piece {
+pub struct Piece<T: Drop> {
     /// What is written of it.
-    pub text: Vec<u8>,
+    pub text: T,
     /// Whether the message is as it should be.
     pub is_good: bool,
     /// How many octets it has in the input.
     pub octets: u32,
 }
 
+/// What holds that which is written of a message.
+pub trait Output: Drop {
+    // The octets that are written of it.
+    ghost is: { Self → List ℕ → Type 0 };
+
+    /// Holds nothing, and takes no memory yet.
+    fn empty(alloc: Global) -> Self;
+
+    /// Puts the octets into the sink, and returns how many they are. That takes no memory.
+    ///
+    /// # Errors
+    ///
+    /// Where the sink breaks: the number of octets that it took, the first ones. They are not all.
+    fn put<W: Sink>(&self, sink: &mut W) -> Result<usize, usize>
+        ensures all { (octets : List ℕ) → is self.now octets → OnOk result (Appends (W.contents sink.old) (W.contents sink.new) octets) }
+        ensures count { (octets : List ℕ) → is self.now octets → IfOk result (λ n. (n ≡ length octets) × (n ≤ 2 ^ 63)) }
+        ensures some { (octets : List ℕ) → is self.now octets → IfErr result (λ n. Appends (W.contents sink.old) (W.contents sink.new) (take n octets)) }
+        ensures fewer { (octets : List ℕ) → is self.now octets → IfErr result (λ n. n < length octets) }
+        ensures breaks { (octets : List ℕ) → is self.now octets → IsErr result → IsTrue (W.is_broken sink.new) }
+        ensures stays { IsTrue (W.is_broken sink.old) → IsTrue (W.is_broken sink.new) };
+}
+
+impl Output for Vec<u8> {
+    ghost is = { λ v octets. v.items ≡ octets };
+
+    fn empty(alloc: Global) -> Vec<u8> {
+        Vec::new(alloc)
+    }
+
+    fn put<W: Sink>(&self, sink: &mut W) -> Result<usize, usize> {
+        put_all(sink, self.as_slice())?;
+        Ok(self.len())
+    }
+}
+
 /// What makes something of each message of an input.
 pub trait Maker {
+    /// What holds that which is written of a message.
+    type Out: Output;
+
     // What is written of the message of this number.
     ghost text: { Self → ℕ → Spelling → List ℕ };
 
@@ -34,7 +72,7 @@ pub trait Maker {
     ghost is_good: { Self → Spelling → Bool };
 
     /// Reads the message that the source begins with, as [`read_message`](crate::read_message) does, and makes of it what is written. This
-    /// may stand in the memory of `room`, whose octets are forgotten.
+    /// may stand in the memory of `room`, what it holds is forgotten.
     ///
     /// # Errors
     ///
@@ -44,10 +82,10 @@ pub trait Maker {
         alloc: Global,
         number: u32,
         source: &mut R,
-        room: Vec<u8>,
-    ) -> Result<Option<Piece>, ReadFailure>
+        room: Self::Out,
+    ) -> Result<Option<Piece<Self::Out>>, ReadFailure>
         ensures { ReadsNext (R.left source.old) (R.left source.new) (R.is_broken source.old) (R.is_broken source.new)
-            (Makes (text self.now number) (is_good self.now)) result };
+            (Makes Self.Out.is (text self.now number) (is_good self.now)) result };
 }
 
 /// Messages to the end of an input.
@@ -82,8 +120,8 @@ pub struct Stopped {
     pub why: Why,
 }
 
-/// Writes what is made of each message of an input, one after another up to its end, by a way to look at the source. A message's whole
-/// text is made before any of it is written, and one message is held at a time. The memory of a text is used again for the next one.
+/// Writes what is made of each message of an input, one after another up to its end, by a way to look at the source. All that is
+/// needed of a message is made before any of it is written, and one message is held at a time. Its memory is used again for the next one.
 ///
 /// # Errors
 ///
@@ -105,19 +143,22 @@ pub fn each_message<M: Maker, R: Source, L: Look<R>, W: Sink>(
     let mut all_good = true;
     let mut before = 0;
     let mut written = 0;
-    let mut room = Vec::new(alloc);
+    let mut room = M::Out::empty(alloc);
     for whole in 0..MESSAGES {
         let piece = match maker.next::<R, L>(alloc, whole + 1, source, room) {
             Ok(Some(piece)) => piece,
             Ok(None) => return Ok(Passed { whole, all_good }),
             Err(failure) => return Err(ended(whole, before, written, Why::Read(failure))),
         };
-        if let Err(count) = put_all(sink, &piece.text) {
-            let written = written + count as u128;
-            return Err(ended(whole, before, written, Why::Write(count)));
-        }
+        let count = match piece.text.put(sink) {
+            Ok(count) => count,
+            Err(count) => {
+                let written = written + count as u128;
+                return Err(ended(whole, before, written, Why::Write(count)));
+            }
+        };
         before += u64::from(piece.octets);
-        written += piece.text.len() as u128;
+        written += count as u128;
         if !piece.is_good {
             all_good = false;
         }

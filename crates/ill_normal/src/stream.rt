@@ -20,6 +20,8 @@ use std::alloc::Global;
 pub struct NormalForms;
 
 impl Maker for NormalForms {
+    type Out = Vec<u8>;
+
     ghost text = { λ _ i m. normal_form m.apdu };
 
     ghost is_good = { λ _ m. true };
@@ -30,7 +32,7 @@ impl Maker for NormalForms {
         number: u32,
         source: &mut R,
         room: Vec<u8>,
-    ) -> Result<Option<Piece>, ReadFailure> {
+    ) -> Result<Option<Piece<Vec<u8>>>, ReadFailure> {
         let _ = number;
         let Some(normal) = read_normal_in::<R, L>(alloc, source, room)? else {
             return Ok(None);

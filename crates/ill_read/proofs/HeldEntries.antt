@@ -30,14 +30,14 @@ pub somes-all : (vs : List Value) → somes (map Some vs) ≡ vs
 somes-all [] = refl
 somes-all (v ∷ vs) = ap (λ ws. v ∷ ws) (somes-all vs)
 
-drop-take-more : (from n : ℕ) (rows : List Row) (row : Row) → from ≤ n → slice_get rows n ≡ Some row → drop from (take (suc n) rows) ≡ drop from (take n rows) ++ row ∷ []
+pub drop-take-more : (from n : ℕ) (rows : List Row) (row : Row) → from ≤ n → slice_get rows n ≡ Some row → drop from (take (suc n) rows) ≡ drop from (take n rows) ++ row ∷ []
 drop-take-more from n [] row h e = absurd cc
 drop-take-more zero zero (r ∷ rows) row h e = let q : r ≡ row = cc in ap (λ x. x ∷ []) q
 drop-take-more (suc from) zero (r ∷ rows) row h e = absurd (omega arith)
 drop-take-more zero (suc n) (r ∷ rows) row h e = ap (λ xs. r ∷ xs) (drop-take-more zero n rows row (omega arith) e)
 drop-take-more (suc from) (suc n) (r ∷ rows) row h e = drop-take-more from n rows row (omega arith) e
 
-take-past : (n : ℕ) (rows : List Row) → slice_get rows n ≡ None → take (suc n) rows ≡ take n rows
+pub take-past : (n : ℕ) (rows : List Row) → slice_get rows n ≡ None → take (suc n) rows ≡ take n rows
 take-past zero [] e = refl
 take-past (suc n) [] e = refl
 take-past zero (r ∷ rows) e = absurd cc

@@ -31,3 +31,4 @@ pub mod OctetDrafts
 pub mod NormalLeaves
 pub mod NormalElements
 pub mod NormalEntries
+pub mod Outlines

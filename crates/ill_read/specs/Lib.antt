@@ -8,4 +8,6 @@ pub mod Standing
 pub mod Feeding
 pub mod Need
 pub mod Answers
+pub mod Outline
+pub mod Outlined
 pub mod code

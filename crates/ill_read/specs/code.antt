@@ -8,3 +8,4 @@ pub mod JudgeCode
 pub mod Filling
 pub mod Written
 pub mod OctetDrafts
+pub mod Outlines

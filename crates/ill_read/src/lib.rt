@@ -14,9 +14,12 @@ mod judge;
 mod keep;
 mod laws;
 mod leaf_type;
+mod mark;
 mod need;
 mod normal;
 mod octets;
+mod outline;
+mod outlined;
 mod path;
 mod read;
 mod reader;
@@ -29,7 +32,11 @@ pub use ill_refusals::{
     one_outcome, one_place, refusals_stay, truncated_at_the_end, values_are_small,
 };
 pub use laws::decoders_are_apart;
+pub use leaf_type::LeafType;
+pub use mark::Mark;
 pub use normal::{
     Normal, decode_normal, read_kept_normal_by, read_kept_normal_in, read_normal_by, read_normal_in,
 };
+pub use outline::Outline;
+pub use outlined::{Outlined, read_outline_in};
 pub use read::{decode, read_kept, read_kept_by, read_message, read_message_by};

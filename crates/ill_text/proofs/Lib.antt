@@ -1,1 +1,3 @@
+pub mod Sent
 pub mod Lines
+pub mod Messages

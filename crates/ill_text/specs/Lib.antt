@@ -1,3 +1,4 @@
 pub mod Numbers
 pub mod Shown
+pub mod TextOf
 pub mod code

@@ -1,1 +1,3 @@
-pub mod Pages
+pub mod Sending
+pub mod Trails
+pub mod Marks

@@ -1,9 +1,14 @@
 //! Messages as text that people read: a line for each leaf.
 #![tactic(auto)]
 
+mod leaf;
+mod message;
 mod number;
-mod page;
+mod out;
 mod part;
 mod show;
+mod text;
+mod trail;
 
-pub use show::show_text;
+pub use message::show_text;
+pub use text::Text;

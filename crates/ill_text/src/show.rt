@@ -1,143 +1,267 @@
-//! Values as lines.
-ghost use Rattle.std.specs.Prelude.{◌≡◌, [], not, IfOk};
-ghost use Rattle.ill_schema.specs.Message.{apdu_of};
-ghost use Rattle.ill_schema.specs.Value.{content_of, entries_content, items_content};
-ghost use Rattle.ill_schema.specs.Content.{sequence, list};
-ghost use Rattle.ill_text.specs.code.Pages.{Adds, place_at};
-ghost use Rattle.ill_text.specs.Shown.{lines_of, is_empty, shown_text, part, item_of};
+//! Outlines as lines.
+ghost use Rattle.std.specs.Prelude.{◌≡◌, ◌<◌, ◌≤◌, ℕ, List, [], ◌∷◌, ◌++◌, length, map, drop, slice_get, IsTrue, Option};
+ghost use Rattle.ill_schema.specs.Content.{Content, Entries, Items, sequence, list};
+ghost use Rattle.ill_read.specs.Outline.{AreEntries, AreItems, IsMarked};
+ghost use Rattle.ill_read.specs.declared.mark.Mark.{Mark};
+ghost use Rattle.ill_text.specs.code.Marks.{IsEntry, alternative_in, entry_text, front_octets, is_at_end, is_octet, is_there, passed_in};
+ghost use Rattle.ill_text.specs.code.Sending.{Adds, sending};
+ghost use Rattle.ill_text.specs.code.Trails.{path_of, place_at};
+ghost use Rattle.ill_text.specs.Shown.{item_of, leaf_text, line, lines_of, part};
+ghost use Rattle.ber_leaf.specs.Content.{IsContent};
+ghost use Rattle.ber_leaf.specs.Leaf.{value};
+ghost use Rattle.ill_read.specs.LeafTypes.{leaf_is};
 
-use crate::page::Page;
+use crate::leaf::{put_default, put_leaf};
+use crate::out::Out;
 use crate::part::{row_name, row_node};
-use ber_leaf::IllString;
-use ill_schema::{Message, NodeId, Value};
-use itoa::Buffer;
-use std::alloc::{AllocError, Global};
+use crate::trail::{Trail, put_line};
+use ber_core::Sink;
+use ill_read::{LeafType, Mark};
+use ill_schema::{NodeId, PartId};
 
-/// The text of a message under this number: `message`, the number and the APDU's name, and then a
-/// line for each leaf, its path and its value.
-///
-/// # Errors
-///
-/// Only out of memory.
-pub fn show_text(alloc: Global, number: u32, message: &Message) -> Result<Vec<u8>, AllocError>
-    ensures { IfOk result (λ text. text.items ≡ shown_text number (apdu_of message.now)) }
-{
-    let apdu = message.apdu().saturating_sub(1) as usize;
-    let mut buffer = Buffer::new();
-    let mut page = Page::new(alloc);
-    page.text.extend_from_slice(b"message ")?;
-    page.text
-        .extend_from_slice(buffer.format(number).as_bytes())?;
-    page.text.extend_from_slice(b" ")?;
-    page.text
-        .extend_from_slice(row_name(NodeId::ILL_APDU, apdu).as_bytes())?;
-    page.text.extend_from_slice(b"\n")?;
-    show_value(
-        message.body(),
-        "",
-        row_node(NodeId::ILL_APDU, apdu),
-        &mut page,
-    )?;
-    Ok(page.text)
-}
-
-/// Adds the lines of a value of this node in a row of this name.
+/// Puts the lines of the value that the marks begin with, of this node in a row of this name, and returns the marks after it.
 #[cycle(show)]
-fn show_value(value: &Value, name: &str, node: NodeId, page: &mut Page) -> Result<(), AllocError>
-    ensures { Adds result page.old page.new (lines_of (place_at page.old name.now node) (content_of value.now)) }
-{
-    match value {
-        Value::Flag(true) => page.put_plain(b"TRUE"),
-        Value::Flag(false) => page.put_plain(b"FALSE"),
-        Value::Whole(number) => page.put_number(name, *number),
-        Value::Date(text) => page.put_plain(text.octets()),
-        Value::Time(text) => page.put_plain(text.octets()),
-        Value::Print(text) => page.put_quoted("", text.octets()),
-        Value::Str(IllString::General(text)) => page.put_quoted("general ", text.octets()),
-        Value::Str(IllString::Visible(text)) => page.put_quoted("visible ", text.octets()),
-        Value::Seq(entries) => show_entries(entries, name, node, page),
-        Value::List(items) => show_items(items, name, node, page),
-        Value::Alt(number, chosen) => show_part(chosen, node, *number as usize, page),
-    }
-}
-
-/// Adds the lines of the value in a row.
-#[cycle(show)]
-fn show_part(value: &Value, node: NodeId, i: usize, page: &mut Page) -> Result<(), AllocError>
-    ensures { Adds result page.old page.new (lines_of (part (place_at page.old [] node) i) (content_of value.now)) }
-{
-    let outer = page.path.len();
-    let name = row_name(node, i);
-    page.enter_row(name)?;
-    show_value(value, name, row_node(node, i), page)?;
-    page.path.truncate(outer);
-    Ok(())
-}
-
-/// Whether any entry is there.
-fn has_some(entries: &[Option<Value>]) -> bool
-    ensures { result ≡ not (is_empty (entries_content entries.now)) }
-{
-    for entry in entries {
-        if entry.is_some() {
-            return true;
-        }
-    }
-    false
-}
-
-#[cycle(show)]
-fn show_entries(
-    entries: &Vec<Option<Value>>,
+pub fn put_value<'m, W: Sink>(
+    marks: &'m [Mark],
+    trail: &Trail<'_>,
     name: &str,
     node: NodeId,
-    page: &mut Page,
-) -> Result<(), AllocError>
-    ensures { Adds result page.old page.new (lines_of (place_at page.old name.now node) (sequence (entries_content entries.now.items))) }
+    out: &mut Out,
+    sink: &mut W,
+) -> &'m [Mark]
+    ensures adds { (c : Content) (ms rest : List Mark) → IsMarked c ms → marks.now ≡ ms ++ rest → (result.now ≡ rest)
+        × Adds (lines_of (place_at trail.now name.now node) c) (sending (W.contents sink.old) (W.is_broken sink.old) out.old) (sending (W.contents sink.new) (W.is_broken sink.new) out.new) }
+    ensures shorter { 0 < length marks.now → length result.now < length marks.now }
+    ensures no_longer { length result.now ≤ length marks.now }
+    ensures stays { IsTrue (W.is_broken sink.old) → IsTrue (W.is_broken sink.new) }
 {
-    if !has_some(entries) {
-        return page.put_plain(b"{}");
-    }
-    for (i, entry) in entries.iter().enumerate() {
-        if let Some(value) = entry {
-            show_part(value, node, i, page)?;
+    let Some(first) = first_mark(marks) else {
+        return marks;
+    };
+    let rest = after_first(marks);
+    match first {
+        Mark::Leaf(leaf) => put_marked_leaf(leaf, rest, trail, name, out, sink),
+        Mark::Passed(part) => {
+            let _ = put_default(part, trail, name, out, sink);
+            rest
         }
+        Mark::Alternative(row) => put_part(rest, trail, node, row as usize, out, sink),
+        Mark::Sequence => put_entries(rest, trail, name, node, out, sink),
+        Mark::List => put_items(rest, trail, name, node, out, sink),
+        Mark::Octet(_) => rest,
+        Mark::End => rest,
     }
-    Ok(())
 }
 
-#[cycle(show)]
-fn show_items(
-    items: &Vec<Value>,
+/// Puts the line of a leaf whose octets the marks begin with, and returns the marks after it.
+fn put_marked_leaf<'m, W: Sink>(
+    leaf: LeafType,
+    marks: &'m [Mark],
+    trail: &Trail<'_>,
     name: &str,
-    node: NodeId,
-    page: &mut Page,
-) -> Result<(), AllocError>
-    ensures { Adds result page.old page.new (lines_of (place_at page.old name.now node) (list (items_content items.now.items))) }
+    out: &mut Out,
+    sink: &mut W,
+) -> &'m [Mark]
+    ensures adds { (octets : List ℕ) (rest : List Mark) → IsContent (leaf_is leaf) octets → marks.now ≡ map Mark.Octet octets ++ (Mark.End ∷ rest) → (result.now ≡ rest)
+        × Adds (line (path_of trail.now) (leaf_text name.now (value (leaf_is leaf) octets))) (sending (W.contents sink.old) (W.is_broken sink.old) out.old) (sending (W.contents sink.new) (W.is_broken sink.new) out.new) }
+    ensures shorter { length result.now ≤ length marks.now }
+    ensures stays { IsTrue (W.is_broken sink.old) → IsTrue (W.is_broken sink.new) }
 {
-    if items.is_empty() {
-        return page.put_plain(b"[]");
-    }
-    for (i, item) in items.iter().enumerate() {
-        show_item(item, i, name, node, page)?;
-    }
-    Ok(())
+    let count = front_octets(marks);
+    put_leaf(leaf, &marks[..count], trail, name, out, sink);
+    &marks[(count + 1).min(marks.len())..]
 }
 
-/// Adds the lines of an item, which has its list's name.
+/// How many marks of octets stand first.
+fn front_octets(marks: &[Mark]) -> usize
+    ensures exact { result ≡ front_octets marks.now }
+    ensures within { result ≤ length marks.now }
+{
+    let mut count = 0;
+    for mark in marks {
+        if !is_octet(*mark) {
+            return count;
+        }
+        count += 1;
+    }
+    count
+}
+
+fn is_octet(mark: Mark) -> bool
+    ensures { result ≡ is_octet mark }
+{
+    matches!(&mark, Mark::Octet(_))
+}
+
+/// Puts the lines of the value in a row.
 #[cycle(show)]
-fn show_item(
-    item: &Value,
+fn put_part<'m, W: Sink>(
+    marks: &'m [Mark],
+    trail: &Trail<'_>,
+    node: NodeId,
     i: usize,
+    out: &mut Out,
+    sink: &mut W,
+) -> &'m [Mark]
+    ensures adds { (c : Content) (ms rest : List Mark) → IsMarked c ms → marks.now ≡ ms ++ rest → (result.now ≡ rest)
+        × Adds (lines_of (part (place_at trail.now [] node) i) c) (sending (W.contents sink.old) (W.is_broken sink.old) out.old) (sending (W.contents sink.new) (W.is_broken sink.new) out.new) }
+    ensures shorter { 0 < length marks.now → length result.now < length marks.now }
+    ensures no_longer { length result.now ≤ length marks.now }
+    ensures stays { IsTrue (W.is_broken sink.old) → IsTrue (W.is_broken sink.new) }
+{
+    let name = row_name(node, i);
+    let inside = Trail::Row(&*trail, name);
+    put_value(marks, &inside, name, row_node(node, i), out, sink)
+}
+
+/// Puts the lines of a row's entry, and returns the marks after it, and whether there was a value.
+#[cycle(show)]
+fn put_entry<'m, W: Sink>(
+    marks: &'m [Mark],
+    trail: &Trail<'_>,
+    node: NodeId,
+    i: usize,
+    out: &mut Out,
+    sink: &mut W,
+) -> (&'m [Mark], bool)
+    ensures adds { (e : Option Content) (ms rest : List Mark) → IsEntry e ms → marks.now ≡ ms ++ rest → (result.0.now ≡ rest) × (result.1 ≡ is_there e)
+        × Adds (entry_text (part (place_at trail.now [] node) i) e) (sending (W.contents sink.old) (W.is_broken sink.old) out.old) (sending (W.contents sink.new) (W.is_broken sink.new) out.new) }
+    ensures shorter { 0 < length marks.now → length result.0.now < length marks.now }
+    ensures stays { IsTrue (W.is_broken sink.old) → IsTrue (W.is_broken sink.new) }
+{
+    match passed(marks) {
+        Some(part) => {
+            let name = row_name(node, i);
+            let inside = Trail::Row(&*trail, name);
+            let there = put_default(part, &inside, name, out, sink);
+            (after_first(marks), there)
+        }
+        None => (put_part(marks, trail, node, i, out, sink), true),
+    }
+}
+
+/// Puts the lines of the entries that the marks begin with, up to their end, and returns the marks after it.
+#[cycle(show)]
+fn put_entries<'m, W: Sink>(
+    marks: &'m [Mark],
+    trail: &Trail<'_>,
     name: &str,
     node: NodeId,
-    page: &mut Page,
-) -> Result<(), AllocError>
-    ensures { Adds result page.old page.new (lines_of (item_of (place_at page.old name.now node) i) (content_of item.now)) }
+    out: &mut Out,
+    sink: &mut W,
+) -> &'m [Mark]
+    ensures adds { (es : Entries) (ms rest : List Mark) → AreEntries es ms → marks.now ≡ ms ++ (Mark.End ∷ rest) → (result.now ≡ rest)
+        × Adds (lines_of (place_at trail.now name.now node) (sequence es)) (sending (W.contents sink.old) (W.is_broken sink.old) out.old) (sending (W.contents sink.new) (W.is_broken sink.new) out.new) }
+    ensures shorter { length result.now ≤ length marks.now }
+    ensures stays { IsTrue (W.is_broken sink.old) → IsTrue (W.is_broken sink.new) }
 {
-    let outer = page.path.len();
-    page.enter_item(i)?;
-    show_value(item, name, row_node(node, 0), page)?;
-    page.path.truncate(outer);
-    Ok(())
+    let mut left = marks;
+    let mut i = 0;
+    let mut some = false;
+    'rows: while !at_end(left) {
+        let (rest, there) = put_entry(left, trail, node, i, out, sink);
+        left = rest;
+        i += 1;
+        some = some || there;
+    }
+    if some {
+        return after_first(left);
+    }
+    put_line(trail, b"{}", out, sink);
+    after_first(left)
+}
+
+/// Puts the lines of the items that the marks begin with, up to their end, and returns the marks after it.
+#[cycle(show)]
+fn put_items<'m, W: Sink>(
+    marks: &'m [Mark],
+    trail: &Trail<'_>,
+    name: &str,
+    node: NodeId,
+    out: &mut Out,
+    sink: &mut W,
+) -> &'m [Mark]
+    ensures adds { (is : Items) (ms rest : List Mark) → AreItems is ms → marks.now ≡ ms ++ (Mark.End ∷ rest) → (result.now ≡ rest)
+        × Adds (lines_of (place_at trail.now name.now node) (list is)) (sending (W.contents sink.old) (W.is_broken sink.old) out.old) (sending (W.contents sink.new) (W.is_broken sink.new) out.new) }
+    ensures shorter { length result.now ≤ length marks.now }
+    ensures stays { IsTrue (W.is_broken sink.old) → IsTrue (W.is_broken sink.new) }
+{
+    let mut left = marks;
+    let mut i = 0;
+    'items: while !at_end(left) {
+        left = put_item(left, i, trail, name, node, out, sink);
+        i += 1;
+    }
+    if i > 0 {
+        return after_first(left);
+    }
+    put_line(trail, b"[]", out, sink);
+    after_first(left)
+}
+
+/// Puts the lines of an item, which has its list's name.
+#[cycle(show)]
+fn put_item<'m, W: Sink>(
+    marks: &'m [Mark],
+    i: usize,
+    trail: &Trail<'_>,
+    name: &str,
+    node: NodeId,
+    out: &mut Out,
+    sink: &mut W,
+) -> &'m [Mark]
+    ensures adds { (c : Content) (ms rest : List Mark) → IsMarked c ms → marks.now ≡ ms ++ rest → (result.now ≡ rest)
+        × Adds (lines_of (item_of (place_at trail.now name.now node) i) c) (sending (W.contents sink.old) (W.is_broken sink.old) out.old) (sending (W.contents sink.new) (W.is_broken sink.new) out.new) }
+    ensures shorter { 0 < length marks.now → length result.now < length marks.now }
+    ensures no_longer { length result.now ≤ length marks.now }
+    ensures stays { IsTrue (W.is_broken sink.old) → IsTrue (W.is_broken sink.new) }
+{
+    let inside = Trail::Item(&*trail, i);
+    put_value(marks, &inside, name, row_node(node, 0), out, sink)
+}
+
+/// Whether no mark is left, or the end stands first.
+fn at_end(marks: &[Mark]) -> bool
+    ensures { result ≡ is_at_end marks.now }
+{
+    match marks.first() {
+        Some(mark) => matches!(mark, Mark::End),
+        None => true,
+    }
+}
+
+/// The row that was passed, where its mark stands first.
+fn passed(marks: &[Mark]) -> Option<PartId>
+    ensures { result ≡ passed_in marks.now }
+{
+    match marks {
+        [Mark::Passed(part), ..] => Some(*part),
+        _ => None,
+    }
+}
+
+/// The alternative, where its mark stands first.
+pub fn alternative(marks: &[Mark]) -> Option<u8>
+    ensures { result ≡ alternative_in marks.now }
+{
+    match marks {
+        [Mark::Alternative(row), ..] => Some(*row),
+        _ => None,
+    }
+}
+
+fn first_mark(marks: &[Mark]) -> Option<Mark>
+    ensures { result ≡ slice_get marks.now 0 }
+{
+    marks.first().copied()
+}
+
+/// The marks after the first.
+pub fn after_first(marks: &[Mark]) -> &[Mark]
+    ensures { result.now ≡ drop 1 marks.now }
+{
+    match marks.split_first() {
+        Some((_, rest)) => rest,
+        None => marks,
+    }
 }

@@ -7,7 +7,7 @@ pub returns-then-not-hex : goal.returns-then-not-hex
 returns-then-not-hex g c =
     let no : c.args.hex ≡ false = search rules in
     let p = c.in-Some.normal in
-    reads_as _ _ _ _ _ _ p p (λ b h number. rw no (makes_normal number p.text p b h)) (rw c.in-Some.is at c.in_ok-normal.ensures)
+    reads_as _ _ _ _ _ _ p _ (λ b h number. rw no (makes_normal number p.text p b h)) (rw c.in-Some.is at c.in_ok-normal.ensures)
 
 pub returns-in-Ok : goal.returns-in-Ok
 returns-in-Ok g c =

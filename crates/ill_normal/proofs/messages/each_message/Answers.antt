@@ -16,26 +16,28 @@ pub loop-whole-preserved : goal.loop-whole-preserved
 loop-whole-preserved g c =
     let next = rw c.in-Ok-Some.field-0-is at c.in-Ok-Some.ensures in
     let made = next.message in
-    let all = rw c.deref.ensures.value at c.in_default.ensures.all in
-    let more = reached_more _ _ _ _ _ _ _ _ _ _ _ _ c.loop-whole.invariant.reached c.in-Ok-Some.piece made all in
-    let most = made_bound (g.M.Maker.text c.args.maker.now) (g.M.Maker.is_good c.args.maker.now) (c.loop-whole.whole + 1) _ _ c.in-Ok-Some.piece made in
-    let size : c.len.result ≡ length c.in-Ok-Some.piece.text.items = search rules in
+    let all = c.in-Ok.ensures.all _ made.2.text in
+    let count = c.in-Ok.ensures.count _ made.2.text in
+    let more = reached_more _ _ _ _ _ _ _ _ _ _ _ _ c.loop-whole.invariant.reached _ c.in-Ok-Some.piece made c.in-Ok.count count.0 all in
+    let most = made_bound _ (g.M.Maker.text c.args.maker.now) (g.M.Maker.is_good c.args.maker.now) (c.loop-whole.whole + 1) _ _ c.in-Ok-Some.piece made in
     let good : c.if-not-piece.all_good ≡ next_good c.loop-whole.all_good c.in-Ok-Some.piece.is_good =
     elim c.if-not-piece.branch [ then-not-piece w ↦ rw (w.all_good-is, w.if-not-piece.true) refl | else-not-piece w ↦ rw (w.all_good-is, w.if-not-piece.false) refl ] in
     record {
-      reached = rw (good, size, c.from-before.ensures) more;
+      reached = rw (good, c.from-before.ensures) more;
       before = omega (arith, c.loop-whole.invariant.before, most, c.from-before.ensures);
-      bound = omega (arith, c.loop-whole.invariant.bound, c.in-Ok-Some.piece.text.small, size);
+      bound = omega (arith, c.loop-whole.invariant.bound, count.1);
       source_stays = λ h. next.stays (c.loop-whole.invariant.source_stays h);
-      sink_stays = λ h. c.put_all.ensures.stays (c.loop-whole.invariant.sink_stays h);
+      sink_stays = λ h. c.put.ensures.stays (c.loop-whole.invariant.sink_stays h);
     }
 
-pub returns-in-Err-put_all-clause-ends : goal.returns-in-Err-put_all-clause-ends
-returns-in-Err-put_all-clause-ends g c =
+pub returns-in-Err-put-clause-ends : goal.returns-in-Err-put-clause-ends
+returns-in-Err-put-clause-ends g c =
     let next = rw c.in-Ok-Some.field-0-is at c.in-Ok-Some.ensures in
-    let some = rw c.deref.ensures.value at c.in-Err-put_all.ensures.some in
-    let fewer = rw c.deref.ensures.value at c.in-Err-put_all.ensures.fewer in
-    rw c.ended-in-Err-put_all.ensures (ends_writing _ _ _ _ _ _ _ _ _ _ _ _ c.loop-whole.invariant.reached _ _ c.in-Ok-Some.piece c.in-Err-put_all.count c.loop-whole-test.true next.taken next.message some fewer (c.put_all.ensures.breaks (search rules)))
+    let made = next.message in
+    let some = c.in-Err-put.ensures.some _ made.2.text in
+    let fewer = c.in-Err-put.ensures.fewer _ made.2.text in
+    let broken = c.in-Err-put.ensures.breaks _ made.2.text refl in
+    rw c.ended-in-Err-put.ensures (ends_writing _ _ _ _ _ _ _ _ _ _ _ _ c.loop-whole.invariant.reached _ _ _ c.in-Ok-Some.piece c.in-Err-put.count c.loop-whole-test.true next.taken made some fewer broken)
 
 pub loop-whole-init : goal.loop-whole-init
 loop-whole-init g c = record {

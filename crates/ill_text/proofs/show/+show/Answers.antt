@@ -1,29 +1,166 @@
-use Rattle.std.proofs.Common.{◌≡◌, ◌<◌, ◌∙◌, length, sym, ap, rules, arith}
-use Rattle.ill_schema.proofs.Contents.{content_of-Seq}
-use Rattle.ill_text.specs.code.Pages.{place_at}
-use Rattle.ill_text.proofs.Lines.{take-within, list_lines, some_if_not_empty, lines_end}
+use Rattle.std.proofs.Common.{◌≡◌, ◌<◌, ◌+◌, ◌∙◌, refl, ap, sym, subst, true, false, not, ◌++◌, ◌∷◌, List, [], Some, None, length, drop, slice_get, arith, rules, Bool, ℕ, codes}
+use Rattle.ill_schema.specs.Content.{Content, simple, sequence, list, alternative}
+use Rattle.ill_read.specs.declared.mark.Mark.{Mark}
+use Rattle.ill_read.specs.declared.mark.Mark.TheVariants as mark
+use Rattle.ill_text.specs.Shown.{lines_of, part, row_node}
+use Rattle.ill_text.specs.code.Marks.{entry_text, is_at_end, is_there}
+use Rattle.ill_text.specs.code.Sending.{Adds, sending}
+use Rattle.ill_text.specs.code.Trails.{place_at}
+use Rattle.ill_text.proofs.Lines.{alternative_first, entries_ended, entries_more, entries_none, entry_passed, entry_value, item_place, items_end, items_line, items_more, items_none, items_some, leaf_first, list_first, no_mark, none_begins, not_some, nothing_begins, part_place, passed_first, sequence_first, sequence_none, sequence_some, some_left, starts}
+use Rattle.ill_text.proofs.Sent.{adds_as, adds_nothing}
 use Rattle.ill_text.proofs.show.+show.Goals as goal
 
-pub show_value-returns-in-Seq : goal.show_value-returns-in-Seq
-show_value-returns-in-Seq t c = rw (c.in-Seq.is, content_of-Seq c.in-Seq.entries) (search rules)
+pub put_entries-rows-init : goal.put_entries-rows-init
+put_entries-rows-init g t c = record { reached = λ es ms rest h e. entries_none _ es rest _ ms _ (adds_nothing _) h e; shorter = omega arith; stays = λ h. h }
 
-pub show_part-returns : goal.show_part-returns
-show_part-returns t c =
-    let cut = take-within c.args.page.now.path.items c.row_name-name.result.now in
-    let outer : c.len-outer.result ≡ length c.args.page.now.path.items = search rules in
-    let path = c.truncate.ensures.items in
-    let shown = c.in_ok-show_value.ensures in
-    let entered = c.in_ok-enter_row.ensures.path in (
-      rw (entered, c.row_name-name.ensures, c.row_node.ensures, c.enter_row.ensures.text) at shown.0,
-      path ∙ rw (outer, shown.1, entered) cut,
+pub put_entries-rows-preserved-then-some : goal.put_entries-rows-preserved-then-some
+put_entries-rows-preserved-then-some g t c =
+    let no : c.at_end.result ≡ false = search rules in
+    let yes : c.rows.some ≡ true = search rules in
+    let on = sym c.at_end.ensures ∙ no in
+    record {
+      reached = λ es ms rest h e. entries_more _ es rest _ _ c.rows.i c.rows.some c.put_entry-there.result.1 c.rows.some _ _ _ (c.rows.invariant.reached es ms rest h e) on c.put_entry-there.ensures.adds
+          (yes ∙ ap (λ (b : Bool). elim b as (λ _. Bool) [ true ↦ true | false ↦ c.put_entry-there.result.1 ]) (sym yes));
+      shorter = omega (arith, c.rows.invariant.shorter, c.put_entry-there.ensures.shorter (some_left _ on));
+      stays = λ h. c.put_entry-there.ensures.stays (c.rows.invariant.stays h);
+    }
+
+pub put_entries-rows-preserved : goal.put_entries-rows-preserved
+put_entries-rows-preserved g t c =
+    let no : c.at_end.result ≡ false = search rules in
+    let none : c.rows.some ≡ false = search rules in
+    let on = sym c.at_end.ensures ∙ no in
+    record {
+      reached = λ es ms rest h e. entries_more _ es rest _ _ c.rows.i c.rows.some c.put_entry-there.result.1 _ _ _ _ (c.rows.invariant.reached es ms rest h e) on c.put_entry-there.ensures.adds
+          (ap (λ (b : Bool). elim b as (λ _. Bool) [ true ↦ true | false ↦ c.put_entry-there.result.1 ]) (sym none));
+      shorter = omega (arith, c.rows.invariant.shorter, c.put_entry-there.ensures.shorter (some_left _ on));
+      stays = λ h. c.put_entry-there.ensures.stays (c.rows.invariant.stays h);
+    }
+
+pub put_items-items-init : goal.put_items-items-init
+put_items-items-init g t c = record { reached = λ is ms rest h e. items_none _ is rest _ ms _ (adds_nothing _) h e; shorter = omega arith; stays = λ h. h }
+
+pub put_items-items-preserved : goal.put_items-items-preserved
+put_items-items-preserved g t c =
+    let no : c.at_end.result ≡ false = search rules in
+    let on = sym c.at_end.ensures ∙ no in
+    record {
+      reached = λ is ms rest h e. items_more _ is rest _ _ c.items.i _ _ _ (c.items.invariant.reached is ms rest h e) on c.put_item-left.ensures.adds;
+      shorter = omega (arith, c.items.invariant.shorter, c.put_item-left.ensures.shorter (some_left _ on));
+      stays = λ h. c.put_item-left.ensures.stays (c.items.invariant.stays h);
+    }
+
+pub put_part-returns-clause-adds : goal.put_part-returns-clause-adds
+put_part-returns-clause-adds g t c x ms rest h e =
+    let done = c.put_value.ensures.adds x ms rest h e in
+    (done.0, adds_as _ _ _ _ (ap (λ p. lines_of p x) (part_place c.args.trail c.row_name-name.result c.args.node c.row_node.result c.args.i c.row_name-name.ensures c.row_node.ensures)) done.1)
+
+pub put_item-returns-clause-adds : goal.put_item-returns-clause-adds
+put_item-returns-clause-adds g t c x ms rest h e =
+    let done = c.put_value.ensures.adds x ms rest h e in
+    (done.0, adds_as _ _ _ _ (ap (λ p. lines_of p x) (item_place c.args.trail c.args.name.now c.args.node c.row_node.result c.args.i c.row_node.ensures)) done.1)
+
+pub put_entry-returns-in-Some-clause-adds : goal.put_entry-returns-in-Some-clause-adds
+put_entry-returns-in-Some-clause-adds g t c e ms rest h q =
+    let is = entry_passed e ms rest c.args.marks.now c.in-Some.part h q (sym c.passed.ensures ∙ c.in-Some.is) in
+    let inner = row_node c.args.node c.args.i in (
+      c.after_first.ensures ∙ is.1,
+      c.put_default-there.ensures.there e is.0,
+      adds_as _ _ _ _ (ap (λ p. entry_text p e) (part_place c.args.trail c.row_name-name.result c.args.node inner c.args.i c.row_name-name.ensures refl)) (c.put_default-there.ensures.adds e inner is.0),
     )
 
-pub show_items-returns : goal.show_items-returns
-show_items-returns t c =
-    let p = place_at c.args.page.now c.args.name.now c.args.node in
-    let same = c.deref-item-items.ensures.value in
-    let many = some_if_not_empty _ c.if-is_empty.ensures in
-    let some : 0 < length c.args.items.now.items = omega (arith, many, ap length same, c.deref-item-items.ensures.len) in
-    let whole = list_lines p c.args.items.now.items some in
-    let end = lines_end p _ c.loop-i.i c.loop-i.page.text.items c.loop-i-test.false in
-    (rw (whole, ← same) (sym (c.loop-i.invariant.text ∙ end)), c.loop-i.invariant.path)
+pub put_entry-returns-in-None-clause-adds : goal.put_entry-returns-in-None-clause-adds
+put_entry-returns-in-None-clause-adds g t c e ms rest h q =
+    let v = entry_value e ms rest c.args.marks.now h q (sym c.passed.ensures ∙ c.in-None.is) in
+    let done = c.put_part.ensures.adds v.0 ms rest v.2 q in
+    (done.0, sym (ap is_there v.1), adds_as _ _ _ _ (ap (entry_text (part (place_at c.args.trail.now [] c.args.node) c.args.i)) (sym v.1)) done.1)
+
+pub put_entries-returns-then-some-2-clause-adds : goal.put_entries-returns-then-some-2-clause-adds
+put_entries-returns-then-some-2-clause-adds g t c es ms rest h e =
+    let off : c.at_end.result ≡ true = search rules in
+    let some : c.rows.some ≡ true = search rules in
+    let end = entries_ended _ es rest _ _ _ _ _ (c.rows.invariant.reached es ms rest h e) (sym c.at_end.ensures ∙ off) in
+    (c.after_first.ensures ∙ end.0, sequence_some _ es _ _ (end.1 ∙ ap not some) end.2)
+
+pub put_entries-returns-clause-adds : goal.put_entries-returns-clause-adds
+put_entries-returns-clause-adds g t c es ms rest h e =
+    let off : c.at_end.result ≡ true = search rules in
+    let none : c.rows.some ≡ false = search rules in
+    let end = entries_ended _ es rest _ _ _ _ _ (c.rows.invariant.reached es ms rest h e) (sym c.at_end.ensures ∙ off) in
+    (c.after_first-2.ensures ∙ end.0, sequence_none _ es _ _ _ (end.1 ∙ ap not none) end.2 c.put_line.ensures.adds)
+
+pub put_items-returns-then-i-gt0-clause-adds : goal.put_items-returns-then-i-gt0-clause-adds
+put_items-returns-then-i-gt0-clause-adds g t c is ms rest h e =
+    let off : c.at_end.result ≡ true = search rules in
+    let end = sym c.at_end.ensures ∙ off in
+    let r = c.items.invariant.reached is ms rest h e in
+    let some : c.items.i ≡ 0 → ⊥ = λ z. absurd (omega (arith, z, c.if-i-gt0.true)) in
+    (c.after_first.ensures ∙ items_end _ is rest _ _ _ _ r end, items_some _ is rest _ _ _ _ r end some)
+
+pub put_items-returns-clause-adds : goal.put_items-returns-clause-adds
+put_items-returns-clause-adds g t c is ms rest h e =
+    let off : c.at_end.result ≡ true = search rules in
+    let end = sym c.at_end.ensures ∙ off in
+    let r = c.items.invariant.reached is ms rest h e in
+    let none : c.items.i ≡ 0 = omega (arith, c.if-i-gt0.false) in
+    (c.after_first-2.ensures ∙ items_end _ is rest _ _ _ _ r end, items_line _ is rest _ _ _ _ _ r end none c.put_line.ensures.adds)
+
+pub put_value-returns-in_default-clause-adds : goal.put_value-returns-in_default-clause-adds
+put_value-returns-in_default-clause-adds g t c x ms rest h q =
+    absurd (nothing_begins x ms rest c.args.marks.now (sym c.first_mark.ensures ∙ not_some c.first_mark.result (λ m e. c.in_default.not-Some m e)) h q)
+
+pub put_value-returns-in_default-clause-shorter : goal.put_value-returns-in_default-clause-shorter
+put_value-returns-in_default-clause-shorter g t c some =
+    let none = no_mark c.args.marks.now (sym c.first_mark.ensures ∙ not_some c.first_mark.result (λ m e. c.in_default.not-Some m e)) in
+    absurd (omega (arith, some, none))
+
+pub put_value-returns-in-Leaf-clause-adds : goal.put_value-returns-in-Leaf-clause-adds
+put_value-returns-in-Leaf-clause-adds g t c x ms rest h q =
+    let tail = drop 1 c.args.marks.now in
+    let all = starts c.args.marks.now c.in-Some.first (sym c.first_mark.ensures ∙ c.in-Some.is) ∙ ap (λ m. m ∷ tail) c.in-Leaf.is in
+    let f = leaf_first x ms rest tail c.in-Leaf.leaf h (sym all ∙ q) in
+    let done = c.put_marked_leaf.ensures.adds f.0 rest f.1 (c.after_first-rest.ensures ∙ f.3) in
+    (done.0, adds_as _ _ _ _ (ap (lines_of (place_at c.args.trail.now c.args.name.now c.args.node)) (sym f.2)) done.1)
+
+pub put_value-returns-in-Passed-clause-adds : goal.put_value-returns-in-Passed-clause-adds
+put_value-returns-in-Passed-clause-adds g t c x ms rest h q =
+    let tail = drop 1 c.args.marks.now in
+    let all = starts c.args.marks.now c.in-Some.first (sym c.first_mark.ensures ∙ c.in-Some.is) ∙ ap (λ m. m ∷ tail) c.in-Passed.is in
+    let f = passed_first x ms rest tail c.in-Passed.part h (sym all ∙ q) in
+    (c.after_first-rest.ensures ∙ f.1, c.put_default.ensures.adds (Some x) c.args.node f.0)
+
+pub put_value-returns-in-Alternative-clause-adds : goal.put_value-returns-in-Alternative-clause-adds
+put_value-returns-in-Alternative-clause-adds g t c x ms rest h q =
+    let tail = drop 1 c.args.marks.now in
+    let all = starts c.args.marks.now c.in-Some.first (sym c.first_mark.ensures ∙ c.in-Some.is) ∙ ap (λ m. m ∷ tail) c.in-Alternative.is in
+    let f = alternative_first x ms rest tail c.in-Alternative.row h (sym all ∙ q) in
+    let done = c.put_part.ensures.adds f.0 f.1 rest f.3 (c.after_first-rest.ensures ∙ f.4) in
+    (done.0, adds_as _ _ _ _ (ap (lines_of (place_at c.args.trail.now c.args.name.now c.args.node)) (sym f.2)) done.1)
+
+pub put_value-returns-in-Sequence-clause-adds : goal.put_value-returns-in-Sequence-clause-adds
+put_value-returns-in-Sequence-clause-adds g t c x ms rest h q =
+    let tail = drop 1 c.args.marks.now in
+    let all = starts c.args.marks.now c.in-Some.first (sym c.first_mark.ensures ∙ c.in-Some.is) ∙ ap (λ m. m ∷ tail) c.in-Sequence.is in
+    let f = sequence_first x ms rest tail h (sym all ∙ q) in
+    let done = c.put_entries.ensures.adds f.0 f.1 rest f.3 (c.after_first-rest.ensures ∙ f.4) in
+    (done.0, adds_as _ _ _ _ (ap (lines_of (place_at c.args.trail.now c.args.name.now c.args.node)) (sym f.2)) done.1)
+
+pub put_value-returns-in-List-clause-adds : goal.put_value-returns-in-List-clause-adds
+put_value-returns-in-List-clause-adds g t c x ms rest h q =
+    let tail = drop 1 c.args.marks.now in
+    let all = starts c.args.marks.now c.in-Some.first (sym c.first_mark.ensures ∙ c.in-Some.is) ∙ ap (λ m. m ∷ tail) c.in-List.is in
+    let f = list_first x ms rest tail h (sym all ∙ q) in
+    let done = c.put_items.ensures.adds f.0 f.1 rest f.3 (c.after_first-rest.ensures ∙ f.4) in
+    (done.0, adds_as _ _ _ _ (ap (lines_of (place_at c.args.trail.now c.args.name.now c.args.node)) (sym f.2)) done.1)
+
+pub put_value-returns-in-Octet-clause-adds : goal.put_value-returns-in-Octet-clause-adds
+put_value-returns-in-Octet-clause-adds g t c x ms rest h q =
+    let tail = drop 1 c.args.marks.now in
+    let all = starts c.args.marks.now c.in-Some.first (sym c.first_mark.ensures ∙ c.in-Some.is) ∙ ap (λ m. m ∷ tail) c.in-Octet.is in
+    absurd (none_begins x ms rest tail (mark.Octet c.in-Octet.field-0) refl h (sym all ∙ q))
+
+pub put_value-returns-in-End-clause-adds : goal.put_value-returns-in-End-clause-adds
+put_value-returns-in-End-clause-adds g t c x ms rest h q =
+    let tail = drop 1 c.args.marks.now in
+    let all = starts c.args.marks.now c.in-Some.first (sym c.first_mark.ensures ∙ c.in-Some.is) ∙ ap (λ m. m ∷ tail) c.in-End.is in
+    absurd (none_begins x ms rest tail mark.End refl h (sym all ∙ q))

@@ -1,0 +1,6 @@
+use Rattle.std.proofs.Common.{◌≡◌, ◌++◌, map, take}
+use Rattle.ill_read.specs.declared.mark.Mark.TheVariants as mark
+use Rattle.ill_read.proofs.outline.put_octets.Given as goal
+
+abbrev pub invariant-loop-octet : goal.invariant-loop-octet
+invariant-loop-octet l = l.marks.items ≡ l.fn.marks.items ++ map mark.Octet (take l.octet-index l.octets)

@@ -1,0 +1,54 @@
+-- The outline of a value: what marks say of it, in reading order.
+use Rattle.std.specs.Prelude.{◌≡◌, ◌⊎◌, ℕ, List, [], ◌∷◌, ◌++◌, map, Option, Some, None, slice_get}
+use Rattle.ber_leaf.specs.Content.{IsContent}
+use Rattle.ber_leaf.specs.Leaf.{value}
+use Rattle.ber_leaf.specs.Profile.{profile_two}
+use Rattle.ber_leaf.specs.Simple.{Simple}
+use Rattle.ill_schema.specs.declared.part.PartId.{PartId}
+use Rattle.ill_schema.specs.declared.part.Row.{Row}
+use Rattle.ill_schema.specs.Apdu.{Apdu, SpellsApdu, choice_of}
+use Rattle.ill_schema.specs.Content.{Content, simple, sequence, list, alternative, Entries, no_entries, absent, present, Items, no_items, item}
+use Rattle.ill_schema.specs.Table.{rows_of}
+use Rattle.ill_read.specs.LeafTypes.{leaf_is}
+use Rattle.ill_read.specs.Standing.{absent_content}
+use Rattle.ill_read.specs.declared.leaf_type.LeafType.{LeafType}
+use Rattle.ill_read.specs.declared.mark.Mark.{Mark}
+use Rattle.ill_read.specs.declared.mark.Mark.TheVariants as mark
+use Rattle.ill_read.specs.declared.outline.Outline.{Outline}
+
+-- the row of the part has this entry where it has no element
+abbrev pub IsPassed : PartId → Option Content → Type 0
+IsPassed part entry = (row : Row) × (slice_get (rows_of part.node) part.row ≡ Some row) × (absent_content row ≡ entry)
+
+-- the marks of a leaf with these octets
+abbrev pub leaf_marks : LeafType → List ℕ → List Mark
+leaf_marks l octets = mark.Leaf l ∷ (map mark.Octet octets ++ mark.End ∷ [])
+
+-- a leaf that was read, or the default of a row that was passed
+abbrev pub IsLeafMarked : Simple → List Mark → Type 0
+IsLeafMarked v ms =
+    ((l : LeafType) × (octets : List ℕ) × (ms ≡ leaf_marks l octets) × IsContent (leaf_is l) octets × (v ≡ value (leaf_is l) octets))
+    ⊎ ((part : PartId) × (ms ≡ mark.Passed part ∷ []) × IsPassed part (Some (simple v)))
+
+abbrev mutual
+  -- the marks say this value
+  pub IsMarked : Content → List Mark → Type 0
+  IsMarked (simple v) ms = IsLeafMarked v ms
+  IsMarked (sequence es) ms = (inside : List Mark) × (ms ≡ mark.Sequence ∷ (inside ++ mark.End ∷ [])) × AreEntries es inside
+  IsMarked (list is) ms = (inside : List Mark) × (ms ≡ mark.List ∷ (inside ++ mark.End ∷ [])) × AreItems is inside
+  IsMarked (alternative n c) ms = (inside : List Mark) × (ms ≡ mark.Alternative n ∷ inside) × IsMarked c inside
+
+  -- the entries of a sequence, row by row
+  pub AreEntries : Entries → List Mark → Type 0
+  AreEntries no_entries ms = ms ≡ []
+  AreEntries (absent es) ms = (part : PartId) × (rest : List Mark) × (ms ≡ mark.Passed part ∷ rest) × IsPassed part None × AreEntries es rest
+  AreEntries (present c es) ms = (first : List Mark) × (rest : List Mark) × (ms ≡ first ++ rest) × IsMarked c first × AreEntries es rest
+
+  -- the items of a list
+  pub AreItems : Items → List Mark → Type 0
+  AreItems no_items ms = ms ≡ []
+  AreItems (item c is) ms = (first : List Mark) × (rest : List Mark) × (ms ≡ first ++ rest) × IsMarked c first × AreItems is rest
+
+-- the outline is the APDU's
+abbrev pub IsOutlineOf : Outline → Apdu → Type 0
+IsOutlineOf outline a = IsMarked (choice_of a) outline.marks.items

@@ -1,0 +1,24 @@
+-- The outline of a message's normal form is the message's.
+use Rattle.std.proofs.Common.{◌≡◌, ◌∙◌, ◌++◌, ◌<◌, ◌≤◌, ◌^◌, [], length, List, ℕ, Some, None, Option, sym, subst, append-nil, arith}
+use Rattle.std.specs.Io.KnownBytes.{Consumes}
+use Rattle.ber_leaf.specs.Profile.{profile_two}
+use Rattle.ill_schema.specs.Apdu.{Apdu, SpellsApdu, normal_form}
+use Rattle.ill_schema.specs.Fits.{FitsApdu}
+use Rattle.ill_schema.proofs.Encodings.{normal_spells}
+use Rattle.ill_schema.proofs.OneMeaning.{one_message}
+use Rattle.ill_read.specs.Outline.{IsOutlineOf}
+use Rattle.ill_read.specs.Outlined.{IsOutlined}
+use Rattle.ill_read.specs.declared.outlined.Outlined.{Outlined}
+
+front_of : (s b : List ℕ) (left : Option (List ℕ)) → Consumes (Some s) left b → (rest : List ℕ) × (s ≡ b ++ rest)
+front_of s b (Some rest) h = (rest, h)
+front_of s b None h = absurd h
+
+pub one_outline : (s : List ℕ) (left : Option (List ℕ)) (a : Apdu) (read : Outlined) → SpellsApdu profile_two a s → (b : List ℕ) → Consumes (Some s) left b → IsOutlined read b → IsOutlineOf read.outline a
+one_outline s left a read h b taken is =
+    let front = front_of s b left taken in
+    let one = one_message profile_two a is.0 s b [] front.0 h.encodes is.1.encodes (append-nil s ∙ front.1) in
+    subst (IsOutlineOf read.outline) (sym one.0) is.2
+
+pub message_spells : (a : Apdu) → FitsApdu profile_two a → length (normal_form a) ≤ profile_two.limit → SpellsApdu profile_two a (normal_form a)
+message_spells a fit le = normal_spells profile_two a fit (omega arith) le

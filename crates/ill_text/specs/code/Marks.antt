@@ -1,0 +1,54 @@
+-- What marks say to who shows them.
+use Rattle.std.specs.Prelude.{◌≡◌, ℕ, suc, Bool, true, false, List, [], ◌∷◌, ◌++◌, Option, Some, None, Result, codes, if◌then◌else◌}
+use Rattle.ill_schema.specs.Content.{Content, Entries, no_entries, absent, present}
+use Rattle.ill_schema.specs.declared.part.PartId.{PartId}
+use Rattle.ill_read.specs.Outline.{IsMarked, IsPassed}
+use Rattle.ill_read.specs.declared.mark.Mark.{Mark}
+use Rattle.ill_read.specs.declared.mark.Mark.TheVariants as mark
+use Rattle.ill_text.specs.Shown.{Place, part, lines_of, item_of}
+
+-- the octets of a leaf
+abbrev pub octets_in : List Mark → List ℕ
+octets_in [] = []
+octets_in (mark.Octet octet ∷ ms) = octet ∷ octets_in ms
+octets_in (_ ∷ ms) = octets_in ms
+
+abbrev pub is_octet : Mark → Bool
+is_octet (mark.Octet octet) = true
+is_octet _ = false
+
+-- how many marks of octets stand first
+abbrev pub front_octets : List Mark → ℕ
+front_octets [] = 0
+front_octets (mark.Octet octet ∷ ms) = suc (front_octets ms)
+front_octets (_ ∷ ms) = 0
+
+-- the marks of a row's entry
+abbrev pub IsEntry : Option Content → List Mark → Type 0
+IsEntry None ms = (part : PartId) × (ms ≡ mark.Passed part ∷ []) × IsPassed part None
+IsEntry (Some c) ms = IsMarked c ms
+
+-- the lines of an entry
+abbrev pub entry_text : Place → Option Content → List ℕ
+entry_text p None = []
+entry_text p (Some c) = lines_of p c
+
+abbrev pub is_there : Option Content → Bool
+is_there None = false
+is_there (Some c) = true
+
+-- no mark is left, or the end stands first
+abbrev pub is_at_end : List Mark → Bool
+is_at_end [] = true
+is_at_end (mark.End ∷ ms) = true
+is_at_end (_ ∷ ms) = false
+
+-- the row that was passed, where its mark stands first
+abbrev pub passed_in : List Mark → Option PartId
+passed_in (mark.Passed part ∷ ms) = Some part
+passed_in _ = None
+
+-- the alternative, where its mark stands first
+abbrev pub alternative_in : List Mark → Option ℕ
+alternative_in (mark.Alternative n ∷ ms) = Some n
+alternative_in _ = None

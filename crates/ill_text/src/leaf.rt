@@ -1,0 +1,293 @@
+//! Leaves as lines.
+ghost use Rattle.std.specs.Prelude.{◌≡◌, ◌++◌, ◌<◌, ◌≤◌, ◌-◌, [], length, not, nat_eq, replicate, codes, flat_map, ◌∷◌, IsTrue, Option};
+ghost use Rattle.std.specs.Fmt.{signed_decimal};
+ghost use Rattle.std.specs.List.{list_all};
+ghost use Rattle.ber_leaf.specs.Content.{IsContent};
+ghost use Rattle.ber_leaf.specs.Leaf.{integer_of, value};
+ghost use Rattle.ber_leaf.specs.Simple.{flag};
+ghost use Rattle.ber_leaf.specs.code.Sign.{sign_octet};
+ghost use Rattle.ill_schema.specs.Content.{Content};
+ghost use Rattle.ill_schema.specs.Presence.{default_value};
+ghost use Rattle.ill_schema.specs.Table.{kind_of};
+ghost use Rattle.ill_schema.specs.declared.node.NodeId.{NodeId};
+ghost use Rattle.ill_read.specs.LeafTypes.{leaf_is};
+ghost use Rattle.ill_read.specs.Outline.{IsPassed};
+ghost use Rattle.ill_text.specs.Numbers.{number_name};
+ghost use Rattle.ill_text.specs.Shown.{escaped, in_brackets, leaf_text, line};
+ghost use Rattle.ill_text.specs.code.Marks.{entry_text, is_there, octets_in};
+ghost use Rattle.ill_text.specs.code.Sending.{Adds, sending};
+ghost use Rattle.ill_text.specs.code.Trails.{path_of, place_at};
+
+use crate::number::number_name;
+use crate::out::Out;
+use crate::trail::{Trail, put_line, put_path};
+use arrayvec::ArrayVec;
+use ber_core::Sink;
+use ill_read::{LeafType, Mark};
+use ill_schema::{Kind, LeafKind, NodeId, PartId, Presence, kind, row};
+use itoa::Buffer;
+
+const DIGITS: &[u8; 16] = b"0123456789abcdef";
+
+/// Puts the line of a leaf with these octets, in a row of this name.
+pub fn put_leaf<W: Sink>(
+    leaf: LeafType,
+    octets: &[Mark],
+    trail: &Trail<'_>,
+    name: &str,
+    out: &mut Out,
+    sink: &mut W,
+)
+    ensures adds { IsContent (leaf_is leaf) (octets_in octets.now) → Adds (line (path_of trail.now) (leaf_text name.now (value (leaf_is leaf) (octets_in octets.now))))
+        (sending (W.contents sink.old) (W.is_broken sink.old) out.old) (sending (W.contents sink.new) (W.is_broken sink.new) out.new) }
+    ensures stays { IsTrue (W.is_broken sink.old) → IsTrue (W.is_broken sink.new) }
+{
+    match leaf {
+        LeafType::Boolean => put_line(trail, flag_text(is_set(octets)), out, sink),
+        LeafType::Integer => put_number(trail, name, number_in(octets), out, sink),
+        LeafType::Enumerated => put_number(trail, name, number_in(octets), out, sink),
+        LeafType::General => put_quoted(trail, "general \"", octets, out, sink),
+        LeafType::Visible => put_quoted(trail, "visible \"", octets, out, sink),
+        LeafType::Printable => put_quoted(trail, "\"", octets, out, sink),
+        LeafType::Date => put_plain(trail, octets, out, sink),
+        LeafType::Time => put_plain(trail, octets, out, sink),
+    }
+}
+
+/// Puts the line of the default of a row that was passed, if it has one, and returns whether it has.
+pub fn put_default<W: Sink>(
+    part: PartId,
+    trail: &Trail<'_>,
+    name: &str,
+    out: &mut Out,
+    sink: &mut W,
+) -> bool
+    ensures adds { (e : Option Content) (node : NodeId) → IsPassed part e → Adds (entry_text (place_at trail.now name.now node) e)
+        (sending (W.contents sink.old) (W.is_broken sink.old) out.old) (sending (W.contents sink.new) (W.is_broken sink.new) out.new) }
+    ensures there { (e : Option Content) → IsPassed part e → result ≡ is_there e }
+    ensures stays { IsTrue (W.is_broken sink.old) → IsTrue (W.is_broken sink.new) }
+{
+    let Some(row) = row(part) else {
+        return false;
+    };
+    let Presence::Default(number) = row.presence else {
+        return false;
+    };
+    put_value_of(row.node, number, trail, name, out, sink);
+    true
+}
+
+/// Puts the line of the value that the number of a default stands for.
+fn put_value_of<W: Sink>(
+    node: NodeId,
+    number: i64,
+    trail: &Trail<'_>,
+    name: &str,
+    out: &mut Out,
+    sink: &mut W,
+)
+    ensures adds { Adds (line (path_of trail.now) (leaf_text name.now (default_value (kind_of node) number)))
+        (sending (W.contents sink.old) (W.is_broken sink.old) out.old) (sending (W.contents sink.new) (W.is_broken sink.new) out.new) }
+    ensures stays { IsTrue (W.is_broken sink.old) → IsTrue (W.is_broken sink.new) }
+{
+    match kind(node) {
+        Kind::Leaf(LeafKind::Boolean) => put_line(trail, flag_text(number == 1), out, sink),
+        _ => put_number(trail, name, number, out, sink),
+    }
+}
+
+fn flag_text(is_true: bool) -> &'static [u8]
+    ensures { result.now ≡ leaf_text [] (flag is_true) }
+{
+    if is_true { b"TRUE" } else { b"FALSE" }
+}
+
+/// Whether any octet isn't 0.
+fn is_set(octets: &[Mark]) -> bool
+    ensures { result ≡ not (list_all (nat_eq 0) (octets_in octets.now)) }
+{
+    for mark in octets {
+        if has_set(*mark) {
+            return true;
+        }
+    }
+    false
+}
+
+/// Whether it is an octet that isn't 0.
+fn has_set(mark: Mark) -> bool
+    ensures { result ≡ not (list_all (nat_eq 0) (octets_in (mark ∷ []))) }
+{
+    match mark {
+        Mark::Octet(octet) => octet != 0,
+        _ => false,
+    }
+}
+
+/// Puts a line with a number, and its name in the row, if it has one.
+fn put_number<W: Sink>(trail: &Trail<'_>, name: &str, number: i64, out: &mut Out, sink: &mut W)
+    ensures adds { Adds (line (path_of trail.now) (signed_decimal number ++ in_brackets (number_name name.now number)))
+        (sending (W.contents sink.old) (W.is_broken sink.old) out.old) (sending (W.contents sink.new) (W.is_broken sink.new) out.new) }
+    ensures stays { IsTrue (W.is_broken sink.old) → IsTrue (W.is_broken sink.new) }
+{
+    let mut buffer = Buffer::new();
+    let _ = put_path(trail, out, sink);
+    out.put(sink, b" = ");
+    out.put(sink, buffer.format(number).as_bytes());
+    put_name(name, number, out, sink);
+    out.put(sink, b"\n");
+}
+
+/// Puts the name of a number in brackets, if it has one in the row.
+fn put_name<W: Sink>(row: &str, number: i64, out: &mut Out, sink: &mut W)
+    ensures adds { Adds (in_brackets (number_name row.now number)) (sending (W.contents sink.old) (W.is_broken sink.old) out.old) (sending (W.contents sink.new) (W.is_broken sink.new) out.new) }
+    ensures stays { IsTrue (W.is_broken sink.old) → IsTrue (W.is_broken sink.new) }
+{
+    match number_name(row, number) {
+        Some(name) => {
+            out.put(sink, b" (");
+            out.put(sink, name.as_bytes());
+            out.put(sink, b")");
+        }
+        None => {}
+    }
+}
+
+/// Puts a line with a string in quotation marks, after what it opens with.
+fn put_quoted<W: Sink>(
+    trail: &Trail<'_>,
+    opening: &str,
+    octets: &[Mark],
+    out: &mut Out,
+    sink: &mut W,
+)
+    ensures adds { Adds (line (path_of trail.now) (opening.now ++ (flat_map escaped (octets_in octets.now) ++ codes "\"")))
+        (sending (W.contents sink.old) (W.is_broken sink.old) out.old) (sending (W.contents sink.new) (W.is_broken sink.new) out.new) }
+    ensures stays { IsTrue (W.is_broken sink.old) → IsTrue (W.is_broken sink.new) }
+{
+    let _ = put_path(trail, out, sink);
+    out.put(sink, b" = ");
+    out.put(sink, opening.as_bytes());
+    put_escaped(octets, out, sink);
+    out.put(sink, b"\"\n");
+}
+
+/// Puts the octets of a string, escaped.
+fn put_escaped<W: Sink>(octets: &[Mark], out: &mut Out, sink: &mut W)
+    ensures adds { Adds (flat_map escaped (octets_in octets.now)) (sending (W.contents sink.old) (W.is_broken sink.old) out.old) (sending (W.contents sink.new) (W.is_broken sink.new) out.new) }
+    ensures stays { IsTrue (W.is_broken sink.old) → IsTrue (W.is_broken sink.new) }
+{
+    for mark in octets {
+        put_escaped_mark(*mark, out, sink);
+    }
+}
+
+fn put_escaped_mark<W: Sink>(mark: Mark, out: &mut Out, sink: &mut W)
+    ensures adds { Adds (flat_map escaped (octets_in (mark ∷ []))) (sending (W.contents sink.old) (W.is_broken sink.old) out.old) (sending (W.contents sink.new) (W.is_broken sink.new) out.new) }
+    ensures stays { IsTrue (W.is_broken sink.old) → IsTrue (W.is_broken sink.new) }
+{
+    match mark {
+        Mark::Octet(octet) => put_octet(octet, out, sink),
+        _ => {}
+    }
+}
+
+fn put_octet<W: Sink>(octet: u8, out: &mut Out, sink: &mut W)
+    ensures adds { Adds (escaped octet) (sending (W.contents sink.old) (W.is_broken sink.old) out.old) (sending (W.contents sink.new) (W.is_broken sink.new) out.new) }
+    ensures stays { IsTrue (W.is_broken sink.old) → IsTrue (W.is_broken sink.new) }
+{
+    match octet {
+        b'"' | b'\\' => out.put(sink, &[b'\\', octet]),
+        b' '..=b'~' => out.put(sink, &[octet]),
+        _ => {
+            let high = DIGITS[(octet / 16) as usize];
+            let low = DIGITS[(octet % 16) as usize];
+            out.put(sink, &[b'\\', b'x', high, low]);
+        }
+    }
+}
+
+/// Puts a line with the octets as they are.
+fn put_plain<W: Sink>(trail: &Trail<'_>, octets: &[Mark], out: &mut Out, sink: &mut W)
+    ensures adds { Adds (line (path_of trail.now) (octets_in octets.now)) (sending (W.contents sink.old) (W.is_broken sink.old) out.old) (sending (W.contents sink.new) (W.is_broken sink.new) out.new) }
+    ensures stays { IsTrue (W.is_broken sink.old) → IsTrue (W.is_broken sink.new) }
+{
+    let _ = put_path(trail, out, sink);
+    out.put(sink, b" = ");
+    put_octets(octets, out, sink);
+    out.put(sink, b"\n");
+}
+
+/// Puts the octets as they are.
+fn put_octets<W: Sink>(octets: &[Mark], out: &mut Out, sink: &mut W)
+    ensures adds { Adds (octets_in octets.now) (sending (W.contents sink.old) (W.is_broken sink.old) out.old) (sending (W.contents sink.new) (W.is_broken sink.new) out.new) }
+    ensures stays { IsTrue (W.is_broken sink.old) → IsTrue (W.is_broken sink.new) }
+{
+    for mark in octets {
+        put_mark(*mark, out, sink);
+    }
+}
+
+fn put_mark<W: Sink>(mark: Mark, out: &mut Out, sink: &mut W)
+    ensures adds { Adds (octets_in (mark ∷ [])) (sending (W.contents sink.old) (W.is_broken sink.old) out.old) (sending (W.contents sink.new) (W.is_broken sink.new) out.new) }
+    ensures stays { IsTrue (W.is_broken sink.old) → IsTrue (W.is_broken sink.new) }
+{
+    match mark {
+        Mark::Octet(octet) => out.put(sink, &[octet]),
+        _ => {}
+    }
+}
+
+/// The number that octets are in two's complement; 0 where they are none or more than eight.
+fn number_in(octets: &[Mark]) -> i64
+    ensures { 0 < length (octets_in octets.now) → length (octets_in octets.now) ≤ 8 → result ≡ integer_of (octets_in octets.now) }
+{
+    let octets = first_eight(octets);
+    if octets.is_empty() {
+        return 0;
+    }
+    whole(octets.as_slice())
+}
+
+/// The number that the octets are in two's complement.
+fn whole(octets: &[u8]) -> i64
+    requires some { 0 < length octets.now }
+    requires few { length octets.now ≤ 8 }
+    ensures { result ≡ integer_of octets.now }
+{
+    i64::from_be_bytes(extended(octets))
+}
+
+/// The octets, where they are eight at most.
+fn first_eight(octets: &[Mark]) -> ArrayVec<u8, 8>
+    ensures { length (octets_in octets.now) ≤ 8 → result.items ≡ octets_in octets.now }
+{
+    let mut all = ArrayVec::new();
+    for mark in octets {
+        push_mark(&mut all, *mark);
+    }
+    all
+}
+
+fn push_mark(octets: &mut ArrayVec<u8, 8>, mark: Mark)
+    ensures { length (octets.old.items ++ octets_in (mark ∷ [])) ≤ 8 → octets.new.items ≡ octets.old.items ++ octets_in (mark ∷ []) }
+{
+    match mark {
+        Mark::Octet(octet) => {
+            let _ = octets.try_push(octet);
+        }
+        _ => {}
+    }
+}
+
+/// The octets behind as many copies of their sign as make eight of them.
+fn extended(octets: &[u8]) -> [u8; 8]
+    requires some { 0 < length octets.now }
+    requires few { length octets.now ≤ 8 }
+    ensures { result ≡ replicate (8 - length octets.now) (sign_octet octets.now) ++ octets.now }
+{
+    let sign = if octets[0] < 0x80 { 0x00 } else { 0xFF };
+    let mut bytes = [sign; 8];
+    bytes[8 - octets.len()..].copy_from_slice(octets);
+    bytes
+}

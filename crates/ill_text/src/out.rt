@@ -1,0 +1,128 @@
+//! Text on its way to a sink.
+ghost use Rattle.std.specs.Prelude.{◌≤◌};
+
+use ber_core::Sink;
+use ill_write::put_all;
+
+/// How many octets wait at most.
+const ROOM: usize = 512;
+
+/// How far a text is written: the octets that wait until there are more, and how many the sink has taken. Once the sink broke nothing
+/// more is put.
+#[derive(Drop)]
+pub struct Out {
+    waiting: [u8; ROOM],
+    len: usize,
+    written: usize,
+    broken: bool,
+    ghost within: { len ≤ 512 },
+}
+
+impl Out {
+    ghost use Rattle.std.specs.Prelude.{◌≡◌, ◌+◌, ◌-◌, ◌<◌, List, [], Option, length, false, IsTrue};
+    ghost use Rattle.ill_text.specs.code.Sending.{Adds, Stands, sending};
+
+    /// Nothing is put yet.
+    pub fn new() -> Out
+        ensures { (told : Option (List _)) (b : _) → Stands told [] (sending told b result) }
+    {
+        Out {
+            waiting: [0; ROOM],
+            len: 0,
+            written: 0,
+            broken: false,
+        }
+    }
+
+    /// How many octets the sink has taken.
+    pub fn written(&self) -> usize
+        ensures { result ≡ self.now.written }
+    {
+        self.written
+    }
+
+    /// Whether the sink broke.
+    pub fn is_broken(&self) -> bool
+        ensures { result ≡ self.now.broken }
+    {
+        self.broken
+    }
+
+    /// Puts what waits.
+    pub fn flush<W: Sink>(&mut self, sink: &mut W)
+        ensures adds { Adds [] (sending (W.contents sink.old) (W.is_broken sink.old) self.old) (sending (W.contents sink.new) (W.is_broken sink.new) self.new) }
+        ensures empty { self.new.broken ≡ false → self.new.len ≡ 0 }
+        ensures stays { IsTrue (W.is_broken sink.old) → IsTrue (W.is_broken sink.new) }
+    {
+        if self.broken {
+            return;
+        }
+        match put_all(sink, &self.waiting[..self.len]) {
+            Ok(()) => {
+                self.written = self.written.saturating_add(self.len);
+                self.len = 0;
+            }
+            Err(count) => {
+                self.written = self.written.saturating_add(count);
+                self.broken = true;
+            }
+        }
+    }
+
+    /// Puts octets where none wait.
+    fn send<W: Sink>(&mut self, sink: &mut W, octets: &[u8])
+        requires whole { self.old.broken ≡ false }
+        requires empty { self.old.len ≡ 0 }
+        ensures adds { Adds octets.now (sending (W.contents sink.old) (W.is_broken sink.old) self.old) (sending (W.contents sink.new) (W.is_broken sink.new) self.new) }
+        ensures stays { IsTrue (W.is_broken sink.old) → IsTrue (W.is_broken sink.new) }
+    {
+        match put_all(sink, octets) {
+            Ok(()) => self.written = self.written.saturating_add(octets.len()),
+            Err(count) => {
+                self.written = self.written.saturating_add(count);
+                self.broken = true;
+            }
+        }
+    }
+
+    /// Puts octets, or keeps them until there are more.
+    #[inline(always)]
+    pub fn put<W: Sink>(&mut self, sink: &mut W, octets: &[u8])
+        ensures adds { Adds octets.now (sending (W.contents sink.old) (W.is_broken sink.old) self.old) (sending (W.contents sink.new) (W.is_broken sink.new) self.new) }
+        ensures stays { IsTrue (W.is_broken sink.old) → IsTrue (W.is_broken sink.new) }
+    {
+        if !self.broken && octets.len() <= ROOM - self.len {
+            self.keep(octets);
+            return;
+        }
+        self.put_more(sink, octets);
+    }
+
+    /// Puts what waits, and then octets.
+    #[inline(never)]
+    fn put_more<W: Sink>(&mut self, sink: &mut W, octets: &[u8])
+        ensures adds { Adds octets.now (sending (W.contents sink.old) (W.is_broken sink.old) self.old) (sending (W.contents sink.new) (W.is_broken sink.new) self.new) }
+        ensures stays { IsTrue (W.is_broken sink.old) → IsTrue (W.is_broken sink.new) }
+    {
+        self.flush(sink);
+        if self.broken {
+            return;
+        }
+        if octets.len() > ROOM {
+            self.send(sink, octets);
+            return;
+        }
+        self.keep(octets);
+    }
+
+    /// Keeps octets for which there is room.
+    fn keep(&mut self, octets: &[u8])
+        requires whole { self.old.broken ≡ false }
+        requires room { self.old.len + length octets.now ≤ 512 }
+        ensures { (told : Option (List _)) (b : _) → Adds octets.now (sending told b self.old) (sending told b self.new) }
+    {
+        let end = self.len + octets.len();
+        self.waiting[self.len..end].copy_from_slice(octets);
+        self.len = end;
+    }
+}

@@ -1,0 +1,129 @@
+//! The text of a message, which is put into a sink part by part.
+ghost use Rattle.std.specs.Prelude.{◌≡◌, ◌<◌, ◌≤◌, ◌^◌, ℕ, List, false, length, take, IfOk, IfErr, OnOk, IsErr, IsTrue};
+ghost use Rattle.std.specs.Io.KnownBytes.{Appends};
+ghost use Rattle.ill_schema.specs.Apdu.{Apdu, choice_of};
+ghost use Rattle.ill_read.specs.Outline.{IsMarked, IsOutlineOf};
+ghost use Rattle.ill_text.specs.Shown.{shown_text};
+ghost use Rattle.ill_text.specs.TextOf.{IsTextOf};
+ghost use Rattle.ill_text.specs.code.Sending.{Adds, sending};
+ghost use Rattle.ill_text.specs.code.Trails.{head_line};
+
+use crate::out::Out;
+use crate::part::{row_name, row_node};
+use crate::show::{after_first, alternative, put_value};
+use crate::trail::Trail;
+use ber_core::{Broken, Sink};
+use ill_read::{Mark, Outline};
+use ill_schema::NodeId;
+use itoa::Buffer;
+use std::alloc::AllocError;
+
+/// The text of a message under a number: `message`, the number and the APDU's name, and then a line for each leaf, its path and its value.
+#[derive(Drop)]
+pub struct Text {
+    number: u32,
+    outline: Outline,
+}
+
+impl Text {
+    /// The text of the message that the outline is of, under this number. It is measured at once.
+    ///
+    /// # Errors
+    ///
+    /// Where it has 2^63 octets or more.
+    pub fn new(number: u32, outline: Outline) -> Result<Text, AllocError>
+        ensures { (a : Apdu) → IsOutlineOf outline a → IfOk result (λ text. IsTextOf text (shown_text number a)) }
+    {
+        let mut out = Out::new();
+        put_text(number, &outline, &mut out, &mut Nowhere);
+        if out.written() >= 1 << 63 {
+            return Err(AllocError);
+        }
+        Ok(Text { number, outline })
+    }
+
+    /// The outline, whose memory can be used again.
+    pub fn into_outline(self) -> Outline {
+        let Text { number: _, outline } = self;
+        outline
+    }
+
+    /// Puts it into the sink, and returns how many octets it has. No memory is taken.
+    ///
+    /// # Errors
+    ///
+    /// Where the sink breaks: the number of octets that it took, the first ones. They are not all.
+    pub fn put<W: Sink>(&self, sink: &mut W) -> Result<usize, usize>
+        ensures all { (octets : List ℕ) → IsTextOf self.now octets → OnOk result (Appends (W.contents sink.old) (W.contents sink.new) octets) }
+        ensures count { (octets : List ℕ) → IsTextOf self.now octets → IfOk result (λ n. (n ≡ length octets) × (n ≤ 2 ^ 63)) }
+        ensures some { (octets : List ℕ) → IsTextOf self.now octets → IfErr result (λ n. Appends (W.contents sink.old) (W.contents sink.new) (take n octets)) }
+        ensures fewer { (octets : List ℕ) → IsTextOf self.now octets → IfErr result (λ n. n < length octets) }
+        ensures breaks { (octets : List ℕ) → IsTextOf self.now octets → IsErr result → IsTrue (W.is_broken sink.new) }
+        ensures stays { IsTrue (W.is_broken sink.old) → IsTrue (W.is_broken sink.new) }
+    {
+        let mut out = Out::new();
+        put_text(self.number, &self.outline, &mut out, sink);
+        if out.is_broken() {
+            return Err(out.written());
+        }
+        Ok(out.written())
+    }
+}
+
+/// Puts the text of the message that the outline is of.
+fn put_text<W: Sink>(number: u32, outline: &Outline, out: &mut Out, sink: &mut W)
+    ensures adds { (a : Apdu) → IsOutlineOf outline.now a → Adds (shown_text number a) (sending (W.contents sink.old) (W.is_broken sink.old) out.old) (sending (W.contents sink.new) (W.is_broken sink.new) out.new) }
+    ensures empty { out.new.broken ≡ false → out.new.len ≡ 0 }
+    ensures stays { IsTrue (W.is_broken sink.old) → IsTrue (W.is_broken sink.new) }
+{
+    put_marks(number, outline.marks(), out, sink);
+    out.flush(sink);
+}
+
+/// Puts the text of the message that the marks are of.
+fn put_marks<W: Sink>(number: u32, marks: &[Mark], out: &mut Out, sink: &mut W)
+    ensures adds { (a : Apdu) → IsMarked (choice_of a) marks.now → Adds (shown_text number a) (sending (W.contents sink.old) (W.is_broken sink.old) out.old) (sending (W.contents sink.new) (W.is_broken sink.new) out.new) }
+    ensures stays { IsTrue (W.is_broken sink.old) → IsTrue (W.is_broken sink.new) }
+{
+    match alternative(marks) {
+        Some(row) => {
+            put_head(number, row_name(NodeId::ILL_APDU, row as usize), out, sink);
+            let node = row_node(NodeId::ILL_APDU, row as usize);
+            let _ = put_value(after_first(marks), &Trail::Start, "", node, out, sink);
+        }
+        None => {}
+    }
+}
+
+/// Puts the first line.
+fn put_head<W: Sink>(number: u32, name: &str, out: &mut Out, sink: &mut W)
+    ensures adds { Adds (head_line number name.now) (sending (W.contents sink.old) (W.is_broken sink.old) out.old) (sending (W.contents sink.new) (W.is_broken sink.new) out.new) }
+    ensures stays { IsTrue (W.is_broken sink.old) → IsTrue (W.is_broken sink.new) }
+{
+    let mut buffer = Buffer::new();
+    out.put(sink, b"message ");
+    out.put(sink, buffer.format(number).as_bytes());
+    out.put(sink, b" ");
+    out.put(sink, name.as_bytes());
+    out.put(sink, b"\n");
+}
+
+/// Takes all octets, and holds none.
+#[derive(Drop)]
+struct Nowhere;
+
+impl Sink for Nowhere {
+    ghost use Rattle.std.specs.Prelude.{None, false};
+
+    ghost contents = { λ _. None };
+
+    ghost is_broken = { λ _. false };
+
+    fn put(&mut self, octets: &[u8]) -> Result<usize, Broken> {
+        Ok(octets.len())
+    }
+
+    fn broken(&self) -> bool {
+        false
+    }
+}
