@@ -82,6 +82,7 @@ impl Octets {
     }
 
     /// Whether a leaf at this place is its row's default.
+    #[inline(always)]
     fn is_left_away(
         &self,
         place: At,
@@ -138,6 +139,7 @@ impl Draft for Octets {
         Ok(())
     }
 
+    #[inline(always)]
     fn close(&mut self, frame: Frame, _place: At) -> Result<(), Failure> {
         match Element::of(frame.found) {
             Element::Segment => return Ok(()),
