@@ -1,3 +1,4 @@
 pub mod Sent
 pub mod Lines
 pub mod Messages
+pub mod Bounds

@@ -62,7 +62,7 @@ pub octets_back : (o : List ℕ) → octets_in (map mark.Octet o) ≡ o
 octets_back [] = refl
 octets_back (a ∷ o) = ap (λ x. a ∷ x) (octets_back o)
 
-marks_length : (o : List ℕ) → length (map mark.Octet o) ≡ length o
+pub marks_length : (o : List ℕ) → length (map mark.Octet o) ≡ length o
 marks_length [] = refl
 marks_length (a ∷ o) = ap (λ (n : ℕ). suc n) (marks_length o)
 

@@ -12,11 +12,14 @@ use crate::out::Out;
 use crate::part::{row_name, row_node};
 use crate::show::{after_first, alternative, put_value};
 use crate::trail::Trail;
-use ber_core::{Broken, Sink};
+use ber_core::Sink;
 use ill_read::{Mark, Outline};
 use ill_schema::NodeId;
 use itoa::Buffer;
 use std::alloc::AllocError;
+
+/// How many marks an outline may have: more than that of any message.
+const MARKS: usize = 16_777_216;
 
 /// The text of a message under a number: `message`, the number and the APDU's name, and then a line for each leaf, its path and its value.
 #[derive(Drop)]
@@ -26,17 +29,15 @@ pub struct Text {
 }
 
 impl Text {
-    /// The text of the message that the outline is of, under this number. It is measured at once.
+    /// The text of the message that the outline is of, under this number.
     ///
     /// # Errors
     ///
-    /// Where it has 2^63 octets or more.
+    /// Where the outline has more than 16,777,216 marks, which that of no message has.
     pub fn new(number: u32, outline: Outline) -> Result<Text, AllocError>
         ensures { (a : Apdu) → IsOutlineOf outline a → IfOk result (λ text. IsTextOf text (shown_text number a)) }
     {
-        let mut out = Out::new();
-        put_text(number, &outline, &mut out, &mut Nowhere);
-        if out.written() >= 1 << 63 {
+        if outline.marks().len() > MARKS {
             return Err(AllocError);
         }
         Ok(Text { number, outline })
@@ -106,24 +107,4 @@ fn put_head<W: Sink>(number: u32, name: &str, out: &mut Out, sink: &mut W)
     out.put(sink, b" ");
     out.put(sink, name.as_bytes());
     out.put(sink, b"\n");
-}
-
-/// Takes all octets, and holds none.
-#[derive(Drop)]
-struct Nowhere;
-
-impl Sink for Nowhere {
-    ghost use Rattle.std.specs.Prelude.{None, false};
-
-    ghost contents = { λ _. None };
-
-    ghost is_broken = { λ _. false };
-
-    fn put(&mut self, octets: &[u8]) -> Result<usize, Broken> {
-        Ok(octets.len())
-    }
-
-    fn broken(&self) -> bool {
-        false
-    }
 }

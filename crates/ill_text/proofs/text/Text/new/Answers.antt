@@ -1,9 +1,9 @@
-use Rattle.std.proofs.Common.{◌≡◌, ◌<◌, ◌^◌, length, refl, arith, rules, true, false, None}
-use Rattle.ill_text.specs.Shown.{shown_text}
-use Rattle.ill_text.proofs.Sent.{measured}
+use Rattle.std.proofs.Common.{◌≤◌, ◌<◌, ◌^◌, length, refl, ap, arith, ◌∙◌}
+use Rattle.ill_text.proofs.Bounds.{text_bound}
 use Rattle.ill_text.proofs.text.Text.new.Goals as goal
 
 pub returns : goal.returns
 returns c a h =
-    let n = measured (shown_text c.args.number a) _ _ _ _ c.new-out.result c.put_text.new.out (c.new-out.ensures _ _) (c.put_text.ensures.adds a h) (λ b. cc) c.put_text.ensures.empty in
-    (a, h, refl, omega (arith, n, c.written.ensures, c.if-written.false))
+    let few : length c.args.outline.marks.items ≤ 16_777_216 = omega (arith, ap length c.marks.ensures, c.if-marks-gt-MARKS.false) in
+    let small : c.args.number < 2 ^ 64 = omega arith in
+    (a, h, refl, text_bound c.args.number a c.args.outline.marks.items small h few)
