@@ -2,7 +2,7 @@
 //! forms in an archive. What it wants to know of all that is proved here, from the contracts of public calls and laws alone.
 #![tactic(auto)]
 
-ghost use Rattle.std.specs.Prelude.{◌≡◌, ◌≢◌, ◌⊎◌, ◌<◌, ℕ, length, IfOk, IfErr, IsErrOf};
+ghost use Rattle.std.specs.Prelude.{◌≡◌, ◌≢◌, ◌⊎◌, ◌<◌, ℕ, length, IfOk, IfErr, IsErrOf, IsTrue};
 ghost use Rattle.std.specs.Io.KnownBytes.{Appends};
 ghost use Rattle.ber_leaf.specs.Profile.{profile_two};
 ghost use Rattle.ill_schema.specs.Apdu.{Apdu as NumberedBody, SpellsApdu, normal_form};
@@ -76,6 +76,7 @@ pub fn received(alloc: Global, octets: &[u8]) -> Result<Message, Fault>
 /// ([`Apdu::one_view`]).
 pub fn returned(alloc: Global, apdu: &Apdu) -> Result<Apdu, Fault>
     ensures back { IfOk result (λ back. view_of back ≡ view_of apdu.now) }
+    ensures too_long { IsErrOf result Fault.TooLong → profile_two.limit < length (normal_form (view_of apdu.now)) }
     ensures fails { IfErr result (λ fault. (fault ≡ Fault.TooLong) ⊎ (fault ≡ Fault.OutOfMemory)) }
 {
     let octets = match sent(alloc, apdu) {
@@ -97,6 +98,7 @@ pub fn archived<W: Sink>(alloc: Global, octets: &[u8], archive: &mut W) -> Resul
     ensures kept { (a : NumberedBody) → SpellsApdu profile_two a octets.now
         → IfOk result (λ _. Appends (W.contents archive.old) (W.contents archive.new) (normal_form a)) }
     ensures accepts { (a : NumberedBody) → SpellsApdu profile_two a octets.now → IfErr result (λ fault. fault ≢ Fault.Refused) }
+    ensures broken { IsErrOf result Fault.Broken → IsTrue (W.is_broken archive.new) }
 {
     one_meaning();
     let mut source = FromSlice::new(octets);
