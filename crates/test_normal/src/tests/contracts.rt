@@ -159,12 +159,12 @@ fn pieces_have_nothing_of_the_room<M: Maker>(
     maker: &M,
     number: u32,
     source: &mut Pieces,
-    room: Vec<u8>,
+    room: M::Out,
     alloc: Global,
-) -> Result<Option<Piece>, ReadFailure>
+) -> Result<Option<Piece<M::Out>>, ReadFailure>
     ensures { (a : Apdu) (n : ℕ) → Accepts profile_two source.old.octets a n
         → IfOk result (λ found. elim found as (λ _. Type 0) [
-          | Some x ↦ (x.text.items ≡ M.text maker.now number (spelling a (take n source.old.octets))) × (x.octets ≡ n)
+          | Some x ↦ M.Out.is x.text (M.text maker.now number (spelling a (take n source.old.octets))) × (x.octets ≡ n)
           | None ↦ ⊥
         ]) }
 {
