@@ -3,7 +3,7 @@ use Rattle.std.proofs.Common.{◌≡◌, ℕ, ◌+◌, ◌-◌, ◌^◌, ◌<◌
 use Rattle.std.proofs.lemmas.List.{take-append-drop, take_at}
 use Rattle.std.proofs.KnownBytes.{Appends-nil, Appends-trans}
 use Rattle.std.specs.Io.KnownBytes.{Appends}
-use Rattle.ill_text.specs.declared.out.Out.{Out}
+use Rattle.ill_text.specs.declared.outgoing.Out.{Out}
 use Rattle.ill_text.specs.code.Sending.{Adds, IsLeft, Sending, Stands, counted, sending}
 
 pub counted_then : (m n k : ℕ) → k ≡ counted m → counted (k + n) ≡ counted (m + n)

@@ -19,7 +19,7 @@ ghost use Rattle.ill_text.specs.code.Sending.{Adds, sending};
 ghost use Rattle.ill_text.specs.code.Trails.{path_of, place_at};
 
 use crate::number::number_name;
-use crate::out::Out;
+use crate::outgoing::Out;
 use crate::trail::{Trail, put_line, put_path};
 use arrayvec::ArrayVec;
 use ber_core::Sink;

@@ -4,7 +4,7 @@
 mod leaf;
 mod message;
 mod number;
-mod out;
+mod outgoing;
 mod part;
 mod show;
 mod text;

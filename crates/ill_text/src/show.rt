@@ -12,7 +12,7 @@ ghost use Rattle.ber_leaf.specs.Leaf.{value};
 ghost use Rattle.ill_read.specs.LeafTypes.{leaf_is};
 
 use crate::leaf::{put_default, put_leaf};
-use crate::out::Out;
+use crate::outgoing::Out;
 use crate::part::{row_name, row_node};
 use crate::trail::{Trail, put_line};
 use ber_core::Sink;

@@ -8,7 +8,7 @@ ghost use Rattle.ill_text.specs.TextOf.{IsTextOf};
 ghost use Rattle.ill_text.specs.code.Sending.{Adds, sending};
 ghost use Rattle.ill_text.specs.code.Trails.{head_line};
 
-use crate::out::Out;
+use crate::outgoing::Out;
 use crate::part::{row_name, row_node};
 use crate::show::{after_first, alternative, put_value};
 use crate::trail::Trail;

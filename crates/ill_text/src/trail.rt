@@ -4,7 +4,7 @@ ghost use Rattle.ill_text.specs.Shown.{line};
 ghost use Rattle.ill_text.specs.code.Sending.{Adds, sending};
 ghost use Rattle.ill_text.specs.code.Trails.{is_nothing, path_of};
 
-use crate::out::Out;
+use crate::outgoing::Out;
 use ber_core::Sink;
 use itoa::Buffer;
 

@@ -1,7 +1,7 @@
 -- A text that is put into a sink, part by part.
 use Rattle.std.specs.Prelude.{◌≡◌, ℕ, ◌+◌, ◌-◌, ◌^◌, ◌<◌, min, Bool, true, false, List, ◌++◌, length, take, Option, IsTrue}
 use Rattle.std.specs.Io.KnownBytes.{Appends}
-use Rattle.ill_text.specs.declared.out.Out.{Out}
+use Rattle.ill_text.specs.declared.outgoing.Out.{Out}
 
 -- a count of octets, as far as 64 bits hold it
 abbrev pub counted : ℕ → ℕ
