@@ -72,7 +72,7 @@ pub trait Maker {
     ghost is_good: { Self → Spelling → Bool };
 
     /// Reads the message that the source begins with, as [`read_message`](crate::read_message) does, and makes of it what is written. This
-    /// may stand in the memory of `room`, what it holds is forgotten.
+    /// may use the memory of `room`, whose contents are forgotten.
     ///
     /// # Errors
     ///

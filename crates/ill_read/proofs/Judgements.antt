@@ -168,7 +168,7 @@ other_judged place at want (x ∷ w) first e other =
     and-false true b h = h
     and-false false b h = refl
 
--- an element is judged behind its identifier
+-- an element is judged after its identifier
 pub behind_identifier : (place : List Open) (at : ℕ) (want : Fault) (w front behind : List ℕ) (tag : Tag) (f : Bool) → w ≡ front ++ behind → read_identifier w ≡ identified tag f behind
     → judge_element profile_two place at want w ≡ judge_identified place tag f at (length front) want behind
 behind_identifier place at want w front behind tag f e r =

@@ -71,7 +71,7 @@ passed_more node from n row old mid new h is p a =
       are = subst (λ rows. ArePassed rows (p.marks ++ part ∷ [])) (sym more) (passed_join _ (row ∷ []) p.marks (part ∷ []) p.are (record { node = node; row = n }, [], refl, is, refl));
     }
 
--- behind the last row there is none to pass
+-- after the last row there is none to pass
 pub passed_past : (node : NodeId) (from n : ℕ) (old new : List Mark) → slice_get (rows_of node) n ≡ None → HasPassed (drop from (take n (rows_of node))) old new
     → HasPassed (drop from (take (n + 1) (rows_of node))) old new
 passed_past node from n old new is p =
@@ -252,7 +252,7 @@ outline_leaf old new next r leaf octets passed right has p e bases l below h due
           (fronts_added l below (slot_in r.found) c old.bases.items h.front p.marks x h.are rows (chosen (alternative_of r.found) _ _ (leaf_marked leaf octets right)));
     }
 
--- an element ends: its last marks are put behind its own, and what comes before them is put at its base
+-- an element ends: its last marks are put after its own, and what comes before them is put at its base
 pub outline_closed : (old new : Outlining) (f : Frame) (next : Next) (middle front : List Mark) → HasClosed AreOctets old.octets f next new.octets
     → HasRear (read_as f.found) (shape f.place) old.marks.items middle → HasFront (read_as f.found) (shape f.place) next (slot_in f.found) (alternative_of f.found) front
     → ((outer : List ℕ) (before own : List Mark) → old.bases.items ≡ outer ++ length before ∷ [] → middle ≡ before ++ own → (new.bases.items ≡ outer) × (new.marks.items ≡ before ++ (front ++ own)))

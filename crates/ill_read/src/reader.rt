@@ -240,7 +240,7 @@ impl<D: Draft> Reader<D> {
         self.advance_within(window, room, rest.len())
     }
 
-    /// An end mark or an element, in the octets before the bound: at most `room`, of as many that came.
+    /// An end mark or an element, in the octets before the bound: at most `room`, of the `came` octets that follow.
     #[inline(always)]
     fn advance_within(&mut self, window: &[u8], room: u32, came: usize) -> Option<usize>
         requires open { self.old.state ≡ State.Open }
@@ -416,7 +416,7 @@ impl<D: Draft> Reader<D> {
         }
     }
 
-    /// Goes on after what was done, which took so many octets; the message may be whole.
+    /// Moves on by the `size` octets of what was done, and ends the message where it is whole. Returns that size.
     #[inline(always)]
     fn go_on(&mut self, size: u32, whole: bool) -> Option<usize>
         requires open { self.old.state ≡ State.Open }

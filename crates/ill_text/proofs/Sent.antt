@@ -73,7 +73,7 @@ sent_some xs told told' b b' o o' n whole broke put fewer count is_broken = λ s
       left = subst (λ (x : Bool). elim x as (λ _. Type 0) [ false ↦ drop n all ≡ take o'.len o'.waiting | true ↦ (0 < length (drop n all)) × IsTrue b' ]) (sym broke) (rest, is_broken);
     }
 
--- the octets wait behind those that did
+-- the octets wait after those that did
 pub kept : (xs : List ℕ) (told : Option (List ℕ)) (b : Bool) (o o' : Out) → o.broken ≡ false → o'.broken ≡ false → take o'.len o'.waiting ≡ take o.len o.waiting ++ xs → o'.written ≡ o.written
     → Adds xs (sending told b o) (sending told b o')
 unfolding Adds

@@ -11,7 +11,7 @@ use Rattle.ill_schema.specs.Names.{names_of}
 use Rattle.ill_schema.specs.Table.{rows_of}
 use Rattle.ill_text.specs.Numbers.{number_name}
 
--- `"` and `\` behind `\`, and what is no printable ASCII as `\x` and two digits
+-- `"` and `\` after a `\`, and what isn't printable ASCII as `\x` and two digits
 abbrev pub escaped : ℕ → List ℕ
 escaped octet =
     if nat_eq octet 0x22 || nat_eq octet 0x5C then 0x5C ∷ octet ∷ []

@@ -280,7 +280,7 @@ fn push_mark(octets: &mut ArrayVec<u8, 8>, mark: Mark)
     }
 }
 
-/// The octets behind as many copies of their sign as make eight of them.
+/// The octets after as many copies of their sign octet as make eight in all.
 fn extended(octets: &[u8]) -> [u8; 8]
     requires some { 0 < length octets.now }
     requires few { length octets.now ≤ 8 }

@@ -31,13 +31,13 @@ pub record HasAdded (rows : List Row) (v : Value) (old new : List (Option Value)
   pub added : new ≡ old ++ (entries ++ Some v ∷ [])
   pub are : ArePassed entries rows
 
--- the value is the sequence of the entries behind so many, with those of the rows that are still to come
+-- the value is the sequence of the entries after the first `base`, with those of the rows that are still to come
 pub record IsSequence (rows : List Row) (base : ℕ) (v : Value) (old new : List (Option Value)) : Type 0 where
   pub entries : List (Option Value)
   pub are : ArePassed entries rows
   pub is : (below held : List (Option Value)) → old ≡ below ++ held → length below ≡ base → (new ≡ below) × (content_of v ≡ content.sequence (entries_content (held ++ entries)))
 
--- the value is the list of the items behind so many
+-- the value is the list of the items after the first `base`
 abbrev pub IsList : ℕ → Value → List (Option Value) → List (Option Value) → Type 0
 IsList base v old new = (below : List (Option Value)) (items : List Value) → old ≡ below ++ map Some items → length below ≡ base → (new ≡ below) × (content_of v ≡ content.list (items_content items))
 

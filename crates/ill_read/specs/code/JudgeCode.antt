@@ -39,7 +39,7 @@ abbrev pub EndsAs : List Open → ℕ → Option Refusal → Type 0
 EndsAs place at None = (marks : ℕ) → IsEnd place marks (judge_end profile_two place at marks)
 EndsAs place at (Some refusal) = (marks : ℕ) → judge_end profile_two place at marks ≡ faulty (fault_of refusal)
 
--- the octets lie before the bound, where there is room for so many
+-- the octets lie before the bound, up to which there is this room
 abbrev pub IsRoom : ℕ → ℕ → List ℕ → Type 0
 IsRoom at room octets = (at + room ≤ 1_048_576) × (length octets ≤ room)
 
@@ -72,7 +72,7 @@ abbrev pub Reaches : Frames → Id → ℕ → ℕ → List ℕ → Result Exten
 Reaches frames id at room octets result judged =
     (f : Found) (place : List Open) → StandsAt frames place → room ≡ bound profile_two place - at → IsExtent f id at octets result (judged f place)
 
--- an element that is constructed exactly where it opens, and lies in so many octets
+-- the extent opens exactly where the identifier is a constructed element's, and what it takes lies within `size` octets
 abbrev pub Fits : Id → ℕ → Extent → Type 0
 Fits id size (Opens header end) = (form_of_id id ≡ true) × (0 < header) × (header ≤ size) × ForSome end (λ e. e ≤ 1_048_576)
 Fits id size (Reads header content) = (form_of_id id ≡ false) × (0 < header) × (header + content ≤ size)

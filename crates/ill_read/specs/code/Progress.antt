@@ -28,7 +28,7 @@ size_of (Closes marks) = marks
 size_of (Opens opening) = opening.header
 size_of (Reads reading) = reading.header + reading.size
 
--- a header that was read whole lies within so many octets
+-- a header that was read whole lies within `room` octets
 abbrev pub HeaderIsIn : LengthRead → ℕ → Type 0
 HeaderIsIn (Whole len header) room = (0 < header) × (header ≤ room)
 HeaderIsIn _ room = Unit {0}

@@ -53,7 +53,7 @@ CanStep holds r s rest judgement =
 abbrev pub CanRefuse : {D : Type 0} → (D → List Level → List ℕ → Type 0) → Reader D → List ℕ → List ℕ → Refusal → Type 0
 CanRefuse holds r s rest refusal = (b : StandsBefore (HoldsAt holds r.path) r.at s rest) × (judge profile_two b.place r.at rest ≡ faulty (fault_of refusal))
 
--- it went on after so many octets, or stopped
+-- it went on after `size` octets, or stopped
 abbrev pub HasAdvanced : {D : Type 0} → (D → List Level → List ℕ → Type 0) → (D → Apdu → ℕ → Type 0) → Reader D → List ℕ → List ℕ → Option ℕ → Type 0
 HasAdvanced holds has r s rest (Some size) = IsRunning holds has r s (drop size rest)
 HasAdvanced holds has r s rest None = HasStopped holds has r s rest
@@ -63,13 +63,13 @@ abbrev pub Steps : {D : Type 0} → (D → List Level → List ℕ → Type 0) �
 Steps holds has old judgement new result = (s rest : List ℕ) → CanStep holds old s rest judgement → IsProgress (depth_of old.path.frames) (length rest) judgement
     → HasAdvanced holds has new s rest result
 
--- from the place it goes on, or fails, where this is judged in the octets before the bound, of as many that came
+-- from the place it goes on, or fails, as is judged in the octets before the bound; `came` octets follow the place in all
 abbrev pub LeadsOn : {D : Type 0} → (D → List Level → List ℕ → Type 0) → (D → Apdu → ℕ → Type 0) → Reader D → List ℕ → ℕ → ℕ → Reader D → Option ℕ → (List Open → Fault → Judged) → Type 0
 LeadsOn holds has old window room came new result judged = (s rest more : List ℕ) (b : StandsBefore (HoldsAt holds old.path) old.at s rest) → length rest ≡ came
     → rest ≡ window ++ more → room ≡ bound profile_two b.place - old.at
     → judge profile_two b.place old.at rest ≡ judged b.place (wanting profile_two b.place old.at rest) → HasAdvanced holds has new s rest result
 
--- a place is left after so many octets, or an element is closed
+-- at most `room` octets are passed: at least one, or an element is closed
 abbrev pub Progresses : ℕ → Frames → Frames → Option ℕ → Type 0
 Progresses room old new result = IfSome result (λ size. (size ≤ room) × (depth_of new < 2 * size + depth_of old))
 
@@ -99,7 +99,7 @@ ended (octet ∷ fed) = Err (Failure.Refused (record { at = length (octet ∷ fe
 abbrev pub body_apdu : Body → Apdu
 body_apdu body = apdu_with (body.row + 1) body.value
 
--- the message of an APDU that was read from so many octets, None where its normal form passes the limit
+-- the message of an APDU that was read from `octets` octets, None where its normal form passes the limit
 abbrev pub IsMessageOf : Apdu → ℕ → Option Message → Type 0
 IsMessageOf a octets None = profile_two.limit < length (normal_form a)
 IsMessageOf a octets (Some m) = (apdu_of m ≡ a) × (octets_of m ≡ octets) × (length (normal_form a) ≤ profile_two.limit)
