@@ -14,8 +14,8 @@ use ill_normal::{ReadFailure, Stopped, Why, each_message};
 use std::alloc::Global;
 
 /// Does a job with the messages of an input, one after another up to its end. With `hex` the input
-/// is hexadecimal text, which is read whole first; otherwise one message is held at a time. A
-/// message's whole output is made before any of it is written. Whatever the result, at most
+/// is hexadecimal text, which is read whole first; otherwise one message is held at a time. All
+/// memory that a message's output needs is taken before any of it is written. Whatever the result, at most
 /// 4,194,305 octets are taken of a text; of other input at most 1,048,576 octets are taken after
 /// the last message that was done.
 ///
