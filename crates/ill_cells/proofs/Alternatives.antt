@@ -1,6 +1,7 @@
 -- The cells of alternatives, one by one.
-use Rattle.std.proofs.Common.{◌≡◌, ℕ, zero, suc, ◌+◌, ◌≤◌, Bool, true, false, IsTrue, List, [], ◌∷◌, ◌++◌, drop, length, map, Option, Some, None, option_map, refl, sym, ap, ap₂, subst, ◌∙◌, arith, slice_get}
-use Rattle.std.specs.Prelude.{flat_map, if◌then◌else◌}
+use Rattle.std.proofs.Common.{◌≡◌, ℕ, zero, suc, ◌+◌, ◌≤◌, Bool, true, false, IsTrue, List, [], ◌∷◌, ◌++◌, drop, length, map, Option, Some, None, option_map, refl, sym, ap, subst, ◌∙◌, arith, slice_get}
+use Rattle.std.specs.Prelude.{flat_map, nat_eq, if◌then◌else◌}
+use Rattle.std.proofs.lemmas.Bool.Decides.{nat_tests}
 use Rattle.std.proofs.lemmas.Bool.{and_parts}
 use Rattle.ber_core.specs.Identifier.{Tag}
 use Rattle.ber_leaf.specs.Profile.{profile_two}
@@ -9,23 +10,22 @@ use Rattle.ill_schema.specs.declared.node.NodeId.{NodeId}
 use Rattle.ill_schema.specs.Table.{kind_of}
 use Rattle.ill_schema.specs.Tagging.{same_tag}
 use Rattle.ill_refusals.specs.Element.{Component, component_starts, components, own_starts, Start}
-use Rattle.ill_cells.specs.Cells.{element_with}
-use Rattle.ill_cells.specs.code.Meant.{all_open, alone, cell_start, is_nested, nested_starts, node_choice, node_starts, opens_in, starts_of_cells}
+use Rattle.ill_cells.specs.Cells.{element_with, node_choice}
+use Rattle.ill_cells.specs.code.Meant.{all_open, alone, cell_start, is_nested, nested_starts, node_starts, opens_in, starts_of_cells}
 use Rattle.ill_cells.specs.code.Starts.{BeginsIn}
 use Rattle.ill_cells.specs.declared.cell.Cell.{Cell}
 
--- the starts of the cells of a node from a row on
-abbrev pub starts_from : NodeId → ℕ → List Cell → List Start
-starts_from node row [] = []
-starts_from node row (c ∷ cs) = cell_start node row c ∷ starts_from node (suc row) cs
+-- the starts of cells
+abbrev pub starts_from : List Cell → List Start
+starts_from cs = map cell_start cs
 
 abbrev joined : List (List Start) → List Start
 joined [] = []
 joined (ss ∷ sss) = ss ++ joined sss
 
-joined-cells : (node : NodeId) (row : ℕ) (cs : List Cell) → joined (starts_of_cells node row cs) ≡ starts_from node row cs
-joined-cells node row [] = refl
-joined-cells node row (c ∷ cs) = ap (λ ss. cell_start node row c ∷ ss) (joined-cells node (suc row) cs)
+joined-cells : (cs : List Cell) → joined (starts_of_cells cs) ≡ starts_from cs
+joined-cells [] = refl
+joined-cells (c ∷ cs) = ap (λ ss. cell_start c ∷ ss) (joined-cells cs)
 
 joined-map : (cs : List Component) → joined (map component_starts cs) ≡ flat_map component_starts cs
 joined-map [] = refl
@@ -47,9 +47,9 @@ joined-nested Kind.SeqOf node e h = absurd cc
 joined-nested (Kind.Leaf l) node e h = absurd cc
 
 -- a node with alternatives begins by their cells
-pub starts-nested : (node : NodeId) (cs : List Cell) → is_nested (kind_of node) ≡ true → starts_of_cells node 0 cs ≡ nested_starts (kind_of node) node
-    → node_starts node ≡ starts_from node 0 cs
-starts-nested node cs h e = sym (joined-nested (kind_of node) node refl h) ∙ ap joined (sym e) ∙ joined-cells node 0 cs
+pub starts-nested : (node : NodeId) (cs : List Cell) → is_nested (kind_of node) ≡ true → starts_of_cells cs ≡ nested_starts (kind_of node) node
+    → node_starts node ≡ starts_from cs
+starts-nested node cs h e = sym (joined-nested (kind_of node) node refl h) ∙ ap joined (sym e) ∙ joined-cells cs
 
 pub drop-at : {A : Type 0} (xs : List A) (i : ℕ) (x : A) → slice_get xs i ≡ Some x → drop i xs ≡ x ∷ drop (suc i) xs
 drop-at [] zero x e = absurd cc
@@ -78,43 +78,49 @@ pub element_with-other : (t : Tag) (s : Start) (ss : List Start) → same_tag s.
 element_with-other t s ss h = other_start (same_tag s.tag t) s _ h
 
 -- the component whose start a cell is
-alternative-at : (node : NodeId) (row i : ℕ) (cs : List Cell) (ks : List Component) (c : Cell) → starts_of_cells node row cs ≡ map component_starts ks → slice_get cs i ≡ Some c
-    → (k : Component) × (slice_get ks i ≡ Some k) × (component_starts k ≡ cell_start node (row + i) c ∷ [])
-alternative-at node row zero [] ks c e h = absurd cc
-alternative-at node row (suc i) [] ks c e h = absurd cc
-alternative-at node row i (d ∷ cs) [] c e h = absurd cc
-alternative-at node row zero (d ∷ cs) (k ∷ ks) c e h =
+alternative-at : (i : ℕ) (cs : List Cell) (ks : List Component) (c : Cell) → starts_of_cells cs ≡ map component_starts ks → slice_get cs i ≡ Some c
+    → (k : Component) × (slice_get ks i ≡ Some k) × (component_starts k ≡ cell_start c ∷ [])
+alternative-at zero [] ks c e h = absurd cc
+alternative-at (suc i) [] ks c e h = absurd cc
+alternative-at i (d ∷ cs) [] c e h = absurd cc
+alternative-at zero (d ∷ cs) (k ∷ ks) c e h =
     let g : d ≡ c = cc in
-    let z : row ≡ row + zero = omega arith in
-    let f : component_starts k ≡ cell_start node row d ∷ [] = cc in
-    (k, refl, f ∙ ap₂ (λ (m : ℕ) (x : Cell). cell_start node m x ∷ []) z g)
-alternative-at node row (suc i) (d ∷ cs) (k ∷ ks) c e h =
-    let f : starts_of_cells node (suc row) cs ≡ map component_starts ks = cc in
-    let r = alternative-at node (suc row) i cs ks c f h in
-    let z : suc row + i ≡ row + suc i = omega arith in
-    (r.0, r.1, r.2 ∙ ap (λ (m : ℕ). cell_start node m c ∷ []) z)
+    let f : component_starts k ≡ cell_start d ∷ [] = cc in
+    (k, refl, f ∙ ap (λ (x : Cell). cell_start x ∷ []) g)
+alternative-at (suc i) (d ∷ cs) (k ∷ ks) c e h =
+    let f : starts_of_cells cs ≡ map component_starts ks = cc in
+    alternative-at i cs ks c f h
 
-alternative-of : (k : Kind) (t : Tag) (node : NodeId) (i : ℕ) (cs : List Cell) (c : Cell) → kind_of node ≡ k → is_nested k ≡ true → starts_of_cells node 0 cs ≡ nested_starts k node → slice_get cs i ≡ Some c
-    → same_tag (cell_start node i c).tag t ≡ true
+alternative-of : (k : Kind) (t : Tag) (node : NodeId) (i : ℕ) (cs : List Cell) (c : Cell) → kind_of node ≡ k → is_nested k ≡ true → starts_of_cells cs ≡ nested_starts k node → slice_get cs i ≡ Some c
+    → same_tag (cell_start c).tag t ≡ true
     → BeginsIn t (elim k as (λ _. Option NodeId) [ Kind.Choice ↦ Some node | _ ↦ None ])
-    (option_map (λ _. i) (elim k as (λ _. Option NodeId) [ Kind.Choice ↦ Some node | _ ↦ None ])) (cell_start node i c).element
+    (option_map (λ _. i) (elim k as (λ _. Option NodeId) [ Kind.Choice ↦ Some node | _ ↦ None ])) (cell_start c).element
 alternative-of Kind.Choice t node i cs c k n e h s =
-    let r = alternative-at node 0 i cs (components profile_two node) c e h in
-    let z : 0 + i ≡ i = omega arith in
-    let f : component_starts r.0 ≡ cell_start node i c ∷ [] = r.2 ∙ ap (λ (m : ℕ). cell_start node m c ∷ []) z in
-    (r.0, r.1, ap (element_with t) f ∙ element_with-found t (cell_start node i c) [] s)
+    let r = alternative-at i cs (components profile_two node) c e h in
+    (r.0, r.1, ap (element_with t) r.2 ∙ element_with-found t (cell_start c) [] s)
 alternative-of Kind.IllString t node i cs c k n e h s = tt
 alternative-of Kind.Seq t node i cs c k n e h s = absurd cc
 alternative-of Kind.SeqOf t node i cs c k n e h s = absurd cc
 alternative-of (Kind.Leaf l) t node i cs c k n e h s = absurd cc
 
 -- the alternative that a cell with the tag is
-pub begins-nested : (t : Tag) (node : NodeId) (i : ℕ) (cs : List Cell) (c : Cell) → is_nested (kind_of node) ≡ true → starts_of_cells node 0 cs ≡ nested_starts (kind_of node) node → slice_get cs i ≡ Some c
-    → same_tag (cell_start node i c).tag t ≡ true → BeginsIn t (node_choice node) (option_map (λ _. i) (node_choice node)) (cell_start node i c).element
+pub begins-nested : (t : Tag) (node : NodeId) (i : ℕ) (cs : List Cell) (c : Cell) → is_nested (kind_of node) ≡ true → starts_of_cells cs ≡ nested_starts (kind_of node) node → slice_get cs i ≡ Some c
+    → same_tag (cell_start c).tag t ≡ true → BeginsIn t (node_choice node) (option_map (λ _. i) (node_choice node)) (cell_start c).element
 begins-nested t node i cs c n e h s = alternative-of (kind_of node) t node i cs c refl n e h s
 
-pub open-at : (cs : List Cell) (i : ℕ) (c : Cell) → all_open cs ≡ true → slice_get cs i ≡ Some c → IsTrue (opens_in c.what c.node)
-open-at [] zero c o h = absurd cc
-open-at [] (suc i) c o h = absurd cc
-open-at (d ∷ cs) zero c o h = let g : d ≡ c = cc in subst (λ (x : Cell). IsTrue (opens_in x.what x.node)) g (and_parts (opens_in d.what d.node) (all_open cs) o).0
-open-at (d ∷ cs) (suc i) c o h = open-at cs i c (and_parts (opens_in d.what d.node) (all_open cs) o).1 h
+-- a cell opens in its node, and is its own row
+pub open-at : (row i : ℕ) (cs : List Cell) (c : Cell) → all_open row cs ≡ true → slice_get cs i ≡ Some c → IsTrue (opens_in c.what c.node) × (row + i ≡ c.part.row)
+open-at row zero [] c o h = absurd cc
+open-at row (suc i) [] c o h = absurd cc
+open-at row zero (d ∷ cs) c o h =
+    let g : d ≡ c = cc in
+    let both = and_parts (opens_in d.what d.node) _ o in
+    let z : row + zero ≡ row = omega arith in
+    subst (λ (x : Cell). IsTrue (opens_in x.what x.node) × (row + zero ≡ x.part.row)) g (both.0, z ∙ same (and_parts (nat_eq row d.part.row) _ both.1).0)
+  where
+    same : {m n : ℕ} → nat_eq m n ≡ true → m ≡ n
+    same e = grind (arith, nat_tests)
+open-at row (suc i) (d ∷ cs) c o h =
+    let z : row + suc i ≡ suc row + i = omega arith in
+    let rest = open-at (suc row) i cs c (and_parts (nat_eq row d.part.row) _ (and_parts (opens_in d.what d.node) _ o).1).1 h in
+    (rest.0, z ∙ rest.1)

@@ -1,14 +1,15 @@
 -- Where an element begins inside, and what comes behind it.
-use Rattle.std.proofs.Common.{◌≡◌, ℕ, zero, suc, ◌+◌, true, IsTrue, List, [], ◌∷◌, drop, refl, sym, ap, ◌∙◌, arith}
+use Rattle.std.proofs.Common.{◌≡◌, ℕ, zero, suc, ◌+◌, true, IsTrue, List, [], ◌∷◌, drop, None, refl, sym, ap, ◌∙◌, arith}
 use Rattle.ber_leaf.specs.Profile.{profile_two}
 use Rattle.ill_schema.specs.declared.node.Kind.{Kind}
 use Rattle.ill_schema.specs.declared.node.NodeId.{NodeId}
 use Rattle.ill_schema.specs.declared.part.PartId.{PartId}
+use Rattle.ill_schema.specs.declared.part.Presence.{Presence}
 use Rattle.ill_schema.specs.Table.{kind_of}
 use Rattle.ill_refusals.specs.Element.{Component, components, Element, leaf, sequence, list, wrapper, loose_wrapper, segment, left_out}
 use Rattle.ill_refusals.specs.Next.{Next, rows, items, either, segments, element_of, next_of, opening}
-use Rattle.ill_cells.specs.Cells.{due_at, due_item, due_row, due_segment, element_in, first_position, is_leaf, is_list, is_placed, is_sequence, next_from, next_of_kind, wrapped}
-use Rattle.ill_cells.specs.code.Meant.{is_empty, is_other, opens, opens_in}
+use Rattle.ill_cells.specs.Cells.{default_due, due_at, due_item, due_row, due_segment, element_in, first_position, is_leaf, is_list, is_placed, is_sequence, next_from, next_of_kind, presence_default, wrapped}
+use Rattle.ill_cells.specs.code.Meant.{default_at, default_first, is_empty, is_other, opens, opens_in}
 use Rattle.ill_cells.specs.declared.cell.What.{What}
 use Rattle.ill_cells.specs.declared.cell.What.TheVariants as what
 use Rattle.ill_cells.specs.declared.cell.Slot.{Slot}
@@ -47,6 +48,30 @@ element-due p node position slot.Row e = row-element (wrapped p node) e _
 element-due p node position slot.Inner e = refl
 element-due p node position slot.Item e = item-element (wrapped p node) e _
 element-due p node position slot.Segment e = segment-element (wrapped p node) e
+
+row-default : (other : Component) (e : Element) (cs : List Component) → other.presence ≡ Presence.Must → default_first cs ≡ default_due (due_row other e cs)
+row-default other e [] h = ap presence_default (sym h)
+row-default other e (c ∷ cs) h = refl
+
+item-default : (other : Component) (e : Element) (cs : List Component) → other.presence ≡ Presence.Must → default_first cs ≡ default_due (due_item other e cs)
+item-default other e [] h = ap presence_default (sym h)
+item-default other e (c ∷ cs) h = refl
+
+segment-default : (other : Component) (e : Element) → other.presence ≡ Presence.Must → None ≡ default_due (due_segment other e)
+segment-default other (leaf l) h = ap presence_default (sym h)
+segment-default other (sequence n) h = ap presence_default (sym h)
+segment-default other (list n) h = ap presence_default (sym h)
+segment-default other (wrapper c) h = ap presence_default (sym h)
+segment-default other (loose_wrapper c) h = ap presence_default (sym h)
+segment-default other segment h = refl
+segment-default other (left_out p) h = ap presence_default (sym h)
+
+-- the default of what is due
+pub default-due : (p : PartId) (node : NodeId) (position : ℕ) (s : Slot) (e : Element) → default_at node position s ≡ default_due (due_at p node position s e)
+default-due p node position slot.Row e = row-default (wrapped p node) e _ refl
+default-due p node position slot.Inner e = refl
+default-due p node position slot.Item e = item-default (wrapped p node) e _ refl
+default-due p node position slot.Segment e = segment-default (wrapped p node) e refl
 
 leaf-first : (p : PartId) (node : NodeId) (k : Kind) → is_leaf k ≡ true → next_of_kind k p node 1 ≡ segments
 leaf-first p node (Kind.Leaf l) h = refl

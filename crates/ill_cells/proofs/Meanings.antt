@@ -1,6 +1,6 @@
 -- What the cells of a node say, one by one.
 use Rattle.std.proofs.lemmas.List.{append-nil}
-use Rattle.std.proofs.Common.{◌≡◌, ℕ, zero, suc, ◌+◌, ◌≤◌, Bool, true, false, IsTrue, List, [], ◌∷◌, ◌++◌, drop, length, Option, Some, None, option_map, refl, sym, ap, ap₂, subst, ◌∙◌, arith, slice_get}
+use Rattle.std.proofs.Common.{◌≡◌, ℕ, zero, suc, ◌≤◌, Bool, true, false, IsTrue, List, [], ◌∷◌, ◌++◌, drop, length, Option, Some, None, option_map, refl, sym, ap, subst, ◌∙◌, arith, slice_get}
 use Rattle.std.specs.Prelude.{flat_map, is_some, if◌then◌else◌}
 use Rattle.ber_core.specs.Identifier.{Tag}
 use Rattle.ber_core.specs.Tree.{octet_string}
@@ -12,41 +12,26 @@ use Rattle.ill_schema.specs.Table.{kind_of}
 use Rattle.ill_schema.specs.Tagging.{Tagging, untagged, implicit, explicit, explicit_or_bare, same_tag}
 use Rattle.ill_refusals.specs.Element.{Component, component_starts, components, Element, segment, Start, start, starts}
 use Rattle.ill_refusals.specs.Next.{first_mandatory}
-use Rattle.ill_cells.specs.Cells.{Begins, BeginsDue, due_at, due_item, due_row, due_segment, element_with, is_placed, presence_default, wrapped}
-use Rattle.ill_cells.specs.code.Meant.{Meant, cell_meant, cells_meant, component_choice, default_at, default_first, is_must, is_there, item_meant, kind_meant, meant, node_choice, node_meant, node_starts, row_there, rows_meant, segment_meant}
+use Rattle.ill_cells.specs.Cells.{Begins, BeginsDue, due_at, due_item, due_row, due_segment, element_with, is_placed, node_choice, presence_default, wrapped}
+use Rattle.ill_cells.specs.code.Meant.{Meant, cell_meant, cells_meant, component_choice, default_at, default_first, is_must, is_there, item_meant, kind_meant, meant, node_meant, node_starts, row_there, rows_meant, segment_meant}
 use Rattle.ill_cells.specs.code.Starts.{BeginsIn, IsBegun}
 use Rattle.ill_cells.specs.declared.cell.Cell.{Cell}
 use Rattle.ill_cells.specs.declared.cell.Slot.TheVariants as slot
 use Rattle.ill_cells.proofs.Scanning.{drop-item, drop-none, drop-rows}
 
-here : (node : NodeId) (k i : ℕ) (cs : List Cell) (c : Cell) → slice_get cs i ≡ Some c
-    → drop i (cells_meant node k cs) ≡ cell_meant node (k + i) c ∷ drop (suc i) (cells_meant node k cs)
-here node k zero [] c e = absurd cc
-here node k zero (d ∷ cs) c e =
-    let g : d ≡ c = cc in
-    let z : k ≡ k + zero = omega arith in
-    ap₂ (λ (m : ℕ) (x : Cell). cell_meant node m x ∷ cells_meant node (suc k) cs) z g
-here node k (suc i) [] c e = absurd cc
-here node k (suc i) (d ∷ cs) c e =
-    let z : suc k + i ≡ k + suc i = omega arith in
-    here node (suc k) i cs c e ∙ ap (λ (m : ℕ). cell_meant node m c ∷ drop (suc i) (cells_meant node (suc k) cs)) z
-
 -- what the cell at a position says, before those behind it
-pub cells-at : (node : NodeId) (i : ℕ) (cs : List Cell) (c : Cell) → slice_get cs i ≡ Some c
-    → drop i (cells_meant node 0 cs) ≡ cell_meant node i c ∷ drop (suc i) (cells_meant node 0 cs)
-cells-at node i cs c e =
-    let z : 0 + i ≡ i = omega arith in
-    here node 0 i cs c e ∙ ap (λ (m : ℕ). cell_meant node m c ∷ drop (suc i) (cells_meant node 0 cs)) z
-
-past : (node : NodeId) (k i : ℕ) (cs : List Cell) → length cs ≤ i → drop i (cells_meant node k cs) ≡ []
-past node k zero [] h = refl
-past node k (suc i) [] h = refl
-past node k zero (c ∷ cs) h = absurd (omega arith)
-past node k (suc i) (c ∷ cs) h = past node (suc k) i cs (omega arith)
+pub cells-at : (i : ℕ) (cs : List Cell) (c : Cell) → slice_get cs i ≡ Some c → drop i (cells_meant cs) ≡ cell_meant c ∷ drop (suc i) (cells_meant cs)
+cells-at zero [] c e = absurd cc
+cells-at (suc i) [] c e = absurd cc
+cells-at zero (d ∷ cs) c e = let g : d ≡ c = cc in ap (λ (x : Cell). cell_meant x ∷ cells_meant cs) g
+cells-at (suc i) (d ∷ cs) c e = cells-at i cs c e
 
 -- behind the last cell there are none
-pub cells-end : (node : NodeId) (i : ℕ) (cs : List Cell) → length cs ≤ i → drop i (cells_meant node 0 cs) ≡ []
-cells-end node i cs h = past node 0 i cs h
+pub cells-end : (i : ℕ) (cs : List Cell) → length cs ≤ i → drop i (cells_meant cs) ≡ []
+cells-end zero [] h = refl
+cells-end (suc i) [] h = refl
+cells-end zero (c ∷ cs) h = absurd (omega arith)
+cells-end (suc i) (c ∷ cs) h = cells-end i cs (omega arith)
 
 abbrev choice_of : Kind → NodeId → Option NodeId
 choice_of k node = elim k as (λ _. Option NodeId) [ Kind.Choice ↦ Some node | _ ↦ None ]

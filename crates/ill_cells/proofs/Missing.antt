@@ -75,23 +75,23 @@ needed-kind p node zero Kind.IllString = refl
 needed-kind p node (suc zero) Kind.IllString = refl
 needed-kind p node (suc (suc n)) Kind.IllString = ap (needed p node (suc (suc n))) (drop-none n)
 
-pub needed-all : (p : PartId) (node : NodeId) (i : ℕ) (cs : List Cell) → cells_meant node 0 cs ≡ node_meant node
-    → missing profile_two (next_from p node i) ≡ needed p node i (drop i (cells_meant node 0 cs))
+pub needed-all : (p : PartId) (node : NodeId) (i : ℕ) (cs : List Cell) → cells_meant cs ≡ node_meant node
+    → missing profile_two (next_from p node i) ≡ needed p node i (drop i (cells_meant cs))
 needed-all p node i cs e = sym (needed-kind p node i (kind_of node)) ∙ ap (λ ms. needed p node i (drop i ms)) (sym e)
 
 pub needed-found : (p : PartId) (node : NodeId) (i : ℕ) (cs : List Cell) (c : Cell) → slice_get cs i ≡ Some c → c.stops ≡ true
-    → needed p node i (drop i (cells_meant node 0 cs)) ≡ Some (part_at p node i c.slot)
+    → needed p node i (drop i (cells_meant cs)) ≡ Some (part_at p node i c.slot)
 needed-found p node i cs c h s =
-    ap (needed p node i) (cells-at node i cs c h)
-    ∙ ap (λ b. if b then Some (part_at p node i c.slot) else needed p node (suc i) (drop (suc i) (cells_meant node 0 cs))) s
+    ap (needed p node i) (cells-at i cs c h)
+    ∙ ap (λ b. if b then Some (part_at p node i c.slot) else needed p node (suc i) (drop (suc i) (cells_meant cs))) s
 
 pub needed-skip : (p : PartId) (node : NodeId) (i : ℕ) (cs : List Cell) (c : Cell) → slice_get cs i ≡ Some c → c.stops ≡ false
-    → needed p node i (drop i (cells_meant node 0 cs)) ≡ needed p node (i + 1) (drop (i + 1) (cells_meant node 0 cs))
+    → needed p node i (drop i (cells_meant cs)) ≡ needed p node (i + 1) (drop (i + 1) (cells_meant cs))
 needed-skip p node i cs c h s =
     let z : suc i ≡ i + 1 = omega arith in
-    ap (needed p node i) (cells-at node i cs c h)
-    ∙ ap (λ b. if b then Some (part_at p node i c.slot) else needed p node (suc i) (drop (suc i) (cells_meant node 0 cs))) s
-    ∙ ap (λ (j : ℕ). needed p node j (drop j (cells_meant node 0 cs))) z
+    ap (needed p node i) (cells-at i cs c h)
+    ∙ ap (λ b. if b then Some (part_at p node i c.slot) else needed p node (suc i) (drop (suc i) (cells_meant cs))) s
+    ∙ ap (λ (j : ℕ). needed p node j (drop j (cells_meant cs))) z
 
-pub needed-end : (p : PartId) (node : NodeId) (i : ℕ) (cs : List Cell) → length cs ≤ i → needed p node i (drop i (cells_meant node 0 cs)) ≡ None
-needed-end p node i cs h = ap (needed p node i) (cells-end node i cs h)
+pub needed-end : (p : PartId) (node : NodeId) (i : ℕ) (cs : List Cell) → length cs ≤ i → needed p node i (drop i (cells_meant cs)) ≡ None
+needed-end p node i cs h = ap (needed p node i) (cells-end i cs h)

@@ -13,8 +13,8 @@ use Rattle.ill_schema.specs.Table.{kind_of}
 use Rattle.ill_schema.specs.Tagging.{same_tag, sequence_tag}
 use Rattle.ill_refusals.specs.Element.{Component, component_starts, components, own_starts, segment, sequence, Start, start}
 use Rattle.ill_refusals.specs.Next.{Next, rows, items, either, segments, Due, part, octets, due, due_in, start_of, first_mandatory, missing}
-use Rattle.ill_cells.specs.Cells.{due_at, element_with, next_from, next_of_kind, wrapped}
-use Rattle.ill_cells.specs.code.Meant.{Meant, meant, is_must, node_choice, item_meant, kind_meant, node_meant, node_starts, rows_meant, segment_meant}
+use Rattle.ill_cells.specs.Cells.{due_at, element_with, next_from, next_of_kind, node_choice, wrapped}
+use Rattle.ill_cells.specs.code.Meant.{Meant, meant, is_must, item_meant, kind_meant, node_meant, node_starts, rows_meant, segment_meant}
 use Rattle.ill_cells.specs.declared.cell.Slot.TheVariants as slot
 
 -- what is due by the tag, where these say what may come at a position of a node and behind it

@@ -9,58 +9,58 @@ use Rattle.ill_schema.specs.declared.part.PartId.{PartId}
 use Rattle.ill_schema.specs.Table.{kind_of}
 use Rattle.ill_refusals.specs.Element.{components, Element}
 use Rattle.ill_refusals.specs.Next.{Due, due, first_mandatory, missing}
-use Rattle.ill_cells.specs.Cells.{due_at, element_with, next_from}
-use Rattle.ill_cells.specs.code.Meant.{Meant, cell_meant, cell_starts, cells_meant, kind_meant, meant, node_choice, node_meant, node_starts}
+use Rattle.ill_cells.specs.Cells.{due_at, element_with, next_from, node_choice}
+use Rattle.ill_cells.specs.code.Meant.{Meant, cell_meant, cell_starts, cells_meant, kind_meant, meant, node_meant, node_starts}
 use Rattle.ill_cells.specs.declared.cell.Cell.{Cell}
 use Rattle.ill_cells.specs.declared.cell.Slot.TheVariants as slot
 use Rattle.ill_cells.proofs.Scanning.{lacking, lacking-node, scan, scan-node}
 use Rattle.ill_cells.proofs.Meanings.{IsSaid, cells-at, cells-end, said-node}
 
 -- what the cell at a position says is said there
-pub cell-said : (node : NodeId) (i : ℕ) (cs : List Cell) (c : Cell) → cells_meant node 0 cs ≡ node_meant node → slice_get cs i ≡ Some c
-    → IsSaid (kind_of node) node i (cell_meant node i c)
-cell-said node i cs c e h = said-node node i _ _ (ap (drop i) (sym e) ∙ cells-at node i cs c h)
+pub cell-said : (node : NodeId) (i : ℕ) (cs : List Cell) (c : Cell) → cells_meant cs ≡ node_meant node → slice_get cs i ≡ Some c
+    → IsSaid (kind_of node) node i (cell_meant c)
+cell-said node i cs c e h = said-node node i _ _ (ap (drop i) (sym e) ∙ cells-at i cs c h)
 
 -- all cells from a position on say what is due there
-pub scan-all : (t : Tag) (p : PartId) (node : NodeId) (i : ℕ) (cs : List Cell) → cells_meant node 0 cs ≡ node_meant node
-    → due profile_two t (next_from p node i) ≡ scan t p node i (drop i (cells_meant node 0 cs))
+pub scan-all : (t : Tag) (p : PartId) (node : NodeId) (i : ℕ) (cs : List Cell) → cells_meant cs ≡ node_meant node
+    → due profile_two t (next_from p node i) ≡ scan t p node i (drop i (cells_meant cs))
 scan-all t p node i cs e = sym (scan-node t p node i) ∙ ap (λ ms. scan t p node i (drop i ms)) (sym e)
 
 abbrev step_of : Tag → PartId → NodeId → ℕ → Cell → Option Due → Option Element → Option Due
 step_of t p node i c rest o = elim o as (λ _. Option Due) [ Some e ↦ Some (due_at p node i c.slot e) | None ↦ if c.stops then None else rest ]
 
 pub scan-found : (t : Tag) (p : PartId) (node : NodeId) (i : ℕ) (cs : List Cell) (c : Cell) (e : Element) → slice_get cs i ≡ Some c
-    → element_with t (cell_starts node i c) ≡ Some e → scan t p node i (drop i (cells_meant node 0 cs)) ≡ Some (due_at p node i c.slot e)
-scan-found t p node i cs c e h f = ap (scan t p node i) (cells-at node i cs c h) ∙ ap (step_of t p node i c _) f
+    → element_with t (cell_starts c) ≡ Some e → scan t p node i (drop i (cells_meant cs)) ≡ Some (due_at p node i c.slot e)
+scan-found t p node i cs c e h f = ap (scan t p node i) (cells-at i cs c h) ∙ ap (step_of t p node i c _) f
 
 pub scan-stop : (t : Tag) (p : PartId) (node : NodeId) (i : ℕ) (cs : List Cell) (c : Cell) → slice_get cs i ≡ Some c
-    → element_with t (cell_starts node i c) ≡ None → c.stops ≡ true → scan t p node i (drop i (cells_meant node 0 cs)) ≡ None
+    → element_with t (cell_starts c) ≡ None → c.stops ≡ true → scan t p node i (drop i (cells_meant cs)) ≡ None
 scan-stop t p node i cs c h f s =
-    ap (scan t p node i) (cells-at node i cs c h) ∙ ap (step_of t p node i c _) f
-    ∙ ap (λ b. if b then None else scan t p node (suc i) (drop (suc i) (cells_meant node 0 cs))) s
+    ap (scan t p node i) (cells-at i cs c h) ∙ ap (step_of t p node i c _) f
+    ∙ ap (λ b. if b then None else scan t p node (suc i) (drop (suc i) (cells_meant cs))) s
 
 pub scan-skip : (t : Tag) (p : PartId) (node : NodeId) (i : ℕ) (cs : List Cell) (c : Cell) → slice_get cs i ≡ Some c
-    → element_with t (cell_starts node i c) ≡ None → c.stops ≡ false
-    → scan t p node i (drop i (cells_meant node 0 cs)) ≡ scan t p node (i + 1) (drop (i + 1) (cells_meant node 0 cs))
+    → element_with t (cell_starts c) ≡ None → c.stops ≡ false
+    → scan t p node i (drop i (cells_meant cs)) ≡ scan t p node (i + 1) (drop (i + 1) (cells_meant cs))
 scan-skip t p node i cs c h f s =
     let z : suc i ≡ i + 1 = omega arith in
-    ap (scan t p node i) (cells-at node i cs c h) ∙ ap (step_of t p node i c _) f
-    ∙ ap (λ b. if b then None else scan t p node (suc i) (drop (suc i) (cells_meant node 0 cs))) s
-    ∙ ap (λ (j : ℕ). scan t p node j (drop j (cells_meant node 0 cs))) z
+    ap (scan t p node i) (cells-at i cs c h) ∙ ap (step_of t p node i c _) f
+    ∙ ap (λ b. if b then None else scan t p node (suc i) (drop (suc i) (cells_meant cs))) s
+    ∙ ap (λ (j : ℕ). scan t p node j (drop j (cells_meant cs))) z
 
-pub scan-end : (t : Tag) (p : PartId) (node : NodeId) (i : ℕ) (cs : List Cell) → length cs ≤ i → scan t p node i (drop i (cells_meant node 0 cs)) ≡ None
-scan-end t p node i cs h = ap (scan t p node i) (cells-end node i cs h)
+pub scan-end : (t : Tag) (p : PartId) (node : NodeId) (i : ℕ) (cs : List Cell) → length cs ≤ i → scan t p node i (drop i (cells_meant cs)) ≡ None
+scan-end t p node i cs h = ap (scan t p node i) (cells-end i cs h)
 
 -- whether something is missing stands in the cell
-pub lacking-all : (p : PartId) (node : NodeId) (i : ℕ) (cs : List Cell) → cells_meant node 0 cs ≡ node_meant node
-    → is_some (missing profile_two (next_from p node i)) ≡ lacking (drop i (cells_meant node 0 cs))
+pub lacking-all : (p : PartId) (node : NodeId) (i : ℕ) (cs : List Cell) → cells_meant cs ≡ node_meant node
+    → is_some (missing profile_two (next_from p node i)) ≡ lacking (drop i (cells_meant cs))
 lacking-all p node i cs e = sym (lacking-node p node i) ∙ ap (λ ms. lacking (drop i ms)) (sym e)
 
-pub lacking-at : (node : NodeId) (i : ℕ) (cs : List Cell) (c : Cell) → slice_get cs i ≡ Some c → lacking (drop i (cells_meant node 0 cs)) ≡ c.lacks
-lacking-at node i cs c h = ap lacking (cells-at node i cs c h)
+pub lacking-at : (node : NodeId) (i : ℕ) (cs : List Cell) (c : Cell) → slice_get cs i ≡ Some c → lacking (drop i (cells_meant cs)) ≡ c.lacks
+lacking-at node i cs c h = ap lacking (cells-at i cs c h)
 
-pub lacking-end : (node : NodeId) (i : ℕ) (cs : List Cell) → length cs ≤ i → lacking (drop i (cells_meant node 0 cs)) ≡ false
-lacking-end node i cs h = ap lacking (cells-end node i cs h)
+pub lacking-end : (node : NodeId) (i : ℕ) (cs : List Cell) → length cs ≤ i → lacking (drop i (cells_meant cs)) ≡ false
+lacking-end node i cs h = ap lacking (cells-end i cs h)
 
 -- the search is as far as this position or further, and the tag is not that of the wrapper round the node, if it began there
 pub record HasPassed (t : Tag) (node : NodeId) (from i : ℕ) : Type 0 where
@@ -78,14 +78,14 @@ around (Kind.Leaf l) node m ms e = let g : meant (node_starts node) slot.Inner t
 around Kind.IllString node m ms e = let g : meant (node_starts node) slot.Inner true true (node_choice node) None ≡ m = cc in ap (λ x. x.starts) (sym g)
 
 -- the first cell has the starts of the node
-around-cell : (node : NodeId) (cs : List Cell) (c : Cell) → cells_meant node 0 cs ≡ node_meant node → slice_get cs 0 ≡ Some c → cell_starts node 0 c ≡ node_starts node
-around-cell node cs c e h = around (kind_of node) node _ _ (sym e ∙ cells-at node 0 cs c h)
+around-cell : (node : NodeId) (cs : List Cell) (c : Cell) → cells_meant cs ≡ node_meant node → slice_get cs 0 ≡ Some c → cell_starts c ≡ node_starts node
+around-cell node cs c e h = around (kind_of node) node _ _ (sym e ∙ cells-at 0 cs c h)
 
-pub passed-next : (t : Tag) (node : NodeId) (from i : ℕ) (cs : List Cell) (c : Cell) → cells_meant node 0 cs ≡ node_meant node → slice_get cs i ≡ Some c
-    → element_with t (cell_starts node i c) ≡ None → HasPassed t node from i → HasPassed t node from (i + 1)
+pub passed-next : (t : Tag) (node : NodeId) (from i : ℕ) (cs : List Cell) (c : Cell) → cells_meant cs ≡ node_meant node → slice_get cs i ≡ Some c
+    → element_with t (cell_starts c) ≡ None → HasPassed t node from i → HasPassed t node from (i + 1)
 passed-next t node from i cs c e h f p = record { later = let q = p.later in omega arith; apart = λ z n. go i h f (λ m. p.apart z m) }
   where
-    go : (j : ℕ) → slice_get cs j ≡ Some c → element_with t (cell_starts node j c) ≡ None → ((j ≡ 0 → ⊥) → element_with t (node_starts node) ≡ None)
+    go : (j : ℕ) → slice_get cs j ≡ Some c → element_with t (cell_starts c) ≡ None → ((j ≡ 0 → ⊥) → element_with t (node_starts node) ≡ None)
         → element_with t (node_starts node) ≡ None
     go zero h f rest = ap (element_with t) (sym (around-cell node cs c e h)) ∙ f
     go (suc j) h f rest = rest (λ z. cc)

@@ -1,5 +1,5 @@
 -- What an index and a cell that is found stand for.
-use Rattle.std.specs.Prelude.{◌≡◌, ℕ, ℤ, zero, suc, Bool, true, false, List, [], ◌∷◌, drop, Option, Some, None, find, option_map, slice_get}
+use Rattle.std.specs.Prelude.{◌≡◌, ℕ, ℤ, zero, suc, Bool, true, false, List, [], ◌∷◌, drop, Option, Some, None, find, option_map, slice_get, if◌then◌else◌}
 use Rattle.ber_core.specs.Identifier.{Tag}
 use Rattle.ber_leaf.specs.Leaf.{boolean, integer, enumerated, general_string, visible_string, printable_string, iso_date, iso_time}
 use Rattle.ber_leaf.specs.Profile.{profile_two}
@@ -11,6 +11,7 @@ use Rattle.ill_schema.specs.Table.{kind_of}
 use Rattle.ill_schema.specs.Tagging.{untagged, same_tag}
 use Rattle.ill_refusals.specs.Element.{Component, component_starts, components, Start, Element, leaf, sequence, list, wrapper, loose_wrapper, segment, left_out}
 use Rattle.ill_refusals.specs.Next.{Next, rows, items, either, segments, Due, part, octets, opening}
+use Rattle.ill_cells.specs.declared.cell.Cell.{Cell}
 use Rattle.ill_cells.specs.declared.cell.What.{What}
 use Rattle.ill_cells.specs.declared.cell.What.TheVariants as what
 use Rattle.ill_cells.specs.declared.cell.Slot.{Slot}
@@ -54,6 +55,14 @@ element_in p node what.Wrapper = wrapper (wrapped p node)
 element_in p node what.LooseWrapper = loose_wrapper (wrapped p node)
 element_in p node what.Segment = segment
 element_in p node what.LeftOut = left_out p
+
+-- the node, where it is a choice
+abbrev pub node_choice : NodeId → Option NodeId
+node_choice node = elim (kind_of node) as (λ _. Option NodeId) [ Kind.Choice ↦ Some node | _ ↦ None ]
+
+-- the alternative that the second cell is, where the first is a choice without a tag
+abbrev pub alternative_in : Cell → Cell → Option ℕ
+alternative_in cell begun = if cell.nested then option_map (λ _. begun.part.row) (node_choice cell.node) else None
 
 -- where the element begins inside: a tag round a node at 0
 abbrev pub first_position : What → ℕ

@@ -8,7 +8,7 @@ use Rattle.ill_schema.specs.declared.part.PartId.{PartId}
 use Rattle.ill_schema.specs.Table.{kind_of}
 use Rattle.ill_refusals.specs.Element.{Component, components, Element, starts}
 use Rattle.ill_refusals.specs.Next.{Next, rows, Due, part, due, element_of}
-use Rattle.ill_cells.specs.Cells.{next_from, element_in, element_with, due_at, first_position, is_placed, row_before, wrapped, BeginsDue}
+use Rattle.ill_cells.specs.Cells.{alternative_in, next_from, element_in, element_with, due_at, first_position, is_placed, row_before, wrapped, BeginsDue}
 use Rattle.ill_cells.specs.declared.cell.Slot.{Slot}
 use Rattle.ill_cells.specs.declared.cell.What.{What}
 use Rattle.ill_cells.specs.declared.cell.Slot.TheVariants as slot
@@ -31,33 +31,33 @@ next_at at = next_from at.part at.node at.position
 
 -- the part, the node and the alternative of an element that is found, and where it stands
 abbrev pub part_of : Found → PartId
-part_of f = f.part
+part_of f = f.begun.now.part
 
 abbrev pub node_of : Found → NodeId
-node_of f = f.node
+node_of f = f.begun.now.node
 
 abbrev pub what_of : Found → What
-what_of f = f.what
+what_of f = f.begun.now.what
 
 abbrev pub alternative_of : Found → Option ℕ
-alternative_of f = f.alternative
+alternative_of f = alternative_in f.cell.now f.begun.now
 
 abbrev pub slot_of : Found → Slot
-slot_of f = f.slot
+slot_of f = f.cell.now.slot
 
 -- the node round it
 abbrev pub node_round : Found → NodeId
 node_round f = f.at.node
 
 abbrev pub element_found : Found → Element
-element_found f = element_in f.part f.node f.what
+element_found f = element_in (part_of f) (node_of f) (what_of f)
 
 abbrev pub due_of : Found → Due
-due_of f = due_at f.at.part f.at.node f.at.position f.slot (element_found f)
+due_of f = due_at f.at.part f.at.node f.at.position (slot_of f) (element_found f)
 
 -- the first place where the element that is found may begin inside
 abbrev pub first_place : Found → At
-first_place f = record { part = f.part; node = f.node; position = first_position f.what }
+first_place f = record { part = part_of f; node = node_of f; position = first_position (what_of f) }
 
 -- where a message begins
 abbrev pub top : At

@@ -5,10 +5,10 @@ ghost use Rattle.ber_core.specs.Id.{tag_of_id};
 ghost use Rattle.ber_leaf.specs.Profile.{profile_two};
 ghost use Rattle.ill_schema.specs.Table.{kind_of};
 ghost use Rattle.ill_schema.specs.Tagging.{same_tag};
-ghost use Rattle.ill_cells.specs.Cells.{element_in, element_with, first_position, is_placed, part_at};
-ghost use Rattle.ill_cells.specs.code.Meant.{cell_choice, cell_opens, cell_starts, default_at, is_nested, node_choice, node_starts, opens_in, row_there};
+ghost use Rattle.ill_cells.specs.Cells.{alternative_in, element_with, first_position, is_placed, node_choice, part_at};
+ghost use Rattle.ill_cells.specs.code.Meant.{cell_choice, cell_opens, cell_starts, default_at, is_nested, node_starts, opens_in, row_there};
 ghost use Rattle.ill_refusals.specs.Element.{components};
-ghost use Rattle.ill_cells.specs.code.Starts.{IsBegun};
+ghost use Rattle.ill_cells.specs.code.Starts.{IsBegunBy};
 
 use crate::cell::{Cell, Slot, What};
 use crate::runs::{alternatives_of, cells_of};
@@ -29,55 +29,37 @@ pub struct At {
 pub struct Found {
     /// Where it is due: the position of its row's cell.
     at: At,
-    slot: Slot,
-    what: What,
-    /// The node that the element is, or that is in the wrapper.
-    node: NodeId,
-    /// The row of the tables, or the alternative, that the element is.
-    part: PartId,
-    default: Option<u8>,
-    alternative: Option<u8>,
-    ghost opens: { IsTrue (opens_in what node) },
-    ghost placed: { IsTrue (is_placed (kind_of at.node) at.position slot) },
-    ghost there: { IsTrue (row_there slot at.position (components profile_two at.node)) },
-    ghost default_is: { option_map pos default ≡ default_at at.node at.position slot } by { Prim.hlevel props },
+    /// The cell of its row.
+    cell: &'static Cell,
+    /// The cell that has its tag: that of its row, or of an alternative.
+    begun: &'static Cell,
+    ghost opens: { IsTrue (opens_in begun.now.what begun.now.node) },
+    ghost placed: { IsTrue (is_placed (kind_of at.node) at.position cell.now.slot) },
+    ghost there: { IsTrue (row_there cell.now.slot at.position (components profile_two at.node)) },
+    ghost default_is: { option_map pos cell.now.default ≡ default_at at.node at.position cell.now.slot } by { Prim.hlevel props },
+    ghost nested: { IsTrue (cell_opens cell.now) },
     ghost few: { at.position < 27 },
-}
-
-/// What a cell is by a tag.
-#[derive(Clone, Copy)]
-struct Begun {
-    what: What,
-    node: NodeId,
-    part: PartId,
-    alternative: Option<u8>,
-    ghost opens: { IsTrue (opens_in what node) },
 }
 
 /// Whether the identifier is the cell's.
 #[inline(always)]
-fn has_tag(cell: Cell, id: Id) -> bool
-    ensures { result ≡ same_tag (record { class = cell.class; number = cell.number }) (tag_of_id id) }
+fn has_tag(cell: &Cell, id: Id) -> bool
+    ensures { result ≡ same_tag (record { class = cell.now.class; number = cell.now.number }) (tag_of_id id) }
 {
     id.number() == cell.number && id.class() == cell.class
 }
 
-/// What a node with alternatives, or of two types, is by the tag.
-fn nested_start(node: NodeId, id: Id) -> Option<Begun>
+/// The cell of what a node with alternatives, or of two types, is by the tag.
+fn nested_start(node: NodeId, id: Id) -> Option<&'static Cell>
     requires { is_nested (kind_of node) ≡ true }
     ensures { MatchOption result (element_with (tag_of_id id) (node_starts node) ≡ None)
-        (λ begun. IsBegun (tag_of_id id) (node_starts node) (node_choice node) begun.alternative (element_in begun.part begun.node begun.what)) }
+        (λ begun. IsBegunBy (tag_of_id id) (node_starts node) (node_choice node) (option_map (λ _. begun.now.part.row) (node_choice node)) begun.now) }
 {
     let cells = alternatives_of(node);
     for row in 0..cells.len() as u8 {
         let cell = cell_at(cells, row);
         if has_tag(cell, id) {
-            return Some(Begun {
-                what: cell.what,
-                node: cell.node,
-                part: PartId { node, row },
-                alternative: alternative_number(node, row),
-            });
+            return Some(cell);
         }
     }
     None
@@ -108,11 +90,11 @@ fn first_position(what: What) -> u8
 
 /// The cell at a position.
 #[inline(always)]
-fn cell_at(cells: &[Cell], position: u8) -> Cell
+fn cell_at(cells: &'static [Cell], position: u8) -> &'static Cell
     requires { position < length cells.now }
-    ensures { slice_get cells.now position ≡ Some result }
+    ensures { slice_get cells.now position ≡ Some result.now }
 {
-    cells[position as usize]
+    &cells[position as usize]
 }
 
 /// The part that is due at a position.
@@ -128,28 +110,20 @@ fn part_at(at: At, position: u8, slot: Slot) -> PartId
     }
 }
 
-/// What a cell is by the tag.
+/// The cell of what begins by the tag at a cell.
 #[inline(always)]
-fn start(cell: Cell, node: NodeId, position: u8, id: Id) -> Option<Begun>
-    requires { cell_opens cell ≡ true }
-    ensures { MatchOption result (element_with (tag_of_id id) (cell_starts node position cell) ≡ None)
-        (λ begun. IsBegun (tag_of_id id) (cell_starts node position cell) (cell_choice cell) begun.alternative (element_in begun.part begun.node begun.what)) }
+fn start(cell: &'static Cell, id: Id) -> Option<&'static Cell>
+    requires { cell_opens cell.now ≡ true }
+    ensures { MatchOption result (element_with (tag_of_id id) (cell_starts cell.now) ≡ None)
+        (λ begun. IsBegunBy (tag_of_id id) (cell_starts cell.now) (cell_choice cell.now) (alternative_in cell.now begun.now) begun.now) }
 {
     if cell.nested {
         return nested_start(cell.node, id);
     }
-    if !has_tag(cell, id) {
-        return None;
+    if has_tag(cell, id) {
+        return Some(cell);
     }
-    Some(Begun {
-        what: cell.what,
-        node: cell.node,
-        part: PartId {
-            node,
-            row: position.saturating_sub(1),
-        },
-        alternative: None,
-    })
+    None
 }
 
 impl At {
@@ -217,15 +191,11 @@ impl At {
         let cells = cells_of(self.node);
         for position in self.position..cells.len() as u8 {
             let cell = cell_at(cells, position);
-            if let Some(begun) = start(cell, self.node, position, id) {
+            if let Some(begun) = start(cell, id) {
                 return Some(Found {
                     at: At { position, ..self },
-                    slot: cell.slot,
-                    what: begun.what,
-                    node: begun.node,
-                    part: begun.part,
-                    default: cell.default,
-                    alternative: begun.alternative,
+                    cell,
+                    begun,
                 });
             }
             if cell.stops {
@@ -263,49 +233,10 @@ impl At {
     }
 }
 
-/// In a wrapper round a BOOLEAN. Each field is the first of its type.
-impl Default for At {
-    fn default() -> At {
-        At {
-            part: PartId {
-                node: NodeId::Boolean,
-                row: 0,
-            },
-            node: NodeId::Boolean,
-            position: 0,
-        }
-    }
-}
-
-/// A BOOLEAN in a wrapper. Each field is the first of its type.
-impl Default for Found {
-    fn default() -> Found {
-        Found {
-            at: At {
-                part: PartId {
-                    node: NodeId::Boolean,
-                    row: 0,
-                },
-                node: NodeId::Boolean,
-                position: 0,
-            },
-            slot: Slot::Inner,
-            what: What::Boolean,
-            node: NodeId::Boolean,
-            part: PartId {
-                node: NodeId::Boolean,
-                row: 0,
-            },
-            default: None,
-            alternative: None,
-        }
-    }
-}
-
 impl Found {
     ghost use Rattle.ill_refusals.specs.Next.{element_of, next_of, opening};
     ghost use Rattle.ill_cells.specs.Places.{IsAtRow, alternative_of, due_of, first_place, next_at, node_of, node_round, part_of, place_after, row_of, slot_of, what_of};
-    ghost use Rattle.ill_cells.specs.Cells.{default_due};
+    ghost use Rattle.ill_cells.specs.Cells.{default_due, element_in};
 
     /// The place in the element, once it is open.
     #[inline(always)]
@@ -314,9 +245,9 @@ impl Found {
         ensures next { next_at result ≡ opening profile_two (element_of (due_of self)) }
     {
         At {
-            part: self.part,
-            node: self.node,
-            position: first_position(self.what),
+            part: self.begun.part,
+            node: self.begun.node,
+            position: first_position(self.begun.what),
         }
     }
 
@@ -326,7 +257,7 @@ impl Found {
         ensures place { result ≡ place_after self (slot_of self) }
         ensures next { next_at result ≡ next_of (due_of self) }
     {
-        match self.slot {
+        match self.cell.slot {
             Slot::Row => At {
                 position: self.at.position + 1,
                 ..self.at
@@ -341,28 +272,28 @@ impl Found {
         ensures what { result ≡ what_of self }
         ensures element { element_of (due_of self) ≡ element_in (part_of self) (node_of self) result }
     {
-        self.what
+        self.begun.what
     }
 
     /// The node that it is, or that is in the wrapper.
     pub fn node(self) -> NodeId
         ensures { result ≡ node_of self }
     {
-        self.node
+        self.begun.node
     }
 
     /// The row of the tables, or the alternative, that it is.
     pub fn part(self) -> PartId
         ensures { result ≡ part_of self }
     {
-        self.part
+        self.begun.part
     }
 
     /// Where it stands in the element round it.
     pub fn slot(self) -> Slot
         ensures { result ≡ slot_of self }
     {
-        self.slot
+        self.cell.slot
     }
 
     /// The row of the sequence round it.
@@ -378,14 +309,17 @@ impl Found {
     pub fn alternative(self) -> Option<u8>
         ensures { result ≡ alternative_of self }
     {
-        self.alternative
+        if self.cell.nested {
+            return alternative_number(self.cell.node, self.begun.part.row);
+        }
+        None
     }
 
     /// The default of its row.
     pub fn default_value(self) -> Option<i64>
         ensures { result ≡ default_due (due_of self) }
     {
-        match self.default {
+        match self.cell.default {
             Some(default) => Some(default as i64),
             None => None,
         }

@@ -1,6 +1,6 @@
 //! Cells: what one row of the tables says to a reader.
 use ber_core::Class;
-use ill_schema::NodeId;
+use ill_schema::{NodeId, PartId};
 
 /// As what an element is read.
 #[derive(Clone, Copy, Debug, PartialEq, Eq)]
@@ -40,6 +40,8 @@ pub struct Cell {
     pub number: u32,
     pub class: Class,
     pub what: What,
+    /// The row of the tables, or the alternative.
+    pub part: PartId,
     /// The node of the row.
     pub node: NodeId,
     pub slot: Slot,

@@ -5,7 +5,7 @@ ghost use Rattle.ill_cells.specs.code.Meant.{all_open, cells_meant, nested_start
 
 use crate::cell::{Cell, Slot, What};
 use ber_core::Class;
-use ill_schema::{NodeId, table};
+use ill_schema::{NodeId, PartId, table};
 
 /// The universal number of a node, a SEQUENCE's where it isn't a leaf.
 macro_rules! own_number {
@@ -67,13 +67,14 @@ macro_rules! default {
     ($default:literal) => { Some($default) };
 }
 
-/// The cell of a row.
+/// The cell of a row of a node.
 macro_rules! cell {
-    ($slot:ident, $stops:expr, $lacks:expr, $class:ident, ($presence:ident $(($default:literal))?, untagged, $node:ident)) => {
+    ($slot:ident, $stops:expr, $lacks:expr, $class:ident, $round:ident, $row:expr, ($presence:ident $(($default:literal))?, untagged, $node:ident)) => {
         Cell {
             number: own_number!($node),
             class: Class::Universal,
             what: own_what!($node),
+            part: PartId { node: NodeId::$round, row: $row },
             node: NodeId::$node,
             slot: Slot::$slot,
             nested: is_nested!($node),
@@ -82,11 +83,12 @@ macro_rules! cell {
             default: default!($($default)?),
         }
     };
-    ($slot:ident, $stops:expr, $lacks:expr, $class:ident, ($presence:ident $(($default:literal))?, $number:literal, $mode:ident, $node:ident)) => {
+    ($slot:ident, $stops:expr, $lacks:expr, $class:ident, $round:ident, $row:expr, ($presence:ident $(($default:literal))?, $number:literal, $mode:ident, $node:ident)) => {
         Cell {
             number: $number,
             class: Class::$class,
             what: what!($presence, $mode, $node),
+            part: PartId { node: NodeId::$round, row: $row },
             node: NodeId::$node,
             slot: Slot::$slot,
             nested: false,
@@ -99,21 +101,21 @@ macro_rules! cell {
 
 /// The cell of a row of a sequence, before others.
 macro_rules! row_cell {
-    ($class:ident, ($presence:ident $($row:tt)*) $($rest:tt)*) => {
-        cell!(Row, is_must!($presence), lacks!(($presence $($row)*) $($rest)*), $class, ($presence $($row)*))
+    ($class:ident, $round:ident, $number:expr, ($presence:ident $($row:tt)*) $($rest:tt)*) => {
+        cell!(Row, is_must!($presence), lacks!(($presence $($row)*) $($rest)*), $class, $round, $number, ($presence $($row)*))
     };
 }
 
 /// The cells of a sequence: its own, and one for each row.
 macro_rules! sequence {
     ($node:ident, $class:ident: $($row:tt),*) => {
-        sequence!(@ $class [cell!(Inner, false, lacks!($($row)*), $class, (Must, untagged, $node))] $($row)*)
+        sequence!(@ $class $node 0; [cell!(Inner, false, lacks!($($row)*), $class, $node, 0, (Must, untagged, $node))] $($row)*)
     };
-    (@ $class:ident [$($cell:expr),*]) => {
+    (@ $class:ident $node:ident $number:expr; [$($cell:expr),*]) => {
         [$($cell),*]
     };
-    (@ $class:ident [$($cell:expr),*] $row:tt $($rest:tt)*) => {
-        sequence!(@ $class [$($cell,)* row_cell!($class, $row $($rest)*)] $($rest)*)
+    (@ $class:ident $node:ident $number:expr; [$($cell:expr),*] $row:tt $($rest:tt)*) => {
+        sequence!(@ $class $node $number + 1; [$($cell,)* row_cell!($class, $node, $number, $row $($rest)*)] $($rest)*)
     };
 }
 
@@ -121,8 +123,8 @@ macro_rules! sequence {
 macro_rules! list {
     ($node:ident, $class:ident: $row:tt) => {
         [
-            cell!(Inner, true, true, $class, (Must, untagged, $node)),
-            cell!(Item, false, false, $class, $row),
+            cell!(Inner, true, true, $class, $node, 0, (Must, untagged, $node)),
+            cell!(Item, false, false, $class, $node, 0, $row),
         ]
     };
 }
@@ -130,7 +132,13 @@ macro_rules! list {
 /// The cells of the alternatives of a choice.
 macro_rules! alternatives {
     ($node:ident, $class:ident: $($row:tt),*) => {
-        [$(cell!(Row, false, false, $class, $row)),*]
+        alternatives!(@ $class $node 0; [] $($row)*)
+    };
+    (@ $class:ident $node:ident $number:expr; [$($cell:expr),*]) => {
+        [$($cell),*]
+    };
+    (@ $class:ident $node:ident $number:expr; [$($cell:expr),*] $row:tt $($rest:tt)*) => {
+        alternatives!(@ $class $node $number + 1; [$($cell,)* cell!(Row, false, false, $class, $node, $number, $row)] $($rest)*)
     };
 }
 
@@ -141,6 +149,7 @@ macro_rules! nested {
             number: 0,
             class: Class::Universal,
             what: What::LeftOut,
+            part: PartId { node: NodeId::$node, row: 0 },
             node: NodeId::$node,
             slot: Slot::Inner,
             nested: true,
@@ -158,6 +167,7 @@ macro_rules! segment {
             number: 4,
             class: Class::Universal,
             what: What::Segment,
+            part: PartId { node: NodeId::$node, row: 0 },
             node: NodeId::$node,
             slot: Slot::Segment,
             nested: false,
@@ -171,7 +181,7 @@ macro_rules! segment {
 /// The cells of a leaf.
 macro_rules! leaf {
     ($node:ident) => {
-        [cell!(Inner, true, true, Universal, (Must, untagged, $node)), segment!($node)]
+        [cell!(Inner, true, true, Universal, $node, 0, (Must, untagged, $node)), segment!($node)]
     };
 }
 
@@ -324,6 +334,10 @@ const STRINGS: [Cell; 2] = [
         number: 27,
         class: Class::Universal,
         what: What::General,
+        part: PartId {
+            node: NodeId::IllString,
+            row: 0,
+        },
         node: NodeId::IllString,
         slot: Slot::Row,
         nested: false,
@@ -335,6 +349,10 @@ const STRINGS: [Cell; 2] = [
         number: 26,
         class: Class::Universal,
         what: What::Visible,
+        part: PartId {
+            node: NodeId::IllString,
+            row: 1,
+        },
         node: NodeId::IllString,
         slot: Slot::Row,
         nested: false,
@@ -347,7 +365,7 @@ const STRINGS: [Cell; 2] = [
 /// The cells of a node: those by which it begins, and those of what may stand in it.
 #[inline(always)]
 pub fn cells_of(node: NodeId) -> &'static [Cell]
-    ensures meant { cells_meant node 0 result.now ≡ node_meant node }
+    ensures meant { cells_meant result.now ≡ node_meant node }
     ensures few { length result.now ≤ 27 }
 {
     match node {
@@ -422,8 +440,8 @@ pub fn cells_of(node: NodeId) -> &'static [Cell]
 
 /// The cells by which a node begins that has alternatives, or two types.
 pub fn alternatives_of(node: NodeId) -> &'static [Cell]
-    ensures meant { starts_of_cells node 0 result.now ≡ nested_starts (kind_of node) node }
-    ensures open { all_open result.now ≡ true }
+    ensures meant { starts_of_cells result.now ≡ nested_starts (kind_of node) node }
+    ensures open { all_open 0 result.now ≡ true }
     ensures few { length result.now ≤ 20 }
 {
     match node {

@@ -1,5 +1,5 @@
 -- What the cells of a node are to say.
-use Rattle.std.specs.Prelude.{ℕ, ℤ, pos, drop, option_map, suc, Bool, true, false, ◌&&◌, List, [], ◌∷◌, Option, Some, None, is_some, map, if◌then◌else◌}
+use Rattle.std.specs.Prelude.{ℕ, ℤ, pos, drop, option_map, suc, Bool, true, false, ◌&&◌, List, [], ◌∷◌, Option, None, is_some, map, nat_eq, if◌then◌else◌}
 use Rattle.ber_core.specs.Tree.{octet_string}
 use Rattle.ber_leaf.specs.Profile.{profile_two}
 use Rattle.ill_schema.specs.declared.node.Kind.{Kind}
@@ -9,7 +9,7 @@ use Rattle.ill_schema.specs.Table.{kind_of}
 use Rattle.ill_schema.specs.Tagging.{untagged}
 use Rattle.ill_refusals.specs.Element.{Component, components, component_starts, segment, Start, start, starts}
 use Rattle.ill_refusals.specs.Next.{first_mandatory}
-use Rattle.ill_cells.specs.Cells.{wrapped, element_in, is_leaf, is_list, is_sequence, presence_default, row_before}
+use Rattle.ill_cells.specs.Cells.{wrapped, element_in, is_leaf, is_list, is_sequence, node_choice, presence_default, row_before}
 use Rattle.ill_cells.specs.declared.cell.Cell.{Cell}
 use Rattle.ill_cells.specs.declared.cell.What.{What}
 use Rattle.ill_cells.specs.declared.cell.What.TheVariants as what
@@ -21,11 +21,11 @@ abbrev pub node_starts : NodeId → List Start
 node_starts node = starts profile_two (wrapped (record { node = node; row = 0 }) node)
 
 -- what an element that a cell names is
-abbrev pub cell_start : NodeId → ℕ → Cell → Start
-cell_start node row c = start (record { class = c.class; number = c.number }) (element_in (record { node = node; row = row }) c.node c.what)
+abbrev pub cell_start : Cell → Start
+cell_start c = start (record { class = c.class; number = c.number }) (element_in c.part c.node c.what)
 
-abbrev pub cell_starts : NodeId → ℕ → Cell → List Start
-cell_starts node position c = if c.nested then node_starts c.node else cell_start node (row_before position) c ∷ []
+abbrev pub cell_starts : Cell → List Start
+cell_starts c = if c.nested then node_starts c.node else cell_start c ∷ []
 
 abbrev pub is_empty : Kind → List Component → Bool
 is_empty Kind.Seq [] = true
@@ -76,10 +76,6 @@ opens_in w node = opens w (kind_of node) (components profile_two node)
 abbrev pub cell_opens : Cell → Bool
 cell_opens c = if c.nested then is_nested (kind_of c.node) else opens_in c.what c.node
 
--- the node, where it is a choice
-abbrev pub node_choice : NodeId → Option NodeId
-node_choice node = elim (kind_of node) as (λ _. Option NodeId) [ Kind.Choice ↦ Some node | _ ↦ None ]
-
 abbrev pub cell_choice : Cell → Option NodeId
 cell_choice c = if c.nested then node_choice c.node else None
 
@@ -98,12 +94,11 @@ pub record Meant : Type 0 where
   pub choice : Option NodeId
   pub default : Option ℤ
 
-abbrev pub cell_meant : NodeId → ℕ → Cell → Meant
-cell_meant node position c = record { starts = cell_starts node position c; slot = c.slot; stops = c.stops; lacks = c.lacks; opens = cell_opens c; choice = cell_choice c; default = option_map pos c.default }
+abbrev pub cell_meant : Cell → Meant
+cell_meant c = record { starts = cell_starts c; slot = c.slot; stops = c.stops; lacks = c.lacks; opens = cell_opens c; choice = cell_choice c; default = option_map pos c.default }
 
-abbrev pub cells_meant : NodeId → ℕ → List Cell → List Meant
-cells_meant node position [] = []
-cells_meant node position (c ∷ cs) = cell_meant node position c ∷ cells_meant node (suc position) cs
+abbrev pub cells_meant : List Cell → List Meant
+cells_meant cs = map cell_meant cs
 
 abbrev pub meant : List Start → Slot → Bool → Bool → Option NodeId → Option ℤ → Meant
 meant ss slot stops lacks choice default = record { starts = ss; slot = slot; stops = stops; lacks = lacks; opens = true; choice = choice; default = default }
@@ -136,10 +131,9 @@ kind_meant Kind.IllString node = meant (node_starts node) slot.Inner true true (
 abbrev pub node_meant : NodeId → List Meant
 node_meant node = kind_meant (kind_of node) node
 
--- the starts of cells, from a row on, each alone
-abbrev pub starts_of_cells : NodeId → ℕ → List Cell → List (List Start)
-starts_of_cells node row [] = []
-starts_of_cells node row (c ∷ cs) = (cell_start node row c ∷ []) ∷ starts_of_cells node (suc row) cs
+-- the starts of cells, each alone
+abbrev pub starts_of_cells : List Cell → List (List Start)
+starts_of_cells cs = map (λ c. cell_start c ∷ []) cs
 
 abbrev pub alone : List Start → List (List Start)
 alone [] = []
@@ -151,6 +145,7 @@ nested_starts Kind.Choice node = map component_starts (components profile_two no
 nested_starts Kind.IllString node = alone (node_starts node)
 nested_starts _ node = []
 
-abbrev pub all_open : List Cell → Bool
-all_open [] = true
-all_open (c ∷ cs) = opens_in c.what c.node && all_open cs
+-- each opens in its node, and is a row from this one on
+abbrev pub all_open : ℕ → List Cell → Bool
+all_open row [] = true
+all_open row (c ∷ cs) = opens_in c.what c.node && (nat_eq row c.part.row && all_open (suc row) cs)

@@ -6,4 +6,4 @@ use Rattle.ill_cells.proofs.Alternatives.{starts_from}
 use Rattle.ill_cells.proofs.at.nested_start.Given as goal
 
 abbrev pub invariant-loop-row : goal.invariant-loop-row
-invariant-loop-row l = element_with (tag_of_id l.id) (node_starts l.node) ≡ element_with (tag_of_id l.id) (starts_from l.node l.row (drop l.row l.cells))
+invariant-loop-row l = element_with (tag_of_id l.id) (node_starts l.fn.node) ≡ element_with (tag_of_id l.id) (starts_from (drop l.row l.cells))

@@ -5,14 +5,15 @@ use Rattle.ill_cells.proofs.Steps.{passed-next, passed-none, cell-said, scan-all
 use Rattle.ill_cells.proofs.at.At.find.Goals as goal
 
 pub start-requires : goal.start-requires
-start-requires c = (cell-said c.args.self.node c.loop-position.position c.cells_of-cells.result.now c.cell_at-cell.result c.cells_of-cells.ensures.meant c.cell_at-cell.ensures).opens
+start-requires c = (cell-said c.args.self.node c.loop-position.position c.cells_of-cells.result.now c.cell_at-cell.result.now c.cells_of-cells.ensures.meant c.cell_at-cell.ensures).opens
 
 pub invariant_of-result : goal.invariant_of-result
 invariant_of-result c = record {
-  opens = c.in-Some.begun.opens;
-  placed = (cell-said c.args.self.node c.loop-position.position c.cells_of-cells.result.now c.cell_at-cell.result c.cells_of-cells.ensures.meant c.cell_at-cell.ensures).placed;
-  there = (cell-said c.args.self.node c.loop-position.position c.cells_of-cells.result.now c.cell_at-cell.result c.cells_of-cells.ensures.meant c.cell_at-cell.ensures).there;
-  default_is = (cell-said c.args.self.node c.loop-position.position c.cells_of-cells.result.now c.cell_at-cell.result c.cells_of-cells.ensures.meant c.cell_at-cell.ensures).default;
+  opens = c.in-Some.ensures.opens;
+  placed = (cell-said c.args.self.node c.loop-position.position c.cells_of-cells.result.now c.cell_at-cell.result.now c.cells_of-cells.ensures.meant c.cell_at-cell.ensures).placed;
+  there = (cell-said c.args.self.node c.loop-position.position c.cells_of-cells.result.now c.cell_at-cell.result.now c.cells_of-cells.ensures.meant c.cell_at-cell.ensures).there;
+  default_is = (cell-said c.args.self.node c.loop-position.position c.cells_of-cells.result.now c.cell_at-cell.result.now c.cells_of-cells.ensures.meant c.cell_at-cell.ensures).default;
+  nested = (cell-said c.args.self.node c.loop-position.position c.cells_of-cells.result.now c.cell_at-cell.result.now c.cells_of-cells.ensures.meant c.cell_at-cell.ensures).opens;
   few = omega (arith, c.cells_of-cells.ensures.few);
 }
 
@@ -22,8 +23,8 @@ returns-in-Some c =
     let t = tag_of_id c.args.id in
     let i = c.loop-position.position in
     let cells = c.cells_of-cells.result.now in
-    let cell = c.cell_at-cell.result in
-    let begun = c.in-Some.ensures in
+    let cell = c.cell_at-cell.result.now in
+    let begun = c.in-Some.ensures.begun in
     record {
       is = scan-all t s.part s.node s.position cells c.cells_of-cells.ensures.meant ∙ c.loop-position.invariant.0
           ∙ scan-found t s.part s.node i cells cell _ c.cell_at-cell.ensures begun.is;
@@ -43,7 +44,7 @@ returns-then-cell c =
     let t = tag_of_id c.args.id in
     let cells = c.cells_of-cells.result.now in
     scan-all t s.part s.node s.position cells c.cells_of-cells.ensures.meant ∙ c.loop-position.invariant.0
-    ∙ scan-stop t s.part s.node c.loop-position.position cells c.cell_at-cell.result c.cell_at-cell.ensures c.in_default.ensures c.if-cell.true
+    ∙ scan-stop t s.part s.node c.loop-position.position cells c.cell_at-cell.result.now c.cell_at-cell.ensures c.in_default.ensures c.if-cell.true
 
 pub loop-position-init : goal.loop-position-init
 loop-position-init c = (refl, passed-none (tag_of_id c.args.id) c.args.self.node c.args.self.position)
@@ -53,8 +54,8 @@ loop-position-preserved c =
     let s = c.args.self in
     let t = tag_of_id c.args.id in
     let cells = c.cells_of-cells.result.now in (
-      c.loop-position.invariant.0 ∙ scan-skip t s.part s.node c.loop-position.position cells c.cell_at-cell.result c.cell_at-cell.ensures c.in_default.ensures c.if-cell.false,
-      passed-next t s.node s.position c.loop-position.position cells c.cell_at-cell.result c.cells_of-cells.ensures.meant c.cell_at-cell.ensures c.in_default.ensures c.loop-position.invariant.1,
+      c.loop-position.invariant.0 ∙ scan-skip t s.part s.node c.loop-position.position cells c.cell_at-cell.result.now c.cell_at-cell.ensures c.in_default.ensures c.if-cell.false,
+      passed-next t s.node s.position c.loop-position.position cells c.cell_at-cell.result.now c.cells_of-cells.ensures.meant c.cell_at-cell.ensures c.in_default.ensures c.loop-position.invariant.1,
     )
 
 pub returns : goal.returns

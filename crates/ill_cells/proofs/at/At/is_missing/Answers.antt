@@ -12,4 +12,4 @@ pub returns : goal.returns
 returns c =
     let s = c.args.self in
     let cells = c.cells_of-cells.result.now in
-    sym (lacking-all s.part s.node s.position cells c.cells_of-cells.ensures.meant ∙ lacking-at s.node s.position cells c.cell_at.result c.cell_at.ensures)
+    sym (lacking-all s.part s.node s.position cells c.cells_of-cells.ensures.meant ∙ lacking-at s.node s.position cells c.cell_at.result.now c.cell_at.ensures)

@@ -7,14 +7,14 @@ returns-then-cell c =
     let s = c.args.self in
     let cells = c.cells_of-cells.result.now in
     sym (needed-all s.part s.node s.position cells c.cells_of-cells.ensures.meant ∙ c.loop-position.invariant
-    ∙ needed-found s.part s.node c.loop-position.position cells c.cell_at-cell.result c.cell_at-cell.ensures c.if-cell.true
+    ∙ needed-found s.part s.node c.loop-position.position cells c.cell_at-cell.result.now c.cell_at-cell.ensures c.if-cell.true
     ∙ ap Some (sym c.part_at.ensures))
 
 pub loop-position-preserved : goal.loop-position-preserved
 loop-position-preserved c =
     let s = c.args.self in
     let cells = c.cells_of-cells.result.now in
-    c.loop-position.invariant ∙ needed-skip s.part s.node c.loop-position.position cells c.cell_at-cell.result c.cell_at-cell.ensures c.if-cell.false
+    c.loop-position.invariant ∙ needed-skip s.part s.node c.loop-position.position cells c.cell_at-cell.result.now c.cell_at-cell.ensures c.if-cell.false
 
 pub returns : goal.returns
 returns c =

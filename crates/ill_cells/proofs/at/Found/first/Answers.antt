@@ -8,11 +8,11 @@ use Rattle.ill_cells.proofs.Going.{element-due, first-opens}
 use Rattle.ill_cells.proofs.at.Found.first.Goals as goal
 
 pub returns-clause-place : goal.returns-clause-place
-returns-clause-place c = let f = c.args.self in ap (λ (n : ℕ). let at : At = record { part = f.part; node = f.node; position = n } in at) c.first_position.ensures
+returns-clause-place c = let f = c.args.self in ap (λ (n : ℕ). let at : At = record { part = f.begun.now.part; node = f.begun.now.node; position = n } in at) c.first_position.ensures
 
 pub returns-clause-next : goal.returns-clause-next
 returns-clause-next c =
     let f = c.args.self in
-    ap (next_from f.part f.node) c.first_position.ensures
-    ∙ first-opens f.what f.part f.node f.opens
-    ∙ ap (opening profile_two) (sym (element-due f.at.part f.at.node f.at.position f.slot (element_found f)))
+    ap (next_from f.begun.now.part f.begun.now.node) c.first_position.ensures
+    ∙ first-opens f.begun.now.what f.begun.now.part f.begun.now.node f.opens
+    ∙ ap (opening profile_two) (sym (element-due f.at.part f.at.node f.at.position f.cell.now.slot (element_found f)))
