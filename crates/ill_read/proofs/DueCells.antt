@@ -17,7 +17,7 @@ use Rattle.ill_refusals.specs.Next.{part, octets, rows, items, due, due_in, elem
 use Rattle.ill_refusals.proofs.Rows.{two_cases}
 use Rattle.ill_cells.specs.Cells as cells
 use Rattle.ill_cells.specs.Cells.{BeginsDue, IsAlternative, wrapped}
-use Rattle.ill_cells.specs.Places.{IsAtRow, IsDue, due_of, element_found, next_at, place_after, row_of}
+use Rattle.ill_cells.specs.Places.{IsAtRow, IsDue, due_of, element_found, next_at, node_of, part_of, place_after, row_of, slot_of, what_of}
 use Rattle.ill_cells.specs.code.Meant.{is_other, opens_in}
 use Rattle.ill_cells.specs.declared.at.At.{At}
 use Rattle.ill_cells.specs.declared.at.Found.{Found as CellFound}
@@ -439,12 +439,12 @@ found-means what.Wrapper p node = refl
 found-means what.LeftOut p node = refl
 
 -- what is found at a place is placed there
-pub found-placed : (t : Tag) (a : At) (f : CellFound) → IsDue t a f → IsPlaced t (kind_of a.node) a.part a.node a.position f.at.position (row_of f) f.slot (due_of f)
+pub found-placed : (t : Tag) (a : At) (f : CellFound) → IsDue t a f → IsPlaced t (kind_of a.node) a.part a.node a.position f.at.position (row_of f) (slot_of f) (due_of f)
 found-placed t a f h = record {
   is = h.is;
   later = h.later;
   passed = h.passed;
-  placed = subst (λ n. cells.is_placed (kind_of n) f.at.position f.slot ≡ true) h.round h.placed;
+  placed = subst (λ n. cells.is_placed (kind_of n) f.at.position (slot_of f) ≡ true) h.round h.placed;
   at_row = λ s. subst (λ n. IsAtRow n (row_of f) (due_of f)) h.round (h.row s);
   number = refl;
   inner = λ s. (
@@ -496,8 +496,8 @@ pub is-coming : (t : Tag) (a : At) (f : CellFound) → IsDue t a f → IsComing 
 is-coming t a f h =
     let k = kind_of a.node in
     let placed = found-placed t a f h in
-    let element = element-due f.at.part f.at.node f.at.position f.slot (element_found f) in
+    let element = element-due f.at.part f.at.node f.at.position (slot_of f) (element_found f) in
     record {
-      is_due = placed-due t k a.part a.node a.position f.at.position (row_of f) f.slot (due_of f) (due_as f) refl placed h.begins refl (found-means f.what f.part f.node ∙ sym element);
-      after = after-found f f.slot a.node h.round ∙ after-is t k a.part f.at.part a.node a.position f.at.position (row_of f) f.slot (due_of f) placed;
+      is_due = placed-due t k a.part a.node a.position f.at.position (row_of f) (slot_of f) (due_of f) (due_as f) refl placed h.begins refl (found-means (what_of f) (part_of f) (node_of f) ∙ sym element);
+      after = after-found f (slot_of f) a.node h.round ∙ after-is t k a.part f.at.part a.node a.position f.at.position (row_of f) (slot_of f) (due_of f) placed;
     }

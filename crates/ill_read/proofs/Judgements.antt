@@ -11,7 +11,7 @@ use Rattle.ber_leaf.specs.Profile.{profile_two}
 use Rattle.ill_schema.specs.declared.part.PartId.{PartId}
 use Rattle.ill_schema.specs.declared.refusal.Cause.{Cause}
 use Rattle.ill_read.specs.Elements.{element_is, found_is}
-use Rattle.ill_cells.specs.Places.{alternative_of, first_place}
+use Rattle.ill_cells.specs.Places.{alternative_of, first_place, node_of, part_of, what_of}
 use Rattle.ill_cells.specs.declared.at.At.{At}
 use Rattle.ill_cells.specs.declared.at.Found.{Found as CellFound}
 use Rattle.ill_read.specs.DueCode.{BeginsAt, IsComing, IsDueIn, behind, due_as, next_is, read_as, read_due, shape, slot_in}
@@ -89,7 +89,7 @@ pub formed_judged : (frames : Frames) (place : List Open) (at : At) (id : Id) (f
     → IsFormed f (form_of_id id) None → IsBegin frames place (tag_of_id id) f (form_of_id id)
 formed_judged frames place at id f h s e k g = record {
   is_due = subst (λ n. IsDueIn (tag_of_id id) n (read_due f)) e (subst (λ x. IsDueIn (tag_of_id id) (shape at) (due_found f x)) g.0 k.is_due);
-  begins = subst (λ x. BeginsAt x (first_place f)) g.0 (begins-at f.what f.part f.node f.opens);
+  begins = subst (λ x. BeginsAt x (first_place f)) g.0 (begins-at (what_of f) (part_of f) (node_of f) f.opens);
   goes_on = k.after ∙ ap (λ n. behind n (slot_in f)) e;
   allowed = g.1;
   shallow = s;

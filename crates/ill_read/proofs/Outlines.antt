@@ -1,16 +1,13 @@
 -- The marks that an outline has, as elements open, are read and end.
-use Rattle.std.proofs.Common.{◌≡◌, ℕ, List, [], ◌∷◌, ◌++◌, length, map, append_assoc, append-nil, Option, Some, None, IsTrue, refl, sym, ap, subst, ◌∙◌, inl, inr, true, false, Bool}
+use Rattle.std.proofs.Common.{◌≡◌, ℕ, List, [], ◌∷◌, ◌++◌, length, map, append_assoc, append-nil, Option, Some, None, refl, sym, ap, subst, ◌∙◌, inl, inr, true, false, Bool}
 use Rattle.std.proofs.lemmas.List.{map-append, take_at, drop_at}
 use Rattle.std.proofs.Common.{Result, Ok, Err, IfOk, ap₂, min, length-append}
 use Rattle.std.specs.Option.{option_to_list}
 use Rattle.std.specs.declared.alloc.AllocError.{AllocError}
 use Rattle.ber_core.specs.Id.{tag_of_id}
-use Rattle.ber_core.specs.Identifier.{Tag}
-use Rattle.ber_core.specs.Octets.{are_octets}
-use Rattle.ber_core.specs.Tree.{Tree, Trees, tag_of}
+use Rattle.ber_core.specs.Tree.{Trees}
 use Rattle.ber_leaf.specs.Content.{IsContent}
-use Rattle.ber_leaf.specs.Leaf.{Leaf as LeafKind, value, content_fault}
-use Rattle.ber_leaf.specs.Profile.{profile_two}
+use Rattle.ber_leaf.specs.Leaf.{value}
 use Rattle.ber_leaf.specs.Simple.{Simple}
 use Rattle.ill_schema.specs.Apdu.{Apdu, choice_of}
 use Rattle.ill_schema.specs.Content.{Content, simple}
@@ -23,12 +20,11 @@ use Rattle.ill_schema.specs.declared.part.PartId.{PartId}
 use Rattle.ill_schema.specs.declared.part.Presence.{Presence}
 use Rattle.ill_schema.specs.declared.part.Row.{Row}
 use Rattle.ill_cells.specs.Places.{alternative_of}
-use Rattle.ill_read.specs.Elements.{element_is}
 use Rattle.ill_read.specs.DueCode.{shape, first_of, read_as, slot_in}
 use Rattle.ill_read.specs.LeafTypes.{leaf_is}
-use Rattle.ill_read.specs.Outline.{AreEntries, AreItems, IsMarked, IsPassed, leaf_marks}
-use Rattle.ill_read.specs.Standing.{Level, level_of, whole_level, with_alternative, absent_content, pushed, IsHeld, IsValueOf}
-use Rattle.ill_read.specs.code.Drafts.{HasOpened, HasText, HasClosed, HasLeaf, HoldsApdu, HasEnded, IsContentOf, IsDueAt, IsRightText, rows_before, rows_left, with_entry}
+use Rattle.ill_read.specs.Outline.{AreEntries, AreItems, IsMarked, leaf_marks}
+use Rattle.ill_read.specs.Standing.{Level, with_alternative, absent_content, pushed, IsHeld}
+use Rattle.ill_read.specs.code.Drafts.{HasOpened, HasText, HasClosed, HasLeaf, HoldsApdu, HasEnded, IsContentOf, IsRightText, rows_before, rows_left, with_entry}
 use Rattle.ill_read.specs.code.OctetDrafts.{AreNormal, AreOctets}
 use Rattle.ill_read.specs.code.Outlines.{AreFronts, AreOutlined, ArePassed, HasEndedRows, HasFront, HasOutline, HasPassed, HasRear, alternative_marks, first_marks, last_marks, last_rows}
 use Rattle.ill_read.specs.declared.due.Next.{Next}
@@ -47,7 +43,7 @@ use Rattle.ill_read.specs.declared.outline.Outlining.{Outlining}
 use Rattle.ber_leaf.proofs.Leaves.{content as content_is}
 use Rattle.ill_read.proofs.DeliveredEntries.{pushed_apart}
 use Rattle.ill_read.proofs.HeldEntries.{drop-take-more, take-past}
-use Rattle.std.proofs.Common.{zero, suc, ◌+◌, ◌≤◌, take, drop, slice_get, arith}
+use Rattle.std.proofs.Common.{suc, ◌+◌, ◌≤◌, take, drop, slice_get, arith}
 
 -- ---- rows that are passed
 

@@ -2,11 +2,10 @@
 use Rattle.std.specs.Prelude.{◌≡◌, ◌⊎◌, ℕ, List, [], ◌∷◌, ◌++◌, map, Option, Some, None, slice_get}
 use Rattle.ber_leaf.specs.Content.{IsContent}
 use Rattle.ber_leaf.specs.Leaf.{value}
-use Rattle.ber_leaf.specs.Profile.{profile_two}
 use Rattle.ber_leaf.specs.Simple.{Simple}
 use Rattle.ill_schema.specs.declared.part.PartId.{PartId}
 use Rattle.ill_schema.specs.declared.part.Row.{Row}
-use Rattle.ill_schema.specs.Apdu.{Apdu, SpellsApdu, choice_of}
+use Rattle.ill_schema.specs.Apdu.{Apdu, choice_of}
 use Rattle.ill_schema.specs.Content.{Content, simple, sequence, list, alternative, Entries, no_entries, absent, present, Items, no_items, item}
 use Rattle.ill_schema.specs.Table.{rows_of}
 use Rattle.ill_read.specs.LeafTypes.{leaf_is}

@@ -43,17 +43,3 @@ impl Frame {
         }
     }
 }
-
-/// Fills the places where no element is open. Each field is the first of its type, so that 32 frames are cleared at once.
-impl Default for Frame {
-    fn default() -> Frame {
-        Frame {
-            found: Found::default(),
-            place: At::default(),
-            start: 0,
-            end: None,
-            bound: 0,
-            base: 0,
-        }
-    }
-}

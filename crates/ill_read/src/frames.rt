@@ -6,33 +6,60 @@ ghost use Rattle.ill_read.specs.declared.frame.Frame.{Frame};
 
 use crate::due::Next;
 use crate::frame::Frame;
-use arrayvec::ArrayVec;
 use ill_cells::At;
 use ill_schema::{Cause, LIMIT};
+use std::alloc::{AllocError, Global};
 
 /// How many elements may be open.
 pub const DEPTH: usize = 32;
 
+/// For how many open elements memory is taken at first: more than a normal form has.
+const AT_FIRST: usize = 12;
+
 /// The open elements, innermost last.
 #[derive(Drop)]
 pub struct Frames {
-    pub open: ArrayVec<Frame, DEPTH>,
+    pub open: Vec<Frame>,
 }
 
 impl Frames {
-    ghost use Rattle.std.specs.Prelude.{◌+◌, ◌-◌, ◌<◌, ◌↔◌, IsNone, IsTrue, slice_get};
+    ghost use Rattle.std.specs.Prelude.{◌+◌, ◌-◌, ◌<◌, ◌↔◌, IfOk, IsNone, IsTrue, Some, slice_get, take};
     ghost use Rattle.ber_leaf.specs.Profile.{profile_two};
     ghost use Rattle.ill_refusals.specs.Fault.{ends_at, is_indefinite, past_end};
     ghost use Rattle.ill_refusals.specs.Place.{bound};
     ghost use Rattle.ill_read.specs.code.JudgeCode.{WhereItStands, outermost_end};
     ghost use Rattle.ill_read.specs.code.Progress.{depth_of};
 
-    pub fn new() -> Frames
+    pub fn new(alloc: Global) -> Frames
         ensures { result.open.items ≡ [] }
     {
         Frames {
-            open: ArrayVec::new(),
+            open: Vec::new(alloc),
         }
+    }
+
+    /// Opens an element in the innermost one.
+    #[inline(always)]
+    pub fn push(&mut self, frame: Frame) -> Result<(), AllocError>
+        ensures items { IfOk result (λ _. self.new.open.items ≡ self.old.open.items ++ frame ∷ []) }
+        ensures depth { depth_of self.new ≤ depth_of self.old + 1 }
+    {
+        if self.open.is_empty() {
+            self.open.reserve(AT_FIRST)?;
+        }
+        self.open.push(frame)?;
+        Ok(())
+    }
+
+    /// Closes the innermost element.
+    #[inline(always)]
+    pub fn pop(&mut self) -> Frame
+        requires { 0 < depth_of self.old }
+        ensures rest { self.new.open.items ≡ take (depth_of self.old - 1) self.old.open.items }
+        ensures last { slice_get self.old.open.items (depth_of self.old - 1) ≡ Some result }
+        ensures depth { depth_of self.new + 1 ≡ depth_of self.old }
+    {
+        self.open.pop().unwrap()
     }
 
     pub fn innermost(&self) -> Option<Frame>
@@ -125,7 +152,7 @@ impl Frames {
         ensures frame { (outer : List Frame) (f : Frame) → self.old.open.items ≡ outer ++ f ∷ [] → self.new.open.items ≡ outer ++ record f { place = place } ∷ [] }
         ensures depth { depth_of self.new ≡ depth_of self.old }
     {
-        let last = self.open.len().saturating_sub(1);
+        let last = self.depth().saturating_sub(1);
         if let Some(frame) = self.open.get_mut(last) {
             frame.place = place;
         }

@@ -160,6 +160,7 @@ impl Draft for Octets {
         Ok(())
     }
 
+    #[inline(always)]
     fn close(&mut self, frame: Frame, _place: At) -> Result<(), Failure> {
         match Element::of(frame.found) {
             Element::Segment => return Ok(()),

@@ -10,7 +10,7 @@ use crate::frames::Frames;
 use crate::judge::{Opening, Reading};
 use ill_cells::At;
 use ill_schema::Cause;
-use std::alloc::AllocError;
+use std::alloc::{AllocError, Global};
 
 /// The open elements, innermost last, with the draft of what has been read in them.
 #[derive(Drop)]
@@ -23,11 +23,11 @@ impl<D: Draft> Path<D> {
     ghost use Rattle.ill_read.specs.code.Progress.{depth_of};
     ghost use Rattle.ill_read.specs.code.Stepping.{ClosesExactly, OpensExactly, ReadsExactly, GoesOn};
 
-    pub fn new(draft: D) -> Path<D>
+    pub fn new(alloc: Global, draft: D) -> Path<D>
         ensures { D.holds draft (top_level ∷ []) [] → HoldsAt D.holds result [] }
     {
         Path {
-            frames: Frames::new(),
+            frames: Frames::new(alloc),
             draft,
         }
     }
@@ -45,9 +45,6 @@ impl<D: Draft> Path<D> {
         ensures exact { IfOk result (λ _. OpensExactly D.holds self.old opening start self.new) }
         ensures depth { depth_of self.new.frames ≤ depth_of self.old.frames + 1 }
     {
-        if self.frames.open.is_full() {
-            return Ok(());
-        }
         let base = self.draft.open(opening)?;
         let frame = Frame {
             found: opening.found,
@@ -57,7 +54,7 @@ impl<D: Draft> Path<D> {
             bound: opening.end.unwrap_or(self.frames.bound()),
             base,
         };
-        self.frames.open.push(frame);
+        self.frames.push(frame)?;
         Ok(())
     }
 
@@ -86,7 +83,7 @@ impl<D: Draft> Path<D> {
         ensures exact { ClosesExactly D.holds self.old self.new result }
         ensures depth { depth_of self.new.frames + 1 ≡ depth_of self.old.frames }
     {
-        let frame = self.frames.open.pop().unwrap();
+        let frame = self.frames.pop();
         if let Element::Segment = Element::of(frame.found) {
             return Ok(false);
         }

@@ -59,7 +59,7 @@ impl<D: Draft> Reader<D> {
     {
         Reader {
             alloc,
-            path: Path::new(draft),
+            path: Path::new(alloc, draft),
             at: 0,
             pending: Vec::new(alloc),
             state: State::Open,

@@ -1,6 +1,5 @@
 -- How the path of open elements grows and shrinks.
-use Rattle.std.specs.Prelude.{◌+◌, ◌<◌, ◌≤◌, ℕ}
-use Rattle.arrayvec.specs.ArrayVec.{array_vec_len}
+use Rattle.std.specs.Prelude.{◌+◌, ◌<◌, ◌≤◌, ℕ, length}
 use Rattle.ill_read.specs.declared.header.LengthRead.{LengthRead}
 use Rattle.ill_read.specs.declared.header.LengthRead.TheVariants.{Whole}
 use Rattle.ill_read.specs.declared.judge.Opening.{Opening}
@@ -15,7 +14,7 @@ pub data Judgement : Type 0 where
   Reads : Reading → Judgement
 
 abbrev pub depth_of : Frames → ℕ
-depth_of frames = array_vec_len frames.open
+depth_of frames = length frames.open.items
 
 -- what was judged takes octets, or closes an element
 abbrev pub IsProgress : ℕ → ℕ → Judgement → Type 0

@@ -1,4 +1,4 @@
-use Rattle.std.proofs.Common.{take, drop, arith, sym, ap, ◌∙◌, subst, List, Vec, Global}
+use Rattle.std.proofs.Common.{take, drop, arith, sym, ap, ◌∙◌, subst, Vec, Global}
 use Rattle.ill_schema.specs.Table.{rows_of}
 use Rattle.ill_read.specs.code.Outlines.{HasPassed}
 use Rattle.ill_read.specs.declared.mark.Mark.{Mark}
