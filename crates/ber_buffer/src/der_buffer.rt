@@ -1,4 +1,5 @@
 ghost use Rattle.std.specs.Prelude.{◌≡◌, ℕ, ◌+◌, ◌-◌, ◌<◌, ◌≤◌, Bool, false, List, [], ◌∷◌, ◌++◌, Ok, IfOk, OnOk, length, take, drop, nat_eq};
+ghost use Rattle.std.specs.Vec.{vec_len, vec_capacity};
 ghost use Rattle.ber_core.specs.Identifier.{Tag, identifier};
 ghost use Rattle.ber_core.specs.Id.{tag_of_id, form_of_id, id_octets};
 ghost use Rattle.ber_core.specs.Length.{shortest_length};
@@ -32,6 +33,9 @@ use std::marker::Model;
 pub struct DerBuffer {
     octets: Vec<u8>,
 }
+
+/// As many octets of a content are appended one by one.
+const FEW: usize = 8;
 
 impl Model for DerBuffer {
     ghost use Rattle.std.specs.Prelude.{ℕ, List};
@@ -136,7 +140,7 @@ impl DerBuffer {
     {
         if id.number() < 31 && content.len() < 128 {
             append_short_header(&mut self.octets, id, content.len())?;
-            self.octets.extend_from_slice(content)
+            append_content(&mut self.octets, content)
         } else {
             append_whole(&mut self.octets, id, content)
         }
@@ -201,11 +205,27 @@ fn identifier_octet(id: Id) -> u8
 fn append_short_header(octets: &mut Vec<u8>, id: Id, size: usize) -> Result<(), AllocError>
     requires number { (tag_of_id id).number < 31 }
     requires size { size < 128 }
-    ensures { OnOk result (octets.new.items ≡ octets.old.items ++ shortest_header id size) }
+    ensures octets { OnOk result (octets.new.items ≡ octets.old.items ++ shortest_header id size) }
+    ensures room { OnOk result (vec_len octets.new + size ≤ vec_capacity octets.new) }
 {
     octets.reserve(size + 2)?;
     octets.push_reserved(identifier_octet(id));
     octets.push_reserved(size as u8);
+    Ok(())
+}
+
+// Octets for which there is room: a few one by one, since a call that copies them would take longer.
+#[inline(always)]
+fn append_content(octets: &mut Vec<u8>, content: &[u8]) -> Result<(), AllocError>
+    requires room { vec_len octets.old + length content.now ≤ vec_capacity octets.old }
+    ensures { OnOk result (octets.new.items ≡ octets.old.items ++ content.now) }
+{
+    if content.len() > FEW {
+        return octets.extend_from_slice(content);
+    }
+    for octet in content {
+        octets.push_reserved(*octet);
+    }
     Ok(())
 }
 

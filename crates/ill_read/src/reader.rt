@@ -259,6 +259,7 @@ impl<D: Draft> Reader<D> {
     }
 
     /// An end mark, whose first octet is there.
+    #[inline(never)]
     fn end_mark(&mut self, window: &[u8], came: usize) -> Option<usize>
         requires open { self.old.state ≡ State.Open }
         requires fits { self.old.at + length window.now ≤ 1_048_576 }
@@ -281,7 +282,7 @@ impl<D: Draft> Reader<D> {
     }
 
     /// The innermost element ends, after this number of octets of an end mark.
-    #[inline(never)]
+    #[inline(always)]
     fn end_element(&mut self, marks: u32) -> Option<usize>
         requires open { self.old.state ≡ State.Open }
         requires depth { 0 < depth_of self.old.path.frames }
