@@ -3,7 +3,7 @@ use Rattle.std.specs.Prelude.{◌≡◌, ◌≤◌, ℕ, ◌+◌, List, ◌∷�
 use Rattle.ber_core.specs.Identifier.{Tag}
 use Rattle.ber_leaf.specs.Profile.{profile_two}
 use Rattle.ill_schema.specs.declared.node.NodeId.{NodeId}
-use Rattle.ill_schema.specs.declared.node.NodeId.TheVariants.{Boolean, IllApdu, LeftOut}
+use Rattle.ill_schema.specs.declared.node.NodeId.TheVariants.{Boolean, IllApdu}
 use Rattle.ill_schema.specs.declared.part.PartId.{PartId}
 use Rattle.ill_schema.specs.Table.{kind_of}
 use Rattle.ill_refusals.specs.Element.{Component, components, Element, starts}
@@ -15,19 +15,27 @@ use Rattle.ill_cells.specs.declared.cell.Slot.TheVariants as slot
 use Rattle.ill_cells.specs.declared.at.At.{At}
 use Rattle.ill_cells.specs.declared.at.Found.{Found}
 
--- the part of the wrapper, the node, and the position in it
+-- the part of a wrapper, the node that is open or in the wrapper, and a position there
+pub record Where : Type 0 where
+  pub part : PartId
+  pub node : NodeId
+  pub position : ℕ
+
 abbrev pub part_in : At → PartId
-part_in at = at.part
+part_in at = at.round.now.part
 
 abbrev pub node_in : At → NodeId
-node_in at = at.node
+node_in at = at.round.now.node
 
 abbrev pub position_in : At → ℕ
 position_in at = at.position
 
+abbrev pub where_of : At → Where
+where_of at = record { part = part_in at; node = node_in at; position = at.position }
+
 -- what may come next there
 abbrev pub next_at : At → Next
-next_at at = next_from at.part at.node at.position
+next_at at = next_from (part_in at) (node_in at) at.position
 
 -- the part, the node and the alternative of an element that is found, and where it stands
 abbrev pub part_of : Found → PartId
@@ -47,32 +55,32 @@ slot_of f = f.cell.now.slot
 
 -- the node round it
 abbrev pub node_round : Found → NodeId
-node_round f = f.at.node
+node_round f = node_in f.at
 
 abbrev pub element_found : Found → Element
 element_found f = element_in (part_of f) (node_of f) (what_of f)
 
 abbrev pub due_of : Found → Due
-due_of f = due_at f.at.part f.at.node f.at.position (slot_of f) (element_found f)
+due_of f = due_at (part_in f.at) (node_in f.at) f.at.position (slot_of f) (element_found f)
 
 -- the first place where the element that is found may begin inside
-abbrev pub first_place : Found → At
+abbrev pub first_place : Found → Where
 first_place f = record { part = part_of f; node = node_of f; position = first_position (what_of f) }
 
 -- where a message begins
-abbrev pub top : At
+abbrev pub top : Where
 top = record { part = record { node = IllApdu; row = 0 }; node = IllApdu; position = 0 }
 
 -- where nothing may come
-abbrev pub nowhere : At
-nowhere = record { part = record { node = LeftOut; row = 0 }; node = Boolean; position = 2 }
+abbrev pub nowhere : Where
+nowhere = record { part = record { node = Boolean; row = 0 }; node = Boolean; position = 2 }
 
 -- the place after the element
-abbrev pub place_after : Found → Slot → At
-place_after f slot.Row = record f.at { position = f.at.position + 1 }
+abbrev pub place_after : Found → Slot → Where
+place_after f slot.Row = record { part = part_in f.at; node = node_in f.at; position = f.at.position + 1 }
 place_after f slot.Inner = nowhere
-place_after f slot.Item = f.at
-place_after f slot.Segment = f.at
+place_after f slot.Item = where_of f.at
+place_after f slot.Segment = where_of f.at
 
 -- the row at which it is due
 abbrev pub row_of : Found → ℕ
@@ -89,10 +97,10 @@ pub record IsAtRow (node : NodeId) (row : ℕ) (d : Due) : Type 0 where
 pub record IsDue (t : Tag) (at : At) (f : Found) : Type 0 where
   pub is : due profile_two t (next_at at) ≡ Some (due_of f)
   pub begins : BeginsDue t (due_of f) (alternative_of f)
-  pub round : node_round f ≡ at.node
+  pub round : node_round f ≡ node_in at
   -- at this position or a later one
   pub later : at.position ≤ f.at.position
   -- in a wrapper, the part itself comes first
-  pub passed : at.position ≡ 0 → (f.at.position ≡ 0 → ⊥) → element_with t (starts profile_two (wrapped at.part at.node)) ≡ None
-  pub placed : IsTrue (is_placed (kind_of f.at.node) f.at.position (slot_of f))
+  pub passed : at.position ≡ 0 → (f.at.position ≡ 0 → ⊥) → element_with t (starts profile_two (wrapped (part_in at) (node_in at))) ≡ None
+  pub placed : IsTrue (is_placed (kind_of (node_round f)) f.at.position (slot_of f))
   pub row : slot_of f ≡ slot.Row → IsAtRow (node_round f) (row_of f) (due_of f)

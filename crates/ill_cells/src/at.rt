@@ -11,16 +11,15 @@ ghost use Rattle.ill_refusals.specs.Element.{components};
 ghost use Rattle.ill_cells.specs.code.Starts.{IsBegunBy};
 
 use crate::cell::{Cell, Slot, What};
-use crate::runs::{alternatives_of, cells_of};
+use crate::runs::{MESSAGE, NOWHERE, alternatives_of, cells_of};
 use ber_core::Id;
 use ill_schema::{NodeId, PartId};
 
 /// A place where an element may begin: a position in the cells of a node, at 0 in a wrapper round the node, from 1 on in the node itself.
-#[derive(Clone, Copy, Debug, PartialEq, Eq)]
+#[derive(Clone, Copy)]
 pub struct At {
-    /// The part that the wrapper is.
-    part: PartId,
-    node: NodeId,
+    /// The cell of the node, or of the wrapper round it.
+    round: &'static Cell,
     position: u8,
 }
 
@@ -34,9 +33,9 @@ pub struct Found {
     /// The cell that has its tag: that of its row, or of an alternative.
     begun: &'static Cell,
     ghost opens: { IsTrue (opens_in begun.now.what begun.now.node) },
-    ghost placed: { IsTrue (is_placed (kind_of at.node) at.position cell.now.slot) },
-    ghost there: { IsTrue (row_there cell.now.slot at.position (components profile_two at.node)) },
-    ghost default_is: { option_map pos cell.now.default ≡ default_at at.node at.position cell.now.slot } by { Prim.hlevel props },
+    ghost placed: { IsTrue (is_placed (kind_of at.round.now.node) at.position cell.now.slot) },
+    ghost there: { IsTrue (row_there cell.now.slot at.position (components profile_two at.round.now.node)) },
+    ghost default_is: { option_map pos cell.now.default ≡ default_at at.round.now.node at.position cell.now.slot } by { Prim.hlevel props },
     ghost nested: { IsTrue (cell_opens cell.now) },
     ghost few: { at.position < 27 },
 }
@@ -99,14 +98,14 @@ fn cell_at(cells: &'static [Cell], position: u8) -> &'static Cell
 
 /// The part that is due at a position.
 fn part_at(at: At, position: u8, slot: Slot) -> PartId
-    ensures { result ≡ part_at at.part at.node position slot }
+    ensures { result ≡ part_at at.round.now.part at.round.now.node position slot }
 {
     match slot {
         Slot::Row => PartId {
-            node: at.node,
+            node: at.round.node,
             row: position.saturating_sub(1),
         },
-        _ => at.part,
+        _ => at.round.part,
     }
 }
 
@@ -129,19 +128,15 @@ fn start(cell: &'static Cell, id: Id) -> Option<&'static Cell>
 impl At {
     ghost use Rattle.ill_refusals.specs.Next.{due, missing};
     ghost use Rattle.ill_refusals.specs.Place.{next_in};
-    ghost use Rattle.ill_cells.specs.Places.{IsDue, next_at, node_in, nowhere, part_in, position_in, top};
+    ghost use Rattle.ill_cells.specs.Places.{IsDue, next_at, node_in, nowhere, part_in, position_in, top, where_of};
 
     /// Where a message begins.
     pub fn top() -> At
-        ensures place { result ≡ top }
+        ensures place { where_of result ≡ top }
         ensures next { next_at result ≡ next_in profile_two [] }
     {
         At {
-            part: PartId {
-                node: NodeId::IllApdu,
-                row: 0,
-            },
-            node: NodeId::IllApdu,
+            round: &MESSAGE,
             position: 0,
         }
     }
@@ -150,14 +145,14 @@ impl At {
     pub fn part(self) -> PartId
         ensures { result ≡ part_in self }
     {
-        self.part
+        self.round.part
     }
 
     /// The node that is open, or that is in the wrapper.
     pub fn node(self) -> NodeId
         ensures { result ≡ node_in self }
     {
-        self.node
+        self.round.node
     }
 
     /// The position in the cells of the node: 0 in the wrapper, from 1 on in the node itself.
@@ -169,14 +164,10 @@ impl At {
 
     /// Where nothing may come.
     fn nowhere() -> At
-        ensures { result ≡ nowhere }
+        ensures { where_of result ≡ nowhere }
     {
         At {
-            part: PartId {
-                node: NodeId::LeftOut,
-                row: 0,
-            },
-            node: NodeId::Boolean,
+            round: &NOWHERE,
             position: 2,
         }
     }
@@ -188,7 +179,7 @@ impl At {
         ensures { MatchOption result (due profile_two (tag_of_id id) (next_at self) ≡ None)
             (λ found. IsDue (tag_of_id id) self found) }
     {
-        let cells = cells_of(self.node);
+        let cells = cells_of(self.round.node);
         for position in self.position..cells.len() as u8 {
             let cell = cell_at(cells, position);
             if let Some(begun) = start(cell, id) {
@@ -210,7 +201,7 @@ impl At {
     pub fn missing(self) -> Option<PartId>
         ensures { result ≡ missing profile_two (next_at self) }
     {
-        let cells = cells_of(self.node);
+        let cells = cells_of(self.round.node);
         for position in self.position..cells.len() as u8 {
             let cell = cell_at(cells, position);
             if cell.stops {
@@ -225,7 +216,7 @@ impl At {
     pub fn is_missing(self) -> bool
         ensures { result ≡ is_some (missing profile_two (next_at self)) }
     {
-        let cells = cells_of(self.node);
+        let cells = cells_of(self.round.node);
         if cells.len() <= self.position as usize {
             return false;
         }
@@ -235,18 +226,17 @@ impl At {
 
 impl Found {
     ghost use Rattle.ill_refusals.specs.Next.{element_of, next_of, opening};
-    ghost use Rattle.ill_cells.specs.Places.{IsAtRow, alternative_of, due_of, first_place, next_at, node_of, node_round, part_of, place_after, row_of, slot_of, what_of};
+    ghost use Rattle.ill_cells.specs.Places.{IsAtRow, alternative_of, due_of, first_place, next_at, node_of, node_round, part_of, place_after, row_of, slot_of, what_of, where_of};
     ghost use Rattle.ill_cells.specs.Cells.{default_due, element_in};
 
     /// The place in the element, once it is open.
     #[inline(always)]
     pub fn first(self) -> At
-        ensures place { result ≡ first_place self }
+        ensures place { where_of result ≡ first_place self }
         ensures next { next_at result ≡ opening profile_two (element_of (due_of self)) }
     {
         At {
-            part: self.begun.part,
-            node: self.begun.node,
+            round: self.begun,
             position: first_position(self.begun.what),
         }
     }
@@ -254,7 +244,7 @@ impl Found {
     /// The place after the element.
     #[inline(always)]
     pub fn after(self) -> At
-        ensures place { result ≡ place_after self (slot_of self) }
+        ensures place { where_of result ≡ place_after self (slot_of self) }
         ensures next { next_at result ≡ next_of (due_of self) }
     {
         match self.cell.slot {

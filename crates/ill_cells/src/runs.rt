@@ -185,6 +185,12 @@ macro_rules! leaf {
     };
 }
 
+/// The cell that a message begins by.
+pub const MESSAGE: Cell = nested!(IllApdu);
+
+/// A cell for the place where nothing may come.
+pub const NOWHERE: Cell = segment!(Boolean);
+
 const BOOLEAN: [Cell; 2] = leaf!(Boolean);
 
 const INTEGER: [Cell; 2] = leaf!(Integer);

@@ -14,7 +14,7 @@ use Rattle.ill_refusals.specs.Fault.{fault, element_fault}
 use Rattle.ill_refusals.specs.Place.{Open, next_in}
 use Rattle.ill_refusals.specs.code.Judge.{Judgement, closes, or_faulty}
 use Rattle.ill_refusals.specs.code.Step.{moved, refused, with_tree}
-use Rattle.ill_cells.specs.Places.{alternative_of}
+use Rattle.ill_cells.specs.Places.{alternative_of, where_of}
 use Rattle.ill_read.specs.Elements.{element_is}
 use Rattle.ill_read.specs.code.Drafts.{ChecksText, HasClosed, IsRightText, due_with, with_entry}
 use Rattle.ill_read.specs.code.Judged.{IsEnd, IsStep}
@@ -33,7 +33,8 @@ use Rattle.ill_read.proofs.OpenFrames.{last_open}
 use Rattle.ill_read.proofs.OpenedElements.{only_segment}
 use Rattle.ill_read.proofs.Segments.{segment_due, text_with}
 use Rattle.ill_read.proofs.Strings.{segment_added}
-use Rattle.ill_read.specs.DueCode.{shape, read_as, slot_in, next_place}
+use Rattle.ill_cells.specs.declared.at.At.{At}
+use Rattle.ill_read.specs.DueCode.{shape, shape_at, read_as, slot_in, next_place}
 
 -- the frames without the last one
 record IsPopped (levels : List Level) (frames : List Frame) (f : Frame) (o : Open) (path : List Open) : Type 0 where
@@ -108,8 +109,8 @@ right_text Segment text h = refl
 pub element_closed : {D : Type 0} (holds : D → List Level → List ℕ → Type 0) (old : Path D) (shorter : List Frame) (f : Frame) (middle : D) (new : Path D) (place : List Open) (marks at : ℕ) (rest : List ℕ)
     (j : Judgement) (result : Bool) → HoldsAt holds old place → IsEnd place marks j → shorter ≡ take (length old.frames.open.items - 1) old.frames.open.items
     → slice_get old.frames.open.items (length old.frames.open.items - 1) ≡ Some f → (read_as f.found ≡ Segment → ⊥) → ((x : ⊤) → ChecksText holds old.draft f (Ok x)) → HasClosed holds old.draft f (next_at shorter) middle
-    → GoesOn (next_place f.found) shorter new.frames.open.items result → new.draft ≡ middle → IsStep holds new (Ok result) (moved j place at rest)
-element_closed holds old shorter f middle new place marks at rest j result stands end frames last apart checks closed goes draft =
+    → (after : At) → where_of after ≡ next_place f.found → GoesOn after shorter new.frames.open.items result → new.draft ≡ middle → IsStep holds new (Ok result) (moved j place at rest)
+element_closed holds old shorter f middle new place marks at rest j result stands end frames last apart checks closed after there goes draft =
     let o = end.innermost in
     let path = end.outer in
     let here : HoldsAt holds old (o ∷ path) = subst (HoldsAt holds old) end.is_path stands in
@@ -121,7 +122,7 @@ element_closed holds old shorter f middle new place marks at rest j result stand
     let none : element_fault profile_two o.element (text_all o.trees) ≡ None =
     ap (λ x. element_fault profile_two x (text_all o.trees)) (sym p.framed.element) ∙ ends.fault ∙ right_text (read_as f.found) text right in
     let added = entry_added holds shorter p.below new path (slot_in f.found) (alternative_of f.found) (read_as f.found) ends.content (constructed o.tag o.trees) (at + marks) (drop marks rest) result p.outer p.framed.is_due
-    (λ s. apart (only_segment (read_as f.found) s)) (next_place f.found) p.framed.after goes
+    (λ s. apart (only_segment (read_as f.found) s)) after (ap shape_at there ∙ p.framed.after) goes
     (λ l below e d. (
       ends.value right,
       subst (λ x. holds x (with_entry l (slot_in f.found) (with_alternative (alternative_of f.found) ends.content) ∷ below) []) (sym draft)

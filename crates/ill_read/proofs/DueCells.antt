@@ -17,7 +17,7 @@ use Rattle.ill_refusals.specs.Next.{part, octets, rows, items, due, due_in, elem
 use Rattle.ill_refusals.proofs.Rows.{two_cases}
 use Rattle.ill_cells.specs.Cells as cells
 use Rattle.ill_cells.specs.Cells.{BeginsDue, IsAlternative, wrapped}
-use Rattle.ill_cells.specs.Places.{IsAtRow, IsDue, due_of, element_found, next_at, node_of, part_of, place_after, row_of, slot_of, what_of}
+use Rattle.ill_cells.specs.Places.{IsAtRow, IsDue, due_of, element_found, next_at, node_in, node_of, part_in, part_of, place_after, row_of, slot_of, what_of}
 use Rattle.ill_cells.specs.code.Meant.{is_other, opens_in}
 use Rattle.ill_cells.specs.declared.at.At.{At}
 use Rattle.ill_cells.specs.declared.at.Found.{Found as CellFound}
@@ -28,7 +28,7 @@ use Rattle.ill_cells.proofs.Scanning.{same_tag-swap, sequence_starts}
 use Rattle.ill_cells.specs.declared.cell.Slot.{Slot as CellSlot}
 use Rattle.ill_cells.specs.declared.cell.Slot.TheVariants as cell
 use Rattle.ill_read.specs.Elements.{component_of, component_at, element_with, found_is}
-use Rattle.ill_read.specs.DueCode.{Begins, BeginsAt, Due, IsComing, IsDueIn, IsDueInRows, IsItemDue, IsInnerDue, IsRowDue, IsSegmentDue, MayAllLack, behind, due_as, element_as, found_as, next_is, shape, shape_of, slot_as}
+use Rattle.ill_read.specs.DueCode.{Begins, BeginsAt, Due, IsComing, IsDueIn, IsDueInRows, IsItemDue, IsInnerDue, IsRowDue, IsSegmentDue, MayAllLack, behind, due_as, element_as, found_as, next_is, shape, shape_at, shape_of, slot_as}
 use Rattle.ill_read.specs.declared.due.Next.{Next}
 use Rattle.ill_read.specs.declared.due.Next.TheVariants.{Rows, Inner, Items, Either, Segments, Nothing}
 use Rattle.ill_read.proofs.DueElements.{first_due}
@@ -325,11 +325,11 @@ placed-due t Kind.IllString p node (suc (suc n)) at row s D d e h b slot is = ab
 abbrev after-shape : Kind → PartId → NodeId → ℕ → CellSlot → Next
 after-shape k q node at s = elim s as (λ _. Next) [ cell.Row ↦ shape_of k q node (at + 1) | cell.Inner ↦ Nothing | _ ↦ shape_of k q node at ]
 
-pub after-found : (f : CellFound) (s : CellSlot) (node : NodeId) → f.at.node ≡ node → shape (place_after f s) ≡ after-shape (kind_of node) f.at.part node f.at.position s
-after-found f cell.Row node e = ap (λ n. shape_of (kind_of n) f.at.part n (f.at.position + 1)) e
+pub after-found : (f : CellFound) (s : CellSlot) (node : NodeId) → node_in f.at ≡ node → shape_at (place_after f s) ≡ after-shape (kind_of node) (part_in f.at) node f.at.position s
+after-found f cell.Row node e = ap (λ n. shape_of (kind_of n) (part_in f.at) n (f.at.position + 1)) e
 after-found f cell.Inner node e = refl
-after-found f cell.Item node e = ap (λ n. shape_of (kind_of n) f.at.part n f.at.position) e
-after-found f cell.Segment node e = ap (λ n. shape_of (kind_of n) f.at.part n f.at.position) e
+after-found f cell.Item node e = ap (λ n. shape_of (kind_of n) (part_in f.at) n f.at.position) e
+after-found f cell.Segment node e = ap (λ n. shape_of (kind_of n) (part_in f.at) n f.at.position) e
 
 after-row : (q : PartId) (node : NodeId) (r row : ℕ) → row ≡ r → shape_of Kind.Seq q node (suc r + 1) ≡ Rows node (row + 1)
 after-row q node r row e = let z : suc r + 1 ≡ suc (row + 1) = omega (arith, e) in ap (shape_of Kind.Seq q node) z
@@ -439,7 +439,7 @@ found-means what.Wrapper p node = refl
 found-means what.LeftOut p node = refl
 
 -- what is found at a place is placed there
-pub found-placed : (t : Tag) (a : At) (f : CellFound) → IsDue t a f → IsPlaced t (kind_of a.node) a.part a.node a.position f.at.position (row_of f) (slot_of f) (due_of f)
+pub found-placed : (t : Tag) (a : At) (f : CellFound) → IsDue t a f → IsPlaced t (kind_of (node_in a)) (part_in a) (node_in a) a.position f.at.position (row_of f) (slot_of f) (due_of f)
 found-placed t a f h = record {
   is = h.is;
   later = h.later;
@@ -448,17 +448,17 @@ found-placed t a f h = record {
   at_row = λ s. subst (λ n. IsAtRow n (row_of f) (due_of f)) h.round (h.row s);
   number = refl;
   inner = λ s. (
-    f.at.part,
+    (part_in f.at),
     element_found f,
-    ap (λ x. cells.due_at f.at.part f.at.node f.at.position x (element_found f)) s ∙ ap (λ n. part (wrapped f.at.part n) (element_found f) (rows [])) h.round,
+    ap (λ x. cells.due_at (part_in f.at) (node_in f.at) f.at.position x (element_found f)) s ∙ ap (λ n. part (wrapped (part_in f.at) n) (element_found f) (rows [])) h.round,
   );
 }
 
 -- what may come next by the cells may by the decoder's words
 pub shape-next : (a : At) → next_at a ≡ next_is (shape a)
-shape-next a = go (kind_of a.node) a.position
+shape-next a = go (kind_of (node_in a)) a.position
   where
-    go : (k : Kind) (n : ℕ) → cells.next_of_kind k a.part a.node n ≡ next_is (shape_of k a.part a.node n)
+    go : (k : Kind) (n : ℕ) → cells.next_of_kind k (part_in a) (node_in a) n ≡ next_is (shape_of k (part_in a) (node_in a) n)
     go Kind.Seq zero = refl
     go Kind.Seq (suc row) = refl
     go Kind.SeqOf zero = refl
@@ -494,10 +494,10 @@ found-read what.Wrapper p node h = refl
 -- what the cells find is due by the decoder's words
 pub is-coming : (t : Tag) (a : At) (f : CellFound) → IsDue t a f → IsComing t a f
 is-coming t a f h =
-    let k = kind_of a.node in
+    let k = kind_of (node_in a) in
     let placed = found-placed t a f h in
-    let element = element-due f.at.part f.at.node f.at.position (slot_of f) (element_found f) in
+    let element = element-due (part_in f.at) (node_in f.at) f.at.position (slot_of f) (element_found f) in
     record {
-      is_due = placed-due t k a.part a.node a.position f.at.position (row_of f) (slot_of f) (due_of f) (due_as f) refl placed h.begins refl (found-means (what_of f) (part_of f) (node_of f) ∙ sym element);
-      after = after-found f (slot_of f) a.node h.round ∙ after-is t k a.part f.at.part a.node a.position f.at.position (row_of f) (slot_of f) (due_of f) placed;
+      is_due = placed-due t k (part_in a) (node_in a) a.position f.at.position (row_of f) (slot_of f) (due_of f) (due_as f) refl placed h.begins refl (found-means (what_of f) (part_of f) (node_of f) ∙ sym element);
+      after = after-found f (slot_of f) (node_in a) h.round ∙ after-is t k (part_in a) (part_in f.at) (node_in a) a.position f.at.position (row_of f) (slot_of f) (due_of f) placed;
     }

@@ -6,7 +6,7 @@ use Rattle.ber_core.specs.Tree.{none}
 use Rattle.ber_leaf.specs.Profile.{profile_two}
 use Rattle.ill_cells.specs.Places.{alternative_of}
 use Rattle.ill_read.specs.Elements.{element_is}
-use Rattle.ill_read.specs.DueCode.{IsDueIn, behind, first_of, next_is, shape, read_as, slot_in, next_place}
+use Rattle.ill_read.specs.DueCode.{IsDueIn, behind, first_of, next_is, shape, shape_at, read_as, slot_in, next_place}
 use Rattle.ill_refusals.specs.Element.{segment}
 use Rattle.ill_refusals.specs.Next.{opening}
 use Rattle.ill_refusals.specs.Place.{Open, allows, bound}
@@ -61,7 +61,7 @@ first_opening (LooseWrapper w) = refl
 first_opening Segment = refl
 
 pub opens_at : {D : Type 0} (holds : D → List Level → List ℕ → Type 0) (old new : Path D) (opening : Opening) (f : Frame) (place : List Open) (round : ℕ) → HoldsAt holds old place
-    → IsDueIn (tag_of_id opening.id) (next_at old.frames.open.items) (due_with (slot_in f.found) (alternative_of f.found) (read_as f.found)) → shape (next_place f.found) ≡ behind (next_at old.frames.open.items) (slot_in f.found) → allows (element_is (read_as f.found)) true ≡ true → (shape f.place) ≡ first_of (read_as f.found)
+    → IsDueIn (tag_of_id opening.id) (next_at old.frames.open.items) (due_with (slot_in f.found) (alternative_of f.found) (read_as f.found)) → shape_at (next_place f.found) ≡ behind (next_at old.frames.open.items) (slot_in f.found) → allows (element_is (read_as f.found)) true ≡ true → (shape f.place) ≡ first_of (read_as f.found)
     → round ≡ bound profile_two place → f.bound ≡ unwrap_or f.end round → HasOpened holds old.draft opening f.base new.draft → new.frames.open.items ≡ old.frames.open.items ++ f ∷ [] → read_as f.found ≡ (read_as opening.found)
     → HoldsAt holds new (opened (element_is (read_as f.found)) (tag_of_id opening.id) f.start f.end ∷ place)
 opens_at holds old new opening f place round h due after allowed first r b has frames is =

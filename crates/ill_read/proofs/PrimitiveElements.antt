@@ -15,9 +15,10 @@ use Rattle.ill_refusals.specs.Fault.{fault, fault_of, element_fault}
 use Rattle.ill_refusals.specs.Place.{Open, allows}
 use Rattle.ill_refusals.specs.code.Judge.{Judgement, or_faulty, reads}
 use Rattle.ill_refusals.specs.code.Step.{Step, moved}
-use Rattle.ill_cells.specs.Places.{alternative_of}
+use Rattle.ill_cells.specs.Places.{alternative_of, where_of}
 use Rattle.ill_read.specs.Elements.{element_is}
-use Rattle.ill_read.specs.DueCode.{IsDueIn, read_as, slot_in, next_place}
+use Rattle.ill_cells.specs.declared.at.At.{At}
+use Rattle.ill_read.specs.DueCode.{IsDueIn, read_as, shape_at, slot_in, next_place}
 use Rattle.ill_read.specs.LeafTypes.{leaf_is}
 use Rattle.ill_read.specs.code.Drafts.{HasLeaf, HasText, due_with}
 use Rattle.ill_read.specs.code.Judged.{IsBegin, IsJudgement, IsStep, content_in}
@@ -43,14 +44,14 @@ content_read e place tag header octets start at rest = moved (or_faulty (element
 pub leaf_read : {D : Type 0} (holds : D → List Level → List ℕ → Type 0) (old new : Path D) (place : List Open) (r : Reading) (l : LeafType) (start : ℕ) (octets : List ℕ) (result : Bool) (header at : ℕ) (rest : List ℕ)
     → HoldsAt holds old place → IsBegin old.frames place (tag_of_id r.id) r.found false → read_as r.found ≡ Leaf l → IsTrue (are_octets octets)
     → content_fault profile_two (leaf_is l) octets ≡ None → HasLeaf holds old.draft (next_at old.frames.open.items) r l octets new.draft
-    → GoesOn (next_place r.found) old.frames.open.items new.frames.open.items result → IsStep holds new (Ok result) (content_read (read_as r.found) place (tag_of_id r.id) header octets start at rest)
-leaf_read holds old new place r l start octets result header at rest stands begin is ok right has goes =
+    → (after : At) → where_of after ≡ next_place r.found → GoesOn after old.frames.open.items new.frames.open.items result → IsStep holds new (Ok result) (content_read (read_as r.found) place (tag_of_id r.id) header octets start at rest)
+leaf_read holds old new place r l start octets result header at rest stands begin is ok right has after there goes =
     let tag = tag_of_id r.id in
     let due : IsDueIn tag (next_at old.frames.open.items) (due_with (slot_in r.found) (alternative_of r.found) (Leaf l)) = subst (λ x. IsDueIn tag (next_at old.frames.open.items) (due_with (slot_in r.found) (alternative_of r.found) x)) is begin.is_due in
     let apart : element_is (Leaf l) ≡ segment → ⊥ = λ s. cc in
     let no : text_so_far place ≡ [] = no_text place old.frames.open.items stands.0 stands.1 (λ s. apart (due_segment tag (next_at old.frames.open.items) (due_with (slot_in r.found) (alternative_of r.found) (Leaf l)) due s)) in
     let added = entry_added holds old.frames.open.items stands.0 new place (slot_in r.found) (alternative_of r.found) (Leaf l) (simple (value (leaf_is l) octets)) (primitive tag octets)
-    (at + header + length octets) (drop (header + length octets) rest) result stands.1 due apart (next_place r.found) begin.goes_on goes
+    (at + header + length octets) (drop (header + length octets) rest) result stands.1 due apart after (ap shape_at there ∙ begin.goes_on) goes
     (λ level below e d. ((tt, ok, right, refl), has level below (subst (λ t. holds old.draft (level ∷ below) t) no (subst (λ ls. holds old.draft ls (text_so_far place)) e stands.2)) d)) in
     let none : element_fault profile_two (element_is (read_as r.found)) octets ≡ None = ap (λ x. element_fault profile_two (element_is x) octets) is ∙ right in
     subst (λ f. IsStep holds new (Ok result) (moved (or_faulty f start (reads tag header octets)) place at rest)) (sym none) added

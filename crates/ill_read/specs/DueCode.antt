@@ -11,7 +11,7 @@ use Rattle.ill_schema.specs.Table.{kind_of, rows_of}
 use Rattle.ill_schema.specs.Tagging.{untagged, same_tag, sequence_tag}
 use Rattle.ill_refusals.specs.Element.{Component, Element, list, segment, components, component_starts, starts}
 use Rattle.ill_refusals.specs.Next as next
-use Rattle.ill_cells.specs.Places.{part_in, node_in, position_in, part_of, node_of, what_of, alternative_of, slot_of, row_of, place_after}
+use Rattle.ill_cells.specs.Places.{Where, where_of, part_of, node_of, what_of, alternative_of, slot_of, row_of, place_after}
 use Rattle.ill_cells.specs.declared.at.At.{At}
 use Rattle.ill_cells.specs.declared.at.Found.{Found as CellFound}
 use Rattle.ill_cells.specs.declared.cell.Slot.{Slot as CellSlot}
@@ -41,8 +41,11 @@ shape_of (Kind.Leaf _) p node (suc zero) = Segments
 shape_of Kind.IllString p node (suc zero) = Segments
 shape_of _ p node (suc _) = Nothing
 
+abbrev pub shape_at : Where → Next
+shape_at w = shape_of (kind_of w.node) w.part w.node w.position
+
 abbrev pub shape : At → Next
-shape at = shape_of (kind_of (node_in at)) (part_in at) (node_in at) (position_in at)
+shape at = shape_at (where_of at)
 
 -- what may come in an element when it opens
 abbrev pub first_of : CodeElement → Next
@@ -54,8 +57,8 @@ first_of (LooseWrapper w) = Either w
 first_of InString = Segments
 
 -- what is found, if it is an element, begins at this place inside
-abbrev pub BeginsAt : Found → At → Type 0
-BeginsAt (found.Element e) first = shape first ≡ first_of e
+abbrev pub BeginsAt : Found → Where → Type 0
+BeginsAt (found.Element e) first = shape_at first ≡ first_of e
 BeginsAt (found.LeftOut part) first = Unit {0}
 
 -- as what an element of a part with this node is read; one that is left out never is
@@ -97,7 +100,7 @@ found_in f = found_as (part_of f) (node_of f) (what_of f)
 abbrev pub slot_in : CellFound → Slot
 slot_in f = slot_as (row_of f) (slot_of f)
 
-abbrev pub next_place : CellFound → At
+abbrev pub next_place : CellFound → Where
 next_place f = place_after f (slot_of f)
 
 -- what a tag begins, where that stands, and the alternative of a choice without a tag that it is
@@ -189,4 +192,4 @@ IsDueIn t Nothing d = ⊥
 -- what the cells find is due there, and is left at the place after it
 pub record IsComing (t : Tag) (at : At) (f : CellFound) : Type 0 where
   pub is_due : IsDueIn t (shape at) (due_as f)
-  pub after : shape (next_place f) ≡ behind (shape at) (slot_in f)
+  pub after : shape_at (next_place f) ≡ behind (shape at) (slot_in f)

@@ -24,7 +24,7 @@ use Rattle.ill_refusals.specs.Next.{due, next_of, opening}
 use Rattle.ill_refusals.specs.Next as following
 use Rattle.ill_refusals.specs.Place.{Open, next_in, bound, IsPlace}
 use Rattle.ill_read.specs.Elements.{element_is}
-use Rattle.ill_read.specs.DueCode.{next_is, IsDueIn, behind, shape, read_as, read_due, slot_in, next_place}
+use Rattle.ill_read.specs.DueCode.{next_is, IsDueIn, behind, shape, shape_at, read_as, read_due, slot_in, next_place}
 use Rattle.ill_read.specs.LeafTypes.{leaf_is}
 use Rattle.ill_read.specs.declared.due.Next.{Next}
 use Rattle.ill_read.specs.declared.due.Next.TheVariants.{Rows, Inner, Items, Either, Segments, Nothing}
@@ -133,7 +133,7 @@ pub record IsFrame (f : Frame) (o : Open) (path : List Open) (outer : List Frame
   pub bound : f.bound ≡ bound profile_two (o ∷ path)
   pub next : next_is (shape f.place) ≡ next_in profile_two (o ∷ path)
   pub is_due : IsDueIn o.tag (next_at outer) (read_due f.found)
-  pub after : shape (next_place f.found) ≡ behind (next_at outer) (slot_in f.found)
+  pub after : shape_at (next_place f.found) ≡ behind (next_at outer) (slot_in f.found)
   pub held : IsHeld (read_as f.found) (shape f.place) entries o.trees
   pub were_due : AreDue (opening profile_two o.element) o.trees
 

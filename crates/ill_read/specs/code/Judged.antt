@@ -15,7 +15,7 @@ use Rattle.ill_refusals.specs.code.Judge.{Judgement, closes, opens, reads, or_fa
 use Rattle.ill_cells.specs.Places.{first_place}
 use Rattle.ill_cells.specs.declared.at.Found.{Found as CellFound}
 use Rattle.ill_read.specs.Elements.{element_is}
-use Rattle.ill_read.specs.DueCode.{IsDueIn, behind, first_of, shape, read_as, read_due, slot_in, next_place}
+use Rattle.ill_read.specs.DueCode.{IsDueIn, behind, first_of, shape_at, read_as, read_due, slot_in, next_place}
 use Rattle.ill_read.specs.Standing.{Level, whole_level, next_at, HoldsAt}
 use Rattle.ill_read.specs.code.Progress.{size_of}
 use Rattle.ill_refusals.specs.code.Step.{Step, refused, goes, whole}
@@ -36,8 +36,8 @@ pub record IsEnd (place : List Open) (marks : ℕ) (j : Judgement) : Type 0 wher
 -- an element is due there and may have the form
 pub record IsBegin (frames : Frames) (place : List Open) (tag : Tag) (f : CellFound) (constructed : Bool) : Type 0 where
   pub is_due : IsDueIn tag (next_at frames.open.items) (read_due f)
-  pub begins : shape (first_place f) ≡ first_of (read_as f)
-  pub goes_on : shape (next_place f) ≡ behind (next_at frames.open.items) (slot_in f)
+  pub begins : shape_at (first_place f) ≡ first_of (read_as f)
+  pub goes_on : shape_at (next_place f) ≡ behind (next_at frames.open.items) (slot_in f)
   pub allowed : allows (element_is (read_as f)) constructed ≡ true
   pub shallow : length place < 32
 

@@ -5,15 +5,15 @@ use Rattle.ill_cells.proofs.Steps.{passed-next, passed-none, cell-said, scan-all
 use Rattle.ill_cells.proofs.at.At.find.Goals as goal
 
 pub start-requires : goal.start-requires
-start-requires c = (cell-said c.args.self.node c.loop-position.position c.cells_of-cells.result.now c.cell_at-cell.result.now c.cells_of-cells.ensures.meant c.cell_at-cell.ensures).opens
+start-requires c = (cell-said c.args.self.round.now.node c.loop-position.position c.cells_of-cells.result.now c.cell_at-cell.result.now c.cells_of-cells.ensures.meant c.cell_at-cell.ensures).opens
 
 pub invariant_of-result : goal.invariant_of-result
 invariant_of-result c = record {
   opens = c.in-Some.ensures.opens;
-  placed = (cell-said c.args.self.node c.loop-position.position c.cells_of-cells.result.now c.cell_at-cell.result.now c.cells_of-cells.ensures.meant c.cell_at-cell.ensures).placed;
-  there = (cell-said c.args.self.node c.loop-position.position c.cells_of-cells.result.now c.cell_at-cell.result.now c.cells_of-cells.ensures.meant c.cell_at-cell.ensures).there;
-  default_is = (cell-said c.args.self.node c.loop-position.position c.cells_of-cells.result.now c.cell_at-cell.result.now c.cells_of-cells.ensures.meant c.cell_at-cell.ensures).default;
-  nested = (cell-said c.args.self.node c.loop-position.position c.cells_of-cells.result.now c.cell_at-cell.result.now c.cells_of-cells.ensures.meant c.cell_at-cell.ensures).opens;
+  placed = (cell-said c.args.self.round.now.node c.loop-position.position c.cells_of-cells.result.now c.cell_at-cell.result.now c.cells_of-cells.ensures.meant c.cell_at-cell.ensures).placed;
+  there = (cell-said c.args.self.round.now.node c.loop-position.position c.cells_of-cells.result.now c.cell_at-cell.result.now c.cells_of-cells.ensures.meant c.cell_at-cell.ensures).there;
+  default_is = (cell-said c.args.self.round.now.node c.loop-position.position c.cells_of-cells.result.now c.cell_at-cell.result.now c.cells_of-cells.ensures.meant c.cell_at-cell.ensures).default;
+  nested = (cell-said c.args.self.round.now.node c.loop-position.position c.cells_of-cells.result.now c.cell_at-cell.result.now c.cells_of-cells.ensures.meant c.cell_at-cell.ensures).opens;
   few = omega (arith, c.cells_of-cells.ensures.few);
 }
 
@@ -26,16 +26,16 @@ returns-in-Some c =
     let cell = c.cell_at-cell.result.now in
     let begun = c.in-Some.ensures.begun in
     record {
-      is = scan-all t s.part s.node s.position cells c.cells_of-cells.ensures.meant ∙ c.loop-position.invariant.0
-          ∙ scan-found t s.part s.node i cells cell _ c.cell_at-cell.ensures begun.is;
-      begins = (cell-said s.node i cells cell c.cells_of-cells.ensures.meant c.cell_at-cell.ensures).begins t s.part _ _ (record { is = begun.is; by = begun.by });
+      is = scan-all t s.round.now.part s.round.now.node s.position cells c.cells_of-cells.ensures.meant ∙ c.loop-position.invariant.0
+          ∙ scan-found t s.round.now.part s.round.now.node i cells cell _ c.cell_at-cell.ensures begun.is;
+      begins = (cell-said s.round.now.node i cells cell c.cells_of-cells.ensures.meant c.cell_at-cell.ensures).begins t s.round.now.part _ _ (record { is = begun.is; by = begun.by });
       round = refl;
       later = c.loop-position.invariant.1.later;
       passed = c.loop-position.invariant.1.apart;
-      placed = (cell-said s.node i cells cell c.cells_of-cells.ensures.meant c.cell_at-cell.ensures).placed;
+      placed = (cell-said s.round.now.node i cells cell c.cells_of-cells.ensures.meant c.cell_at-cell.ensures).placed;
       row =
-          let said = cell-said s.node i cells cell c.cells_of-cells.ensures.meant c.cell_at-cell.ensures in
-          row-of s.part s.node i cell.slot _ said.placed said.there;
+          let said = cell-said s.round.now.node i cells cell c.cells_of-cells.ensures.meant c.cell_at-cell.ensures in
+          row-of s.round.now.part s.round.now.node i cell.slot _ said.placed said.there;
     }
 
 pub returns-then-cell : goal.returns-then-cell
@@ -43,19 +43,19 @@ returns-then-cell c =
     let s = c.args.self in
     let t = tag_of_id c.args.id in
     let cells = c.cells_of-cells.result.now in
-    scan-all t s.part s.node s.position cells c.cells_of-cells.ensures.meant ∙ c.loop-position.invariant.0
-    ∙ scan-stop t s.part s.node c.loop-position.position cells c.cell_at-cell.result.now c.cell_at-cell.ensures c.in_default.ensures c.if-cell.true
+    scan-all t s.round.now.part s.round.now.node s.position cells c.cells_of-cells.ensures.meant ∙ c.loop-position.invariant.0
+    ∙ scan-stop t s.round.now.part s.round.now.node c.loop-position.position cells c.cell_at-cell.result.now c.cell_at-cell.ensures c.in_default.ensures c.if-cell.true
 
 pub loop-position-init : goal.loop-position-init
-loop-position-init c = (refl, passed-none (tag_of_id c.args.id) c.args.self.node c.args.self.position)
+loop-position-init c = (refl, passed-none (tag_of_id c.args.id) c.args.self.round.now.node c.args.self.position)
 
 pub loop-position-preserved : goal.loop-position-preserved
 loop-position-preserved c =
     let s = c.args.self in
     let t = tag_of_id c.args.id in
     let cells = c.cells_of-cells.result.now in (
-      c.loop-position.invariant.0 ∙ scan-skip t s.part s.node c.loop-position.position cells c.cell_at-cell.result.now c.cell_at-cell.ensures c.in_default.ensures c.if-cell.false,
-      passed-next t s.node s.position c.loop-position.position cells c.cell_at-cell.result.now c.cells_of-cells.ensures.meant c.cell_at-cell.ensures c.in_default.ensures c.loop-position.invariant.1,
+      c.loop-position.invariant.0 ∙ scan-skip t s.round.now.part s.round.now.node c.loop-position.position cells c.cell_at-cell.result.now c.cell_at-cell.ensures c.in_default.ensures c.if-cell.false,
+      passed-next t s.round.now.node s.position c.loop-position.position cells c.cell_at-cell.result.now c.cells_of-cells.ensures.meant c.cell_at-cell.ensures c.in_default.ensures c.loop-position.invariant.1,
     )
 
 pub returns : goal.returns
@@ -63,5 +63,5 @@ returns c =
     let s = c.args.self in
     let t = tag_of_id c.args.id in
     let cells = c.cells_of-cells.result.now in
-    scan-all t s.part s.node s.position cells c.cells_of-cells.ensures.meant ∙ c.loop-position.invariant.0
-    ∙ scan-end t s.part s.node c.loop-position.position cells (omega (arith, c.loop-position-test.false))
+    scan-all t s.round.now.part s.round.now.node s.position cells c.cells_of-cells.ensures.meant ∙ c.loop-position.invariant.0
+    ∙ scan-end t s.round.now.part s.round.now.node c.loop-position.position cells (omega (arith, c.loop-position-test.false))

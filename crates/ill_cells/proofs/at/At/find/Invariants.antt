@@ -7,6 +7,6 @@ use Rattle.ill_cells.proofs.at.At.find.Given as goal
 
 abbrev pub invariant-loop-position : goal.invariant-loop-position
 invariant-loop-position l =
-    (scan (tag_of_id l.id) l.self.part l.self.node l.self.position (drop l.self.position (cells_meant l.cells))
-    ≡ scan (tag_of_id l.id) l.self.part l.self.node l.position (drop l.position (cells_meant l.cells)))
-    × HasPassed (tag_of_id l.id) l.self.node l.self.position l.position
+    (scan (tag_of_id l.id) l.self.round.now.part l.self.round.now.node l.self.position (drop l.self.position (cells_meant l.cells))
+    ≡ scan (tag_of_id l.id) l.self.round.now.part l.self.round.now.node l.position (drop l.position (cells_meant l.cells)))
+    × HasPassed (tag_of_id l.id) l.self.round.now.node l.self.position l.position

@@ -6,19 +6,19 @@ pub returns-then-cell : goal.returns-then-cell
 returns-then-cell c =
     let s = c.args.self in
     let cells = c.cells_of-cells.result.now in
-    sym (needed-all s.part s.node s.position cells c.cells_of-cells.ensures.meant ∙ c.loop-position.invariant
-    ∙ needed-found s.part s.node c.loop-position.position cells c.cell_at-cell.result.now c.cell_at-cell.ensures c.if-cell.true
+    sym (needed-all s.round.now.part s.round.now.node s.position cells c.cells_of-cells.ensures.meant ∙ c.loop-position.invariant
+    ∙ needed-found s.round.now.part s.round.now.node c.loop-position.position cells c.cell_at-cell.result.now c.cell_at-cell.ensures c.if-cell.true
     ∙ ap Some (sym c.part_at.ensures))
 
 pub loop-position-preserved : goal.loop-position-preserved
 loop-position-preserved c =
     let s = c.args.self in
     let cells = c.cells_of-cells.result.now in
-    c.loop-position.invariant ∙ needed-skip s.part s.node c.loop-position.position cells c.cell_at-cell.result.now c.cell_at-cell.ensures c.if-cell.false
+    c.loop-position.invariant ∙ needed-skip s.round.now.part s.round.now.node c.loop-position.position cells c.cell_at-cell.result.now c.cell_at-cell.ensures c.if-cell.false
 
 pub returns : goal.returns
 returns c =
     let s = c.args.self in
     let cells = c.cells_of-cells.result.now in
-    sym (needed-all s.part s.node s.position cells c.cells_of-cells.ensures.meant ∙ c.loop-position.invariant
-    ∙ needed-end s.part s.node c.loop-position.position cells (omega (arith, c.loop-position-test.false)))
+    sym (needed-all s.round.now.part s.round.now.node s.position cells c.cells_of-cells.ensures.meant ∙ c.loop-position.invariant
+    ∙ needed-end s.round.now.part s.round.now.node c.loop-position.position cells (omega (arith, c.loop-position-test.false)))

@@ -12,8 +12,8 @@ returns-in-Row-clause-place c = let f = c.args.self in ap (place_after f) (sym c
 pub returns-in-Row-clause-next : goal.returns-in-Row-clause-next
 returns-in-Row-clause-next c =
     let f = c.args.self in
-    after-row f.at.part f.at.node f.at.position (element_found f) (subst (λ s. IsTrue (is_placed (kind_of f.at.node) f.at.position s)) c.in-Row.is f.placed)
-    ∙ ap (λ s. next_of (due_at f.at.part f.at.node f.at.position s (element_found f))) (sym c.in-Row.is)
+    after-row f.at.round.now.part f.at.round.now.node f.at.position (element_found f) (subst (λ s. IsTrue (is_placed (kind_of f.at.round.now.node) f.at.position s)) c.in-Row.is f.placed)
+    ∙ ap (λ s. next_of (due_at f.at.round.now.part f.at.round.now.node f.at.position s (element_found f))) (sym c.in-Row.is)
 
 pub returns-in-Item-clause-place : goal.returns-in-Item-clause-place
 returns-in-Item-clause-place c =
@@ -28,9 +28,9 @@ returns-in-Item-clause-next c =
     let f = c.args.self in
     elim c.in-Item.is [
       | inl e ↦
-          after-item f.at.part f.at.node f.at.position (element_found f) (kind_of f.at.node) refl (subst (λ s. IsTrue (is_placed (kind_of f.at.node) f.at.position s)) e f.placed)
-          ∙ ap (λ s. next_of (due_at f.at.part f.at.node f.at.position s (element_found f))) (sym e)
+          after-item f.at.round.now.part f.at.round.now.node f.at.position (element_found f) (kind_of f.at.round.now.node) refl (subst (λ s. IsTrue (is_placed (kind_of f.at.round.now.node) f.at.position s)) e f.placed)
+          ∙ ap (λ s. next_of (due_at f.at.round.now.part f.at.round.now.node f.at.position s (element_found f))) (sym e)
       | inr e ↦
-          after-segment f.at.part f.at.node f.at.position (element_found f) (kind_of f.at.node) refl (subst (λ s. IsTrue (is_placed (kind_of f.at.node) f.at.position s)) e f.placed)
-          ∙ ap (λ s. next_of (due_at f.at.part f.at.node f.at.position s (element_found f))) (sym e)
+          after-segment f.at.round.now.part f.at.round.now.node f.at.position (element_found f) (kind_of f.at.round.now.node) refl (subst (λ s. IsTrue (is_placed (kind_of f.at.round.now.node) f.at.position s)) e f.placed)
+          ∙ ap (λ s. next_of (due_at f.at.round.now.part f.at.round.now.node f.at.position s (element_found f))) (sym e)
     ]

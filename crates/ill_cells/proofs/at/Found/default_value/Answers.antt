@@ -7,9 +7,9 @@ pub returns-in-Some : goal.returns-in-Some
 returns-in-Some c =
     let f = c.args.self in
     let z : to_z w64 c.in-Some.default ≡ pos c.in-Some.default = search rules in
-    ap Some z ∙ ap (option_map pos) (sym c.in-Some.is) ∙ f.default_is ∙ default-due f.at.part f.at.node f.at.position f.cell.now.slot (element_found f)
+    ap Some z ∙ ap (option_map pos) (sym c.in-Some.is) ∙ f.default_is ∙ default-due f.at.round.now.part f.at.round.now.node f.at.position f.cell.now.slot (element_found f)
 
 pub returns-in-None : goal.returns-in-None
 returns-in-None c =
     let f = c.args.self in
-    ap (option_map pos) (sym c.in-None.is) ∙ f.default_is ∙ default-due f.at.part f.at.node f.at.position f.cell.now.slot (element_found f)
+    ap (option_map pos) (sym c.in-None.is) ∙ f.default_is ∙ default-due f.at.round.now.part f.at.round.now.node f.at.position f.cell.now.slot (element_found f)

@@ -14,7 +14,7 @@ returns-clause-row c = let f = c.args.self in row-number f.at.position
 pub returns-clause-component : goal.returns-clause-component
 returns-clause-component c =
     let f = c.args.self in
-    subst (λ s. IsAtRow f.at.node (f.at.position - 1) (due_at f.at.part f.at.node f.at.position s (element_found f))) (sym c.requires)
-    (row-at f.at.part f.at.node f.at.position (element_found f)
-    (subst (λ s. IsTrue (is_placed (kind_of f.at.node) f.at.position s)) c.requires f.placed)
-    (subst (λ s. IsTrue (row_there s f.at.position (components profile_two f.at.node))) c.requires f.there))
+    subst (λ s. IsAtRow f.at.round.now.node (f.at.position - 1) (due_at f.at.round.now.part f.at.round.now.node f.at.position s (element_found f))) (sym c.requires)
+    (row-at f.at.round.now.part f.at.round.now.node f.at.position (element_found f)
+    (subst (λ s. IsTrue (is_placed (kind_of f.at.round.now.node) f.at.position s)) c.requires f.placed)
+    (subst (λ s. IsTrue (row_there s f.at.position (components profile_two f.at.round.now.node))) c.requires f.there))

@@ -2,7 +2,6 @@ use Rattle.std.proofs.Common.{◌∙◌, refl, sym, subst}
 use Rattle.ill_refusals.specs.code.Step.{moved}
 use Rattle.ill_read.specs.code.Drafts.{HasClosed}
 use Rattle.ill_read.specs.code.Judged.{IsStep}
-use Rattle.ill_read.specs.code.Stepping.{GoesOn}
 use Rattle.ill_read.specs.declared.path.Path.{Path}
 use Rattle.ill_read.proofs.ClosedElements.{segment_closed, element_closed, element_refused, handed_on}
 use Rattle.ill_read.proofs.path.Path.close.Goals as goal
@@ -23,4 +22,4 @@ pub returns-clause-exact : goal.returns-clause-exact
 returns-clause-exact g c place marks at rest j stands end =
     element_closed g.D.Draft.holds c.args.self.now c.pop-frame.new.self.open.items c.pop-frame.result c.close.new.self c.pass.new.self place marks at rest j c.pass.result stands end c.pop-frame.ensures.rest
     (c.pop-frame.ensures.last) (λ s. c.in_default.not-Segment (c.of.ensures ∙ s)) (λ x. c.in_ok-close.ensures.text) (subst (λ n. HasClosed g.D.Draft.holds c.args.self.now.draft c.pop-frame.result n c.close.new.self) c.place.ensures c.in_ok-close.ensures.closed)
-    (subst (λ a. GoesOn a c.pop-frame.new.self.open.items c.pass.new.self.frames.open.items c.pass.result) c.after.ensures.place c.pass.ensures.passed) c.pass.ensures.draft
+    c.after.result c.after.ensures.place c.pass.ensures.passed c.pass.ensures.draft

@@ -3,7 +3,6 @@ use Rattle.ber_leaf.proofs.Leaves.{content_holds}
 use Rattle.ill_read.specs.LeafTypes.{leaf_is}
 use Rattle.ill_read.specs.DueCode.{shape}
 use Rattle.ill_read.specs.code.Drafts.{HasLeaf}
-use Rattle.ill_read.specs.code.Stepping.{GoesOn}
 use Rattle.ill_read.proofs.PrimitiveElements.{leaf_read, segment_read}
 use Rattle.ill_read.proofs.path.Path.take.Goals as goal
 
@@ -20,4 +19,4 @@ returns-clause-exact g c place header at rest stands begin =
     let has = subst (λ d. HasLeaf g.D.Draft.holds c.args.self.now.draft (shape c.place.result) c.args.reading leaf content d) (sym c.pass.ensures.draft) c.in_ok-leaf.ensures in
     leaf_read g.D.Draft.holds c.args.self.now c.pass.new.self place c.args.reading leaf c.args.start content c.pass.result header at rest stands begin (sym c.of.ensures ∙ c.in-Leaf.is) right.0 right.1
     (subst (λ n. HasLeaf g.D.Draft.holds c.args.self.now.draft n c.args.reading leaf content c.pass.new.self.draft) c.place.ensures has)
-    (subst (λ a. GoesOn a c.args.self.now.frames.open.items c.pass.new.self.frames.open.items c.pass.result) c.after.ensures.place c.pass.ensures.passed)
+    c.after.result c.after.ensures.place c.pass.ensures.passed
