@@ -147,6 +147,9 @@ mark_part place at want [] h = refl
 mark_part place at want (x ∷ []) h = refl
 mark_part place at want (x ∷ (z ∷ w)) h = absurd (omega (arith, h))
 
+pub not_zero : (n : ℕ) → (n ≡ 0 → ⊥) → nat_eq n 0 ≡ false
+not_zero n h = grind (arith, h)
+
 -- the second octet is another
 pub mark_wrong : (place : List Open) (at : ℕ) (want : Fault) (w : List ℕ) (y : ℕ) → 1 < length w → ((d : ℕ) → y ≡ get_or w 1 d) → nat_eq y 0 ≡ false
     → judge_mark profile_two place at want (drop 1 w) ≡ faulty (fault Cause.BadEnd at)

@@ -1,12 +1,9 @@
-use Rattle.std.proofs.Common.{◌≡◌, ◌⊎◌, ℕ, false, nat_eq, Some, slice_get, sym, ap, arith, inl, inr, ◌∙◌}
+use Rattle.std.proofs.Common.{◌≡◌, ◌⊎◌, false, nat_eq, Some, slice_get, sym, ap, inl, inr, ◌∙◌}
 use Rattle.ber_leaf.specs.Profile.{profile_two}
 use Rattle.ill_refusals.specs.Fault.{is_indefinite, wanting}
-use Rattle.ill_read.proofs.Judgements.{empty_judged, mark_judged, other_judged}
+use Rattle.ill_read.proofs.Judgements.{empty_judged, mark_judged, not_zero, other_judged}
 use Rattle.ill_read.proofs.reader.Reader.advance_within.Goals as goal
 use Rattle.ill_read.proofs.reader.Reader.advance_within.Goals.{else-first-eq0-via-then-first-eq0+else-awaits_end_mark, else-first-eq0-via-else-first-eq0}
-
-not_zero : (n : ℕ) → (n ≡ 0 → ⊥) → nat_eq n 0 ≡ false
-not_zero n h = grind (arith, h)
 
 pub returns-in_default-clause-goes : goal.returns-in_default-clause-goes
 returns-in_default-clause-goes g c s rest more b came joined bounded judged =

@@ -1,11 +1,8 @@
-use Rattle.std.proofs.Common.{◌≡◌, ◌∙◌, ℕ, false, nat_eq, arith}
+use Rattle.std.proofs.Common.{◌∙◌, arith}
 use Rattle.ber_leaf.specs.Profile.{profile_two}
 use Rattle.ill_refusals.specs.Fault.{wanting}
-use Rattle.ill_read.proofs.Judgements.{mark_ends, mark_part, mark_wrong}
+use Rattle.ill_read.proofs.Judgements.{mark_ends, mark_part, mark_wrong, not_zero}
 use Rattle.ill_read.proofs.reader.Reader.end_mark.Goals as goal
-
-not_zero : (n : ℕ) → (n ≡ 0 → ⊥) → nat_eq n 0 ≡ false
-not_zero n h = grind (arith, h)
 
 pub returns-in_default-clause-goes : goal.returns-in_default-clause-goes
 returns-in_default-clause-goes g c room s rest more b came joined bounded judged =
