@@ -3,4 +3,4 @@ use Rattle.ill_jobs.proofs.MadePieces.{makes_shown}
 use Rattle.ill_jobs.proofs.piece.shown.Goals as goal
 
 pub returns-in-Ok : goal.returns-in-Ok
-returns-in-Ok g c = reads_as _ _ _ _ _ _ c.in-Some.read _ (makes_shown _ c.in-Some.read c.in-Ok.text c.in-Ok.ensures) (rw c.in-Some.is at c.in_ok-read.ensures)
+returns-in-Ok g c = reads_as _ _ _ _ _ _ c.in-Some.read _ (makes_shown _ _ _ c.in-Some.read _ c.in-Ok.text c.in-Ok.ensures) (rw c.in-Some.is at c.in_ok-read.ensures)
