@@ -35,16 +35,16 @@ module _ (i : ℕ) (name label : List ℕ) where
         → Makes IsWritten (message_text Job.Digest hex name label i) (is_good Job.Digest) (record { text = Written.Octets text; is_good = true; octets = p.octets }) b
     makes_digest p hex e b h = record { apdu = h.apdu; spells = h.spells; text = e ∙ ap (λ l. line_of_digest (sha256 l) name i) h.text; good = refl; size = h.size }
 
-    pub makes_checked : (x : Checked) (hex : Bool) → text.items ≡ label ++ line_of_check i x.apdu x.octets x.is_normal x.normal → (b : List ℕ) → Describes x b
+    pub makes_checked : (x : Checked) (hex : Bool) → text.items ≡ line_of_check label i x.apdu x.octets x.is_normal x.normal → (b : List ℕ) → Describes x b
         → Makes IsWritten (message_text Job.Check hex name label i) (is_good Job.Check) (record { text = Written.Octets text; is_good = x.is_normal; octets = x.octets }) b
     makes_checked x hex e b h =
         let a = h.0 in
         let same = tests_equality x.is_normal b (normal_form a) h.5 in record {
           apdu = a;
           spells = h.1;
-          text = e ∙ ap (λ n. label ++ line_of_check i n x.octets x.is_normal x.normal) h.2 ∙ ap (λ n. label ++ line_of_check i a.number n x.is_normal x.normal) h.3
-              ∙ ap (λ (t : Bool). label ++ line_of_check i a.number (length b) t x.normal) same
-              ∙ ap (λ n. label ++ line_of_check i a.number (length b) (bytes_eq b (normal_form a)) n) h.4;
+          text = e ∙ ap (λ n. line_of_check label i n x.octets x.is_normal x.normal) h.2 ∙ ap (λ n. line_of_check label i a.number n x.is_normal x.normal) h.3
+              ∙ ap (λ (t : Bool). line_of_check label i a.number (length b) t x.normal) same
+              ∙ ap (λ n. line_of_check label i a.number (length b) (bytes_eq b (normal_form a)) n) h.4;
           good = same;
           size = h.3;
         }

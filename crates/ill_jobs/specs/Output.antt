@@ -16,17 +16,17 @@ use Rattle.ill_jobs.specs.declared.job.Work.{Work}
 abbrev pub is_normal : Spelling → Bool
 is_normal m = bytes_eq m.octets (normal_form m.apdu)
 
-abbrev check_end : Bool → ℕ → List ℕ
+abbrev pub check_end : Bool → ℕ → List ℕ
 check_end true size = codes "normal\n"
 check_end false size = codes "not normal, normal form " ++ decimal size ++ codes " octets\n"
 
--- what `check` says of message i: the number of its APDU, how many octets it had, whether they are its normal form, and how many that has
-abbrev pub line_of_check : ℕ → ℕ → ℕ → Bool → ℕ → List ℕ
-line_of_check i number octets normal size = codes "message " ++ decimal i ++ codes ": " ++ name_or_none (apdu_name_of number) ++ codes ", "
+-- what `check` says of message i, after a label: the number of its APDU, how many octets it had, whether they are its normal form, and how many that has
+abbrev pub line_of_check : List ℕ → ℕ → ℕ → ℕ → Bool → ℕ → List ℕ
+line_of_check label i number octets normal size = label ++ codes "message " ++ decimal i ++ codes ": " ++ name_or_none (apdu_name_of number) ++ codes ", "
     ++ decimal octets ++ codes " octets, " ++ check_end normal size
 
-abbrev pub check_line : ℕ → Spelling → List ℕ
-check_line i m = line_of_check i m.apdu.number (length m.octets) (is_normal m) (length (normal_form m.apdu))
+abbrev pub check_line : List ℕ → ℕ → Spelling → List ℕ
+check_line label i m = line_of_check label i m.apdu.number (length m.octets) (is_normal m) (length (normal_form m.apdu))
 
 -- what `digest` says of message i of the input of this name: the digest of its normal form (FIPS 180-4, 6.2), the name and the number
 abbrev pub line_of_digest : List ℕ → List ℕ → ℕ → List ℕ
@@ -43,7 +43,7 @@ label_of false name = []
 -- what is written of message i of the input of this name, after this label
 abbrev pub message_text : Job → Bool → List ℕ → List ℕ → ℕ → Spelling → List ℕ
 message_text Job.Show hex name label i m = label ++ shown_text i m.apdu
-message_text Job.Check hex name label i m = label ++ check_line i m
+message_text Job.Check hex name label i m = check_line label i m
 message_text Job.Digest hex name label i m = digest_line name i m
 message_text Job.Canonicalise false name label i m = normal_form m.apdu
 message_text Job.Canonicalise true name label i m = encode_lower (normal_form m.apdu) ++ codes "\n"

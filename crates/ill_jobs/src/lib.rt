@@ -11,6 +11,8 @@ mod text;
 mod written;
 
 pub use fault::RunFault;
+pub use hexadecimal::text_octets;
 pub use job::{Job, Verdict, Work};
 pub use messages::{run, run_by};
 pub use same::run_same;
+pub use text::{Unread, read_most};

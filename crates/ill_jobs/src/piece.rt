@@ -7,7 +7,7 @@ ghost use Rattle.ill_schema.specs.Apdu.{Apdu};
 ghost use Rattle.ill_text.specs.Shown.{shown_text};
 ghost use Rattle.ill_jobs.specs.declared.job.Job.{Job};
 ghost use Rattle.ill_normal.specs.Messages.{Makes};
-ghost use Rattle.ill_jobs.specs.Output.{is_good, label_of, line_of_check, line_of_digest, message_output, message_text};
+ghost use Rattle.ill_jobs.specs.Output.{check_end, is_good, label_of, line_of_check, line_of_digest, message_output, message_text};
 ghost use Rattle.ill_jobs.specs.code.Writing.{IsWritten};
 
 use crate::job::{Job, Work};
@@ -149,8 +149,7 @@ fn check_line(
     number: u32,
     found: Checked,
 ) -> Result<Vec<u8>, AllocError>
-    ensures { IfOk result (λ line. line.items ≡ label_of work.entry.is_named work.entry.name.now
-        ++ line_of_check number found.apdu found.octets found.is_normal found.normal) }
+    ensures { IfOk result (λ line. line.items ≡ line_of_check (label_of work.entry.is_named work.entry.name.now) number found.apdu found.octets found.is_normal found.normal) }
 {
     let name = match apdu_name(found.apdu) {
         Some(name) => name,
@@ -164,14 +163,21 @@ fn check_line(
     line.extend_from_slice(b", ")?;
     line.extend_from_slice(Buffer::new().format(found.octets).as_bytes())?;
     line.extend_from_slice(b" octets, ")?;
+    push_check_end(&mut line, found)?;
+    Ok(line)
+}
+
+fn push_check_end(line: &mut Vec<u8>, found: Checked) -> Result<(), AllocError>
+    ensures { OnOk result (line.new.items ≡ line.old.items ++ check_end found.is_normal found.normal) }
+{
     if found.is_normal {
         line.extend_from_slice(b"normal\n")?;
-        return Ok(line);
+        return Ok(());
     }
     line.extend_from_slice(b"not normal, normal form ")?;
     line.extend_from_slice(Buffer::new().format(found.normal).as_bytes())?;
     line.extend_from_slice(b" octets\n")?;
-    Ok(line)
+    Ok(())
 }
 
 fn digested<R: Source, L: Look<R>>(

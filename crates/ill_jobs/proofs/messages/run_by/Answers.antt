@@ -3,18 +3,18 @@ use Rattle.ill_jobs.specs.Ran.{TextOf}
 use Rattle.ill_jobs.proofs.TextAnswers.{plain_does, plain_refuses, plain_more, text_does, text_refuses, text_more}
 use Rattle.ill_jobs.proofs.messages.run_by.Goals as goal
 
-pub returns-then-not-hex-clause-does : goal.returns-then-not-hex-clause-does
-returns-then-not-hex-clause-does g c =
+pub returns-then-not-work-clause-does : goal.returns-then-not-work-clause-does
+returns-then-not-work-clause-does g c =
     let no : c.args.work.hex ≡ false = search rules in
     rw no (plain_does _ _ _ _ _ _ _ _ c.run_messages.ensures.done c.run_messages.ensures.stops)
 
-pub returns-then-not-hex-clause-refuses : goal.returns-then-not-hex-clause-refuses
-returns-then-not-hex-clause-refuses g c =
+pub returns-then-not-work-clause-refuses : goal.returns-then-not-work-clause-refuses
+returns-then-not-work-clause-refuses g c =
     let no : c.args.work.hex ≡ false = search rules in
     rw no (plain_refuses _ _ _ _ _ _ _ _ c.run_messages.ensures.done c.run_messages.ensures.stops)
 
-pub returns-then-not-hex-clause-too_many : goal.returns-then-not-hex-clause-too_many
-returns-then-not-hex-clause-too_many g c =
+pub returns-then-not-work-clause-too_many : goal.returns-then-not-work-clause-too_many
+returns-then-not-work-clause-too_many g c =
     let no : c.args.work.hex ≡ false = search rules in
     rw no (plain_more _ _ _ _ _ _ _ _ c.run_messages.ensures.done c.run_messages.ensures.stops)
 
