@@ -1,13 +1,11 @@
 -- How lines are found octet by octet.
-use Rattle.std.proofs.Common.{◌≡◌, ◌==◌, ◌&&◌, ◌||◌, ℕ, ◌+◌, ◌<◌, ◌≤◌, Bool, true, false, List, [], ◌∷◌, ◌++◌, codes, length, map, take, Option, refl, sym, ap, ap₂, subst, ◌∙◌, arith, append_assoc, append-nil, drop, length-append, length-take, if◌then◌else◌, Some}
-use Rattle.std.specs.List.{list_all, list_any}
+use Rattle.std.proofs.Common.{◌≡◌, ◌==◌, ◌&&◌, ◌||◌, ℕ, ◌<◌, ◌≤◌, Bool, true, false, List, [], ◌∷◌, ◌++◌, codes, length, map, take, refl, sym, ap, subst, ◌∙◌, arith, append_assoc, append-nil, drop, length-append, length-take, if◌then◌else◌, Some}
 use Rattle.std.proofs.lemmas.List.{map-append, take_all, take-append-drop, take-append-le}
 use Rattle.std.proofs.Math.ListN.{drop_of_length-le}
-use Rattle.std.proofs.lemmas.List.Folds.{list_all-append}
 use Rattle.ill_jobs.specs.Hexadecimal.{hex_octets}
 use Rattle.ill_jobs.proofs.TextAnswers.{same_octets}
 use Rattle.ill_lines.specs.Lines.{Answer, AreAnswers, IsResult, all_good, has_line_end, lines, output, put_first}
-use Rattle.ill_lines.specs.code.After.{Answers, IsAfter, IsSame, StandsAfter}
+use Rattle.ill_lines.specs.code.After.{Answers, IsSame, StandsAfter}
 use Rattle.ill_lines.specs.declared.job.LineJob.{LineJob}
 use Rattle.ill_lines.specs.declared.lines.Lines.{Lines}
 

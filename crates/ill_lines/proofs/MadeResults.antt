@@ -1,5 +1,5 @@
 -- What was made and written of the results, where a call ends.
-use Rattle.std.proofs.Common.{◌≡◌, ℕ, ◌+◌, ◌<◌, Bool, false, List, [], ◌∷◌, ◌++◌, length, map, take, drop, Option, Result, Ok, Err, OnOk, OnErr, IsTrue, refl, sym, ap, subst, ◌∙◌, arith, append_assoc, append-nil, length-append, length-take}
+use Rattle.std.proofs.Common.{◌≡◌, ℕ, ◌+◌, ◌<◌, ◌==◌, Bool, true, false, List, [], ◌∷◌, ◌++◌, length, take, drop, Option, Result, Ok, Err, OnOk, OnErr, IsTrue, refl, sym, ap, subst, ◌∙◌, arith, append_assoc, append-nil, length-append, length-take}
 use Rattle.std.specs.Io.KnownBytes.{Appends, Consumes, IsAtEnd}
 use Rattle.std.proofs.KnownBytes.{Appends-nil, Appends-trans}
 use Rattle.std.proofs.lemmas.List.{map-append, take-append-drop}
@@ -32,6 +32,11 @@ module _ (job : LineJob) (s kept made : List ℕ) (good : Bool) (h : IsAfter job
     is_made = h.is_made;
     is_good = h.is_good;
   }
+
+-- what was written is what was made
+pub made_written : (job : LineJob) (s : List ℕ) (first held : Option (List ℕ)) (now : Lines) → (h : HasWritten job s first held now) → Made job s h.2.rest h.0 now.is_good
+made_written job s first held now h =
+    subst (λ l. Made job s h.2.rest l now.is_good) (ap (λ l. h.0 ++ l) h.3 ∙ append-nil h.0) (made_now job s now.part.items (h.0 ++ now.ready.items) now.is_good h.2)
 
 -- octets were fed, all or the first ones
 module _ (job : LineJob) (s octets put : List ℕ) (now : Lines) where
@@ -96,12 +101,13 @@ last_of : (rest : List ℕ) → 0 < length rest → has_line_end rest ≡ false 
 last_of [] some h = absurd (omega (arith, some))
 last_of (c ∷ rest) some h = last_line c rest h
 
-none_of : (rest : List ℕ) → length rest ≡ 0 → rest ≡ []
+pub none_of : (rest : List ℕ) → length rest ≡ 0 → rest ≡ []
 none_of [] e = refl
 none_of (c ∷ rest) e = absurd (omega (arith, e))
 
 -- the line that has no end is answered
 pub made_last : (job : LineJob) (s put : List ℕ) (old new : Lines) → StandsAfter job s put old → 0 < length old.part.items → Answers job old.part.items old new → Made job s [] (put ++ new.ready.items) new.is_good
+unfolding made_now
 made_last job s put old new h some k =
     let a = answer h.rest k.result k.is_good in
     let here = made_now job s old.part.items (put ++ old.ready.items) old.is_good h in
@@ -143,3 +149,9 @@ at_start job first now part ready good = (
   record { answers = []; rest = []; of = λ more. refl; unended = refl; is_kept = part; are = tt; is_made = ready; is_good = good },
   ready,
 )
+
+pub is_zero : (n : ℕ) → (n == 0) ≡ true → n ≡ 0
+is_zero n h = grind (arith, h)
+
+pub is_some : (n : ℕ) → (n == 0) ≡ false → 0 < n
+is_some n h = grind (arith, h)

@@ -1,4 +1,5 @@
 //! What is to be done with each line, and why it was not done.
+use std::alloc::AllocError;
 
 /// What is returned for the message of a line.
 #[derive(Clone, Copy, Debug, PartialEq, Eq)]
@@ -20,4 +21,15 @@ pub enum LinesFault {
     ReadFault,
     /// The sink is broken: only a first part of the results was written.
     WriteFault,
+}
+
+impl From<AllocError> for LinesFault {
+    ghost use Rattle.std.specs.Prelude.{◌≡◌};
+    ghost use Rattle.ill_lines.specs.declared.job.LinesFault.{LinesFault};
+
+    ghost from_gives = { λ error fault. fault ≡ LinesFault.OutOfMemory };
+
+    fn from(_error: AllocError) -> LinesFault {
+        LinesFault::OutOfMemory
+    }
 }

@@ -92,9 +92,7 @@ fn finish<W: Sink>(
     if lines.part.is_empty() {
         return Ok(lines.is_good);
     }
-    if lines.end_line(alloc, job).is_err() {
-        return Err(LinesFault::OutOfMemory);
-    }
+    lines.end_line(alloc, job)?;
     put_ready(lines, sink)?;
     Ok(lines.is_good)
 }

@@ -1,4 +1,4 @@
-use Rattle.std.proofs.Common.{◌≡◌, ◌∙◌, ℕ, Bool, List, length, sym, ap}
+use Rattle.std.proofs.Common.{◌≡◌, ◌∙◌, Bool, length, sym, ap}
 use Rattle.std.specs.Str.{bytes_eq}
 use Rattle.std.proofs.lemmas.Bool.Decides.{Decides-eqb}
 use Rattle.std.proofs.lemmas.Slice.Eq.{slice_eq-Decides}
@@ -15,6 +15,6 @@ returns c a s e =
     let eq = slice_eq-Decides Decides-eqb octets normal is c.eq-is_normal.ensures in
     let same : is ≡ bytes_eq octets (normal_form a) = tests_equality is octets (normal_form a) (λ t. eq.0 t ∙ e, λ q. eq.1 (q ∙ sym e)) in (
       c.in_ok-words.ensures ∙ ap (λ n. check_words n (length octets) is (length normal)) (c.apdu_number.ensures a octets s e)
-      ∙ ap (λ (b : Bool). check_words a.number (length octets) b (length normal)) same ∙ ap (λ l. check_words a.number (length octets) (bytes_eq octets (normal_form a)) (length l)) e,
+          ∙ ap (λ (b : Bool). check_words a.number (length octets) b (length normal)) same ∙ ap (λ l. check_words a.number (length octets) (bytes_eq octets (normal_form a)) (length l)) e,
       same,
     )

@@ -1,4 +1,4 @@
-use Rattle.std.proofs.Common.{◌≡◌, ◌++◌, ◌∙◌, List, subst, ap, take, append-nil}
+use Rattle.std.proofs.Common.{◌++◌, ◌∙◌, subst, ap, take, append-nil}
 use Rattle.std.proofs.lemmas.Result.{err_from_is_err_and}
 use Rattle.ill_lines.proofs.MadeResults.{Made, ends_memory, ends_write, has_written, made_of_fed, made_some}
 use Rattle.ill_lines.proofs.run.pass.Goals as goal

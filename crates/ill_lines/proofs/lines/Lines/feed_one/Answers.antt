@@ -1,7 +1,7 @@
-use Rattle.std.proofs.Common.{◌≡◌, ◌==◌, ◌++◌, ◌∷◌, ℕ, [], false, sym, subst, rules, ap}
-use Rattle.std.proofs.lemmas.Result.{on_ok_weaker, on_err_weaker}
+use Rattle.std.proofs.Common.{◌≡◌, ◌==◌, ◌++◌, ◌∷◌, ℕ, [], false, sym, subst, rules}
+use Rattle.std.proofs.lemmas.Result.{on_ok_weaker}
 use Rattle.ill_lines.specs.code.After.{StandsAfter}
-use Rattle.ill_lines.proofs.LineEnds.{step_end, step_keep, step_same}
+use Rattle.ill_lines.proofs.LineEnds.{step_end, step_keep}
 use Rattle.ill_lines.proofs.lines.Lines.feed_one.Goals as goal
 
 pub returns-then-octet-eq10-clause-done : goal.returns-then-octet-eq10-clause-done

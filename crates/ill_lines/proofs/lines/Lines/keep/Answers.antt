@@ -1,4 +1,4 @@
-use Rattle.std.proofs.Common.{◌≡◌, ◌<◌, ◌≤◌, ◌∙◌, length, arith}
+use Rattle.std.proofs.Common.{◌<◌, ◌≤◌, ◌∙◌, length, arith}
 use Rattle.ill_lines.proofs.LineEnds.{keeps_all, keeps_more}
 use Rattle.ill_lines.proofs.lines.Lines.keep.Goals as goal
 
