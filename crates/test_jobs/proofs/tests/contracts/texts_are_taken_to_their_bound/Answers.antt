@@ -1,4 +1,4 @@
-use Rattle.std.proofs.Common.{◌+◌, ◌≤◌, ℕ, Bool, true, List, length, Option, Some, Result, Ok, Err, IfOk, IfErr, inl, inr}
+use Rattle.std.proofs.Common.{◌+◌, ◌≤◌, ℕ, Bool, true, List, length, Option, Some, Result, Ok, Err, IfOk, IfErr, inl, inr, subst}
 use Rattle.ill_normal.specs.Calls.{taking, putting}
 use Rattle.ill_jobs.specs.Ran.{FailsText, RunDone, RunFails}
 use Rattle.ill_jobs.specs.declared.fault.RunFault.{RunFault}
@@ -23,4 +23,12 @@ taken work s t held held' x y (Err e) d f = fails work s t held held' x y e f
 
 pub returns : goal.returns
 returns c =
-    taken c.args.work c.args.source.now.octets c.run.new.source.octets _ _ _ _ c.run.result (rw c.requires at c.run.ensures.done) (rw c.requires at c.run.ensures.fails)
+    let left = Some c.args.source.now.octets in
+    let left' = Some c.run.new.source.octets in
+    let held = Some c.args.sink.now.octets in
+    let held' = Some c.run.new.sink.octets in
+    let x = c.run.new.source.broken in
+    let y = c.run.new.sink.broken in
+    taken c.args.work c.args.source.now.octets c.run.new.source.octets held held' x y c.run.result
+    (subst (λ (h : Bool). IfOk c.run.result (RunDone h c.args.work left left' held held')) c.requires c.run.ensures.done)
+    (subst (λ (h : Bool). IfErr c.run.result (RunFails h c.args.work (taking left left' x) (putting held held' y))) c.requires c.run.ensures.fails)

@@ -1,6 +1,6 @@
 use Rattle.std.proofs.Common.{◌≡◌, ◌++◌, ◌<◌, ℕ, Bool, false, List, [], length, take, Option, Some, IfErr, ap, subst, arith, length-append, length-take}
 use Rattle.ill_normal.specs.Calls.{taking, putting}
-use Rattle.ill_jobs.specs.Ran.{StopsAfter}
+use Rattle.ill_jobs.specs.Ran.{RunFails, StopsAfter}
 use Rattle.ill_jobs.specs.declared.fault.RunFault.{RunFault}
 use Rattle.ill_jobs.specs.declared.job.Work.{Work}
 use Rattle.test_jobs.proofs.tests.contracts.write_faults_count_what_the_sink_took.Goals as goal
@@ -21,4 +21,5 @@ returns c n p =
     let x = c.run.new.source.broken in
     let y = c.run.new.sink.broken in
     counted c.args.work left left' c.args.sink.now.octets c.run.new.sink.octets x y n c.requires.empty
-    (subst (λ r. IfErr r (StopsAfter c.args.work (taking left left' x) (putting (Some c.args.sink.now.octets) (Some c.run.new.sink.octets) y))) p (rw c.requires.plain at c.run.ensures.fails))
+    (subst (λ r. IfErr r (StopsAfter c.args.work (taking left left' x) (putting (Some c.args.sink.now.octets) (Some c.run.new.sink.octets) y))) p
+    (subst (λ (h : Bool). IfErr c.run.result (RunFails h c.args.work (taking left left' x) (putting (Some c.args.sink.now.octets) (Some c.run.new.sink.octets) y))) c.requires.plain c.run.ensures.fails))
