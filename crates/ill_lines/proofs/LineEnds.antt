@@ -1,10 +1,11 @@
--- How lines are found octet by octet.
-use Rattle.std.proofs.Common.{◌≡◌, ◌==◌, ◌&&◌, ◌||◌, ℕ, ◌<◌, ◌≤◌, Bool, true, false, List, [], ◌∷◌, ◌++◌, codes, length, map, take, refl, sym, ap, subst, ◌∙◌, arith, append_assoc, append-nil, drop, length-append, length-take, if◌then◌else◌, Some}
+-- What each octet changes.
+use Rattle.std.proofs.Common.{◌≡◌, ◌==◌, ◌&&◌, ℕ, ◌<◌, ◌≤◌, Bool, true, false, List, [], ◌∷◌, ◌++◌, codes, length, map, take, refl, sym, ap, subst, ◌∙◌, arith, append_assoc, append-nil, drop, length-append, length-take, Some}
 use Rattle.std.proofs.lemmas.List.{map-append, take_all, take-append-drop, take-append-le}
 use Rattle.std.proofs.Math.ListN.{drop_of_length-le}
 use Rattle.ill_jobs.specs.Hexadecimal.{hex_octets}
 use Rattle.ill_jobs.proofs.TextAnswers.{same_octets}
-use Rattle.ill_lines.specs.Lines.{Answer, AreAnswers, IsResult, all_good, has_line_end, lines, output, put_first}
+use Rattle.ill_lines.proofs.PartEnds.{no_end_more, part_ended}
+use Rattle.ill_lines.specs.Lines.{Answer, AreAnswers, IsResult, all_good, lines, output}
 use Rattle.ill_lines.specs.code.After.{Answers, IsSame, StandsAfter}
 use Rattle.ill_lines.specs.declared.job.LineJob.{LineJob}
 use Rattle.ill_lines.specs.declared.lines.Lines.{Lines}
@@ -14,41 +15,6 @@ texts answers = map (λ a. a.text) answers
 
 abbrev pub answer : List ℕ → List ℕ → Bool → Answer
 answer text result good = record { text = text; result = result; is_good = good }
-
--- ---- lines
-
-or_right : (x y : Bool) → (x || y) ≡ false → y ≡ false
-or_right true y h = absurd cc
-or_right false y h = h
-
--- a line without an end, and then an end
-ended_step : (b : Bool) (c : ℕ) (line more : List ℕ) → (b || has_line_end line) ≡ false → (has_line_end line ≡ false → lines (line ++ 0x0A ∷ more) ≡ line ∷ lines more)
-    → (if b then [] ∷ lines (line ++ 0x0A ∷ more) else put_first c (lines (line ++ 0x0A ∷ more))) ≡ (c ∷ line) ∷ lines more
-ended_step true c line more h ih = absurd cc
-ended_step false c line more h ih = ap (put_first c) (ih h)
-
-pub line_ended : (line more : List ℕ) → has_line_end line ≡ false → lines (line ++ 0x0A ∷ more) ≡ line ∷ lines more
-line_ended [] more h = refl
-line_ended (c ∷ line) more h = ended_step (c == 0x0A) c line more h (line_ended line more)
-
--- a line that the end of the input ends
-last_step : (b : Bool) (c : ℕ) (line : List ℕ) → (b || has_line_end line) ≡ false → put_first c (lines line) ≡ (c ∷ line) ∷ []
-    → (if b then [] ∷ lines line else put_first c (lines line)) ≡ (c ∷ line) ∷ []
-last_step true c line h e = absurd cc
-last_step false c line h e = e
-
-pub last_line : (c : ℕ) (line : List ℕ) → has_line_end (c ∷ line) ≡ false → lines (c ∷ line) ≡ (c ∷ line) ∷ []
-last_line c [] h = last_step (c == 0x0A) c [] h refl
-last_line c (d ∷ line) h = last_step (c == 0x0A) c (d ∷ line) h (ap (put_first c) (last_line d line (or_right (c == 0x0A) (has_line_end (d ∷ line)) h)))
-
-more_step : (b : Bool) (line : List ℕ) (c : ℕ) → (b || has_line_end line) ≡ false → (has_line_end line ≡ false → has_line_end (line ++ c ∷ []) ≡ false)
-    → (b || has_line_end (line ++ c ∷ [])) ≡ false
-more_step true line c h ih = absurd cc
-more_step false line c h ih = ih h
-
-pub no_end_more : (line : List ℕ) (c : ℕ) → has_line_end line ≡ false → (c == 0x0A) ≡ false → has_line_end (line ++ c ∷ []) ≡ false
-no_end_more [] c h e = ap (λ (x : Bool). x || false) e
-no_end_more (d ∷ line) c h e = more_step (d == 0x0A) line c h (λ k. no_end_more line c k e)
 
 -- ---- answers
 
@@ -113,7 +79,7 @@ module _ (job : LineJob) (s put : List ℕ) (old new : Lines) (h : StandsAfter j
     answers = h.answers;
     rest = h.rest ++ c ∷ [];
     of = λ more. ap lines (append_assoc s (c ∷ []) more) ∙ h.of (c ∷ more) ∙ ap (λ l. texts h.answers ++ lines l) (sym (append_assoc h.rest (c ∷ []) more));
-    unended = no_end_more h.rest c h.unended e;
+    unended = no_end_more 0x0A h.rest c h.unended e;
     is_kept = kept;
     are = h.are;
     is_made = ap (λ l. put ++ l) ready ∙ h.is_made;
@@ -137,7 +103,7 @@ module _ (job : LineJob) (s put : List ℕ) (old new : Lines) (h : StandsAfter j
       let a = answer h.rest k.result k.is_good in record {
         answers = h.answers ++ a ∷ [];
         rest = [];
-        of = λ more. ap lines (append_assoc s (0x0A ∷ []) more) ∙ h.of (0x0A ∷ more) ∙ ap (λ l. texts h.answers ++ l) (line_ended h.rest more h.unended)
+        of = λ more. ap lines (append_assoc s (0x0A ∷ []) more) ∙ h.of (0x0A ∷ more) ∙ ap (λ l. texts h.answers ++ l) (part_ended 0x0A h.rest more h.unended)
             ∙ sym (append_assoc (texts h.answers) (h.rest ∷ []) (lines more)) ∙ ap (λ l. l ++ lines more) (sym (map-append (λ (x : Answer). x.text) h.answers (a ∷ [])));
         unended = refl;
         is_kept = k.part;

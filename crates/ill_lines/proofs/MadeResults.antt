@@ -10,7 +10,8 @@ use Rattle.ill_lines.specs.code.After.{Answers, HasWritten, IsAfter, StandsAfter
 use Rattle.ill_lines.specs.declared.job.LineJob.{LineJob}
 use Rattle.ill_lines.specs.declared.job.LinesFault.{LinesFault}
 use Rattle.ill_lines.specs.declared.lines.Lines.{Lines}
-use Rattle.ill_lines.proofs.LineEnds.{answer, last_line, more_good, more_made, push_are, result_of_line, texts}
+use Rattle.ill_lines.proofs.PartEnds.{last_part}
+use Rattle.ill_lines.proofs.LineEnds.{answer, more_good, more_made, push_are, result_of_line, texts}
 
 -- these are the results of the first lines
 pub record Made (job : LineJob) (s rest made : List ℕ) (good : Bool) : Type 0 where
@@ -97,10 +98,6 @@ module _ (job : LineJob) (s rest : List ℕ) (good x y : Bool) (first held : Opt
 
 -- ---- the end of the input
 
-last_of : (rest : List ℕ) → 0 < length rest → has_line_end rest ≡ false → lines rest ≡ rest ∷ []
-last_of [] some h = absurd (omega (arith, some))
-last_of (c ∷ rest) some h = last_line c rest h
-
 pub none_of : (rest : List ℕ) → length rest ≡ 0 → rest ≡ []
 none_of [] e = refl
 none_of (c ∷ rest) e = absurd (omega (arith, e))
@@ -112,7 +109,7 @@ made_last job s put old new h some k =
     let a = answer h.rest k.result k.is_good in
     let here = made_now job s old.part.items (put ++ old.ready.items) old.is_good h in
     let longer : 0 < length h.rest = omega (arith, some, ap length h.is_kept, length-take 4_194_305 h.rest) in
-    let line = ap (λ l. texts h.answers ++ l) (last_of h.rest longer h.unended) in
+    let line = ap (λ l. texts h.answers ++ l) (last_part 0x0A h.rest longer h.unended) in
     record {
       answers = h.answers ++ a ∷ [];
       of = here.of ∙ line ∙ sym (map-append (λ (b : Answer). b.text) h.answers (a ∷ [])) ∙ sym (append-nil (texts (h.answers ++ a ∷ [])));

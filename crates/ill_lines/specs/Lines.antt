@@ -1,6 +1,6 @@
 -- The lines of an input, and the result of each.
-use Rattle.std.specs.Prelude.{◌≡◌, ◌⊎◌, ◌==◌, ◌++◌, ◌<◌, ℕ, Bool, true, false, List, [], ◌∷◌, codes, length, map, take, Option, Result, Ok, Err, IsTrue, if◌then◌else◌}
-use Rattle.std.specs.List.{list_all, list_any}
+use Rattle.std.specs.Prelude.{◌≡◌, ◌⊎◌, ◌++◌, ◌<◌, ℕ, Bool, true, false, List, [], ◌∷◌, codes, length, map, take, Option, Result, Ok, Err, IsTrue}
+use Rattle.std.specs.List.{list_all}
 use Rattle.std.specs.Io.KnownBytes.{Consumes, Appends, IsAtEnd}
 use Rattle.hex.specs.Hex.{encode_lower}
 use Rattle.sha2.specs.Sha256.{sha256}
@@ -13,22 +13,17 @@ use Rattle.ill_normal.specs.Messages.{Spelling, spelling}
 use Rattle.ill_jobs.specs.Hexadecimal.{hex_octets}
 use Rattle.ill_jobs.specs.Output.{is_normal}
 use Rattle.ill_jobs.specs.declared.fault.RunFault.{RunFault}
+use Rattle.ill_lines.specs.Parts.{has_end, parts_by}
 use Rattle.ill_lines.specs.Words.{check_words, hex_words, refusal_words}
 use Rattle.ill_lines.specs.declared.job.LineJob.{LineJob}
 use Rattle.ill_lines.specs.declared.job.LinesFault.{LinesFault}
 
--- an octet at the front of the first line
-abbrev pub put_first : ℕ → List (List ℕ) → List (List ℕ)
-put_first c [] = (c ∷ []) ∷ []
-put_first c (line ∷ lines) = (c ∷ line) ∷ lines
-
 -- each line is ended by a line feed; the last may be ended by the end of the input
 abbrev pub lines : List ℕ → List (List ℕ)
-lines [] = []
-lines (c ∷ s) = if c == 0x0A then [] ∷ lines s else put_first c (lines s)
+lines s = parts_by 0x0A s
 
 abbrev pub has_line_end : List ℕ → Bool
-has_line_end s = list_any (λ c. c == 0x0A) s
+has_line_end s = has_end 0x0A s
 
 -- what is said of a message
 abbrev pub message_words : LineJob → Spelling → List ℕ
