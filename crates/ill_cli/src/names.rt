@@ -10,19 +10,32 @@ use std::str;
 #[derive(Debug, Drop, PartialEq, Eq)]
 pub struct Name(pub Vec<u8>);
 
-/// The name of a file as it is printed, in lines of the output too.
-pub fn printed(alloc: Global, name: &str) -> Result<String, AllocError> {
-    let name = Name(name.as_bytes().to_vec(alloc)?);
-    format!(in alloc; "{name}")
-}
-
 impl fmt::Display for Name {
     fn fmt<W: fmt::Write>(&self, f: &mut fmt::Formatter<W>) -> fmt::Result {
-        match str::from_utf8(&self.0) {
-            Ok(text) if !has_control(text) => f.write_str(text),
-            Ok(text) => write_quoted(f, text),
-            Err(_) => write_octets(f, &self.0),
-        }
+        write_name(f, &self.0)
+    }
+}
+
+/// A name that stands elsewhere, shown as [`Name`] shows it.
+#[derive(Clone, Copy, Debug, PartialEq, Eq)]
+pub struct NameOf<'a>(pub &'a [u8]);
+
+impl fmt::Display for NameOf<'_> {
+    fn fmt<W: fmt::Write>(&self, f: &mut fmt::Formatter<W>) -> fmt::Result {
+        write_name(f, self.0)
+    }
+}
+
+/// The name of a file as lines of the output have it, which is as [`Name`] shows it.
+pub fn printed(alloc: Global, name: &str) -> Result<String, AllocError> {
+    format!(in alloc; "{}", NameOf(name.as_bytes()))
+}
+
+fn write_name<W: fmt::Write>(f: &mut fmt::Formatter<W>, name: &[u8]) -> fmt::Result {
+    match str::from_utf8(name) {
+        Ok(text) if !has_control(text) => f.write_str(text),
+        Ok(text) => write_quoted(f, text),
+        Err(_) => write_octets(f, name),
     }
 }
 
