@@ -1,1 +1,3 @@
 pub mod Found
+pub mod ListedNames
+pub mod Worst

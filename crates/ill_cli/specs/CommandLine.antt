@@ -2,7 +2,7 @@
 use Rattle.std.specs.Prelude.{true, codes, Some}
 use Rattle.clap.specs.Walk.{Rule, Text}
 use Rattle.clap.specs.Simple.{App, new_app, new_rule, with_rule, with_subcommand}
-use Rattle.clap.specs.declared.builder.action.ArgAction.TheVariants.{SetTrue}
+use Rattle.clap.specs.declared.builder.action.ArgAction.TheVariants.{Append, SetTrue}
 
 -- the flag `--hex`
 abbrev pub hex_rule : Rule
@@ -12,18 +12,26 @@ hex_rule = record (new_rule (codes "hex")) { long = Some (codes "hex"); action =
 abbrev pub file_rule : Text → Rule
 file_rule id = record (new_rule id) { value_names = 1; required = true }
 
--- a command on one file, and on two
-abbrev pub one_file : Text → App
-one_file name = with_rule (with_rule (new_app name) hex_rule) (file_rule (codes "first"))
+-- the option `--files-from LIST`
+abbrev pub list_rule : Rule
+list_rule = record (new_rule (codes "files-from")) { long = Some (codes "files-from"); value_names = 1 }
+
+-- any number of files
+abbrev pub files_rule : Rule
+files_rule = record (new_rule (codes "file")) { value_names = 1; action = Some Append }
+
+-- a command on any number of files, and on two
+abbrev pub each_file : Text → App
+each_file name = with_rule (with_rule (with_rule (new_app name) hex_rule) list_rule) files_rule
 
 abbrev pub two_files : Text → App
-two_files name = with_rule (one_file name) (file_rule (codes "second"))
+two_files name = with_rule (with_rule (with_rule (new_app name) hex_rule) (file_rule (codes "first"))) (file_rule (codes "second"))
 
 abbrev pub top : App
 top = let a = new_app (codes "illcanon") in
     record a { top = record a.top { has_version = true; subcommand_required = true; arg_required_else_help = true } }
 
--- the program with its four commands
+-- the program with its five commands
 abbrev pub program : App
-program = with_subcommand (with_subcommand (with_subcommand (with_subcommand top (one_file (codes "show")).top) (one_file (codes "check")).top)
-    (two_files (codes "same")).top) (two_files (codes "canonicalise")).top
+program = with_subcommand (with_subcommand (with_subcommand (with_subcommand (with_subcommand top (each_file (codes "show")).top) (each_file (codes "check")).top)
+    (each_file (codes "digest")).top) (two_files (codes "same")).top) (two_files (codes "canonicalise")).top

@@ -1,38 +1,76 @@
 -- Which words give an order.
-use Rattle.std.specs.Prelude.{◌≡◌, ◌≢◌, true, false, List, codes, Option, Some, option_map}
-use Rattle.clap.specs.Walk.{Row, Text, first_of, one_of}
+use Rattle.std.specs.Prelude.{◌≡◌, ◌≢◌, ◌<◌, ◌+◌, ℕ, true, false, List, [], ◌∷◌, map, codes, count_by, Option, Some, None, option_map, unwrap_or}
+use Rattle.std.specs.Str.{bytes_eq}
+use Rattle.clap.specs.Walk.{Row, Text, all_of, first_of, one_of}
+use Rattle.ill_cli.specs.declared.orders.Inputs.{Inputs}
 use Rattle.ill_cli.specs.declared.orders.Order.{Order}
-use Rattle.ill_jobs.specs.declared.job.Job.{Job}
 use Rattle.ill_cli.specs.declared.orders.Task.{Task}
 use Rattle.ill_cli.specs.declared.orders.Verb.{Verb}
+use Rattle.ill_jobs.specs.declared.job.Job.{Job}
 
 abbrev pub verb_name : Verb → Text
 verb_name Verb.Show = codes "show"
 verb_name Verb.Check = codes "check"
+verb_name Verb.Digest = codes "digest"
 verb_name Verb.Same = codes "same"
 verb_name Verb.Canonicalise = codes "canonicalise"
+
+-- the command that a task is of
+abbrev pub verb_of_job : Job → Verb
+verb_of_job Job.Show = Verb.Show
+verb_of_job Job.Check = Verb.Check
+verb_of_job Job.Digest = Verb.Digest
+verb_of_job Job.Canonicalise = Verb.Canonicalise
+
+abbrev pub verb : Task → Verb
+verb (Task.Each job inputs) = verb_of_job job
+verb (Task.Canonicalise input output) = Verb.Canonicalise
+verb (Task.Compare first second) = Verb.Same
+
+-- the files of a job are the words FILE, and the word of `--files-from`
+abbrev pub HasInputs : List Row → Inputs → Type 0
+HasInputs rows inputs = (unwrap_or (all_of (codes "file") rows) [] ≡ map (λ word. word.now) inputs.files.items)
+    × (first_of (codes "files-from") rows ≡ option_map (λ word. word.now) inputs.list)
+
+-- two words
+abbrev pub HasPair : List Row → Text → Text → Type 0
+HasPair rows first second = (first_of (codes "first") rows ≡ Some first) × (first_of (codes "second") rows ≡ Some second)
+
+-- the task has the files that were found; `canonicalise` has two of them
+abbrev pub HasFiles : List Row → Task → Type 0
+HasFiles rows (Task.Each Job.Canonicalise inputs) = ⊥
+HasFiles rows (Task.Each job inputs) = HasInputs rows inputs
+HasFiles rows (Task.Canonicalise input output) = HasPair rows input.now output.now
+HasFiles rows (Task.Compare first second) = HasPair rows first.now second.now
 
 -- what was found for a command is the order's command, flag and files
 pub record IsOrderOf (found : Option (Text × List Row)) (order : Order) : Type 0 where
   pub rows : List Row
-  pub command : found ≡ Some (verb_name order.command, rows)
+  pub command : found ≡ Some (verb_name (verb order.task), rows)
   pub hex : one_of (codes "hex") rows ≡ Some (codes "true") → order.hex ≡ true
   pub no_hex : one_of (codes "hex") rows ≡ Some (codes "false") → order.hex ≡ false
-  pub first : first_of (codes "first") rows ≡ Some order.first.now
-  pub second : first_of (codes "second") rows ≡ option_map (λ word. word.now) order.second
+  pub files : HasFiles rows order.task
 
--- the same word stands twice where two files are wanted
+-- how many of the words are `-`
+abbrev pub dashes : List Text → ℕ
+dashes words = count_by (λ word. bytes_eq word (codes "-")) words
+
+abbrev pub list_dashes : Option Text → ℕ
+list_dashes None = 0
+list_dashes (Some list) = dashes (list ∷ [])
+
+-- standard input is read twice, or the output is the input
 abbrev pub IsTwice : Order → Type 0
-IsTwice order = elim order.command as (λ _. Type 0) [
-  | Verb.Same ↦ (order.first.now ≡ codes "-") × (option_map (λ word. word.now) order.second ≡ Some (codes "-"))
-  | Verb.Canonicalise ↦ (order.first.now ≢ codes "-") × (option_map (λ word. word.now) order.second ≡ Some order.first.now)
-  | Verb.Show ↦ ⊥
-  | Verb.Check ↦ ⊥
+IsTwice order = elim order.task as (λ _. Type 0) [
+  | Task.Each job inputs ↦ 1 < dashes (map (λ word. word.now) inputs.files.items) + list_dashes (option_map (λ word. word.now) inputs.list)
+  | Task.Canonicalise input output ↦ (input.now ≢ codes "-") × (output.now ≡ input.now)
+  | Task.Compare first second ↦ (first.now ≡ codes "-") × (second.now ≡ codes "-")
 ]
 
--- what a command does: a job with one input, or a comparison of two
-abbrev pub task_of_verb : Verb → Task
-task_of_verb Verb.Show = Task.Run Job.Show
-task_of_verb Verb.Check = Task.Run Job.Check
-task_of_verb Verb.Canonicalise = Task.Run Job.Canonicalise
-task_of_verb Verb.Same = Task.Compare
+-- there is neither a file nor a list of files
+abbrev pub NamesNothing : Order → Type 0
+NamesNothing order = elim order.task as (λ _. Type 0) [
+  | Task.Each job inputs ↦ (inputs.files.items ≡ []) × (inputs.list ≡ None)
+  | Task.Canonicalise input output ↦ ⊥
+  | Task.Compare first second ↦ ⊥
+]

@@ -1,5 +1,6 @@
 -- The status that the program ends with.
-use Rattle.std.specs.Prelude.{ℕ, Bool, true, false, Result, Ok, Err}
+use Rattle.std.specs.Prelude.{◌≡◌, ◌≤◌, ◌==◌, ℕ, Bool, true, false, List, map, length, Result, Ok, Err, if◌then◌else◌}
+use Rattle.std.specs.List.{list_any}
 use Rattle.clap.specs.Words.{kind_of}
 use Rattle.clap.specs.declared.error.Error.{Error}
 use Rattle.clap.specs.declared.error.kind.ErrorKind.{ErrorKind}
@@ -28,6 +29,7 @@ line_status_is error = kind_status (kind_of error)
 abbrev pub fault_status : Fault → ℕ
 fault_status (Fault.Line (LineFault.Line error)) = line_status_is error
 fault_status (Fault.Line LineFault.SameWord) = 2
+fault_status (Fault.Line LineFault.NoFile) = 2
 fault_status Fault.SameFile = 2
 fault_status (Fault.Run line) = run_status_is line.0
 fault_status _ = 3
@@ -43,3 +45,11 @@ abbrev pub is_output_lost : Result Verdict Fault → Bool
 is_output_lost (Err Fault.Flush) = true
 is_output_lost (Err (Fault.Run line)) = elim line.0 as (λ _. Bool) [ RunFault.WriteFault n ↦ true | _ ↦ false ]
 is_output_lost _ = false
+
+-- of several files: 3 if one of them gave 3, else 1 if one gave 1
+abbrev pub worst : List ℕ → ℕ
+worst statuses = if list_any (λ s. s == 3) statuses then 3 else (if list_any (λ s. s == 1) statuses then 1 else 0)
+
+-- the status of files of which some were done, at most n, and ended so
+abbrev pub IsStatusOfEach : ℕ → ℕ → Type 0
+IsStatusOfEach n status = (ends : List (Result Verdict Fault)) × (length ends ≤ n) × (status ≡ worst (map status_is ends))

@@ -1,78 +1,90 @@
 //! The commands: what is opened, and what is done with it.
+ghost use Rattle.std.specs.Prelude.{◌≡◌};
+ghost use Rattle.ill_cli.specs.Status.{status_is};
+
+use crate::each::each_input;
 use crate::fault::{Fault, is_output_lost, print, status_of};
 use crate::input::{InputSource, open, open_and_identify};
 use crate::line::order;
-use crate::orders::{Order, Task, task_of};
+use crate::orders::{Order, Task};
 use crate::replacement::{self, Replacement};
 use crate::same_file::FileId;
 use crate::words::words_of;
 use ber_core::{Ahead, AtHand, ToWrite};
-use ill_jobs::{Job, RunFault, Verdict, run_by, run_same};
+use ill_jobs::{Job, RunFault, Verdict, Work, run_by, run_same};
 use std::alloc::Global;
 use std::fs::{self, OpenFile};
 use std::io::{self, BufWriter, Write};
 use std::rt::{Env, Files};
 
-/// Does what the process's words say, prints the line of a fault, and returns the exit status: 0, 1, 2 or 3, as
-/// [`status_of`] says.
+/// Does what the process's words say, prints the line of each fault, and returns the exit status: 0, 1, 2 or 3, as [`status_of`] says.
+/// Of several files it is 3 if one gave 3, else 1 if one gave 1.
 pub fn run_program<R: Print + Eprint + Input + Files + Env + AllocGlobal>(rt: &R) -> u8 {
-    let done = obey(rt);
-    if let Err(fault) = &done {
+    let words = match words_of(rt) {
+        Ok(words) => words,
+        Err(fault) => return end(rt, &Err(fault)),
+    };
+    match order(rt.alloc(), words.as_slice()) {
+        Ok(order) => obey(rt, order),
+        Err(fault) => end(rt, &Err(Fault::from(fault))),
+    }
+}
+
+/// Does what an order says, prints the line of each fault, and returns the exit status.
+pub fn obey<R: Print + Eprint + Input + Files + AllocGlobal>(rt: &R, order: Order<'_>) -> u8 {
+    let hex = order.hex;
+    match order.task {
+        Task::Each { job, inputs } => each_input(rt, job, hex, &inputs),
+        Task::Canonicalise { input, output } => end(rt, &canonicalise(rt, hex, input, output)),
+        Task::Compare { first, second } => end(rt, &compare(rt, hex, first, second)),
+    }
+}
+
+/// Prints the line of a fault, and returns the exit status.
+pub(crate) fn end<R: Print + Eprint>(rt: &R, done: &Result<Verdict, Fault>) -> u8
+    ensures { result ≡ status_is done.now }
+{
+    if let Err(fault) = done {
         // Where standard error is closed, only the status is left to tell.
         let _ = print(rt, fault);
     }
-    status_of(&done)
-}
-
-/// Does what the process's words say.
-///
-/// # Errors
-///
-/// Why it was not done, see [`Fault`].
-pub fn obey<R: Print + Input + Files + Env + AllocGlobal>(rt: &R) -> Result<Verdict, Fault> {
-    let words = words_of(rt)?;
-    let order = order(rt.alloc(), words.as_slice())?;
-    match task_of(order.command) {
-        Task::Run(Job::Canonicalise) => canonicalise(rt, order),
-        Task::Run(job) => {
-            let mut source = open(rt, order.first)?;
-            to_standard_output(rt, job, order.hex, &mut source)
-        }
-        Task::Compare => compare(rt, order),
-    }
+    status_of(done)
 }
 
 /// Compares two inputs. Both are opened before either is read.
 fn compare<R: Print + Input + Files + AllocGlobal>(
     rt: &R,
-    order: Order<'_>,
+    hex: bool,
+    first: &str,
+    second: &str,
 ) -> Result<Verdict, Fault> {
     let alloc = rt.alloc();
-    let mut first = open(rt, order.first)?;
-    let mut second = open(rt, order.second.unwrap_or("-"))?;
+    let mut first = open(rt, first)?;
+    let mut second = open(rt, second)?;
     let mut writer = BufWriter::new(alloc, io::writer(rt)).map_err(|_| Fault::out_of_memory())?;
     let mut sink = ToWrite::new(&mut writer);
-    let done = run_same(alloc, order.hex, &mut first, &mut second, &mut sink);
+    let done = run_same(alloc, hex, &mut first, &mut second, &mut sink);
     flushed(done, &mut writer)
 }
 
 /// Writes normal forms. The output is opened only once the input is, and only if it isn't the same file.
 fn canonicalise<R: Print + Input + Files + AllocGlobal>(
     rt: &R,
-    order: Order<'_>,
+    hex: bool,
+    input: &str,
+    name: &str,
 ) -> Result<Verdict, Fault> {
-    let name = order.second.unwrap_or("-");
     // If standard output is closed, the input may be opened in its place: so this is asked first.
     let output = FileId::of_standard_output(rt);
-    let (mut source, input) = open_and_identify(rt, order.first)?;
+    let (mut source, input) = open_and_identify(rt, input)?;
     if name == "-" {
         refuse_same_file(input, output)?;
-        return to_standard_output(rt, Job::Canonicalise, order.hex, &mut source);
+        return to_standard_output(rt, normal_forms(hex), &mut source);
     }
     refuse_same_file(input, FileId::of_name(rt, name))?;
     match replacement::begin(rt, name)? {
-        Some(new) => to_replacement(rt, order.hex, &mut source, new, name),
-        None => to_file(rt, order.hex, &mut source, name),
+        Some(new) => to_replacement(rt, hex, &mut source, new, name),
+        None => to_file(rt, hex, &mut source, name),
     }
 }
 
@@ -84,16 +96,20 @@ fn refuse_same_file(input: Option<FileId>, output: Option<FileId>) -> Result<(),
     Ok(())
 }
 
+/// Normal forms, as octets or as hexadecimal text.
+fn normal_forms(hex: bool) -> Work<'static> {
+    Work::new(Job::Canonicalise, hex)
+}
+
 /// Does a job with an input, and writes to standard output.
-fn to_standard_output<R: Print + Input + Files + AllocGlobal>(
+pub(crate) fn to_standard_output<R: Print + Input + Files + AllocGlobal>(
     rt: &R,
-    job: Job,
-    hex: bool,
+    work: Work<'_>,
     source: &mut InputSource<R>,
 ) -> Result<Verdict, Fault> {
     let alloc = rt.alloc();
     let mut writer = BufWriter::new(alloc, io::writer(rt)).map_err(|_| Fault::out_of_memory())?;
-    to_writer(alloc, job, hex, source, &mut writer)
+    to_writer(alloc, work, source, &mut writer)
 }
 
 /// Writes normal forms straight to the file of this name.
@@ -106,7 +122,7 @@ fn to_file<R: Input + Files + AllocGlobal>(
     let alloc = rt.alloc();
     let file = fs::create(rt, name).map_err(|_| Fault::cannot_open(alloc, name))?;
     let mut writer = BufWriter::new(alloc, file).map_err(|_| Fault::out_of_memory())?;
-    to_writer(alloc, Job::Canonicalise, hex, source, &mut writer)
+    to_writer(alloc, normal_forms(hex), source, &mut writer)
 }
 
 /// Writes normal forms to a new file, and gives it this name at the end. Where not all of the output reached the disk, the
@@ -124,7 +140,7 @@ fn to_replacement<R: Input + Files + AllocGlobal>(
         let _ = fs::remove_file(rt, part.as_str());
         return Err(Fault::out_of_memory());
     };
-    let done = to_writer(alloc, Job::Canonicalise, hex, source, &mut writer);
+    let done = to_writer(alloc, normal_forms(hex), source, &mut writer);
     let done = synced(done, writer.get_ref());
     if is_output_lost(&done) {
         let _ = fs::remove_file(rt, part.as_str());
@@ -139,13 +155,12 @@ fn to_replacement<R: Input + Files + AllocGlobal>(
 
 fn to_writer<S: Ahead, W: Write + Drop>(
     alloc: Global,
-    job: Job,
-    hex: bool,
+    work: Work<'_>,
     source: &mut S,
     writer: &mut BufWriter<W>,
 ) -> Result<Verdict, Fault> {
     let mut sink = ToWrite::new(&mut *writer);
-    let done = run_by::<S, AtHand, ToWrite<&mut BufWriter<W>>>(alloc, job, hex, source, &mut sink);
+    let done = run_by::<S, AtHand, ToWrite<&mut BufWriter<W>>>(alloc, work, source, &mut sink);
     flushed(done, writer)
 }
 

@@ -2,7 +2,7 @@
 ghost use Rattle.std.specs.Prelude.{◌≡◌};
 ghost use Rattle.ill_cli.specs.Status.{is_output_lost, line_status_is, run_status_is, status_is};
 
-use crate::names::Name;
+use crate::names::{Name, NameOf};
 use clap::Error as LineError;
 use clap::error::ErrorKind;
 use ill_jobs::{RunFault, Verdict};
@@ -20,6 +20,9 @@ pub enum LineFault {
     /// Two files are named by the same word.
     #[error("the same word twice")]
     SameWord,
+    /// No file is named.
+    #[error("FILE or --files-from is missing")]
+    NoFile,
 }
 
 /// Why the program has not done what its words say. Each is printed as one line.
@@ -155,7 +158,7 @@ pub fn status_of(done: &Result<Verdict, Fault>) -> u8
         Ok(Verdict::Good) => 0,
         Ok(Verdict::NotGood) => 1,
         Err(Fault::Line(LineFault::Line(error))) => line_status(error),
-        Err(Fault::Line(LineFault::SameWord) | Fault::SameFile) => 2,
+        Err(Fault::Line(LineFault::SameWord | LineFault::NoFile) | Fault::SameFile) => 2,
         Err(Fault::Run(RunLine(fault))) => run_status(fault),
         Err(Fault::CannotOpen(_) | Fault::CannotReplace(_) | Fault::Flush) => 3,
     }
@@ -192,6 +195,14 @@ pub(crate) fn is_output_lost(done: &Result<Verdict, Fault>) -> bool
         done,
         Err(Fault::Flush | Fault::Run(RunLine(RunFault::WriteFault(_))))
     )
+}
+
+/// Prints the fault of one of several files as one line, which names the file.
+pub(crate) fn print_of<R: Print + Eprint>(rt: &R, name: &[u8], fault: &Fault) -> io::Result<()> {
+    match fault {
+        Fault::CannotOpen(_) => print(rt, fault),
+        _ => eprintln!(rt; "illcanon: {}: {fault}", NameOf(name)),
+    }
 }
 
 /// Prints clap's text as it is, and any other fault as one line on standard error.

@@ -10,21 +10,35 @@ different, or the hexadecimal text is invalid; 2 usage; 3 memory, files or pipes
 
 pub const SHOW: &str = "\
 Each message is a line `message 1 Expired` and then a line for each leaf, as
-`service-date-time.date-time-of-this-service.date = 20240229`.
+`service-date-time.date-time-of-this-service.date = 20240229`. Of several files, the
+first line of each message begins with the name of its file and `: `.
 
 Example: illcanon show messages.ber
 
 Status: 0 done; 1 a message is refused, or the hexadecimal text is invalid; 2 usage;
-3 memory, files or pipes.";
+3 memory, files or pipes. Of several files: 3 if one gave 3, else 1 if one gave 1.";
 
 pub const CHECK: &str = "\
 Each message has a line, as `message 1: Expired, 33 octets, normal` or
-`message 2: Expired, 47 octets, not normal, normal form 33 octets`.
+`message 2: Expired, 47 octets, not normal, normal form 33 octets`. Of several files,
+each line begins with the name of its file and `: `.
 
 Example: illcanon check messages.ber | grep 'not normal'
+         find archive -name '*.ber' -print0 | illcanon check --files-from -
 
 Status: 0 all are normal; 1 one is not normal or is refused, or the hexadecimal text
-is invalid; 2 usage; 3 memory, files or pipes.";
+is invalid; 2 usage; 3 memory, files or pipes. Of several files: 3 if one gave 3,
+else 1 if one gave 1.";
+
+pub const DIGEST: &str = "\
+Each message has a line: its digest, which is SHA-256 of its normal form, in hexadecimal
+digits, two blanks, the name of the file, `:` and the number of the message. Messages
+that say the same have the same digest, however they are spelled.
+
+Example: illcanon digest *.ber | sort | uniq -w 64 -D    # copies
+
+Status: 0 done; 1 a message is refused, or the hexadecimal text is invalid; 2 usage;
+3 memory, files or pipes. Of several files: 3 if one gave 3, else 1 if one gave 1.";
 
 pub const SAME: &str = "\
 Writes `same` or `different`. Each file holds one message; at most one file is `-`.

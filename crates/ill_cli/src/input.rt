@@ -5,6 +5,7 @@ ghost use Rattle.ill_cli.specs.Opened.{left_of, is_broken_of};
 use crate::fault::Fault;
 use crate::same_file::FileId;
 use ber_core::{Ahead, Broken, FromBuffer, Source};
+use ill_jobs::{RunFault, read_most};
 use std::alloc::Global;
 use std::fs::{self, OpenFile};
 use std::rt::Files;
@@ -67,6 +68,19 @@ pub type InputSource<R> = Opened<FromBuffer<<R as Input>::Reader>, FromBuffer<<R
 pub fn open<R: Input + Files + AllocGlobal>(rt: &R, name: &str) -> Result<InputSource<R>, Fault> {
     let (source, _) = open_and_identify(rt, name)?;
     Ok(source)
+}
+
+/// Reads an input to its end.
+///
+/// # Errors
+///
+/// There is no file of this name that can be read, reading it fails, or memory ran out.
+pub fn read_whole<R: Input + Files + AllocGlobal>(rt: &R, name: &str) -> Result<Vec<u8>, Fault> {
+    let mut source = open(rt, name)?;
+    match read_most(rt.alloc(), &mut source, usize::MAX) {
+        Ok(octets) => Ok(octets),
+        Err(why) => Err(Fault::from(RunFault::from(why))),
+    }
 }
 
 /// Opens an input as [`open`] does, and returns which regular file it is, None where it is not one.

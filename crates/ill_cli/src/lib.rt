@@ -11,6 +11,7 @@
 #![tactic(auto)]
 
 mod commands;
+mod each;
 mod fault;
 mod help;
 mod input;
@@ -26,4 +27,4 @@ pub use fault::{CauseName, Fault, LineFault, RunLine, print, status_of};
 pub use input::Opened;
 pub use line::order;
 pub use names::Name;
-pub use orders::{Order, Task, Verb, task_of};
+pub use orders::{Inputs, Order, Task, Verb};

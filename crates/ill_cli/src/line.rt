@@ -1,18 +1,21 @@
 //! The command line.
-ghost use Rattle.std.specs.Prelude.{◌≡◌, ℕ, List, map, codes, false, Some, IfOk, IfErr, IfSome, IfNone, IsTrue, ◌↔◌};
+ghost use Rattle.std.specs.Prelude.{◌≡◌, ◌+◌, List, [], map, codes, false, Some, option_map, unwrap_or, IfOk, IfErr, IfSome, IfNone, IsTrue, ◌↔◌};
 ghost use Rattle.std.specs.String.{string_bytes};
-ghost use Rattle.clap.specs.Words.{FailsBy, app_of, fault_of, rule_of, subcommand_of, subcommand_rows_of};
+ghost use Rattle.clap.specs.Words.{FailsBy, Text, all_of, app_of, fault_of, found_of, rows_of, rule_of, subcommand_of, subcommand_rows_of};
 ghost use Rattle.clap.specs.declared.builder.command.Command.TheViews.{out-Command as fields_of};
-ghost use Rattle.ill_cli.specs.CommandLine.{hex_rule, file_rule, one_file, two_files, program};
+ghost use Rattle.ill_cli.specs.CommandLine.{each_file, file_rule, files_rule, hex_rule, list_rule, program, two_files};
+ghost use Rattle.ill_cli.specs.declared.orders.Inputs.{Inputs};
 ghost use Rattle.ill_cli.specs.declared.orders.Order.{Order};
+ghost use Rattle.ill_cli.specs.declared.orders.Task.{Task};
 ghost use Rattle.ill_cli.specs.declared.orders.Verb.{Verb};
-ghost use Rattle.ill_cli.specs.Orders.{verb_name, IsOrderOf, IsTwice};
-ghost use Rattle.ill_cli.specs.Refused.{IsSameWordOnly, IsRefusedBy};
+ghost use Rattle.ill_cli.specs.Orders.{dashes, list_dashes, verb as verb_of_task, verb_name, HasFiles, HasInputs, HasPair, IsOrderOf, IsTwice, NamesNothing};
+ghost use Rattle.ill_cli.specs.Refused.{IsFaultOf, IsRefusedBy};
 
 use crate::fault::LineFault;
 use crate::help;
-use crate::orders::{Order, Verb};
+use crate::orders::{Inputs, Order, Task, Verb};
 use clap::{Arg, ArgAction, ArgMatches, Command, Error};
+use ill_jobs::Job;
 use std::alloc::{AllocError, Global};
 
 fn hex_flag<'a>(alloc: Global) -> Arg<'a>
@@ -35,37 +38,60 @@ fn file<'a>(alloc: Global, id: &'a str, name: &'a str, help: &'a str) -> Arg<'a>
         .help(help)
 }
 
-fn on_one<'a>(
+fn list<'a>(alloc: Global) -> Arg<'a>
+    ensures rule { rule_of result ≡ list_rule }
+    ensures local { result.global ≡ false }
+{
+    Arg::new(alloc, "files-from")
+        .long("files-from")
+        .value_name("LIST")
+        .help("Reads names of files from LIST, each ended by a NUL; `-` is standard input")
+}
+
+fn files<'a>(alloc: Global) -> Arg<'a>
+    ensures rule { rule_of result ≡ files_rule }
+    ensures local { result.global ≡ false }
+{
+    Arg::new(alloc, "file")
+        .value_name("FILE")
+        .action(ArgAction::Append)
+        .help("The messages; `-` is standard input")
+}
+
+fn on_each<'a>(
     alloc: Global,
     name: &'a str,
     about: &'a str,
     after: &'a str,
 ) -> Result<Command<'a>, AllocError>
-    ensures { IfOk result (λ c. (app_of c ≡ one_file name.entry.now) × ((fields_of c).has_globals ≡ false)) }
+    ensures { IfOk result (λ c. (app_of c ≡ each_file name.entry.now) × ((fields_of c).has_globals ≡ false)) }
 {
     Command::new(alloc, name)
         .about(about)
         .after_help(after)
         .arg(hex_flag(alloc))?
-        .arg(file(
-            alloc,
-            "first",
-            "FILE",
-            "The messages; `-` is standard input",
-        ))
+        .arg(list(alloc))?
+        .arg(files(alloc))
 }
 
 fn show<'a>(alloc: Global) -> Result<Command<'a>, AllocError>
-    ensures { IfOk result (λ c. (app_of c ≡ one_file (codes "show")) × ((fields_of c).has_globals ≡ false)) }
+    ensures { IfOk result (λ c. (app_of c ≡ each_file (codes "show")) × ((fields_of c).has_globals ≡ false)) }
 {
-    on_one(alloc, "show", "Writes the messages as text", help::SHOW)
+    on_each(alloc, "show", "Writes the messages as text", help::SHOW)
 }
 
 fn check<'a>(alloc: Global) -> Result<Command<'a>, AllocError>
-    ensures { IfOk result (λ c. (app_of c ≡ one_file (codes "check")) × ((fields_of c).has_globals ≡ false)) }
+    ensures { IfOk result (λ c. (app_of c ≡ each_file (codes "check")) × ((fields_of c).has_globals ≡ false)) }
 {
     let about = "Reports for each message whether it is in normal form";
-    on_one(alloc, "check", about, help::CHECK)
+    on_each(alloc, "check", about, help::CHECK)
+}
+
+fn digest<'a>(alloc: Global) -> Result<Command<'a>, AllocError>
+    ensures { IfOk result (λ c. (app_of c ≡ each_file (codes "digest")) × ((fields_of c).has_globals ≡ false)) }
+{
+    let about = "Writes the digest of each message, the same however it is spelled";
+    on_each(alloc, "digest", about, help::DIGEST)
 }
 
 fn same<'a>(alloc: Global) -> Result<Command<'a>, AllocError>
@@ -105,6 +131,7 @@ fn program<'a>(alloc: Global) -> Result<Command<'a>, AllocError>
         .arg_required_else_help(true)
         .subcommand(show(alloc)?)?
         .subcommand(check(alloc)?)?
+        .subcommand(digest(alloc)?)?
         .subcommand(same(alloc)?)?
         .subcommand(canonicalise(alloc)?)
 }
@@ -114,12 +141,14 @@ fn program<'a>(alloc: Global) -> Result<Command<'a>, AllocError>
 /// # Errors
 ///
 /// What `clap` reports of words that are no command line, or that ask for help. Or two files are named by the same word: `-`
-/// for `same`, any but `-` for `canonicalise`.
+/// for a file that is read, any but `-` for `canonicalise`. Or no file is named.
 pub fn order<'a>(alloc: Global, words: &'a [String]) -> Result<Order<'a>, LineFault>
-    // The words have the order's command, flag and files, and the files are not the same word twice.
+    // The words have the order's command, flag and files; standard input is not read twice, no file is written that is read by the same
+    // word, and there are files.
     ensures order { IfOk result (IsOrderOf (subcommand_of program (map string_bytes words.entry.now))) }
     ensures not_twice { IfOk result (λ order. IsTwice order → ⊥) }
-    ensures twice { IfErr result (IsSameWordOnly (subcommand_of program (map string_bytes words.entry.now))) }
+    ensures some { IfOk result (λ order. NamesNothing order → ⊥) }
+    ensures fault { IfErr result (IsFaultOf (subcommand_of program (map string_bytes words.entry.now))) }
     // What clap finds wrong is refused, and nothing else, unless memory runs out.
     ensures faults { IsRefusedBy (fault_of program (map string_bytes words.entry.now)) result }
 {
@@ -130,20 +159,46 @@ pub fn order<'a>(alloc: Global, words: &'a [String]) -> Result<Order<'a>, LineFa
     if is_twice(&order) {
         return Err(LineFault::SameWord);
     }
+    if names_nothing(&order) {
+        return Err(LineFault::NoFile);
+    }
     Ok(order)
 }
 
-/// Whether two files are named by the same word.
+/// Whether standard input is read twice, or the output is the input, by the same word.
 fn is_twice(order: &Order<'_>) -> bool
     ensures { IsTrue result ↔ IsTwice order.now }
 {
-    let Some(second) = order.second else {
-        return false;
-    };
-    match order.command {
-        Verb::Same => order.first == "-" && second == "-",
-        Verb::Canonicalise => order.first != "-" && order.first == second,
-        Verb::Show | Verb::Check => false,
+    match &order.task {
+        Task::Each { inputs, .. } => dashes(inputs) > 1,
+        Task::Canonicalise { input, output } => *input != "-" && *output == *input,
+        Task::Compare { first, second } => *first == "-" && *second == "-",
+    }
+}
+
+/// How often standard input is named.
+fn dashes(inputs: &Inputs<'_>) -> usize
+    ensures { result ≡ dashes (map (λ word. word.now) inputs.now.files.items) + list_dashes (option_map (λ word. word.now) inputs.now.list) }
+{
+    let mut count = 0;
+    for word in &inputs.files {
+        if *word == "-" {
+            count += 1;
+        }
+    }
+    if inputs.list == Some("-") {
+        count += 1;
+    }
+    count
+}
+
+/// Whether there is neither a file nor a list of files.
+fn names_nothing(order: &Order<'_>) -> bool
+    ensures { IsTrue result ↔ NamesNothing order.now }
+{
+    match &order.task {
+        Task::Each { inputs, .. } => inputs.files.is_empty() && inputs.list.is_none(),
+        Task::Canonicalise { .. } | Task::Compare { .. } => false,
     }
 }
 
@@ -152,24 +207,90 @@ fn read<'a>(alloc: Global, words: &'a [String]) -> Result<Order<'a>, Error>
     ensures faults { FailsBy (fault_of program (map string_bytes words.entry.now)) result }
 {
     let matches = program(alloc)?.try_get_matches_from(words)?;
-    match order_of(&matches) {
+    match order_of(alloc, &matches)? {
         Some(order) => Ok(order),
         // clap has matched a command and its files, or has returned an error.
         None => Err(Error::from(AllocError)),
     }
 }
 
-fn order_of<'a>(matches: &ArgMatches<'a>) -> Option<Order<'a>>
-    ensures some { IfSome result (IsOrderOf (subcommand_rows_of matches.now)) }
-    ensures none { IfNone result ((order : Order) → IsOrderOf (subcommand_rows_of matches.now) order → ⊥) }
+fn order_of<'a>(alloc: Global, matches: &ArgMatches<'a>) -> Result<Option<Order<'a>>, AllocError>
+    ensures some { IfOk result (λ found. IfSome found (IsOrderOf (subcommand_rows_of matches.now))) }
+    ensures none { IfOk result (λ found. IfNone found ((order : Order) → IsOrderOf (subcommand_rows_of matches.now) order → ⊥)) }
 {
-    let (name, files) = matches.subcommand()?;
-    Some(Order {
-        command: verb_of(name)?,
-        hex: files.get_flag("hex"),
-        first: files.get_str("first")?,
-        second: files.get_str("second"),
-    })
+    let Some((name, words)) = matches.subcommand() else {
+        return Ok(None);
+    };
+    let Some(verb) = verb_of(name) else {
+        return Ok(None);
+    };
+    let Some(task) = task_of(alloc, verb, words)? else {
+        return Ok(None);
+    };
+    Ok(Some(Order {
+        hex: words.get_flag("hex"),
+        task,
+    }))
+}
+
+fn task_of<'a>(
+    alloc: Global,
+    verb: Verb,
+    words: &ArgMatches<'a>,
+) -> Result<Option<Task<'a>>, AllocError>
+    ensures some { IfOk result (λ found. IfSome found (λ task. (verb_of_task task ≡ verb) × HasFiles (rows_of (found_of words.now)) task)) }
+    ensures none { IfOk result (λ found. IfNone found ((task : Task) → verb_of_task task ≡ verb → HasFiles (rows_of (found_of words.now)) task → ⊥)) }
+{
+    match verb {
+        Verb::Show => each(alloc, Job::Show, words),
+        Verb::Check => each(alloc, Job::Check, words),
+        Verb::Digest => each(alloc, Job::Digest, words),
+        Verb::Same => Ok(compare(words)),
+        Verb::Canonicalise => Ok(normal_forms(words)),
+    }
+}
+
+fn each<'a>(alloc: Global, job: Job, words: &ArgMatches<'a>) -> Result<Option<Task<'a>>, AllocError>
+    ensures { IfOk result (λ found. (inputs : Inputs) × (found ≡ Some (Task.Each job inputs)) × HasInputs (rows_of (found_of words.now)) inputs) }
+{
+    let inputs = Inputs {
+        files: names(alloc, words)?,
+        list: words.get_str("files-from"),
+    };
+    Ok(Some(Task::Each { job, inputs }))
+}
+
+/// The words FILE.
+fn names<'a>(alloc: Global, words: &ArgMatches<'a>) -> Result<Vec<&'a str>, AllocError>
+    ensures { IfOk result (λ files. unwrap_or (all_of (codes "file") (rows_of (found_of words.now))) [] ≡ map (λ word. word.now) files.items) }
+{
+    match words.get_strs("file") {
+        Some(files) => Vec::from_slice(alloc, files),
+        None => Ok(Vec::new(alloc)),
+    }
+}
+
+fn compare<'a>(words: &ArgMatches<'a>) -> Option<Task<'a>>
+    ensures some { IfSome result (λ task. (verb_of_task task ≡ Verb.Same) × HasFiles (rows_of (found_of words.now)) task) }
+    ensures none { IfNone result ((first second : Text) → HasPair (rows_of (found_of words.now)) first second → ⊥) }
+{
+    let (first, second) = pair(words)?;
+    Some(Task::Compare { first, second })
+}
+
+fn normal_forms<'a>(words: &ArgMatches<'a>) -> Option<Task<'a>>
+    ensures some { IfSome result (λ task. (verb_of_task task ≡ Verb.Canonicalise) × HasFiles (rows_of (found_of words.now)) task) }
+    ensures none { IfNone result ((first second : Text) → HasPair (rows_of (found_of words.now)) first second → ⊥) }
+{
+    let (input, output) = pair(words)?;
+    Some(Task::Canonicalise { input, output })
+}
+
+fn pair<'a>(words: &ArgMatches<'a>) -> Option<(&'a str, &'a str)>
+    ensures some { IfSome result (λ found. HasPair (rows_of (found_of words.now)) found.0.now found.1.now) }
+    ensures none { IfNone result ((first second : Text) → HasPair (rows_of (found_of words.now)) first second → ⊥) }
+{
+    Some((words.get_str("first")?, words.get_str("second")?))
 }
 
 fn verb_of(name: &str) -> Option<Verb>
@@ -179,6 +300,7 @@ fn verb_of(name: &str) -> Option<Verb>
     match name {
         "show" => Some(Verb::Show),
         "check" => Some(Verb::Check),
+        "digest" => Some(Verb::Digest),
         "same" => Some(Verb::Same),
         "canonicalise" => Some(Verb::Canonicalise),
         _ => None,

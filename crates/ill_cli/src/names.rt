@@ -1,4 +1,5 @@
 //! File names in the lines that the program prints.
+use std::alloc::{AllocError, Global};
 use std::fmt::{self, Write};
 use std::str;
 
@@ -11,11 +12,30 @@ pub struct Name(pub Vec<u8>);
 
 impl fmt::Display for Name {
     fn fmt<W: fmt::Write>(&self, f: &mut fmt::Formatter<W>) -> fmt::Result {
-        match str::from_utf8(&self.0) {
-            Ok(text) if !has_control(text) => f.write_str(text),
-            Ok(text) => write_quoted(f, text),
-            Err(_) => write_octets(f, &self.0),
-        }
+        write_name(f, &self.0)
+    }
+}
+
+/// A name that stands elsewhere, shown as [`Name`] shows it.
+#[derive(Clone, Copy, Debug, PartialEq, Eq)]
+pub struct NameOf<'a>(pub &'a [u8]);
+
+impl fmt::Display for NameOf<'_> {
+    fn fmt<W: fmt::Write>(&self, f: &mut fmt::Formatter<W>) -> fmt::Result {
+        write_name(f, self.0)
+    }
+}
+
+/// The name of a file as lines of the output have it, which is as [`Name`] shows it.
+pub fn printed(alloc: Global, name: &str) -> Result<String, AllocError> {
+    format!(in alloc; "{}", NameOf(name.as_bytes()))
+}
+
+fn write_name<W: fmt::Write>(f: &mut fmt::Formatter<W>, name: &[u8]) -> fmt::Result {
+    match str::from_utf8(name) {
+        Ok(text) if !has_control(text) => f.write_str(text),
+        Ok(text) => write_quoted(f, text),
+        Err(_) => write_octets(f, name),
     }
 }
 

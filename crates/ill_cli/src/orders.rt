@@ -1,7 +1,4 @@
 //! What a command line says.
-ghost use Rattle.std.specs.Prelude.{◌≡◌};
-ghost use Rattle.ill_cli.specs.Orders.{task_of_verb};
-
 use ill_jobs::Job;
 
 /// A command of the program.
@@ -9,39 +6,36 @@ use ill_jobs::Job;
 pub enum Verb {
     Show,
     Check,
+    Digest,
     Same,
     Canonicalise,
 }
 
-/// What a command line tells the program to do. The word `-` is standard input, or standard output
-/// for the second file of `canonicalise`.
-#[derive(Clone, Copy, Debug, PartialEq, Eq)]
+/// What a command line tells the program to do. The word `-` is standard input, or standard output for the output of
+/// `canonicalise`.
+#[derive(Debug, Drop)]
 pub struct Order<'a> {
-    pub command: Verb,
     /// Whether inputs are hexadecimal text.
     pub hex: bool,
-    pub first: &'a str,
-    /// The second file of `same` and `canonicalise`.
-    pub second: Option<&'a str>,
+    pub task: Task<'a>,
 }
 
-/// What a command does with its inputs.
-#[derive(Clone, Copy, Debug, PartialEq, Eq)]
-pub enum Task {
-    /// A job with the messages of one input.
-    Run(Job),
-    /// A comparison of two inputs.
-    Compare,
+/// What a command does with its files.
+#[derive(Debug, Drop)]
+pub enum Task<'a> {
+    /// A job with the messages of each file, in turn.
+    Each { job: Job, inputs: Inputs<'a> },
+    /// The normal forms of the messages of one file, into another.
+    Canonicalise { input: &'a str, output: &'a str },
+    /// A comparison of two files.
+    Compare { first: &'a str, second: &'a str },
 }
 
-/// What the command does.
-pub fn task_of(command: Verb) -> Task
-    ensures { result ≡ task_of_verb command }
-{
-    match command {
-        Verb::Show => Task::Run(Job::Show),
-        Verb::Check => Task::Run(Job::Check),
-        Verb::Canonicalise => Task::Run(Job::Canonicalise),
-        Verb::Same => Task::Compare,
-    }
+/// The files that a job reads.
+#[derive(Debug, Drop)]
+pub struct Inputs<'a> {
+    /// Those that the command line names.
+    pub files: Vec<&'a str>,
+    /// The file that has the names of more, each ended by a NUL.
+    pub list: Option<&'a str>,
 }

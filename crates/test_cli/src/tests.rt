@@ -3,5 +3,6 @@ mod contracts;
 mod fake;
 mod files;
 mod lines;
+mod lists;
 mod names;
 mod outputs;

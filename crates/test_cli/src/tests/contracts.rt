@@ -1,34 +1,24 @@
 //! Contracts that leave one result: what the calls return is proved of their contracts alone. So a body that returns anything else
 //! doesn't meet its contract.
 use ber_core::{Pieces, Source};
-use ill_cli::{Fault, LineFault, Opened, Task, Verb, order, status_of, task_of};
-use ill_jobs::{Job, RunFault, Verdict};
+use ill_cli::{Fault, Opened, Task, order, status_of};
+use ill_jobs::Verdict;
 use std::alloc::Global;
 
-/// Each command does what its name says.
-fn commands_do_what_they_are_named_for() {
-    prove!(task_of(Verb::Show) == Task::Run(Job::Show));
-    prove!(task_of(Verb::Check) == Task::Run(Job::Check));
-    prove!(task_of(Verb::Canonicalise) == Task::Run(Job::Canonicalise));
-    prove!(task_of(Verb::Same) == Task::Compare);
-}
-
-/// Words that give an order give one command on the same files.
-fn words_give_one_order(words: &[String], alloc: Global) {
-    if let (Ok(one), Ok(other)) = (order(alloc, words), order(alloc, words)) {
-        prove!(one.command == other.command);
-        prove!(one.first == other.first);
-        prove!(one.second == other.second);
-    }
-}
-
-/// No order writes a file that it reads by the same word, or compares standard input with itself.
-fn orders_name_no_file_twice(words: &[String], alloc: Global) {
+/// No order reads standard input twice or writes a file that it reads by the same word, and each has a file.
+fn orders_have_files_of_their_own(words: &[String], alloc: Global) {
     if let Ok(order) = order(alloc, words) {
-        let is_again = order.second == Some(order.first);
-        let is_standard = order.first == "-";
-        prove!(!(order.command == Verb::Canonicalise && is_again && !is_standard));
-        prove!(!(order.command == Verb::Same && is_again && is_standard));
+        match order.task {
+            Task::Canonicalise { input, output } => {
+                prove!(input == "-" || input != output);
+            }
+            Task::Compare { first, second } => {
+                prove!(first != "-" || second != "-");
+            }
+            Task::Each { inputs, .. } => {
+                prove!(!inputs.files.is_empty() || inputs.list.is_some());
+            }
+        }
     }
 }
 

@@ -1,8 +1,8 @@
 //! Command lines, the lines that the program prints where it fails, and its statuses.
 use clap::Error as LineError;
 use clap::error::ErrorKind;
-use ill_cli::{Fault, LineFault, Order, Verb, order, status_of};
-use ill_jobs::{RunFault, Verdict};
+use ill_cli::{Fault, LineFault, Order, Task, order, status_of};
+use ill_jobs::{Job, RunFault, Verdict};
 use ill_normal::{Cause, NodeId, PartId, Refusal, Side};
 use std::alloc::{AllocError, Global};
 
@@ -15,39 +15,93 @@ fn words_of(alloc: Global, line: &str) -> Result<Vec<String>, AllocError> {
     Ok(words)
 }
 
+/// Whether the words give the job with these files and this list.
+fn gives_each(
+    alloc: Global,
+    line: &str,
+    (wanted_job, wanted_hex): (Job, bool),
+    wanted_files: &[&str],
+    wanted_list: Option<&str>,
+) -> Result<bool, AllocError> {
+    let words = words_of(alloc, line)?;
+    let Ok(Order { hex, task }) = order(alloc, &words) else {
+        return Ok(false);
+    };
+    let Task::Each { job, inputs } = task else {
+        return Ok(false);
+    };
+    Ok(
+        job == wanted_job
+            && hex == wanted_hex
+            && inputs.files.as_slice() == wanted_files
+            && inputs.list == wanted_list,
+    )
+}
+
 #[test]
-fn command_lines_are_orders(rt: HostRuntime) -> Result<(), AllocError> {
+fn jobs_have_their_files(rt: HostRuntime) -> Result<(), AllocError> {
     let alloc = rt.alloc();
-    let rows = [
-        (
-            "illcanon canonicalise --hex - -",
-            Verb::Canonicalise,
-            true,
-            "-",
-            Some("-"),
-        ),
-        (
-            "illcanon canonicalise - out",
-            Verb::Canonicalise,
-            false,
-            "-",
-            Some("out"),
-        ),
-        ("illcanon same a a", Verb::Same, false, "a", Some("a")),
-        ("illcanon same --hex a -", Verb::Same, true, "a", Some("-")),
-        ("illcanon show a", Verb::Show, false, "a", None),
-        ("illcanon check - --hex", Verb::Check, true, "-", None),
-    ];
-    for (line, command, hex, first, second) in rows {
+    for (name, job) in [
+        ("show", Job::Show),
+        ("check", Job::Check),
+        ("digest", Job::Digest),
+    ] {
+        let one = format!(in alloc; "illcanon {name} a")?;
+        assert!(rt;
+            gives_each(alloc, &one, (job, false), &["a"], None)?,
+            "{name}"
+        );
+        let several = format!(in alloc; "illcanon {name} b --hex - a b")?;
+        let files = ["b", "-", "a", "b"];
+        assert!(rt;
+            gives_each(alloc, &several, (job, true), &files, None)?,
+            "{name}"
+        );
+        let listed = format!(in alloc; "illcanon {name} --files-from - a")?;
+        assert!(rt;
+            gives_each(alloc, &listed, (job, false), &["a"], Some("-"))?,
+            "{name}"
+        );
+        let only = format!(in alloc; "illcanon {name} --files-from=list")?;
+        assert!(rt;
+            gives_each(alloc, &only, (job, false), &[], Some("list"))?,
+            "{name}"
+        );
+        let option = format!(in alloc; "illcanon {name} -- --hex")?;
+        assert!(rt;
+            gives_each(alloc, &option, (job, false), &["--hex"], None)?,
+            "{name}"
+        );
+    }
+    Ok(())
+}
+
+#[test]
+fn other_commands_have_two_files(rt: HostRuntime) -> Result<(), AllocError> {
+    let alloc = rt.alloc();
+    for (line, wanted_hex, (one, other)) in [
+        ("illcanon canonicalise --hex - -", true, ("-", "-")),
+        ("illcanon canonicalise - out", false, ("-", "out")),
+    ] {
         let words = words_of(alloc, line)?;
-        let wanted = Order {
-            command,
-            hex,
-            first,
-            second,
-        };
         let found = order(alloc, &words);
-        assert!(rt; matches!(&found, Ok(order) if *order == wanted), "{line}");
+        assert!(rt;
+            matches!(&found, Ok(Order { hex, task: Task::Canonicalise { input, output } })
+            if *hex == wanted_hex && *input == one && *output == other),
+            "{line}"
+        );
+    }
+    for (line, wanted_hex, (one, other)) in [
+        ("illcanon same a a", false, ("a", "a")),
+        ("illcanon same --hex a -", true, ("a", "-")),
+    ] {
+        let words = words_of(alloc, line)?;
+        let found = order(alloc, &words);
+        assert!(rt;
+            matches!(&found, Ok(Order { hex, task: Task::Compare { first, second } })
+            if *hex == wanted_hex && *first == one && *second == other),
+            "{line}"
+        );
     }
     Ok(())
 }
@@ -55,10 +109,26 @@ fn command_lines_are_orders(rt: HostRuntime) -> Result<(), AllocError> {
 #[test]
 fn the_same_word_twice_is_refused(rt: HostRuntime) -> Result<(), AllocError> {
     let alloc = rt.alloc();
-    for line in ["illcanon same - -", "illcanon canonicalise a a"] {
+    for line in [
+        "illcanon same - -",
+        "illcanon canonicalise a a",
+        "illcanon check - a -",
+        "illcanon digest --files-from - -",
+    ] {
         let words = words_of(alloc, line)?;
         let found = order(alloc, &words);
         assert!(rt; matches!(&found, Err(LineFault::SameWord)), "{line}");
+    }
+    Ok(())
+}
+
+#[test]
+fn a_job_without_a_file_is_refused(rt: HostRuntime) -> Result<(), AllocError> {
+    let alloc = rt.alloc();
+    for line in ["illcanon show", "illcanon check --hex", "illcanon digest"] {
+        let words = words_of(alloc, line)?;
+        let found = order(alloc, &words);
+        assert!(rt; matches!(&found, Err(LineFault::NoFile)), "{line}");
     }
     Ok(())
 }
@@ -73,9 +143,14 @@ fn other_words_are_refused(rt: HostRuntime) -> Result<(), AllocError> {
             2,
         ),
         ("illcanon shwo a", ErrorKind::InvalidSubcommand, 2),
-        ("illcanon show", ErrorKind::MissingRequiredArgument, 2),
         ("illcanon same a", ErrorKind::MissingRequiredArgument, 2),
-        ("illcanon check a b", ErrorKind::UnknownArgument, 2),
+        ("illcanon same a b c", ErrorKind::UnknownArgument, 2),
+        ("illcanon check --files-from", ErrorKind::InvalidValue, 2),
+        (
+            "illcanon same --files-from a b",
+            ErrorKind::UnknownArgument,
+            2,
+        ),
         ("illcanon check --hexx a", ErrorKind::UnknownArgument, 2),
         ("illcanon check --help", ErrorKind::DisplayHelp, 0),
         ("illcanon --version", ErrorKind::DisplayVersion, 0),
@@ -164,6 +239,11 @@ fn each_fault_is_one_line(rt: HostRuntime) -> Result<(), AllocError> {
             1,
         ),
         (Fault::from(LineFault::SameWord), "the same word twice", 2),
+        (
+            Fault::from(LineFault::NoFile),
+            "FILE or --files-from is missing",
+            2,
+        ),
         (Fault::from(RunFault::OutOfMemory), "out of memory", 3),
         (Fault::from(RunFault::ReadFault), "read fault", 3),
         (

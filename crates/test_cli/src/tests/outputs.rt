@@ -18,6 +18,9 @@ const REFUSED: &str = "741f301d800102a2";
 const SHOWN: &str =
     "message 1 Expired\nprotocol-version-num = 2\ntransaction-id.transaction-group-qualifier = general \"G\"\ntransaction-id.transaction-qualifier = general \"Q\"\nservice-date-time.date-time-of-this-service.date = 20240229\n";
 
+const SHOWN_OF_A: &str =
+    "A: message 1 Expired\nprotocol-version-num = 2\ntransaction-id.transaction-group-qualifier = general \"G\"\ntransaction-id.transaction-qualifier = general \"Q\"\nservice-date-time.date-time-of-this-service.date = 20240229\n";
+
 /// A line of words, with the files that they name by a letter: A to D hold the four messages, and O is absent.
 #[derive(Clone, Copy)]
 struct Row {
@@ -27,7 +30,7 @@ struct Row {
     errors: &'static str,
 }
 
-const ROWS: [Row; 15] = [
+const ROWS: [Row; 24] = [
     Row {
         words: "show A",
         status: 0,
@@ -113,6 +116,60 @@ const ROWS: [Row; 15] = [
         errors: "illcanon: the same word twice\n",
     },
     Row {
+        words: "digest A",
+        status: 0,
+        output: "41b0dca84b6db1db587880995cae8f2ae640c5af026d4d9745a5bc56ba11a782  A:1\n",
+        errors: "",
+    },
+    Row {
+        words: "digest B A",
+        status: 0,
+        output: "41b0dca84b6db1db587880995cae8f2ae640c5af026d4d9745a5bc56ba11a782  B:1\n41b0dca84b6db1db587880995cae8f2ae640c5af026d4d9745a5bc56ba11a782  A:1\n",
+        errors: "",
+    },
+    Row {
+        words: "check A A",
+        status: 0,
+        output: "A: message 1: Expired, 33 octets, normal\nA: message 1: Expired, 33 octets, normal\n",
+        errors: "",
+    },
+    Row {
+        words: "check A B",
+        status: 1,
+        output: "A: message 1: Expired, 33 octets, normal\nB: message 1: Expired, 47 octets, not normal, normal form 33 octets\n",
+        errors: "",
+    },
+    Row {
+        words: "show D A",
+        status: 1,
+        output: SHOWN_OF_A,
+        errors: "illcanon: D: refused at 7 in message 1: UnexpectedTag\n",
+    },
+    Row {
+        words: "check B O D A",
+        status: 3,
+        output: "B: message 1: Expired, 47 octets, not normal, normal form 33 octets\nA: message 1: Expired, 33 octets, normal\n",
+        errors: "illcanon: cannot open O\nillcanon: D: refused at 7 in message 1: UnexpectedTag\n",
+    },
+    Row {
+        words: "check - A -",
+        status: 2,
+        output: "",
+        errors: "illcanon: the same word twice\n",
+    },
+    Row {
+        words: "digest --hex",
+        status: 2,
+        output: "",
+        errors: "illcanon: FILE or --files-from is missing\n",
+    },
+    Row {
+        words: "digest --files-from O A",
+        status: 3,
+        output: "",
+        errors: "illcanon: cannot open O\n",
+    },
+    Row {
         words: "check --hex A",
         status: 1,
         output: "",
@@ -121,7 +178,7 @@ const ROWS: [Row; 15] = [
 ];
 
 /// Makes the files A to D in a folder, and goes there.
-fn with_files(rt: &HostRuntime) -> Result<String, Fail> {
+pub fn with_files(rt: &HostRuntime) -> Result<String, Fail> {
     let alloc = rt.alloc();
     let folder = folder(rt)?;
     for (name, digits) in [
@@ -137,7 +194,7 @@ fn with_files(rt: &HostRuntime) -> Result<String, Fail> {
     Ok(folder)
 }
 
-fn run_line(rt: &HostRuntime, line: &str, start: Start<'_>) -> Result<Ended, Fail> {
+pub fn run_line(rt: &HostRuntime, line: &str, start: Start<'_>) -> Result<Ended, Fail> {
     let mut words: Vec<&[u8]> = Vec::new(rt.alloc());
     for word in line.split(' ') {
         words.push(word.as_bytes())?;

@@ -1,0 +1,161 @@
+//! A job with each of several files, in turn.
+ghost use Rattle.std.specs.Prelude.{◌≡◌, ◌<◌, ◌++◌, [], ◌∷◌, map, length, IfOk, IfNone, IfSome};
+ghost use Rattle.ill_cli.specs.Listed.{names_in};
+ghost use Rattle.ill_cli.specs.Status.{IsStatusOfEach, worst};
+
+use crate::commands::{end, to_standard_output};
+use crate::fault::{Fault, LineFault, is_output_lost, print_of, status_of};
+use crate::input::{open, read_whole};
+use crate::names::{Name, printed};
+use crate::orders::Inputs;
+use ill_jobs::{Job, Verdict, Work};
+use std::alloc::{AllocError, Global};
+use std::rt::Files;
+use std::str;
+
+/// Does a job with each input, prints the line of each fault, and returns the exit status. Of several files each line names its file.
+pub fn each_input<R: Print + Eprint + Input + Files + AllocGlobal>(
+    rt: &R,
+    job: Job,
+    hex: bool,
+    inputs: &Inputs<'_>,
+) -> u8 {
+    let alloc = rt.alloc();
+    let list = match list_of(rt, inputs.list) {
+        Ok(list) => list,
+        Err(fault) => return end(rt, &Err(fault)),
+    };
+    let Ok(names) = names_of(alloc, &inputs.files, &list) else {
+        return end(rt, &Err(Fault::out_of_memory()));
+    };
+    if is_dash_twice(&names, inputs.list) {
+        return end(rt, &Err(Fault::from(LineFault::SameWord)));
+    }
+    match names.as_slice() {
+        [name] => end(rt, &one_file(rt, job, hex, name, false)),
+        names => each_file(rt, job, hex, names),
+    }
+}
+
+/// The octets of a list of names; none where there is no list.
+fn list_of<R: Input + Files + AllocGlobal>(rt: &R, list: Option<&str>) -> Result<Vec<u8>, Fault> {
+    match list {
+        Some(name) => read_whole(rt, name),
+        None => Ok(Vec::new(rt.alloc())),
+    }
+}
+
+/// The words FILE, and then the names of the list.
+fn names_of<'a>(
+    alloc: Global,
+    files: &[&'a str],
+    list: &'a [u8],
+) -> Result<Vec<&'a [u8]>, AllocError>
+    ensures { IfOk result (λ names. map (λ name. name.now) names.items ≡ map (λ word. word.now) files.now ++ names_in list.entry.now) }
+{
+    let mut names = Vec::new(alloc);
+    for file in files {
+        names.push(file.as_bytes())?;
+    }
+    let mut rest = list;
+    while let Some((name, after)) = split_name(rest) {
+        names.push(name)?;
+        rest = after;
+    }
+    Ok(names)
+}
+
+/// The first name of a list, and what follows it; None at the end of the list.
+fn split_name(list: &[u8]) -> Option<(&[u8], &[u8])>
+    ensures name { IfSome result (λ found. names_in list.now ≡ found.0.now ∷ names_in found.1.now) }
+    ensures fewer { IfSome result (λ found. length found.1.now < length list.now) }
+    ensures none { IfNone result (names_in list.now ≡ []) }
+{
+    if list.is_empty() {
+        return None;
+    }
+    for (end, octet) in list.iter().enumerate() {
+        if *octet == 0 {
+            return Some((&list[..end], &list[end + 1..]));
+        }
+    }
+    Some((list, &list[list.len()..]))
+}
+
+/// Whether standard input is to be read more than once.
+fn is_dash_twice(names: &[&[u8]], list: Option<&str>) -> bool {
+    let mut found = list == Some("-");
+    for name in names {
+        if *name == b"-".as_slice() {
+            if found {
+                return true;
+            }
+            found = true;
+        }
+    }
+    false
+}
+
+/// Does a job with each file, prints the line of each fault, and returns the status of all that were done. Once output is lost, no
+/// file more is done.
+fn each_file<R: Print + Eprint + Input + Files + AllocGlobal>(
+    rt: &R,
+    job: Job,
+    hex: bool,
+    names: &[&[u8]],
+) -> u8
+    ensures { IsStatusOfEach (length names.now) result }
+{
+    let mut status = 0;
+    for name in names {
+        let done = one_file(rt, job, hex, name, true);
+        if let Err(fault) = &done {
+            // Where standard error is closed, only the status is left to tell.
+            let _ = print_of(rt, name, fault);
+        }
+        status = worse(status, status_of(&done));
+        if is_output_lost(&done) {
+            return status;
+        }
+    }
+    status
+}
+
+/// The status of files of which those before have one, and the next has the other.
+fn worse(before: u8, next: u8) -> u8
+    ensures { result ≡ worst (before ∷ next ∷ []) }
+{
+    if before == 3 || next == 3 {
+        3
+    } else if before == 1 || next == 1 {
+        1
+    } else {
+        0
+    }
+}
+
+/// Does a job with the file of this name, and writes to standard output.
+fn one_file<R: Print + Input + Files + AllocGlobal>(
+    rt: &R,
+    job: Job,
+    hex: bool,
+    name: &[u8],
+    is_named: bool,
+) -> Result<Verdict, Fault> {
+    let alloc = rt.alloc();
+    let Ok(file) = str::from_utf8(name) else {
+        return Err(match name.to_vec(alloc) {
+            Ok(octets) => Fault::CannotOpen(Name(octets)),
+            Err(AllocError) => Fault::out_of_memory(),
+        });
+    };
+    let mut source = open(rt, file)?;
+    let name = printed(alloc, file).map_err(|_| Fault::out_of_memory())?;
+    let work = Work {
+        job,
+        hex,
+        name: &name,
+        is_named,
+    };
+    to_standard_output(rt, work, &mut source)
+}

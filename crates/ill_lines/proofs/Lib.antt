@@ -1,0 +1,3 @@
+pub mod PartEnds
+pub mod LineEnds
+pub mod MadeResults

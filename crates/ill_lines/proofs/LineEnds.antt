@@ -1,0 +1,113 @@
+-- What each octet changes.
+use Rattle.std.proofs.Common.{◌≡◌, ◌==◌, ◌&&◌, ℕ, ◌<◌, ◌≤◌, Bool, true, false, List, [], ◌∷◌, ◌++◌, codes, length, map, take, refl, sym, ap, subst, ◌∙◌, arith, append_assoc, append-nil, drop, length-append, length-take, Some}
+use Rattle.std.proofs.lemmas.List.{map-append, take_all, take-append-drop, take-append-le}
+use Rattle.std.proofs.Math.ListN.{drop_of_length-le}
+use Rattle.ill_jobs.specs.Hexadecimal.{hex_octets}
+use Rattle.ill_jobs.proofs.TextAnswers.{same_octets}
+use Rattle.ill_lines.proofs.PartEnds.{no_end_more, part_ended}
+use Rattle.ill_lines.specs.Lines.{Answer, AreAnswers, IsResult, all_good, lines, output}
+use Rattle.ill_lines.specs.code.After.{Answers, IsSame, StandsAfter}
+use Rattle.ill_lines.specs.declared.job.LineJob.{LineJob}
+use Rattle.ill_lines.specs.declared.lines.Lines.{Lines}
+
+abbrev pub texts : List Answer → List (List ℕ)
+texts answers = map (λ a. a.text) answers
+
+abbrev pub answer : List ℕ → List ℕ → Bool → Answer
+answer text result good = record { text = text; result = result; is_good = good }
+
+-- ---- answers
+
+pub push_are : (job : LineJob) (answers : List Answer) (a : Answer) → AreAnswers job answers → IsResult job (hex_octets a.text) a.result a.is_good → AreAnswers job (answers ++ a ∷ [])
+push_are job [] a h k = (k, tt)
+push_are job (b ∷ answers) a h k = (h.0, push_are job answers a h.1 k)
+
+pub push_output : (answers : List Answer) (a : Answer) → output (answers ++ a ∷ []) ≡ output answers ++ (a.result ++ codes "\n")
+push_output [] a = append-nil (a.result ++ codes "\n")
+push_output (b ∷ answers) a = ap (λ l. b.result ++ codes "\n" ++ l) (push_output answers a) ∙ sym (append_assoc (b.result ++ codes "\n") (output answers) (a.result ++ codes "\n"))
+
+pub push_good : (answers : List Answer) (a : Answer) → all_good (answers ++ a ∷ []) ≡ (all_good answers && a.is_good)
+push_good [] a = and_true a.is_good
+  where
+    and_true : (b : Bool) → (b && true) ≡ b
+    and_true true = refl
+    and_true false = refl
+push_good (b ∷ answers) a = ap (λ (x : Bool). b.is_good && x) (push_good answers a) ∙ regroup b.is_good (all_good answers) a.is_good
+  where
+    regroup : (x y z : Bool) → (x && (y && z)) ≡ ((x && y) && z)
+    regroup true y z = refl
+    regroup false y z = refl
+
+-- ---- what is kept of a line
+
+-- a text that is too long has one result, however much too long it is
+pub kept_stands : (text : List ℕ) → hex_octets (take 4_194_305 text) ≡ hex_octets text
+kept_stands text =
+    let few : length (take 4_194_305 text) ≤ 4_194_305 = omega (arith, length-take 4_194_305 text) in
+    sym (same_octets text (Some (drop 4_194_305 text)) (take 4_194_305 text) (
+      sym (take-append-drop 4_194_305 text),
+      few,
+      λ le. drop_of_length-le text {i = 4_194_305} (omega (arith, le, length-take 4_194_305 text)),
+    ))
+
+pub keeps_more : (kept rest : List ℕ) (c : ℕ) → kept ≡ take 4_194_305 rest → length kept ≤ 4_194_304 → kept ++ c ∷ [] ≡ take 4_194_305 (rest ++ c ∷ [])
+keeps_more kept rest c e le =
+    let few : length rest ≤ 4_194_304 = omega (arith, le, ap length e, length-take 4_194_305 rest) in
+    ap (λ l. l ++ c ∷ []) (e ∙ take_all 4_194_305 rest (omega (arith, few))) ∙ sym (take_all 4_194_305 (rest ++ c ∷ []) (omega (arith, few, length-append rest (c ∷ []))))
+
+pub keeps_all : (kept rest : List ℕ) (c : ℕ) → kept ≡ take 4_194_305 rest → 4_194_304 < length kept → kept ≡ take 4_194_305 (rest ++ c ∷ [])
+keeps_all kept rest c e lt = e ∙ sym (take-append-le 4_194_305 rest (c ∷ []) (omega (arith, lt, ap length e, length-take 4_194_305 rest)))
+
+-- ---- steps
+
+module _ (job : LineJob) (s put : List ℕ) (old new : Lines) (h : StandsAfter job s put old) where
+  pub step_same : IsSame old new → StandsAfter job s put new
+  step_same k = record {
+    answers = h.answers;
+    rest = h.rest;
+    of = h.of;
+    unended = h.unended;
+    is_kept = k.0 ∙ h.is_kept;
+    are = h.are;
+    is_made = ap (λ l. put ++ l) k.1 ∙ h.is_made;
+    is_good = k.2 ∙ h.is_good;
+  }
+
+  pub step_keep : (c : ℕ) → (c == 0x0A) ≡ false → new.part.items ≡ take 4_194_305 (h.rest ++ c ∷ []) → new.ready.items ≡ old.ready.items → new.is_good ≡ old.is_good
+      → StandsAfter job (s ++ c ∷ []) put new
+  step_keep c e kept ready good = record {
+    answers = h.answers;
+    rest = h.rest ++ c ∷ [];
+    of = λ more. ap lines (append_assoc s (c ∷ []) more) ∙ h.of (c ∷ more) ∙ ap (λ l. texts h.answers ++ lines l) (sym (append_assoc h.rest (c ∷ []) more));
+    unended = no_end_more 0x0A h.rest c h.unended e;
+    is_kept = kept;
+    are = h.are;
+    is_made = ap (λ l. put ++ l) ready ∙ h.is_made;
+    is_good = good ∙ h.is_good;
+  }
+
+  -- the result of the line that was kept is that of the line
+  pub result_of_line : (k : Answers job old.part.items old new) → IsResult job (hex_octets h.rest) k.result k.is_good
+  result_of_line k = subst (λ o. IsResult job o k.result k.is_good) (ap hex_octets h.is_kept ∙ kept_stands h.rest) k.is_result
+
+  pub more_made : (k : Answers job old.part.items old new) → put ++ new.ready.items ≡ output (h.answers ++ answer h.rest k.result k.is_good ∷ [])
+  more_made k =
+      ap (λ l. put ++ l) (k.ready ∙ append_assoc old.ready.items k.result (codes "\n")) ∙ sym (append_assoc put old.ready.items (k.result ++ codes "\n"))
+      ∙ ap (λ l. l ++ (k.result ++ codes "\n")) h.is_made ∙ sym (push_output h.answers (answer h.rest k.result k.is_good))
+
+  pub more_good : (k : Answers job old.part.items old new) → new.is_good ≡ all_good (h.answers ++ answer h.rest k.result k.is_good ∷ [])
+  more_good k = k.good ∙ ap (λ (b : Bool). b && k.is_good) h.is_good ∙ sym (push_good h.answers (answer h.rest k.result k.is_good))
+
+  pub step_end : Answers job old.part.items old new → StandsAfter job (s ++ 0x0A ∷ []) put new
+  step_end k =
+      let a = answer h.rest k.result k.is_good in record {
+        answers = h.answers ++ a ∷ [];
+        rest = [];
+        of = λ more. ap lines (append_assoc s (0x0A ∷ []) more) ∙ h.of (0x0A ∷ more) ∙ ap (λ l. texts h.answers ++ l) (part_ended 0x0A h.rest more h.unended)
+            ∙ sym (append_assoc (texts h.answers) (h.rest ∷ []) (lines more)) ∙ ap (λ l. l ++ lines more) (sym (map-append (λ (x : Answer). x.text) h.answers (a ∷ [])));
+        unended = refl;
+        is_kept = k.part;
+        are = push_are job h.answers a h.are (result_of_line k);
+        is_made = more_made k;
+        is_good = more_good k;
+      }

@@ -1,0 +1,35 @@
+//! What is to be done with each line, and why it was not done.
+use std::alloc::AllocError;
+
+/// What is returned for the message of a line.
+#[derive(Clone, Copy, Debug, PartialEq, Eq)]
+pub enum LineJob {
+    /// Whether it is its normal form.
+    Check,
+    /// Its digest: SHA-256 of its normal form.
+    Digest,
+    /// Its normal form, in hexadecimal.
+    Canonicalise,
+}
+
+/// Why an input was not read to its end, or not all results were written.
+#[derive(Clone, Copy, Debug, PartialEq, Eq)]
+pub enum LinesFault {
+    /// Out of memory. The results of the lines before were written.
+    OutOfMemory,
+    /// The source is broken. The results of all lines before that it gave whole were written.
+    ReadFault,
+    /// The sink is broken: only a first part of the results was written.
+    WriteFault,
+}
+
+impl From<AllocError> for LinesFault {
+    ghost use Rattle.std.specs.Prelude.{◌≡◌};
+    ghost use Rattle.ill_lines.specs.declared.job.LinesFault.{LinesFault};
+
+    ghost from_gives = { λ error fault. fault ≡ LinesFault.OutOfMemory };
+
+    fn from(_error: AllocError) -> LinesFault {
+        LinesFault::OutOfMemory
+    }
+}

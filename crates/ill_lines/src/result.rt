@@ -1,0 +1,106 @@
+//! The result of one line.
+ghost use Rattle.std.specs.Prelude.{◌≡◌, ℕ, List, true, IfOk};
+ghost use Rattle.hex.specs.Hex.{encode_lower};
+ghost use Rattle.ber_leaf.specs.Profile.{profile_two};
+ghost use Rattle.ill_schema.specs.Apdu.{Apdu, SpellsApdu, normal_form};
+ghost use Rattle.ill_normal.specs.Messages.{spelling};
+ghost use Rattle.ill_jobs.specs.Hexadecimal.{hex_octets};
+ghost use Rattle.ill_lines.specs.declared.job.LineJob.{LineJob};
+ghost use Rattle.ill_lines.specs.Lines.{IsResult, IsResultOf, is_good_message, message_words};
+
+use crate::job::LineJob;
+use crate::words::{check_words, hex_words, refusal_words};
+use ill_digest::normal_digest;
+use ill_jobs::{RunFault, text_octets};
+use ill_normal::{Failure, decode_normal};
+use std::alloc::{AllocError, Global};
+
+/// The result of a line, and whether it is good.
+#[derive(Drop)]
+pub struct LineResult {
+    pub words: Vec<u8>,
+    pub is_good: bool,
+}
+
+/// The result of the line of this text.
+pub fn result_of(alloc: Global, job: LineJob, text: &[u8]) -> Result<LineResult, AllocError>
+    ensures { IfOk result (λ found. IsResult job (hex_octets text.now) found.words.items found.is_good) }
+{
+    match text_octets(alloc, text) {
+        Ok(octets) => message_result(alloc, job, &octets),
+        Err(RunFault::OutOfMemory) => Err(AllocError),
+        Err(fault) => Ok(LineResult {
+            words: hex_words(alloc, fault)?,
+            is_good: false,
+        }),
+    }
+}
+
+/// The result of a line whose text stands for these octets.
+fn message_result(alloc: Global, job: LineJob, octets: &[u8]) -> Result<LineResult, AllocError>
+    ensures { IfOk result (λ found. IsResultOf job octets.now found.words.items found.is_good) }
+{
+    match decode_normal(alloc, octets) {
+        Ok(normal) => form_result(alloc, job, octets, &normal.octets),
+        Err(Failure::Refused(refusal)) => Ok(LineResult {
+            words: refusal_words(alloc, refusal)?,
+            is_good: false,
+        }),
+        Err(Failure::OutOfMemory) => Err(AllocError),
+    }
+}
+
+/// The result of a message with this normal form.
+fn form_result(
+    alloc: Global,
+    job: LineJob,
+    octets: &[u8],
+    normal: &[u8],
+) -> Result<LineResult, AllocError>
+    ensures { (a : Apdu) → SpellsApdu profile_two a octets.now → normal.now ≡ normal_form a → IfOk result (λ found.
+        (found.words.items ≡ message_words job (spelling a octets.now)) × (found.is_good ≡ is_good_message job (spelling a octets.now))) }
+{
+    match job {
+        LineJob::Check => check_result(alloc, octets, normal),
+        LineJob::Digest => digits_result(alloc, &normal_digest(normal)),
+        LineJob::Canonicalise => digits_result(alloc, normal),
+    }
+}
+
+fn digits_result(alloc: Global, octets: &[u8]) -> Result<LineResult, AllocError>
+    ensures { IfOk result (λ found. (found.words.items ≡ encode_lower octets.now) × (found.is_good ≡ true)) }
+{
+    let digits = hex::encode(alloc, octets)?;
+    Ok(LineResult {
+        words: digits.into_bytes(),
+        is_good: true,
+    })
+}
+
+fn check_result(alloc: Global, octets: &[u8], normal: &[u8]) -> Result<LineResult, AllocError>
+    ensures { (a : Apdu) → SpellsApdu profile_two a octets.now → normal.now ≡ normal_form a → IfOk result (λ found.
+        (found.words.items ≡ message_words LineJob.Check (spelling a octets.now)) × (found.is_good ≡ is_good_message LineJob.Check (spelling a octets.now))) }
+{
+    let is_normal = octets == normal;
+    let words = check_words(
+        alloc,
+        apdu_number(normal),
+        octets.len(),
+        is_normal,
+        normal.len(),
+    )?;
+    Ok(LineResult {
+        words,
+        is_good: is_normal,
+    })
+}
+
+/// The number of the APDU whose normal form this is: its first octet is [APPLICATION number], constructed.
+fn apdu_number(normal: &[u8]) -> u8
+    ensures { (a : Apdu) (b : List ℕ) → SpellsApdu profile_two a b → normal.now ≡ normal_form a → result ≡ a.number }
+{
+    match normal {
+        [first, ..] => first % 32,
+        [] => 0,
+    }
+}

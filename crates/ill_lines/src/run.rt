@@ -1,0 +1,115 @@
+//! The lines of an input, from a source to a sink.
+ghost use Rattle.std.specs.Prelude.{◌≡◌, ◌++◌, ◌<◌, ℕ, Bool, List, [], Option, take, length, IfOk, IfErr, OnOk, IsTrue};
+ghost use Rattle.std.specs.Io.KnownBytes.{Appends, Consumes, IsAtEnd};
+ghost use Rattle.ill_normal.specs.Calls.{putting, taking};
+ghost use Rattle.ill_lines.specs.declared.job.LinesFault.{LinesFault};
+ghost use Rattle.ill_lines.specs.Lines.{EndsWithin, LinesDone, LinesFail};
+ghost use Rattle.ill_lines.specs.code.After.{HasWritten};
+
+use crate::job::{LineJob, LinesFault};
+use crate::lines::Lines;
+use ber_core::{Broken, Sink, Source};
+use ill_write::put_all;
+use std::alloc::{AllocError, Global};
+
+/// How many octets are asked of the source at once.
+const CHUNK: usize = 16_384;
+
+/// Reads each line of an input as a message in hexadecimal, and writes a line with its result: for `Canonicalise` the normal form and for
+/// `Digest` the digest, in lower case hexadecimal, for `Check` a line as `Expired, 33 octets, normal`. A line that is no message has
+/// `refused at 19: Missing Expired.service-date-time` or `hex: odd number of digits` in its place, and the next line is read.
+///
+/// Each line is ended by a line feed, the last also by the end of the input. Spaces, tabs and carriage returns are skipped. A line of
+/// more than 4,194,304 octets is `hex: too long`. Before more input is asked for, the results of all lines that ended are put into the
+/// sink. Memory doesn't grow with the number of lines.
+///
+/// Returns whether all lines are messages, and for `Check` in normal form.
+///
+/// # Errors
+///
+/// Why the input was not read to its end, or not all results were written.
+pub fn run_lines<R: Source, W: Sink>(
+    alloc: Global,
+    job: LineJob,
+    source: &mut R,
+    sink: &mut W,
+) -> Result<bool, LinesFault>
+    ensures done { IfOk result (LinesDone job (R.left source.old) (R.left source.new) (W.contents sink.old) (W.contents sink.new)) }
+    ensures fails { IfErr result (LinesFail job (taking (R.left source.old) (R.left source.new) (R.is_broken source.new))
+        (putting (W.contents sink.old) (W.contents sink.new) (W.is_broken sink.new))) }
+    ensures source_stays { IsTrue (R.is_broken source.old) → IsTrue (R.is_broken source.new) }
+    ensures sink_stays { IsTrue (W.is_broken sink.old) → IsTrue (W.is_broken sink.new) }
+{
+    let mut lines = Lines::new(alloc);
+    let mut buffer = [0; CHUNK];
+    for _ in 0..u64::MAX {
+        let count = match source.take(&mut buffer) {
+            Ok(0) => return finish(alloc, job, &mut lines, sink),
+            Ok(count) => count,
+            Err(Broken) => return Err(LinesFault::ReadFault),
+        };
+        pass(alloc, job, &buffer[..count], &mut lines, sink)?;
+    }
+    // After 2^64 calls no more is asked for.
+    Err(LinesFault::OutOfMemory)
+}
+
+/// Reads octets, and writes the results of the lines that end in them.
+fn pass<W: Sink>(
+    alloc: Global,
+    job: LineJob,
+    octets: &[u8],
+    lines: &mut Lines,
+    sink: &mut W,
+) -> Result<(), LinesFault>
+    ensures done { (s : List ℕ) (first : Option (List ℕ)) → HasWritten job s first (W.contents sink.old) lines.old
+        → OnOk result (HasWritten job (s ++ octets.now) first (W.contents sink.new) lines.new) }
+    ensures fails { (s : List ℕ) (first : Option (List ℕ)) (x : Bool) → HasWritten job s first (W.contents sink.old) lines.old
+        → IfErr result (EndsWithin job (s ++ octets.now) x (putting first (W.contents sink.new) (W.is_broken sink.new))) }
+    ensures stays { IsTrue (W.is_broken sink.old) → IsTrue (W.is_broken sink.new) }
+{
+    let fed = lines.feed(alloc, job, octets);
+    put_ready(lines, sink)?;
+    match fed {
+        Ok(()) => Ok(()),
+        Err(AllocError) => Err(LinesFault::OutOfMemory),
+    }
+}
+
+/// Answers the last line, where it has no end, and writes its result.
+fn finish<W: Sink>(
+    alloc: Global,
+    job: LineJob,
+    lines: &mut Lines,
+    sink: &mut W,
+) -> Result<bool, LinesFault>
+    ensures done { (s : List ℕ) (first left left' : Option (List ℕ)) → Consumes left left' s → IsAtEnd left' → HasWritten job s first (W.contents sink.old) lines.old
+        → IfOk result (LinesDone job left left' first (W.contents sink.new)) }
+    ensures fails { (s : List ℕ) (first : Option (List ℕ)) (x : Bool) → HasWritten job s first (W.contents sink.old) lines.old
+        → IfErr result (EndsWithin job s x (putting first (W.contents sink.new) (W.is_broken sink.new))) }
+    ensures stays { IsTrue (W.is_broken sink.old) → IsTrue (W.is_broken sink.new) }
+{
+    if lines.part.is_empty() {
+        return Ok(lines.is_good);
+    }
+    lines.end_line(alloc, job)?;
+    put_ready(lines, sink)?;
+    Ok(lines.is_good)
+}
+
+/// Writes the results that are there.
+fn put_ready<W: Sink>(lines: &mut Lines, sink: &mut W) -> Result<(), LinesFault>
+    ensures all { OnOk result (Appends (W.contents sink.old) (W.contents sink.new) lines.old.ready.items) }
+    ensures ready { OnOk result (lines.new.ready.items ≡ []) }
+    ensures some { IfErr result (λ fault. (fault ≡ LinesFault.WriteFault) × IsTrue (W.is_broken sink.new)
+        × ((n : ℕ) × (n < length lines.old.ready.items) × Appends (W.contents sink.old) (W.contents sink.new) (take n lines.old.ready.items))) }
+    ensures part { lines.new.part.items ≡ lines.old.part.items }
+    ensures good { lines.new.is_good ≡ lines.old.is_good }
+    ensures stays { IsTrue (W.is_broken sink.old) → IsTrue (W.is_broken sink.new) }
+{
+    if put_all(sink, &lines.ready).is_err() {
+        return Err(LinesFault::WriteFault);
+    }
+    lines.ready.clear();
+    Ok(())
+}

@@ -1,0 +1,117 @@
+//! The words that stand in a line for a message, or for why there is none.
+ghost use Rattle.std.specs.Prelude.{◌≡◌, IfOk, OnOk, ◌++◌};
+ghost use Rattle.ill_schema.specs.Names.{part_name_of};
+ghost use Rattle.ill_refusals.specs.Fault.{fault_of};
+ghost use Rattle.ill_lines.specs.Words.{cause_name, cause_words, check_words, hex_words, part_words, refusal_words};
+
+use ill_jobs::RunFault;
+use ill_normal::{Cause, PartId, Refusal, apdu_name, part_name};
+use itoa::Buffer;
+use std::alloc::{AllocError, Global};
+
+/// `refused at`, the offset, and the cause.
+pub fn refusal_words(alloc: Global, refusal: Refusal) -> Result<Vec<u8>, AllocError>
+    ensures { IfOk result (λ words. words.items ≡ refusal_words (fault_of refusal)) }
+{
+    let mut words = Vec::new(alloc);
+    words.extend_from_slice(b"refused at ")?;
+    words.extend_from_slice(Buffer::new().format(refusal.at).as_bytes())?;
+    words.extend_from_slice(b": ")?;
+    push_cause(&mut words, refusal.cause)?;
+    Ok(words)
+}
+
+fn push_cause(words: &mut Vec<u8>, cause: Cause) -> Result<(), AllocError>
+    ensures { OnOk result (words.new.items ≡ words.old.items ++ cause_words cause) }
+{
+    words.extend_from_slice(cause_name(cause).as_bytes())?;
+    match cause {
+        Cause::LeftOut(part) | Cause::Missing(part) => push_part(words, part),
+        _ => Ok(()),
+    }
+}
+
+fn push_part(words: &mut Vec<u8>, part: PartId) -> Result<(), AllocError>
+    ensures { OnOk result (words.new.items ≡ words.old.items ++ part_words (part_name_of part)) }
+{
+    let Some((node, row)) = part_name(part) else {
+        return Ok(());
+    };
+    words.extend_from_slice(b" ")?;
+    words.extend_from_slice(node.as_bytes())?;
+    words.extend_from_slice(b".")?;
+    words.extend_from_slice(row.as_bytes())?;
+    Ok(())
+}
+
+fn cause_name(cause: Cause) -> &'static str
+    ensures { result.now ≡ cause_name cause }
+{
+    match cause {
+        Cause::Truncated => "Truncated",
+        Cause::BadTag => "BadTag",
+        Cause::BadLength => "BadLength",
+        Cause::TooLong => "TooLong",
+        Cause::Overrun => "Overrun",
+        Cause::TooDeep => "TooDeep",
+        Cause::UnexpectedTag => "UnexpectedTag",
+        Cause::LeftOut(_) => "LeftOut",
+        Cause::WrongForm => "WrongForm",
+        Cause::Missing(_) => "Missing",
+        Cause::BadEnd => "BadEnd",
+        Cause::BadBoolean => "BadBoolean",
+        Cause::BadInteger => "BadInteger",
+        Cause::IntegerTooLong => "IntegerTooLong",
+        Cause::BadText => "BadText",
+        Cause::BadDate => "BadDate",
+        Cause::BadTime => "BadTime",
+        Cause::TrailingBytes => "TrailingBytes",
+        Cause::NormalTooLong => "NormalTooLong",
+    }
+}
+
+/// Why a text stands for no octets.
+pub fn hex_words(alloc: Global, fault: RunFault) -> Result<Vec<u8>, AllocError>
+    ensures { IfOk result (λ words. words.items ≡ hex_words fault) }
+{
+    let mut words = Vec::new(alloc);
+    match fault {
+        RunFault::OddHex => words.extend_from_slice(b"hex: odd number of digits")?,
+        RunFault::BadHex(place) => {
+            words.extend_from_slice(b"hex: bad digit at ")?;
+            words.extend_from_slice(Buffer::new().format(place).as_bytes())?;
+        }
+        RunFault::HexTooLong => words.extend_from_slice(b"hex: too long")?,
+        _ => {}
+    }
+    Ok(words)
+}
+
+/// Whether a message is its normal form: the number of its APDU, how many octets it has, and how many its normal form has.
+pub fn check_words(
+    alloc: Global,
+    apdu: u8,
+    octets: usize,
+    is_normal: bool,
+    normal: usize,
+) -> Result<Vec<u8>, AllocError>
+    ensures { IfOk result (λ words. words.items ≡ check_words apdu octets is_normal normal) }
+{
+    let name = match apdu_name(apdu) {
+        Some(name) => name,
+        None => "",
+    };
+    let mut words = Vec::new(alloc);
+    words.extend_from_slice(name.as_bytes())?;
+    words.extend_from_slice(b", ")?;
+    words.extend_from_slice(Buffer::new().format(octets).as_bytes())?;
+    words.extend_from_slice(b" octets, ")?;
+    if is_normal {
+        words.extend_from_slice(b"normal")?;
+        return Ok(words);
+    }
+    words.extend_from_slice(b"not normal, normal form ")?;
+    words.extend_from_slice(Buffer::new().format(normal).as_bytes())?;
+    words.extend_from_slice(b" octets")?;
+    Ok(words)
+}
