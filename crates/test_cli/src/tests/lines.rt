@@ -157,11 +157,7 @@ fn other_words_are_refused(rt: HostRuntime) -> Result<(), AllocError> {
         ("illcanon same a", ErrorKind::MissingRequiredArgument),
         ("illcanon same a b c", ErrorKind::UnknownArgument),
         ("illcanon check --files-from", ErrorKind::InvalidValue),
-        (
-            "illcanon same --files-from a b",
-            ErrorKind::UnknownArgument,
-            2,
-        ),
+        ("illcanon same --files-from a b", ErrorKind::UnknownArgument),
         ("illcanon check --hexx a", ErrorKind::UnknownArgument),
         ("illcanon check --help", ErrorKind::DisplayHelp),
         ("illcanon --version", ErrorKind::DisplayVersion),
