@@ -15,6 +15,18 @@ fn words_of(alloc: Global, line: &str) -> Result<Vec<String>, AllocError> {
     Ok(words)
 }
 
+fn are_same(words: &[&str], wanted: &[&str]) -> bool {
+    if words.len() != wanted.len() {
+        return false;
+    }
+    for (word, want) in words.iter().zip(wanted) {
+        if *word != *want {
+            return false;
+        }
+    }
+    true
+}
+
 /// Whether the words give the job with these files and this list.
 fn gives_each(
     alloc: Global,
@@ -33,7 +45,7 @@ fn gives_each(
     Ok(
         job == wanted_job
             && hex == wanted_hex
-            && inputs.files.as_slice() == wanted_files
+            && are_same(&inputs.files, wanted_files)
             && inputs.list == wanted_list,
     )
 }
@@ -140,31 +152,23 @@ fn other_words_are_refused(rt: HostRuntime) -> Result<(), AllocError> {
         (
             "illcanon",
             ErrorKind::DisplayHelpOnMissingArgumentOrSubcommand,
-            2,
         ),
-        ("illcanon shwo a", ErrorKind::InvalidSubcommand, 2),
-        ("illcanon same a", ErrorKind::MissingRequiredArgument, 2),
-        ("illcanon same a b c", ErrorKind::UnknownArgument, 2),
-        ("illcanon check --files-from", ErrorKind::InvalidValue, 2),
-        (
-            "illcanon same --files-from a b",
-            ErrorKind::UnknownArgument,
-            2,
-        ),
-        ("illcanon check --hexx a", ErrorKind::UnknownArgument, 2),
-        ("illcanon check --help", ErrorKind::DisplayHelp, 0),
-        ("illcanon --version", ErrorKind::DisplayVersion, 0),
+        ("illcanon shwo a", ErrorKind::InvalidSubcommand),
+        ("illcanon same a", ErrorKind::MissingRequiredArgument),
+        ("illcanon same a b c", ErrorKind::UnknownArgument),
+        ("illcanon check --files-from", ErrorKind::InvalidValue),
+        ("illcanon same --files-from a b", ErrorKind::UnknownArgument),
+        ("illcanon check --hexx a", ErrorKind::UnknownArgument),
+        ("illcanon check --help", ErrorKind::DisplayHelp),
+        ("illcanon --version", ErrorKind::DisplayVersion),
     ];
-    for (line, kind, status) in rows {
+    for (line, kind) in rows {
         let words = words_of(alloc, line)?;
-        match order(alloc, &words) {
-            Err(LineFault::Line(error)) => {
-                assert!(rt; error.kind() == kind, "{line}");
-                let done = Err(Fault::from(LineFault::Line(error)));
-                assert!(rt; status_of(&done) == status, "{line}");
-            }
-            _ => assert!(rt; false, "{line}"),
-        }
+        let found = order(alloc, &words);
+        assert!(rt;
+            matches!(&found, Err(LineFault::Line(error)) if error.kind() == kind),
+            "{line}"
+        );
     }
     Ok(())
 }
