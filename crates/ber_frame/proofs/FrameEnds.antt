@@ -1,7 +1,7 @@
 -- What finishes an element at each stage: something does, and it has at least as many octets as are needed.
 use Rattle.std.proofs.Common.{◌≡◌, ◌↔◌, ℕ, zero, suc, ◌+◌, ◌-◌, ◌*◌, ◌^◌, ◌<◌, ◌≤◌, Bool, List, [], ◌∷◌, ◌++◌, length, replicate, refl, sym, ap, subst, ◌∙◌, arith, append_assoc, append-nil, length-append, length-drop, take, drop, lit<, lit≤}
 use Rattle.std.specs.Int.Digits.{AllBelowBase, number_from_digits_after}
-use Rattle.std.proofs.lemmas.List.{length-replicate, take_all}
+use Rattle.std.proofs.lemmas.List.{length-replicate, length-take-le, take_all}
 use Rattle.std.proofs.Math.Seq.{take-add}
 use Rattle.std.proofs.Math.Nat.{pow-succ'}
 use Rattle.ber_core.specs.Length.{IsLength, short, long}
@@ -13,6 +13,7 @@ use Rattle.ber_frame.specs.declared.framer.LongLength.{LongLength}
 use Rattle.ber_frame.specs.declared.framer.Contents.{Contents}
 use Rattle.ber_frame.specs.Framed.{last, low, IsFramed, AreFramed, none, IsFrame, IsPart, IsUntold}
 use Rattle.ber_frame.specs.Framed as framed
+use Rattle.ber_frame.proofs.FrameSteps.{contents_more}
 use Rattle.ber_frame.specs.Framer.{Closes, IsElementThen, IsContentsThen, IsLongThen, IsLengthThen, definite, indefinite, FinishesAt, Finishes, IsFed}
 
 -- end marks alone close what is open
@@ -215,8 +216,30 @@ pub no_more : (f : Framer) (b : List ℕ) → IsFed f b → f.stage ≡ Untold �
 no_more f b h e p = is_untold f b h e p.0 p.2
 
 -- some first octets, and then the first ones of the rest
-pub next_octets : (f : Framer) (b xs : List ℕ) (m n : ℕ) → m ≤ length xs → IsFed f (b ++ take m xs ++ take n (take (length xs - m) (drop m xs))) → IsFed f (b ++ take (m + n) xs)
-next_octets f b xs m n le h =
+two_parts : (xs : List ℕ) (m n : ℕ) → take m xs ++ take n (take (length xs - m) (drop m xs)) ≡ take (m + n) xs
+two_parts xs m n =
     let rest : take (length xs - m) (drop m xs) ≡ drop m xs = take_all (length xs - m) (drop m xs) (omega (arith, length-drop m xs)) in
-    let parts : take m xs ++ take n (take (length xs - m) (drop m xs)) ≡ take (m + n) xs = ap (λ z. take m xs ++ take n z) rest ∙ sym (take-add m n xs) in
-    subst (IsFed f) (append_assoc b (take m xs) (take n (take (length xs - m) (drop m xs))) ∙ ap (λ z. b ++ z) parts) h
+    ap (λ z. take m xs ++ take n z) rest ∙ sym (take-add m n xs)
+
+pub next_octets : (f : Framer) (b xs : List ℕ) (m n : ℕ) → IsFed f (b ++ take m xs ++ take n (take (length xs - m) (drop m xs))) → IsFed f (b ++ take (m + n) xs)
+next_octets f b xs m n h = subst (IsFed f) (append_assoc b (take m xs) (take n (take (length xs - m) (drop m xs))) ∙ ap (λ z. b ++ z) (two_parts xs m n)) h
+
+-- some octets of contents, but not all, are fed to a part
+pub within_contents : (f : Framer) (c : Contents) (b octets : List ℕ) (n : ℕ) → f.stage ≡ stage.Contents c → n < c.left → n ≤ length octets → IsFed f b → IsPart (b ++ take n octets)
+within_contents f c b octets n e lt le h =
+    let w : List ℕ = take n octets in
+    let size : length w ≡ n = length-take-le n octets le in
+    let deep = 18_446_744_073_709_551_615 - f.marks in
+    let rest : Contents = record { left = c.left - n; some = omega arith } in
+    let g : Framer = record { stage = stage.Contents rest; marks = f.marks } in
+    let same : (x : List ℕ) → Finishes f (w ++ x) ↔ Finishes g x = λ x.
+    subst (λ s. FinishesAt s f.marks deep (w ++ x) ↔ IsContentsThen (c.left - n) f.marks deep x) (sym e)
+    (subst (λ (k : ℕ). IsContentsThen c.left f.marks deep (w ++ x) ↔ IsContentsThen (c.left - k) f.marks deep x) size
+    (contents_more c.left f.marks deep w x (omega (arith, size)))) in
+    is_part g (b ++ w) (fed_all f g w same b h) (λ k. cc) (λ k. cc)
+
+-- of some first octets and then more, part of an element is fed each time
+pub within_next : (b xs : List ℕ) (m k : ℕ) → m ≤ k → IsPart (b ++ take m xs ++ take (k - m) (take (length xs - m) (drop m xs))) → IsPart (b ++ take k xs)
+within_next b xs m k le h =
+    let sum : m + (k - m) ≡ k = omega arith in
+    subst IsPart (append_assoc b (take m xs) (take (k - m) (take (length xs - m) (drop m xs))) ∙ ap (λ z. b ++ z) (two_parts xs m (k - m) ∙ ap (λ (i : ℕ). take i xs) sum)) h

@@ -106,7 +106,7 @@ impl Framer {
     /// How many octets at least still belong to the element: 0 where it is whole or its end can't be told.
     pub fn need(&self) -> u32
         ensures at_least { (b rest : List ℕ) → IsFed self.now b → IsFrame (b ++ rest) → result ≤ length rest }
-        ensures some { (b : List ℕ) → IsFed self.now b → IsPart b → 0 < result }
+        ensures some { (b : List ℕ) → IsFed self.now b → (0 < result ↔ IsPart b) }
     {
         match self.stage {
             Stage::Untold => 0,
@@ -128,7 +128,8 @@ impl Framer {
     pub fn feed(&mut self, octets: &[u8]) -> usize
         ensures count { result ≤ length octets.now }
         ensures fed { (b : List ℕ) → IsFed self.old b → IsFed self.new (b ++ take result octets.now) }
-        // It takes all octets of a part.
+        // It takes an octet only after part of an element, and all octets of a part.
+        ensures within { (b : List ℕ) (n : ℕ) → IsFed self.old b → n < result → IsPart (b ++ take n octets.now) }
         ensures all { (b : List ℕ) → IsFed self.new b → IsPart b → result ≡ length octets.now }
     {
         let mut count = 0;
@@ -144,6 +145,7 @@ impl Framer {
         ensures some { 0 < result }
         ensures count { result ≤ length octets.now }
         ensures fed { (b : List ℕ) → IsFed self.old b → IsFed self.new (b ++ take result octets.now) }
+        ensures within { (b : List ℕ) (n : ℕ) → IsFed self.old b → IsPart b → n < result → IsPart (b ++ take n octets.now) }
     {
         let Stage::Contents(contents) = self.stage else {
             self.push(octets[0]);

@@ -1,6 +1,7 @@
-use Rattle.std.proofs.Common.{◌-◌, ◌++◌, take, drop, length, length-drop, arith}
+use Rattle.std.proofs.Common.{◌-◌, ◌++◌, take, drop, length, length-drop, arith, inl, inr}
+use Rattle.std.proofs.lemmas.Bool.{cases_lt}
 use Rattle.std.proofs.lemmas.List.{length-take}
-use Rattle.ber_frame.proofs.FrameEnds.{next_octets}
+use Rattle.ber_frame.proofs.FrameEnds.{next_octets, within_next}
 use Rattle.ber_frame.proofs.framer.Framer.feed.Goals as goal
 
 pub loop-count-preserved : goal.loop-count-preserved
@@ -8,6 +9,13 @@ loop-count-preserved c =
     let xs = c.args.octets.now in
     let count = c.loop-count.count in record {
       bound = omega (arith, c.step-count.ensures.count, length-take (length xs - count) (drop count xs), length-drop count xs);
-      fed = λ b h. next_octets c.step-count.new.self b xs count c.step-count.result c.loop-count.invariant.bound
+      within = λ b k h lt. elim (cases_lt k count) [
+        | inl less ↦ c.loop-count.invariant.within b k h less
+        | inr ge ↦
+            let fed = c.loop-count.invariant.fed b h in
+            within_next b xs count k ge
+            (c.step-count.ensures.within (b ++ take count xs) (k - count) fed ((c.need.ensures.some (b ++ take count xs) fed).0 c.if-need-gt0.true) (omega arith))
+      ];
+      fed = λ b h. next_octets c.step-count.new.self b xs count c.step-count.result
           (c.step-count.ensures.fed (b ++ take count xs) (c.loop-count.invariant.fed b h));
     }

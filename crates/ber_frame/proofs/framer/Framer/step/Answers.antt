@@ -2,7 +2,7 @@ use Rattle.std.proofs.Common.{◌↔◌, ◌≡◌, ◌-◌, ℕ, List, ◌++◌
 use Rattle.std.proofs.lemmas.List.{length-take-le}
 use Rattle.ber_frame.specs.Framer.{Finishes, FinishesAt, IsContentsThen}
 use Rattle.ber_frame.proofs.FrameSteps.{contents_more}
-use Rattle.ber_frame.proofs.FrameEnds.{fed_all}
+use Rattle.ber_frame.proofs.FrameEnds.{fed_all, within_contents}
 use Rattle.ber_frame.proofs.framer.Framer.step.Goals as goal
 
 pub returns-clause-fed : goal.returns-clause-fed
@@ -20,3 +20,7 @@ returns-clause-fed c =
     subst (λ s. FinishesAt s self.marks deep (w ++ x) ↔ Finishes c.contents.result x) (sym c.in-Contents.is)
     ((λ h. then.0 (one.0 h)), (λ h. one.1 (then.1 h))) in
     fed_all self c.contents.result w same
+
+pub returns-clause-within : goal.returns-clause-within
+returns-clause-within c = λ b n h _ lt.
+    within_contents c.args.self.now c.in-Contents.contents b c.args.octets.now n c.in-Contents.is (omega (arith, c.min-count.ensures)) (omega (arith, c.min-count.ensures)) h
