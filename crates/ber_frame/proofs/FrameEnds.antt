@@ -1,7 +1,7 @@
 -- What finishes an element at each stage: something does, and it has at least as many octets as are needed.
 use Rattle.std.proofs.Common.{◌≡◌, ◌↔◌, ℕ, zero, suc, ◌+◌, ◌-◌, ◌*◌, ◌^◌, ◌<◌, ◌≤◌, Bool, List, [], ◌∷◌, ◌++◌, length, replicate, refl, sym, ap, subst, ◌∙◌, arith, append_assoc, append-nil, length-append, length-drop, take, drop, lit<, lit≤}
 use Rattle.std.specs.Int.Digits.{AllBelowBase, number_from_digits_after}
-use Rattle.std.proofs.lemmas.List.{length-replicate, length-take-le, take_all}
+use Rattle.std.proofs.lemmas.List.{length-replicate, take_all}
 use Rattle.std.proofs.Math.Seq.{take-add}
 use Rattle.std.proofs.Math.Nat.{pow-succ'}
 use Rattle.ber_core.specs.Length.{IsLength, short, long}
@@ -9,7 +9,6 @@ use Rattle.ber_frame.specs.declared.framer.Framer.{Framer}
 use Rattle.ber_frame.specs.declared.framer.Stage.{Stage}
 use Rattle.ber_frame.specs.declared.framer.Stage.TheVariants.{Element, Between, Number, Length, Mark, Untold}
 use Rattle.ber_frame.specs.declared.framer.Stage.TheVariants as stage
-use Rattle.ber_frame.specs.declared.framer.LongLength.{LongLength}
 use Rattle.ber_frame.specs.declared.framer.Contents.{Contents}
 use Rattle.ber_frame.specs.Framed.{last, low, IsFramed, AreFramed, none, IsFrame, IsPart, IsUntold}
 use Rattle.ber_frame.specs.Framed as framed
@@ -201,15 +200,15 @@ pub need_least : (f : Framer) (n : ℕ) → Needs f.stage f.marks n → (b rest 
 unfolding IsFed
 need_least f n k b rest h w = needs f.stage f.marks (18_446_744_073_709_551_615 - f.marks) n rest k ((h rest).0 w)
 
-pub needs_one : (s : Stage) (marks : ℕ) → (s ≡ Between → ⊥) → ((l : LongLength) → s ≡ stage.LongLength l → ⊥) → ((c : Contents) → s ≡ stage.Contents c → ⊥) → Needs s marks 1
-needs_one Element marks b l c = lit≤ tt
-needs_one Between marks b l c = absurd (b refl)
-needs_one (Number f) marks b l c = lit≤ tt
-needs_one (Length f) marks b l c = lit≤ tt
-needs_one (stage.LongLength k) marks b l c = absurd (l k refl)
-needs_one (stage.Contents contents) marks b l c = absurd (c contents refl)
-needs_one Mark marks b l c = lit≤ tt
-needs_one Untold marks b l c = tt
+pub needs_one : (s : Stage) (marks : ℕ) → (s ≡ Between → ⊥) → ((c : Contents) → s ≡ stage.Contents c → ⊥) → Needs s marks 1
+needs_one Element marks b c = lit≤ tt
+needs_one Between marks b c = absurd (b refl)
+needs_one (Number f) marks b c = lit≤ tt
+needs_one (Length f) marks b c = lit≤ tt
+needs_one (stage.LongLength l) marks b c = omega (arith, l.some)
+needs_one (stage.Contents k) marks b c = absurd (c k refl)
+needs_one Mark marks b c = lit≤ tt
+needs_one Untold marks b c = tt
 
 -- no octet more is part of what can't be told
 pub no_more : (f : Framer) (b : List ℕ) → IsFed f b → f.stage ≡ Untold → IsPart b → ⊥
@@ -224,19 +223,21 @@ two_parts xs m n =
 pub next_octets : (f : Framer) (b xs : List ℕ) (m n : ℕ) → IsFed f (b ++ take m xs ++ take n (take (length xs - m) (drop m xs))) → IsFed f (b ++ take (m + n) xs)
 next_octets f b xs m n h = subst (IsFed f) (append_assoc b (take m xs) (take n (take (length xs - m) (drop m xs))) ∙ ap (λ z. b ++ z) (two_parts xs m n)) h
 
--- some octets of contents, but not all, are fed to a part
-pub within_contents : (f : Framer) (c : Contents) (b octets : List ℕ) (n : ℕ) → f.stage ≡ stage.Contents c → n < c.left → n ≤ length octets → IsFed f b → IsPart (b ++ take n octets)
-within_contents f c b octets n e lt le h =
-    let w : List ℕ = take n octets in
-    let size : length w ≡ n = length-take-le n octets le in
+-- fewer octets than the contents still have leave it part of an element
+pub within_contents : (f : Framer) (c : Contents) (b w : List ℕ) → f.stage ≡ stage.Contents c → length w < c.left → IsFed f b → IsPart (b ++ w)
+within_contents f c b w e lt h =
     let deep = 18_446_744_073_709_551_615 - f.marks in
-    let rest : Contents = record { left = c.left - n; some = omega arith } in
+    let rest : Contents = record { left = c.left - length w; some = omega arith } in
     let g : Framer = record { stage = stage.Contents rest; marks = f.marks } in
     let same : (x : List ℕ) → Finishes f (w ++ x) ↔ Finishes g x = λ x.
-    subst (λ s. FinishesAt s f.marks deep (w ++ x) ↔ IsContentsThen (c.left - n) f.marks deep x) (sym e)
-    (subst (λ (k : ℕ). IsContentsThen c.left f.marks deep (w ++ x) ↔ IsContentsThen (c.left - k) f.marks deep x) size
-    (contents_more c.left f.marks deep w x (omega (arith, size)))) in
+    subst (λ s. FinishesAt s f.marks deep (w ++ x) ↔ IsContentsThen (c.left - length w) f.marks deep x) (sym e)
+    (contents_more c.left f.marks deep w x (omega arith)) in
     is_part g (b ++ w) (fed_all f g w same b h) (λ k. cc) (λ k. cc)
+
+-- no octets leave it so
+pub with_none : (b w : List ℕ) → length w < 1 → IsPart b → IsPart (b ++ w)
+with_none b [] lt p = subst IsPart (sym (append-nil b)) p
+with_none b (o ∷ w) lt p = absurd (omega (arith, lt))
 
 -- of some first octets and then more, part of an element is fed each time
 pub within_next : (b xs : List ℕ) (m k : ℕ) → m ≤ k → IsPart (b ++ take m xs ++ take (k - m) (take (length xs - m) (drop m xs))) → IsPart (b ++ take k xs)

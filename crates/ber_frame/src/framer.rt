@@ -103,15 +103,16 @@ impl Framer {
         }
     }
 
-    /// How many octets at least still belong to the element: 0 where it is whole or its end can't be told.
+    /// How many octets at least still belong to the element, whatever they are: 0 where it is whole or its end can't be told.
     pub fn need(&self) -> u32
         ensures at_least { (b rest : List ℕ) → IsFed self.now b → IsFrame (b ++ rest) → result ≤ length rest }
-        ensures some { (b : List ℕ) → IsFed self.now b → (0 < result ↔ IsPart b) }
+        ensures some { (b : List ℕ) → IsFed self.now b → IsPart b → 0 < result }
+        // Any fewer octets leave it part of an element.
+        ensures any { (b octets : List ℕ) → IsFed self.now b → length octets < result → IsPart (b ++ octets) }
     {
         match self.stage {
             Stage::Untold => 0,
             Stage::Between => { if self.marks == 0 { 0 } else { 1 } }
-            Stage::LongLength(long) => u32::from(long.left),
             Stage::Contents(contents) => contents.left,
             _ => 1,
         }

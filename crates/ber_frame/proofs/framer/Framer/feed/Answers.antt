@@ -1,6 +1,7 @@
-use Rattle.std.proofs.Common.{◌-◌, ◌++◌, take, drop, length, length-drop, arith, inl, inr}
+use Rattle.std.proofs.Common.{◌-◌, ◌++◌, take, drop, length, length-drop, arith, inl, inr, subst, append-nil, []}
 use Rattle.std.proofs.lemmas.Bool.{cases_lt}
 use Rattle.std.proofs.lemmas.List.{length-take}
+use Rattle.ber_frame.specs.Framed.{IsPart}
 use Rattle.ber_frame.proofs.FrameEnds.{next_octets, within_next}
 use Rattle.ber_frame.proofs.framer.Framer.feed.Goals as goal
 
@@ -14,7 +15,7 @@ loop-count-preserved c =
         | inr ge ↦
             let fed = c.loop-count.invariant.fed b h in
             within_next b xs count k ge
-            (c.step-count.ensures.within (b ++ take count xs) (k - count) fed ((c.need.ensures.some (b ++ take count xs) fed).0 c.if-need-gt0.true) (omega arith))
+            (c.step-count.ensures.within (b ++ take count xs) (k - count) fed (subst IsPart (append-nil (b ++ take count xs)) (c.need.ensures.any (b ++ take count xs) [] fed c.if-need-gt0.true)) (omega arith))
       ];
       fed = λ b h. next_octets c.step-count.new.self b xs count c.step-count.result
           (c.step-count.ensures.fed (b ++ take count xs) (c.loop-count.invariant.fed b h));

@@ -23,4 +23,5 @@ returns-clause-fed c =
 
 pub returns-clause-within : goal.returns-clause-within
 returns-clause-within c = λ b n h _ lt.
-    within_contents c.args.self.now c.in-Contents.contents b c.args.octets.now n c.in-Contents.is (omega (arith, c.min-count.ensures)) (omega (arith, c.min-count.ensures)) h
+    let size = length-take-le n c.args.octets.now (omega (arith, c.min-count.ensures)) in
+    within_contents c.args.self.now c.in-Contents.contents b (take n c.args.octets.now) c.in-Contents.is (omega (arith, size, c.min-count.ensures)) h
