@@ -1,0 +1,9 @@
+//! The messages of an input one after another, where a message that is refused doesn't end the work.
+#![tactic(auto)]
+
+mod going;
+mod next;
+mod report;
+
+pub use going::{Gone, Halted, Why, keep_going};
+pub use report::{Report, Reports};
