@@ -64,7 +64,7 @@ pub one_frame : (a b x y : List ℕ) → IsFrame a → IsFrame b → a ++ x ≡ 
 one_frame a b x y h k e =
     let r = unique _ _ a b x y h k e in append_cancel_right a b y (ap (λ z. a ++ z) (sym r) ∙ e)
 
-part_and_whole : {A : Type 0} (b : List ℕ) → IsPart b → IsFrame b → A
+pub part_and_whole : {A : Type 0} (b : List ℕ) → IsPart b → IsFrame b → A
 part_and_whole b p h =
     let e : p.0 ≡ [] = unique _ _ b (b ++ p.0) p.0 [] h p.2 (sym (append-nil (b ++ p.0))) in absurd (p.1 e)
 

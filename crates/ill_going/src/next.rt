@@ -1,9 +1,9 @@
 //! The next message of an input: its octets, up to where they end by their framing, and what is made of them.
-ghost use Rattle.std.specs.Prelude.{◌≡◌, ℕ, ◌-◌, ◌<◌, ◌≤◌, List, [], ◌++◌, length, take, IfOk, OnOk, IsErrOf, IsTrue, MatchOption};
+ghost use Rattle.std.specs.Prelude.{◌≡◌, ℕ, ◌-◌, ◌<◌, ◌≤◌, List, [], ◌++◌, length, take, IfOk, IfErr, OnOk, IsTrue, MatchOption};
 ghost use Rattle.std.specs.Io.KnownBytes.{Consumes, IsAtEnd, Keeps};
 ghost use Rattle.ber_frame.specs.Framed.{IsPart};
 ghost use Rattle.ber_frame.specs.Framer.{IsFed};
-ghost use Rattle.ill_going.specs.code.Taking.{IsNext, Takes, TakesElement, TakesPart};
+ghost use Rattle.ill_going.specs.code.Taking.{is_whole, IsNext, Takes, TakesElement, TakesPart};
 
 use crate::going::Why;
 use ber_core::{AtHand, FromSlice, Look, Source};
@@ -56,7 +56,7 @@ pub fn next_message<M: Maker, R: Source, L: Look<R>>(
 ) -> Result<Option<Next<M::Out>>, Unread>
     ensures next { IfOk result (λ found. MatchOption found (Consumes (R.left source.old) (R.left source.new) [] × IsAtEnd (R.left source.new))
         (IsNext M.Out.is (M.text maker.now number) (M.is_good maker.now) (R.left source.old) (R.left source.new))) }
-    ensures broken { IsErrOf result Unread.Broken → IsTrue (R.is_broken source.new) × TakesPart (R.left source.old) (R.left source.new) }
+    ensures broken { IfErr result (λ e. e ≡ Unread.Broken → IsTrue (R.is_broken source.new) × TakesPart (R.left source.old) (R.left source.new)) }
     ensures stays { IsTrue (R.is_broken source.old) → IsTrue (R.is_broken source.new) }
 {
     let frame = match take_element::<R, L>(source, kept) {
@@ -68,7 +68,7 @@ pub fn next_message<M: Maker, R: Source, L: Look<R>>(
         Ok(Some(piece)) => Ok(Some(Next::Read(piece))),
         Ok(None) => Ok(None),
         Err(ReadFailure::Refused(refusal)) => {
-            let ends = frame == Frame::Whole;
+            let ends = ends(frame);
             Ok(Some(Next::Refused { refusal, ends }))
         }
         Err(ReadFailure::OutOfMemory) => Err(Unread::OutOfMemory),
@@ -76,10 +76,20 @@ pub fn next_message<M: Maker, R: Source, L: Look<R>>(
     }
 }
 
+/// Whether an element's end was found.
+fn ends(frame: Frame) -> bool
+    ensures { result ≡ is_whole frame }
+{
+    match frame {
+        Frame::Whole => true,
+        Frame::Part | Frame::Untold => false,
+    }
+}
+
 /// Takes the next element, up to where its end can't be told or the input ends, and keeps its first octets, as many as a message may have.
 fn take_element<R: Source, L: Look<R>>(source: &mut R, kept: &mut Vec<u8>) -> Result<Frame, Unread>
     ensures element { IfOk result (TakesElement (R.left source.old) (R.left source.new) kept.new.items) }
-    ensures broken { IsErrOf result Unread.Broken → IsTrue (R.is_broken source.new) × TakesPart (R.left source.old) (R.left source.new) }
+    ensures broken { IfErr result (λ e. e ≡ Unread.Broken → IsTrue (R.is_broken source.new) × TakesPart (R.left source.old) (R.left source.new)) }
     ensures stays { IsTrue (R.is_broken source.old) → IsTrue (R.is_broken source.new) }
 {
     kept.clear();
@@ -105,8 +115,8 @@ fn take_some<R: Source, L: Look<R>>(
 ) -> Result<usize, Unread>
     requires { 0 < length buffer.old }
     ensures takes { IfOk result (Takes (R.left source.old) (R.left source.new) framer.old framer.new kept.old.items kept.new.items) }
-    ensures broken { IsErrOf result Unread.Broken → IsTrue (R.is_broken source.new) × Keeps (R.left source.old) (R.left source.new) }
-    ensures part { IsErrOf result Unread.Broken → (b : List ℕ) → IsFed framer.old b → IsPart b }
+    ensures broken { IfErr result (λ e. e ≡ Unread.Broken → IsTrue (R.is_broken source.new) × Keeps (R.left source.old) (R.left source.new)) }
+    ensures part { IfErr result (λ e. e ≡ Unread.Broken → (b : List ℕ) → IsFed framer.old b → IsPart b) }
     ensures stays { IsTrue (R.is_broken source.old) → IsTrue (R.is_broken source.new) }
     ensures room { length buffer.new ≡ length buffer.old }
 {

@@ -1,11 +1,12 @@
 -- The octets of an element that are taken from a source and kept.
-use Rattle.std.specs.Prelude.{◌≡◌, ◌⊎◌, ℕ, ◌+◌, ◌-◌, ◌<◌, ◌≤◌, Bool, List, ◌++◌, length, take, Option}
+use Rattle.std.specs.Prelude.{◌≡◌, ◌⊎◌, ℕ, ◌+◌, ◌-◌, ◌<◌, ◌≤◌, Bool, true, false, List, ◌++◌, length, take, Option}
 use Rattle.std.specs.Io.KnownBytes.{Consumes, IsAtEnd}
 use Rattle.ill_schema.specs.declared.refusal.Refusal.{Refusal}
 use Rattle.std.specs.Prelude.{MatchBool}
 use Rattle.ill_read.specs.Answers.{IsUnfinished}
 use Rattle.ill_normal.specs.Messages.{Spelling, Makes}
 use Rattle.ber_frame.specs.declared.framer.Frame.{Frame}
+use Rattle.ber_frame.specs.declared.framer.Frame.TheVariants as frame
 use Rattle.ber_frame.specs.declared.framer.Framer.{Framer}
 use Rattle.ber_frame.specs.Framed.{IsFrame, IsPart}
 use Rattle.ber_frame.specs.Framer.{Judged, IsFed}
@@ -47,6 +48,10 @@ pub record TakesPart (left left' : Option (List ℕ)) : Type 0 where
   pub octets : List ℕ
   pub taken : Consumes left left' octets
   pub unfinished : IsUnfinished octets
+
+abbrev pub is_whole : Frame → Bool
+is_whole frame.Whole = true
+is_whole _ = false
 
 -- the next message was read, or refused
 abbrev pub IsNext : {T : Type 0} → (T → List ℕ → Type 0) → (Spelling → List ℕ) → (Spelling → Bool) → Option (List ℕ) → Option (List ℕ) → Next T → Type 0
