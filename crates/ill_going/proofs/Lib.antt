@@ -1,1 +1,2 @@
 pub mod TakenElements
+pub mod GoneMessages
