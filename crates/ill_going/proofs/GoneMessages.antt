@@ -1,6 +1,5 @@
 -- Messages that are gone through, one after another.
-use Rattle.std.proofs.Common.{◌≡◌, ◌⊎◌, ℕ, suc, ◌+◌, ◌<◌, ◌≤◌, Bool, true, false, ◌&&◌, List, [], ◌∷◌, ◌++◌, length, take, Option, Some, None, IsTrue, refl, sym, ap, subst, ◌∙◌, arith, inl, inr, append_assoc, append-nil, length-append}
-use Rattle.std.specs.Prelude.{MatchBool}
+use Rattle.std.proofs.Common.{◌≡◌, ℕ, suc, ◌+◌, ◌<◌, ◌≤◌, Bool, true, false, ◌&&◌, List, [], ◌∷◌, ◌++◌, length, take, Option, Some, None, IsTrue, refl, sym, ap, subst, ◌∙◌, arith, inl, inr, append_assoc, append-nil, length-append}
 use Rattle.std.specs.Io.KnownBytes.{Consumes, Keeps, Appends, IsAtEnd}
 use Rattle.std.proofs.KnownBytes.{Consumes-nil, Consumes-trans, Consumes-kept, Keeps-refl, Appends-nil, Appends-trans}
 use Rattle.ber_leaf.specs.Profile.{profile_two}
@@ -14,7 +13,7 @@ use Rattle.ill_normal.specs.declared.messages.Piece.{Piece}
 use Rattle.ill_going.specs.declared.report.Report.{Report}
 use Rattle.ill_going.specs.declared.going.Why.{Why}
 use Rattle.ill_going.specs.Items.{Item, good, bad, IsRefusedFor, AreItems, written_from, report, reports_from, all_good, Adds}
-use Rattle.ill_going.specs.Gone.{Reporting, reporting, Goes, HasNoEnd, LosesEnd, IsDone, GoesThrough, part_of, Halts, HaltsAfter}
+use Rattle.ill_going.specs.Gone.{Reporting, reporting, Goes, HasNoEnd, GoesThrough, part_of, Halts, HaltsAfter}
 use Rattle.ill_going.specs.code.Taking.{TakesPart}
 use Rattle.ill_going.specs.code.Ending.{GoesOn, why_of}
 use Rattle.ill_going.specs.declared.next.Unread.{Unread}

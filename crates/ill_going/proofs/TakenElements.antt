@@ -1,5 +1,5 @@
 -- Octets of an element that are taken, fed to a framer and kept.
-use Rattle.std.proofs.Common.{◌≡◌, ◌≢◌, ◌⊎◌, ℕ, zero, suc, ◌+◌, ◌-◌, ◌<◌, ◌≤◌, Bool, true, false, List, [], ◌∷◌, ◌++◌, length, take, drop, Option, Some, refl, sym, ap, subst, ◌∙◌, arith, inl, inr, append_assoc, append-nil, length-append, lit≤}
+use Rattle.std.proofs.Common.{◌≡◌, ℕ, zero, suc, ◌+◌, ◌-◌, ◌<◌, ◌≤◌, Bool, List, [], ◌∷◌, ◌++◌, length, take, drop, Option, Some, refl, sym, ap, subst, ◌∙◌, arith, inl, inr, append_assoc, append-nil, length-append, lit≤}
 use Rattle.std.specs.Prelude.{MatchBool}
 use Rattle.std.proofs.lemmas.Bool.{cases_lt}
 use Rattle.std.proofs.lemmas.List.{length-take-le, take-take, take_all, take-append-le, take-append-drop}
@@ -220,7 +220,7 @@ module _ (left left' : Option (List ℕ)) (kept : List ℕ) (frame : Frame) (t :
 
   end_is : (f : Frame) → Judged t.octets f → MatchBool (is_whole f) (IsFrame t.octets) (HasNoEnd t.octets left')
   end_is framed.Whole j = j
-  end_is framed.Untold j = inl j
+  end_is framed.Untold j = inl (j, t.within)
   end_is framed.Part j = inr (j, t.part j)
 
   pub refused_next : {T : Type 0} (is : T → List ℕ → Type 0) (text : Spelling → List ℕ) (is_good : Spelling → Bool) (refusal : Refusal) (ends : Bool) → ends ≡ is_whole frame

@@ -1,5 +1,5 @@
 -- An input that isn't given up at a message that is refused: what it is, what is written of it, and what is reported.
-use Rattle.std.specs.Prelude.{◌≡◌, ℕ, suc, ◌+◌, ◌<◌, ◌≤◌, Bool, true, false, ◌&&◌, List, [], ◌∷◌, ◌++◌, length, take, Option, Some, None}
+use Rattle.std.specs.Prelude.{◌≡◌, ℕ, suc, Bool, true, ◌&&◌, List, [], ◌∷◌, ◌++◌, take, Option, Some, None}
 use Rattle.ber_leaf.specs.Profile.{profile_two}
 use Rattle.ber_frame.specs.Framed.{IsFrame}
 use Rattle.ill_schema.specs.declared.refusal.Refusal.{Refusal}
@@ -56,3 +56,7 @@ abbrev pub Adds : Option (List Report) → Option (List Report) → List Report 
 Adds None new more = Unit {0}
 Adds (Some old) None more = ⊥
 Adds (Some old) (Some new) more = new ≡ old ++ more
+
+-- no front of the octets is a framed element, so no message ends in them
+abbrev pub HasNoMore : List ℕ → Type 0
+HasNoMore s = (x y : List ℕ) → IsFrame x → s ≡ x ++ y → ⊥

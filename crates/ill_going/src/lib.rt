@@ -2,8 +2,10 @@
 #![tactic(auto)]
 
 mod going;
+mod laws;
 mod next;
 mod report;
 
 pub use going::{Gone, Halted, Why, keep_going};
+pub use laws::{good_ones_are_written, one_way};
 pub use report::{Report, Reports};

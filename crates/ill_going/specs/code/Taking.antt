@@ -1,7 +1,6 @@
 -- The octets of an element that are taken from a source and kept.
-use Rattle.std.specs.Prelude.{◌≡◌, ◌⊎◌, ℕ, ◌+◌, ◌-◌, ◌<◌, ◌≤◌, Bool, true, false, List, ◌++◌, length, take, Option}
+use Rattle.std.specs.Prelude.{◌≡◌, ◌⊎◌, ℕ, ◌-◌, ◌<◌, ◌≤◌, Bool, true, false, List, ◌++◌, length, take, Option}
 use Rattle.std.specs.Io.KnownBytes.{Consumes, IsAtEnd}
-use Rattle.ill_schema.specs.declared.refusal.Refusal.{Refusal}
 use Rattle.std.specs.Prelude.{MatchBool}
 use Rattle.ill_read.specs.Answers.{IsUnfinished}
 use Rattle.ill_normal.specs.Messages.{Spelling, Makes}

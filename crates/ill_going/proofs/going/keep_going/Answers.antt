@@ -1,10 +1,10 @@
-use Rattle.std.proofs.Common.{◌≡◌, ◌<◌, ◌≤◌, ◌+◌, [], ◌∷◌, Bool, IsTrue, length, refl, sym, subst, ap, ◌∙◌, arith, rules, true, false}
+use Rattle.std.proofs.Common.{◌+◌, [], ◌∷◌, Bool, IsTrue, refl, subst, ap, ◌∙◌, arith}
 use Rattle.std.specs.Prelude.{MatchBool}
 use Rattle.ber_frame.specs.Framed.{IsFrame}
 use Rattle.ill_going.specs.Items.{report, Adds}
 use Rattle.ill_going.specs.Gone.{HasNoEnd}
 use Rattle.ill_going.specs.code.Taking.{IsNext}
-use Rattle.ill_going.proofs.GoneMessages.{reached_none, reached_good, reached_bad, through_lost, halts_unread, halts_writing, halts_at_last, next_good}
+use Rattle.ill_going.proofs.GoneMessages.{reached_none, reached_good, reached_bad, through_lost, halts_unread, halts_writing, halts_at_last}
 use Rattle.ill_going.proofs.going.keep_going.Goals as goal
 use Rattle.ill_going.proofs.going.keep_going.Goals.{in-Read+in-Ok+then-not-piece, in-Read+in-Ok+else-not-piece, in-Refused+else-not-ends}
 
@@ -21,7 +21,7 @@ pub returns-in-Err-clause-halts : goal.returns-in-Err-clause-halts
 returns-in-Err-clause-halts g c =
     rw (c.halted_at.ensures, c.why.ensures)
     (halts_unread _ _ _ _ _ _ (g.W.Sink.contents c.loop-before.sink) _ _ _ (g.T.Reports.reported c.loop-before.reports) _ _ _ _ c.loop-before.invariant.reached _ _ c.in-Err.unread
-        c.loop-before-test.true refl refl c.in-Err.ensures.broken)
+    c.loop-before-test.true refl refl c.in-Err.ensures.broken)
 
 pub returns-in-Err-put-clause-halts : goal.returns-in-Err-put-clause-halts
 returns-in-Err-put-clause-halts g c =
@@ -34,7 +34,7 @@ returns-in-Err-put-clause-halts g c =
     let broken = c.in-Err-put.ensures.breaks _ made.2.text refl in
     rw c.halted_at-in-Err-put.ensures
     (halts_writing _ _ _ _ _ _ _ _ _ _ (g.T.Reports.reported c.loop-before.reports) _ _ _ _ c.loop-before.invariant.reached _ _ _ c.in-Read.piece c.in-Err-put.count _
-        c.loop-before-test.true refl made some fewer broken refl)
+    c.loop-before-test.true refl made some fewer broken refl)
 
 pub returns-then-not-ends-clause-through : goal.returns-then-not-ends-clause-through
 returns-then-not-ends-clause-through g c =
@@ -106,4 +106,4 @@ pub returns-clause-halts : goal.returns-clause-halts
 returns-clause-halts g c =
     rw c.halted_at-in-Err-end_of_input.ensures
     (halts_at_last _ _ _ _ _ _ (g.W.Sink.contents c.loop-before.sink) _ _ _ (g.T.Reports.reported c.loop-before.reports) _ _ _ _ c.loop-before.invariant.reached _ _ 1_000_000 c.in-Err-end_of_input.why
-        (omega arith) refl refl refl c.in-Err-end_of_input.ensures.more)
+    (omega arith) refl refl refl c.in-Err-end_of_input.ensures.more)

@@ -1,4 +1,4 @@
-use Rattle.std.proofs.Common.{◌≡◌, sym, subst, ◌∙◌}
+use Rattle.std.proofs.Common.{sym, subst, ◌∙◌}
 use Rattle.ill_going.specs.code.Taking.{TakesElement}
 use Rattle.ill_going.proofs.TakenElements.{read_next, none_next, refused_next}
 use Rattle.ill_going.proofs.next.next_message.Goals as goal

@@ -1,6 +1,5 @@
-use Rattle.std.proofs.Common.{◌≡◌, ◌<◌, ◌≤◌, refl, sym, ◌∙◌, subst, arith}
-use Rattle.ill_going.specs.code.Taking.{Framing}
-use Rattle.ill_going.proofs.TakenElements.{framing_none, framing_more, element_ends, element_endless, part_taken}
+use Rattle.std.proofs.Common.{arith}
+use Rattle.ill_going.proofs.TakenElements.{framing_more, element_ends, element_endless, part_taken}
 use Rattle.ill_going.proofs.next.take_element.Goals as goal
 
 pub returns-in-Ok-eq0-clause-element : goal.returns-in-Ok-eq0-clause-element
