@@ -188,7 +188,7 @@ pub none_first : (m d o : ℕ) → m ≡ 0 → (x : List ℕ) → Closes m d (o 
 none_first m d o z x h = let none : o ∷ x ≡ [] = subst (λ (n : ℕ). Closes n d (o ∷ x)) z h in cc
 
 -- contents that begin with some octets
-front_of : (w c x r : List ℕ) → length w ≤ length c → w ++ x ≡ c ++ r → (t : List ℕ) × (c ≡ w ++ t) × (x ≡ t ++ r)
+pub front_of : (w c x r : List ℕ) → length w ≤ length c → w ++ x ≡ c ++ r → (t : List ℕ) × (c ≡ w ++ t) × (x ≡ t ++ r)
 front_of [] c x r le e = (c, refl, e)
 front_of (o ∷ w) [] x r le e = absurd (omega (arith, le))
 front_of (o ∷ w) (p ∷ c) x r le e =

@@ -1,9 +1,13 @@
 -- An input is messages in one way.
-use Rattle.std.proofs.Common.{◌≡◌, ℕ, suc, List, [], ◌∷◌, ◌++◌, length, take, refl, sym, ap, ap₂, subst, ◌∙◌, ◌≤◌, inl}
+use Rattle.std.proofs.Common.{◌≡◌, ℕ, suc, ◌<◌, ◌≤◌, List, [], ◌∷◌, ◌++◌, length, take, Some, refl, sym, ap, ap₂, subst, ◌∙◌, arith, inl, inr, append_assoc, append-nil, length-append}
 use Rattle.std.proofs.lemmas.List.{append_cancel_left, take_all}
 use Rattle.ber_leaf.specs.Profile.{profile_two}
-use Rattle.ber_frame.specs.Framed.{IsFrame}
-use Rattle.ber_frame.proofs.Frames.{one_frame}
+use Rattle.ber_frame.specs.Framed.{IsFrame, IsPart}
+use Rattle.ber_frame.proofs.Frames.{one_frame, part_and_whole}
+use Rattle.ber_frame.proofs.FrameSteps.{front_of}
+use Rattle.std.proofs.lemmas.Bool.{cases_lt}
+use Rattle.ill_schema.proofs.Streams.{take_front}
+use Rattle.ill_going.specs.Gone.{HasNoEnd}
 use Rattle.ill_schema.specs.declared.refusal.Refusal.{Refusal}
 use Rattle.ill_schema.specs.Apdu.{Apdu, SpellsApdu}
 use Rattle.ill_refusals.specs.Fault.{Fault, fault_of, Refuses}
@@ -65,3 +69,23 @@ one_way s rest over (bad o r ∷ xs) (bad p q ∷ ys) h n k m =
     let e = heads s o p h.0 k.0 h.1 k.1 h.2 k.2 in
     let next = one_way h.0 rest over xs ys h.4 n (subst (λ z. AreItems z ys over) (sym e.1) k.4) m in
     (ap₂ (λ (a : Item) (b : List Item). a ∷ b) (ap₂ (λ (a : List ℕ) (b : Refusal). bad a b) e.0 (refused_once r q o p e.0 h.3 k.3)) next.0, next.1)
+
+-- where no end can be told no message ends
+pub no_end_no_more : (octets rest : List ℕ) → HasNoEnd octets (Some rest) → length octets < 18_446_744_073_709_551_615 → HasNoMore (octets ++ rest)
+no_end_no_more octets rest (inl h) lt x y frame e = elim (cases_lt (length x) (length octets)) [
+  | inl less ↦
+      let t = front_of x octets y rest (omega (arith, less)) (sym e) in
+      let front : take (length x) octets ≡ x = ap (λ z. take (length x) z) t.1 ∙ take_front x t.0 in
+      part_and_whole x (subst IsPart front (h.1 (length x) less)) frame
+  | inr ge ↦ let t = front_of octets x rest y ge e in h.0 t.0 (subst IsFrame t.1 frame)
+]
+no_end_no_more octets rest (inr (p, inl end)) lt x y frame e =
+    let all : octets ≡ x ++ y = sym (append-nil octets) ∙ ap (λ z. octets ++ z) (sym end) ∙ e in
+    let whole : x ≡ octets ++ p.0 =
+    one_frame x (octets ++ p.0) (y ++ p.0) [] frame p.2 (sym (append_assoc x y p.0) ∙ ap (λ z. z ++ p.0) (sym all) ∙ sym (append-nil (octets ++ p.0))) in
+    p.1 (none p.0 (omega (arith, ap length all, length-append x y, ap length whole, length-append octets p.0)))
+  where
+    none : (z : List ℕ) → length z ≡ 0 → z ≡ []
+    none [] h = refl
+    none (o ∷ z) h = absurd (omega (arith, h))
+no_end_no_more octets rest (inr (p, inr le)) lt x y frame e = omega (arith, le, lt)
