@@ -205,3 +205,178 @@ fn refused_messages_are_passed_over(rt: HostRuntime) -> Result<(), Fail> {
     }
     Ok(())
 }
+
+/// EXPIRED, a NULL, and EXPIRED.
+const BETWEEN: [&str; 3] = [EXPIRED_HEX, "0500", EXPIRED_HEX];
+
+#[test]
+fn a_broken_sink_has_the_first_octets(rt: HostRuntime) -> Result<(), Fail> {
+    let alloc = rt.alloc();
+    let octets = joined(alloc, &BETWEEN)?;
+    let written = expireds(alloc, 2)?;
+    for n in 0..66 {
+        let mut source = FromSlice::new(&octets);
+        let mut sink: Room<128> = Room::new(64, Some(n));
+        let mut told = Told {
+            reports: Vec::new(alloc),
+        };
+        let result = keep_going::<NormalForms, FromSlice<'_>, AtHand, Room<128>, Told>(
+            alloc,
+            &NormalForms,
+            &mut source,
+            &mut sink,
+            &mut told,
+        );
+        let halted = if n < 33 {
+            Halted {
+                messages: 0,
+                refused: 0,
+                written: n as u128,
+                why: Why::WriteFault(n),
+            }
+        } else {
+            Halted {
+                messages: 2,
+                refused: 1,
+                written: n as u128,
+                why: Why::WriteFault(n - 33),
+            }
+        };
+        assert!(rt; result == Err(halted), "{n}");
+        assert!(rt; written.get(..n) == Some(sink.octets()), "{n}");
+        assert_eq!(rt; told.reports.len(), halted.refused as usize, "{n}");
+    }
+    Ok(())
+}
+
+#[test]
+fn a_broken_source_leaves_what_was_whole(rt: HostRuntime) -> Result<(), Fail> {
+    let alloc = rt.alloc();
+    let octets = joined(alloc, &BETWEEN)?;
+    for breaks_at in 0..69 {
+        let mut source = Pieces::new(&octets, 64, Some(breaks_at));
+        let mut sink = Vec::new(alloc);
+        let mut told = Told {
+            reports: Vec::new(alloc),
+        };
+        let result = keep_going::<NormalForms, Pieces<'_>, Unseen, ToWrite<&mut Vec<u8>>, Told>(
+            alloc,
+            &NormalForms,
+            &mut source,
+            &mut ToWrite::new(&mut sink),
+            &mut told,
+        );
+        let (messages, refused, count) = match breaks_at {
+            0..=32 => (0, 0, 0),
+            33..=34 => (1, 0, 1),
+            35..=67 => (2, 1, 1),
+            _ => (3, 1, 2),
+        };
+        let written = expireds(alloc, count)?;
+        let halted = Halted {
+            messages,
+            refused,
+            written: written.len() as u128,
+            why: Why::ReadFault,
+        };
+        assert!(rt; result == Err(halted), "{breaks_at}");
+        assert!(rt; sink.as_slice() == written.as_slice(), "{breaks_at}");
+        assert_eq!(rt; told.reports.len(), refused as usize, "{breaks_at}");
+    }
+    Ok(())
+}
+
+#[test]
+fn a_message_past_the_limit_is_passed_over(rt: HostRuntime) -> Result<(), Fail> {
+    let alloc = rt.alloc();
+    // 2,097,152 octets in definite form, which is twice as many as a message may have.
+    let mut octets = joined(alloc, &["748400200000"])?;
+    for _ in 0..2048 {
+        octets.extend_from_slice(&[0; 1024])?;
+    }
+    octets.extend_from_slice(EXPIRED)?;
+    let mut source = FromSlice::new(&octets);
+    let mut sink = Vec::new(alloc);
+    let mut told = Told {
+        reports: Vec::new(alloc),
+    };
+    let result = keep_going::<NormalForms, FromSlice<'_>, AtHand, ToWrite<&mut Vec<u8>>, Told>(
+        alloc,
+        &NormalForms,
+        &mut source,
+        &mut ToWrite::new(&mut sink),
+        &mut told,
+    );
+    let reports = reports_of(alloc, &[(1, 0, Cause::TooLong, true)])?;
+    assert!(rt; result.map(|gone| gone.messages) == Ok(2));
+    assert!(rt; told.reports.as_slice() == reports.as_slice());
+    assert!(rt; sink.as_slice() == EXPIRED);
+    Ok(())
+}
+
+/// NULLs without an end.
+#[derive(Drop)]
+struct Nulls {
+    at: bool,
+}
+
+impl Source for Nulls {
+    ghost use Rattle.std.specs.Prelude.{None, false};
+
+    ghost left = { λ _. None };
+
+    ghost is_broken = { λ _. false };
+
+    fn take(&mut self, buffer: &mut [u8]) -> Result<usize, Broken> {
+        if let Some(room) = buffer.first_mut() {
+            *room = if self.at { 0x00 } else { 0x05 };
+            self.at = !self.at;
+            return Ok(1);
+        }
+        Ok(0)
+    }
+
+    fn broken(&self) -> bool {
+        false
+    }
+}
+
+/// How many reports came.
+#[derive(Drop)]
+struct Count {
+    reports: u32,
+}
+
+impl Reports for Count {
+    ghost use Rattle.std.specs.Prelude.{None};
+
+    ghost reported = { λ _. None };
+
+    fn report(&mut self, report: Report) {
+        let _ = report;
+        self.reports = self.reports.saturating_add(1);
+    }
+}
+
+#[test]
+fn a_million_refused_messages_are_enough(rt: HostRuntime) {
+    let alloc = rt.alloc();
+    let mut source = Nulls { at: false };
+    let mut sink: Room<1> = Room::new(1, None);
+    let mut count = Count { reports: 0 };
+    let result = keep_going::<NormalForms, Nulls, Unseen, Room<1>, Count>(
+        alloc,
+        &NormalForms,
+        &mut source,
+        &mut sink,
+        &mut count,
+    );
+    let halted = Halted {
+        messages: 1_000_000,
+        refused: 1_000_000,
+        written: 0,
+        why: Why::TooMany,
+    };
+    assert!(rt; result == Err(halted));
+    assert_eq!(rt; count.reports, 1_000_000);
+}
