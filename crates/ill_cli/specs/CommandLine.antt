@@ -23,7 +23,7 @@ abbrev pub top : App
 top = let a = new_app (codes "illcanon") in
     record a { top = record a.top { has_version = true; subcommand_required = true; arg_required_else_help = true } }
 
--- the program with its four commands
+-- the program with its five commands
 abbrev pub program : App
-program = with_subcommand (with_subcommand (with_subcommand (with_subcommand top (one_file (codes "show")).top) (one_file (codes "check")).top)
-    (two_files (codes "same")).top) (two_files (codes "canonicalise")).top
+program = with_subcommand (with_subcommand (with_subcommand (with_subcommand (with_subcommand top (one_file (codes "show")).top) (one_file (codes "check")).top)
+    (one_file (codes "digest")).top) (two_files (codes "same")).top) (two_files (codes "canonicalise")).top

@@ -9,6 +9,7 @@ use Rattle.ill_cli.specs.declared.orders.Verb.{Verb}
 abbrev pub verb_name : Verb → Text
 verb_name Verb.Show = codes "show"
 verb_name Verb.Check = codes "check"
+verb_name Verb.Digest = codes "digest"
 verb_name Verb.Same = codes "same"
 verb_name Verb.Canonicalise = codes "canonicalise"
 
@@ -28,11 +29,13 @@ IsTwice order = elim order.command as (λ _. Type 0) [
   | Verb.Canonicalise ↦ (order.first.now ≢ codes "-") × (option_map (λ word. word.now) order.second ≡ Some order.first.now)
   | Verb.Show ↦ ⊥
   | Verb.Check ↦ ⊥
+  | Verb.Digest ↦ ⊥
 ]
 
 -- what a command does: a job with one input, or a comparison of two
 abbrev pub task_of_verb : Verb → Task
 task_of_verb Verb.Show = Task.Run Job.Show
 task_of_verb Verb.Check = Task.Run Job.Check
+task_of_verb Verb.Digest = Task.Run Job.Digest
 task_of_verb Verb.Canonicalise = Task.Run Job.Canonicalise
 task_of_verb Verb.Same = Task.Compare

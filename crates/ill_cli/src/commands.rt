@@ -2,12 +2,13 @@
 use crate::fault::{Fault, is_output_lost, print, status_of};
 use crate::input::{InputSource, open, open_and_identify};
 use crate::line::order;
+use crate::names::printed;
 use crate::orders::{Order, Task, task_of};
 use crate::replacement::{self, Replacement};
 use crate::same_file::FileId;
 use crate::words::words_of;
 use ber_core::{Ahead, AtHand, ToWrite};
-use ill_jobs::{Job, RunFault, Verdict, run_by, run_same};
+use ill_jobs::{Job, RunFault, Verdict, Work, run_by, run_same};
 use std::alloc::Global;
 use std::fs::{self, OpenFile};
 use std::io::{self, BufWriter, Write};
@@ -36,7 +37,14 @@ pub fn obey<R: Print + Input + Files + Env + AllocGlobal>(rt: &R) -> Result<Verd
         Task::Run(Job::Canonicalise) => canonicalise(rt, order),
         Task::Run(job) => {
             let mut source = open(rt, order.first)?;
-            to_standard_output(rt, job, order.hex, &mut source)
+            let name = printed(rt.alloc(), order.first).map_err(|_| Fault::out_of_memory())?;
+            let work = Work {
+                job,
+                hex: order.hex,
+                name: &name,
+                is_named: false,
+            };
+            to_standard_output(rt, work, &mut source)
         }
         Task::Compare => compare(rt, order),
     }
@@ -67,7 +75,7 @@ fn canonicalise<R: Print + Input + Files + AllocGlobal>(
     let (mut source, input) = open_and_identify(rt, order.first)?;
     if name == "-" {
         refuse_same_file(input, output)?;
-        return to_standard_output(rt, Job::Canonicalise, order.hex, &mut source);
+        return to_standard_output(rt, normal_forms(order.hex), &mut source);
     }
     refuse_same_file(input, FileId::of_name(rt, name))?;
     match replacement::begin(rt, name)? {
@@ -84,16 +92,20 @@ fn refuse_same_file(input: Option<FileId>, output: Option<FileId>) -> Result<(),
     Ok(())
 }
 
+/// Normal forms, as octets or as hexadecimal text.
+fn normal_forms(hex: bool) -> Work<'static> {
+    Work::new(Job::Canonicalise, hex)
+}
+
 /// Does a job with an input, and writes to standard output.
 fn to_standard_output<R: Print + Input + Files + AllocGlobal>(
     rt: &R,
-    job: Job,
-    hex: bool,
+    work: Work<'_>,
     source: &mut InputSource<R>,
 ) -> Result<Verdict, Fault> {
     let alloc = rt.alloc();
     let mut writer = BufWriter::new(alloc, io::writer(rt)).map_err(|_| Fault::out_of_memory())?;
-    to_writer(alloc, job, hex, source, &mut writer)
+    to_writer(alloc, work, source, &mut writer)
 }
 
 /// Writes normal forms straight to the file of this name.
@@ -106,7 +118,7 @@ fn to_file<R: Input + Files + AllocGlobal>(
     let alloc = rt.alloc();
     let file = fs::create(rt, name).map_err(|_| Fault::cannot_open(alloc, name))?;
     let mut writer = BufWriter::new(alloc, file).map_err(|_| Fault::out_of_memory())?;
-    to_writer(alloc, Job::Canonicalise, hex, source, &mut writer)
+    to_writer(alloc, normal_forms(hex), source, &mut writer)
 }
 
 /// Writes normal forms to a new file, and gives it this name at the end. Where not all of the output reached the disk, the
@@ -124,7 +136,7 @@ fn to_replacement<R: Input + Files + AllocGlobal>(
         let _ = fs::remove_file(rt, part.as_str());
         return Err(Fault::out_of_memory());
     };
-    let done = to_writer(alloc, Job::Canonicalise, hex, source, &mut writer);
+    let done = to_writer(alloc, normal_forms(hex), source, &mut writer);
     let done = synced(done, writer.get_ref());
     if is_output_lost(&done) {
         let _ = fs::remove_file(rt, part.as_str());
@@ -139,13 +151,12 @@ fn to_replacement<R: Input + Files + AllocGlobal>(
 
 fn to_writer<S: Ahead, W: Write + Drop>(
     alloc: Global,
-    job: Job,
-    hex: bool,
+    work: Work<'_>,
     source: &mut S,
     writer: &mut BufWriter<W>,
 ) -> Result<Verdict, Fault> {
     let mut sink = ToWrite::new(&mut *writer);
-    let done = run_by::<S, AtHand, ToWrite<&mut BufWriter<W>>>(alloc, job, hex, source, &mut sink);
+    let done = run_by::<S, AtHand, ToWrite<&mut BufWriter<W>>>(alloc, work, source, &mut sink);
     flushed(done, writer)
 }
 

@@ -26,6 +26,16 @@ Example: illcanon check messages.ber | grep 'not normal'
 Status: 0 all are normal; 1 one is not normal or is refused, or the hexadecimal text
 is invalid; 2 usage; 3 memory, files or pipes.";
 
+pub const DIGEST: &str = "\
+Each message has a line: its digest, which is SHA-256 of its normal form, in hexadecimal
+digits, two blanks, the name of the file, `:` and the number of the message. Messages
+that say the same have the same digest, however they are spelled.
+
+Example: illcanon digest messages.ber | sort | uniq -w 64 -D    # copies
+
+Status: 0 done; 1 a message is refused, or the hexadecimal text is invalid; 2 usage;
+3 memory, files or pipes.";
+
 pub const SAME: &str = "\
 Writes `same` or `different`. Each file holds one message; at most one file is `-`.
 

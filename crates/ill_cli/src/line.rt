@@ -68,6 +68,13 @@ fn check<'a>(alloc: Global) -> Result<Command<'a>, AllocError>
     on_one(alloc, "check", about, help::CHECK)
 }
 
+fn digest<'a>(alloc: Global) -> Result<Command<'a>, AllocError>
+    ensures { IfOk result (λ c. (app_of c ≡ one_file (codes "digest")) × ((fields_of c).has_globals ≡ false)) }
+{
+    let about = "Writes the digest of each message, the same however it is spelled";
+    on_one(alloc, "digest", about, help::DIGEST)
+}
+
 fn same<'a>(alloc: Global) -> Result<Command<'a>, AllocError>
     ensures { IfOk result (λ c. (app_of c ≡ two_files (codes "same")) × ((fields_of c).has_globals ≡ false)) }
 {
@@ -105,6 +112,7 @@ fn program<'a>(alloc: Global) -> Result<Command<'a>, AllocError>
         .arg_required_else_help(true)
         .subcommand(show(alloc)?)?
         .subcommand(check(alloc)?)?
+        .subcommand(digest(alloc)?)?
         .subcommand(same(alloc)?)?
         .subcommand(canonicalise(alloc)?)
 }
@@ -143,7 +151,7 @@ fn is_twice(order: &Order<'_>) -> bool
     match order.command {
         Verb::Same => order.first == "-" && second == "-",
         Verb::Canonicalise => order.first != "-" && order.first == second,
-        Verb::Show | Verb::Check => false,
+        Verb::Show | Verb::Check | Verb::Digest => false,
     }
 }
 
@@ -179,6 +187,7 @@ fn verb_of(name: &str) -> Option<Verb>
     match name {
         "show" => Some(Verb::Show),
         "check" => Some(Verb::Check),
+        "digest" => Some(Verb::Digest),
         "same" => Some(Verb::Same),
         "canonicalise" => Some(Verb::Canonicalise),
         _ => None,

@@ -1,4 +1,5 @@
 //! File names in the lines that the program prints.
+use std::alloc::{AllocError, Global};
 use std::fmt::{self, Write};
 use std::str;
 
@@ -8,6 +9,12 @@ use std::str;
 /// the shell, so that no name can end a line or move the cursor.
 #[derive(Debug, Drop, PartialEq, Eq)]
 pub struct Name(pub Vec<u8>);
+
+/// The name of a file as it is printed, in lines of the output too.
+pub fn printed(alloc: Global, name: &str) -> Result<String, AllocError> {
+    let name = Name(name.as_bytes().to_vec(alloc)?);
+    format!(in alloc; "{name}")
+}
 
 impl fmt::Display for Name {
     fn fmt<W: fmt::Write>(&self, f: &mut fmt::Formatter<W>) -> fmt::Result {

@@ -9,6 +9,7 @@ use ill_jobs::Job;
 pub enum Verb {
     Show,
     Check,
+    Digest,
     Same,
     Canonicalise,
 }
@@ -41,6 +42,7 @@ pub fn task_of(command: Verb) -> Task
     match command {
         Verb::Show => Task::Run(Job::Show),
         Verb::Check => Task::Run(Job::Check),
+        Verb::Digest => Task::Run(Job::Digest),
         Verb::Canonicalise => Task::Run(Job::Canonicalise),
         Verb::Same => Task::Compare,
     }

@@ -14,8 +14,8 @@ use Rattle.ill_normal.proofs.LongestStreams.{nothing_over, no_longer, one_rest}
 use Rattle.ill_normal.proofs.WrittenMessages.{spelled_front}
 use Rattle.ill_normal.proofs.NormalStreams.{apdus_of, as_many, stream_of}
 use Rattle.ill_normal.specs.Calls.{taking, putting}
-use Rattle.ill_jobs.specs.declared.job.Job.{Job}
 use Rattle.ill_jobs.specs.declared.job.Verdict.{Verdict}
+use Rattle.ill_jobs.specs.declared.job.Work.{Work}
 use Rattle.ill_jobs.specs.declared.fault.RunFault.{RunFault}
 use Rattle.ill_jobs.specs.Output.{verdict_of}
 use Rattle.ill_jobs.specs.Ran.{Writes, Stops, StopsAfter, Done, IsFault, AnswersVerdict, IsRefused, AnswersRefused, AnswersFault}
@@ -37,9 +37,9 @@ one_reading s (m ∷ ms) (n ∷ ns) h k =
     ap (λ (x : Spelling). x ∷ ms) (same_spelling m n same.0 octets) ∙ ap (λ (xs : List Spelling). n ∷ xs) more
 
 -- what was taken of s, and what is left
-taken_of : (job : Job) (hex : Bool) (s : List ℕ) (left' held held' : Option (List ℕ)) (ms : List Spelling) → Writes job hex (Some s) left' held held' ms
+taken_of : (work : Work) (s : List ℕ) (left' held held' : Option (List ℕ)) (ms : List Spelling) → Writes work (Some s) left' held held' ms
     → (r : List ℕ) × (left' ≡ Some r) × AreSpelled s ms r
-taken_of job hex s left' held held' ms w =
+taken_of work s left' held held' ms w =
     let t = front s left' w.octets w.taken in
     (t.0, t.2, subst (λ z. AreSpelled z ms t.0) (sym t.1) (spelled_front w.octets t.0 ms w.spelled))
 
@@ -62,17 +62,17 @@ one_left s r t ms ns h k e =
 over : (a : Apdu) (n : ℕ) → Accepts profile_two [] a n → ⊥
 over a n h = nothing_over profile_two [] refl a n h
 
-module _ (job : Job) (hex : Bool) (s : List ℕ) (left' held held' : Option (List ℕ)) where
-  module _ (v : Verdict) (d : Done job hex (Some s) left' held held' v) where
+module _ (work : Work) (s : List ℕ) (left' held held' : Option (List ℕ)) where
+  module _ (v : Verdict) (d : Done work (Some s) left' held held' v) where
     whole : AreSpelled s d.messages []
     whole =
-        let t = taken_of job hex s left' held held' d.messages d.writes in
+        let t = taken_of work s left' held held' d.messages d.writes in
         let none : t.0 ≡ [] = subst IsAtEnd t.1 d.end in
         subst (AreSpelled s d.messages) none t.2
 
-    pub done_does : (ms : List Spelling) → AreSpelled s ms [] → v ≡ verdict_of job ms
+    pub done_does : (ms : List Spelling) → AreSpelled s ms [] → v ≡ verdict_of work.job ms
     unfolding whole
-    done_does ms h = d.is_verdict ∙ ap (verdict_of job) (one_reading s d.messages ms whole h)
+    done_does ms h = d.is_verdict ∙ ap (verdict_of work.job) (one_reading s d.messages ms whole h)
 
     pub done_refuses : (rest : List ℕ) (ms : List Spelling) (f : Fault) → AreSpelled s ms rest → 0 < length rest → OnlyRefuses profile_two rest f → ⊥
     done_refuses rest ms f h some only =
@@ -85,12 +85,12 @@ module _ (job : Job) (hex : Bool) (s : List ℕ) (left' held held' : Option (Lis
         let a = longest s [] rest d.messages ms whole over h in
         not_none rest some (one_left s rest [] ms d.messages h whole (omega (arith, a, many, d.few)))
 
-  module _ (x y : Bool) (ms : List Spelling) (rest grown : Option (List ℕ)) (w : Writes job hex (Some s) rest held grown ms) where
+  module _ (x y : Bool) (ms : List Spelling) (rest grown : Option (List ℕ)) (w : Writes work (Some s) rest held grown ms) where
     -- what is left where a job stops
     left_then : (Q : List ℕ → Type 0) → IfSome rest Q → (r : List ℕ) × AreSpelled s ms r × Q r
-    left_then Q q = let t = taken_of job hex s rest held grown ms w in (t.0, t.2, subst (λ o. IfSome o Q) t.1 q)
+    left_then Q q = let t = taken_of work s rest held grown ms w in (t.0, t.2, subst (λ o. IfSome o Q) t.1 q)
 
-    stop_does : (e : RunFault) → Stops job hex (taking rest left' x) (putting grown held' y) held ms e → (ns : List Spelling) → AreSpelled s ns [] → length ns ≤ 1_000_000 → IsFault e
+    stop_does : (e : RunFault) → Stops work (taking rest left' x) (putting grown held' y) held ms e → (ns : List Spelling) → AreSpelled s ns [] → length ns ≤ 1_000_000 → IsFault e
     stop_does (RunFault.Refused message refusal) h ns k le =
         let t = left_then _ h.2 in
         let a = longest s t.0 [] ms ns t.1 t.2.1.2 k in
@@ -108,7 +108,7 @@ module _ (job : Job) (hex : Bool) (s : List ℕ) (left' held held' : Option (Lis
     stop_does (RunFault.BadHex n) h ns k le = absurd h
     stop_does RunFault.HexTooLong h ns k le = absurd h
 
-    stop_refuses : (e : RunFault) → Stops job hex (taking rest left' x) (putting grown held' y) held ms e → (r : List ℕ) (ns : List Spelling) (f : Fault) → AreSpelled s ns r → length ns < 1_000_000
+    stop_refuses : (e : RunFault) → Stops work (taking rest left' x) (putting grown held' y) held ms e → (r : List ℕ) (ns : List Spelling) (f : Fault) → AreSpelled s ns r → length ns < 1_000_000
         → 0 < length r → OnlyRefuses profile_two r f → IsRefused e (length ns + 1) f
     stop_refuses (RunFault.Refused message refusal) h r ns f k lt some only =
         let t = left_then _ h.2 in
@@ -128,7 +128,7 @@ module _ (job : Job) (hex : Bool) (s : List ℕ) (left' held held' : Option (Lis
     stop_refuses (RunFault.BadHex n) h r ns f k lt some only = absurd h
     stop_refuses RunFault.HexTooLong h r ns f k lt some only = absurd h
 
-    stop_many : (e : RunFault) → Stops job hex (taking rest left' x) (putting grown held' y) held ms e → (r : List ℕ) (ns : List Spelling) → AreSpelled s ns r → length ns ≡ 1_000_000
+    stop_many : (e : RunFault) → Stops work (taking rest left' x) (putting grown held' y) held ms e → (r : List ℕ) (ns : List Spelling) → AreSpelled s ns r → length ns ≡ 1_000_000
         → 0 < length r → (e ≡ RunFault.TooManyMessages) ⊎ IsFault e
     stop_many (RunFault.Refused message refusal) h r ns k many some =
         let t = left_then _ h.2 in
@@ -145,18 +145,18 @@ module _ (job : Job) (hex : Bool) (s : List ℕ) (left' held held' : Option (Lis
 
   -- the answer to messages of which s is made
   module _ (x y : Bool) where
-    pub does : (answer : Result Verdict RunFault) → IfOk answer (Done job hex (Some s) left' held held') → IfErr answer (StopsAfter job hex (taking (Some s) left' x) (putting held held' y))
-        → (ms : List Spelling) → AreSpelled s ms [] → length ms ≤ 1_000_000 → AnswersVerdict answer (verdict_of job ms)
+    pub does : (answer : Result Verdict RunFault) → IfOk answer (Done work (Some s) left' held held') → IfErr answer (StopsAfter work (taking (Some s) left' x) (putting held held' y))
+        → (ms : List Spelling) → AreSpelled s ms [] → length ms ≤ 1_000_000 → AnswersVerdict answer (verdict_of work.job ms)
     does (Ok v) d n ms h le = done_does v d ms h
     does (Err e) d n ms h le = stop_does x y n.messages n.rest n.grown n.writes e n.stops ms h le
 
-    pub refuses : (answer : Result Verdict RunFault) → IfOk answer (Done job hex (Some s) left' held held') → IfErr answer (StopsAfter job hex (taking (Some s) left' x) (putting held held' y))
+    pub refuses : (answer : Result Verdict RunFault) → IfOk answer (Done work (Some s) left' held held') → IfErr answer (StopsAfter work (taking (Some s) left' x) (putting held held' y))
         → (rest : List ℕ) (ms : List Spelling) (f : Fault) → AreSpelled s ms rest → length ms < 1_000_000 → 0 < length rest → OnlyRefuses profile_two rest f
         → AnswersRefused answer (length ms + 1) f
     refuses (Ok v) d n rest ms f h lt some only = absurd (done_refuses v d rest ms f h some only)
     refuses (Err e) d n rest ms f h lt some only = stop_refuses x y n.messages n.rest n.grown n.writes e n.stops rest ms f h lt some only
 
-    pub refuses_more : (answer : Result Verdict RunFault) → IfOk answer (Done job hex (Some s) left' held held') → IfErr answer (StopsAfter job hex (taking (Some s) left' x) (putting held held' y))
+    pub refuses_more : (answer : Result Verdict RunFault) → IfOk answer (Done work (Some s) left' held held') → IfErr answer (StopsAfter work (taking (Some s) left' x) (putting held held' y))
         → (rest : List ℕ) (ms : List Spelling) → AreSpelled s ms rest → length ms ≡ 1_000_000 → 0 < length rest → AnswersFault answer RunFault.TooManyMessages
     refuses_more (Ok v) d n rest ms h many some = absurd (done_many v d rest ms h many some)
     refuses_more (Err e) d n rest ms h many some = stop_many x y n.messages n.rest n.grown n.writes e n.stops rest ms h many some

@@ -1,41 +1,59 @@
 -- What a job writes.
-use Rattle.std.specs.Prelude.{ℕ, Bool, true, false, List, ◌++◌, length, codes, decimal}
+use Rattle.std.specs.Prelude.{ℕ, Bool, true, false, List, [], ◌++◌, length, codes, decimal}
 use Rattle.std.specs.List.{list_all}
 use Rattle.std.specs.Str.{bytes_eq}
 use Rattle.hex.specs.Hex.{encode_lower}
+use Rattle.sha2.specs.Sha256.{sha256}
 use Rattle.ill_schema.specs.Apdu.{normal_form}
 use Rattle.ill_schema.specs.Names.{apdu_name_of}
 use Rattle.ill_text.specs.Shown.{name_or_none, shown_text}
 use Rattle.ill_normal.specs.Messages.{Spelling, output_from}
 use Rattle.ill_jobs.specs.declared.job.Job.{Job}
 use Rattle.ill_jobs.specs.declared.job.Verdict.{Verdict}
+use Rattle.ill_jobs.specs.declared.job.Work.{Work}
 
 -- the octets are the normal form
 abbrev pub is_normal : Spelling → Bool
 is_normal m = bytes_eq m.octets (normal_form m.apdu)
 
-abbrev check_end : Bool → ℕ → List ℕ
+abbrev pub check_end : Bool → ℕ → List ℕ
 check_end true size = codes "normal\n"
 check_end false size = codes "not normal, normal form " ++ decimal size ++ codes " octets\n"
 
--- what `check` says of message i: the number of its APDU, how many octets it had, whether they are its normal form, and how many that has
-abbrev pub line_of_check : ℕ → ℕ → ℕ → Bool → ℕ → List ℕ
-line_of_check i number octets normal size = codes "message " ++ decimal i ++ codes ": " ++ name_or_none (apdu_name_of number) ++ codes ", "
+-- what `check` says of message i, after a label: the number of its APDU, how many octets it had, whether they are its normal form, and how many that has
+abbrev pub line_of_check : List ℕ → ℕ → ℕ → ℕ → Bool → ℕ → List ℕ
+line_of_check label i number octets normal size = label ++ codes "message " ++ decimal i ++ codes ": " ++ name_or_none (apdu_name_of number) ++ codes ", "
     ++ decimal octets ++ codes " octets, " ++ check_end normal size
 
-abbrev pub check_line : ℕ → Spelling → List ℕ
-check_line i m = line_of_check i m.apdu.number (length m.octets) (is_normal m) (length (normal_form m.apdu))
+abbrev pub check_line : List ℕ → ℕ → Spelling → List ℕ
+check_line label i m = line_of_check label i m.apdu.number (length m.octets) (is_normal m) (length (normal_form m.apdu))
 
--- what is written of message i
-abbrev pub message_output : Job → Bool → ℕ → Spelling → List ℕ
-message_output Job.Show hex i m = shown_text i m.apdu
-message_output Job.Check hex i m = check_line i m
-message_output Job.Canonicalise false i m = normal_form m.apdu
-message_output Job.Canonicalise true i m = encode_lower (normal_form m.apdu) ++ codes "\n"
+-- what `digest` says of message i of the input of this name: the digest of its normal form (FIPS 180-4, 6.2), the name and the number
+abbrev pub line_of_digest : List ℕ → List ℕ → ℕ → List ℕ
+line_of_digest digest name i = encode_lower digest ++ codes "  " ++ name ++ codes ":" ++ decimal i ++ codes "\n"
+
+abbrev pub digest_line : List ℕ → ℕ → Spelling → List ℕ
+digest_line name i m = line_of_digest (sha256 (normal_form m.apdu)) name i
+
+-- what the lines of an input begin with: its name, or nothing
+abbrev pub label_of : Bool → List ℕ → List ℕ
+label_of true name = name ++ codes ": "
+label_of false name = []
+
+-- what is written of message i of the input of this name, after this label
+abbrev pub message_text : Job → Bool → List ℕ → List ℕ → ℕ → Spelling → List ℕ
+message_text Job.Show hex name label i m = label ++ shown_text i m.apdu
+message_text Job.Check hex name label i m = check_line label i m
+message_text Job.Digest hex name label i m = digest_line name i m
+message_text Job.Canonicalise false name label i m = normal_form m.apdu
+message_text Job.Canonicalise true name label i m = encode_lower (normal_form m.apdu) ++ codes "\n"
+
+abbrev pub message_output : Work → ℕ → Spelling → List ℕ
+message_output work = message_text work.job work.hex work.name.now (label_of work.is_named work.name.now)
 
 -- what is written of messages that are numbered from 1 on
-abbrev pub output : Job → Bool → List Spelling → List ℕ
-output job hex ms = output_from (message_output job hex) 1 ms
+abbrev pub output : Work → List Spelling → List ℕ
+output work ms = output_from (message_output work) 1 ms
 
 -- what `check` is asked for, and no other job
 abbrev pub is_good : Job → Spelling → Bool

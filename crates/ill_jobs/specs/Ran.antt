@@ -10,6 +10,7 @@ use Rattle.ill_refusals.specs.Outcome.{OnlyRefuses}
 use Rattle.ill_normal.specs.Calls.{Taking, taking, Putting, putting}
 use Rattle.ill_jobs.specs.declared.job.Job.{Job}
 use Rattle.ill_jobs.specs.declared.job.Verdict.{Verdict}
+use Rattle.ill_jobs.specs.declared.job.Work.{Work}
 use Rattle.ill_jobs.specs.declared.fault.RunFault.{RunFault}
 use Rattle.ill_normal.specs.Messages.{Spelling, AreSpelled}
 use Rattle.ill_normal.specs.Messages as messages
@@ -18,31 +19,31 @@ use Rattle.ill_jobs.specs.Hexadecimal.{hex_octets, TakesText}
 use Rattle.ill_jobs.specs.Unread.{TakesAtMost}
 
 -- the octets that were taken are these messages, and their output was written
-abbrev pub Writes : Job → Bool → Option (List ℕ) → Option (List ℕ) → Option (List ℕ) → Option (List ℕ) → List Spelling → Type 0
-Writes job hex left left' held held' ms = messages.Writes (message_output job hex) left left' held held' ms
+abbrev pub Writes : Work → Option (List ℕ) → Option (List ℕ) → Option (List ℕ) → Option (List ℕ) → List Spelling → Type 0
+Writes work left left' held held' ms = messages.Writes (message_output work) left left' held held' ms
 
 -- where a sink broke: of the output, with that of one message more, the first n octets were written
-pub record BrokeAt (job : Job) (hex : Bool) (left left' held held' : Option (List ℕ)) (messages : List Spelling) (n : ℕ) : Type 0 where
+pub record BrokeAt (work : Work) (left left' held held' : Option (List ℕ)) (messages : List Spelling) (n : ℕ) : Type 0 where
   pub message : Spelling
   pub spells : SpellsApdu profile_two message.apdu message.octets
   pub taken : Consumes left left' message.octets
-  pub written : Appends held held' (take n (output job hex (messages ++ message ∷ [])))
-  pub some : length (output job hex messages) ≤ n
-  pub not_all : n < length (output job hex (messages ++ message ∷ []))
+  pub written : Appends held held' (take n (output work (messages ++ message ∷ [])))
+  pub some : length (output work messages) ≤ n
+  pub not_all : n < length (output work (messages ++ message ∷ []))
 
 -- why a job stopped after these messages, from where its source and its sink stood then; `first` is what the sink held before all of them
-abbrev pub Stops : Job → Bool → Taking → Putting → Option (List ℕ) → List Spelling → RunFault → Type 0
-Stops job hex source sink first ms (RunFault.Refused message refusal) =
+abbrev pub Stops : Work → Taking → Putting → Option (List ℕ) → List Spelling → RunFault → Type 0
+Stops work source sink first ms (RunFault.Refused message refusal) =
     (message ≡ length ms + 1) × (length ms < 1_000_000)
     × IfSome source.left (λ s. (0 < length s) × OnlyRefuses profile_two s (fault_of refusal)) × Keeps sink.held sink.held'
-Stops job hex source sink first ms RunFault.TooManyMessages =
+Stops work source sink first ms RunFault.TooManyMessages =
     (length ms ≡ 1_000_000) × ((octet : ℕ) × Consumes source.left source.left' (octet ∷ [])) × Keeps sink.held sink.held'
-Stops job hex source sink first ms RunFault.OutOfMemory = (length ms < 1_000_000) × Keeps sink.held sink.held'
-Stops job hex source sink first ms RunFault.ReadFault =
+Stops work source sink first ms RunFault.OutOfMemory = (length ms < 1_000_000) × Keeps sink.held sink.held'
+Stops work source sink first ms RunFault.ReadFault =
     (length ms ≤ 1_000_000) × IsTrue source.broken × TakesNoMessage source.left source.left' × Keeps sink.held sink.held'
-Stops job hex source sink first ms (RunFault.WriteFault n) =
-    (length ms < 1_000_000) × IsTrue sink.broken × BrokeAt job hex source.left source.left' first sink.held' ms n
-Stops job hex source sink first ms _ = ⊥
+Stops work source sink first ms (RunFault.WriteFault n) =
+    (length ms < 1_000_000) × IsTrue sink.broken × BrokeAt work source.left source.left' first sink.held' ms n
+Stops work source sink first ms _ = ⊥
 
 -- the failure to read message i
 abbrev pub fault_at : ℕ → ReadFailure → RunFault
@@ -51,21 +52,21 @@ fault_at i ReadFailure.OutOfMemory = RunFault.OutOfMemory
 fault_at i ReadFailure.ReadFault = RunFault.ReadFault
 
 -- the messages before the fault, and why the job went no further; of what follows them no more was taken than a message may have
-pub record StopsAfter (job : Job) (hex : Bool) (source : Taking) (sink : Putting) (fault : RunFault) : Type 0 where
+pub record StopsAfter (work : Work) (source : Taking) (sink : Putting) (fault : RunFault) : Type 0 where
   pub messages : List Spelling
   pub rest : Option (List ℕ)
   pub grown : Option (List ℕ)
-  pub writes : Writes job hex source.left rest sink.held grown messages
+  pub writes : Writes work source.left rest sink.held grown messages
   pub taken : TakesFront rest source.left'
-  pub stops : Stops job hex (taking rest source.left' source.broken) (putting grown sink.held' sink.broken) sink.held messages fault
+  pub stops : Stops work (taking rest source.left' source.broken) (putting grown sink.held' sink.broken) sink.held messages fault
 
 -- the job was done: the octets are messages to their end, at most 1,000,000
-pub record Done (job : Job) (hex : Bool) (left left' held held' : Option (List ℕ)) (verdict : Verdict) : Type 0 where
+pub record Done (work : Work) (left left' held held' : Option (List ℕ)) (verdict : Verdict) : Type 0 where
   pub messages : List Spelling
-  pub writes : Writes job hex left left' held held' messages
+  pub writes : Writes work left left' held held' messages
   pub end : IsAtEnd left'
   pub few : length messages ≤ 1_000_000
-  pub is_verdict : verdict ≡ verdict_of job messages
+  pub is_verdict : verdict ≡ verdict_of work.job messages
 
 -- a text was taken that stands for these octets
 pub record TextOf (left left' : Option (List ℕ)) (octets : List ℕ) : Type 0 where
@@ -90,16 +91,16 @@ abbrev pub FailsText : Option (List ℕ) → Option (List ℕ) → Bool → RunF
 FailsText left left' source_broken fault = NoHex left left' fault ⊎ IsUnread 4_194_305 left left' source_broken fault
 
 -- the same of an input that is read as octets, or as hexadecimal text
-abbrev pub RunDone : Bool → Job → Option (List ℕ) → Option (List ℕ) → Option (List ℕ) → Option (List ℕ) → Verdict → Type 0
-RunDone false job left left' held held' verdict = Done job false left left' held held' verdict
-RunDone true job left left' held held' verdict =
-    (octets : List ℕ) × TextOf left left' octets × ((rest : List ℕ) × Done job true (Some octets) (Some rest) held held' verdict)
+abbrev pub RunDone : Bool → Work → Option (List ℕ) → Option (List ℕ) → Option (List ℕ) → Option (List ℕ) → Verdict → Type 0
+RunDone false work left left' held held' verdict = Done work left left' held held' verdict
+RunDone true work left left' held held' verdict =
+    (octets : List ℕ) × TextOf left left' octets × ((rest : List ℕ) × Done work (Some octets) (Some rest) held held' verdict)
 
-abbrev pub RunFails : Bool → Job → Taking → Putting → RunFault → Type 0
-RunFails false job source sink fault = StopsAfter job false source sink fault
-RunFails true job source sink fault =
+abbrev pub RunFails : Bool → Work → Taking → Putting → RunFault → Type 0
+RunFails false work source sink fault = StopsAfter work source sink fault
+RunFails true work source sink fault =
     (FailsText source.left source.left' source.broken fault × Keeps sink.held sink.held')
-    ⊎ ((octets : List ℕ) × TextOf source.left source.left' octets × ((rest : List ℕ) × StopsAfter job true (taking (Some octets) (Some rest) false) sink fault))
+    ⊎ ((octets : List ℕ) × TextOf source.left source.left' octets × ((rest : List ℕ) × StopsAfter work (taking (Some octets) (Some rest) false) sink fault))
 
 -- ---- which answer an input has
 

@@ -1,6 +1,7 @@
 //! Hexadecimal text as an input.
-ghost use Rattle.std.specs.Prelude.{◌≡◌, IfOk, IfErr, IsTrue};
-ghost use Rattle.ill_jobs.specs.Hexadecimal.{is_blank, without_blanks};
+ghost use Rattle.std.specs.Prelude.{◌≡◌, ◌⊎◌, Ok, Err, IfOk, IfErr, IsTrue};
+ghost use Rattle.ill_jobs.specs.Hexadecimal.{hex_octets, is_blank, without_blanks};
+ghost use Rattle.ill_jobs.specs.declared.fault.RunFault.{RunFault};
 ghost use Rattle.ill_jobs.specs.Ran.{TextOf, FailsText};
 
 use crate::fault::RunFault;
@@ -39,10 +40,22 @@ pub fn read_hex<R: Source>(alloc: Global, source: &mut R) -> Result<Vec<u8>, Run
     ensures stays { IsTrue (R.is_broken source.old) → IsTrue (R.is_broken source.new) }
 {
     let text = read_most(alloc, source, MOST + 1)?;
+    text_octets(alloc, &text)
+}
+
+/// The octets that a text stands for.
+///
+/// # Errors
+///
+/// Why the text stands for no octets, or out of memory.
+pub fn text_octets(alloc: Global, text: &[u8]) -> Result<Vec<u8>, RunFault>
+    ensures octets { IfOk result (λ octets. hex_octets text.now ≡ Ok octets.items) }
+    ensures fails { IfErr result (λ fault. (hex_octets text.now ≡ Err fault) ⊎ (fault ≡ RunFault.OutOfMemory)) }
+{
     if text.len() > MOST {
         return Err(RunFault::HexTooLong);
     }
-    let Ok(digits) = without_blanks(alloc, &text) else {
+    let Ok(digits) = without_blanks(alloc, text) else {
         return Err(RunFault::OutOfMemory);
     };
     Ok(hex::decode(alloc, digits.as_slice())?)

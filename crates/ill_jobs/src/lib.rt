@@ -1,4 +1,4 @@
-//! The jobs of the program, over sources and sinks: to show, check, canonicalise and compare.
+//! The jobs of the program, over sources and sinks: to show, check, digest, canonicalise and compare.
 #![tactic(auto)]
 
 mod fault;
@@ -11,6 +11,8 @@ mod text;
 mod written;
 
 pub use fault::RunFault;
-pub use job::{Job, Verdict};
+pub use hexadecimal::text_octets;
+pub use job::{Job, Verdict, Work};
 pub use messages::{run, run_by};
 pub use same::run_same;
+pub use text::{Unread, read_most};

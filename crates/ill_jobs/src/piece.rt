@@ -1,35 +1,34 @@
 //! What a job makes of one message.
-ghost use Rattle.std.specs.Prelude.{◌≡◌, ℕ, Bool, ◌++◌, codes, IfOk};
+ghost use Rattle.std.specs.Prelude.{◌≡◌, ◌^◌, ◌≤◌, ℕ, ◌++◌, codes, length, IfOk, OnOk};
 ghost use Rattle.hex.specs.Hex.{encode_lower};
 ghost use Rattle.ill_read.specs.Answers.{ReadsNext};
+ghost use Rattle.ill_read.specs.Outline.{IsOutlineOf};
+ghost use Rattle.ill_schema.specs.Apdu.{Apdu};
+ghost use Rattle.ill_text.specs.Shown.{shown_text};
 ghost use Rattle.ill_jobs.specs.declared.job.Job.{Job};
 ghost use Rattle.ill_normal.specs.Messages.{Makes};
-ghost use Rattle.ill_jobs.specs.Output.{is_good, line_of_check, message_output};
+ghost use Rattle.ill_jobs.specs.Output.{check_end, is_good, label_of, line_of_check, line_of_digest, message_output, message_text};
 ghost use Rattle.ill_jobs.specs.code.Writing.{IsWritten};
 
-use crate::job::Job;
+use crate::job::{Job, Work};
 use crate::written::Written;
 use ber_core::{Look, Source};
+use ill_digest::normal_digest;
 use ill_normal::{Checked, Maker, NormalForms, Piece, ReadFailure, apdu_name, check_one_in};
 use ill_read::{Outline, read_outline_in};
 use ill_text::Text;
 use itoa::Buffer;
 use std::alloc::{AllocError, Global};
 
-/// What a job makes of each message.
-#[derive(Clone, Copy)]
-pub struct Work {
-    pub job: Job,
-    /// Whether octets are written as hexadecimal text.
-    pub hex: bool,
-}
+/// How many octets may stand before the text of a message.
+const LONGEST: usize = 1 << 62;
 
-impl Maker for Work {
+impl Maker for Work<'_> {
     type Out = Written;
 
     ghost use Rattle.ill_jobs.specs.Output.{is_good, message_output};
 
-    ghost text = { λ work. message_output work.job work.hex };
+    ghost text = { λ work. message_output work };
 
     ghost is_good = { λ work. is_good work.job };
 
@@ -47,57 +46,93 @@ impl Maker for Work {
 /// Reads the next message, and makes its output; None at the end of the input.
 fn next_piece<R: Source, L: Look<R>>(
     alloc: Global,
-    work: Work,
+    work: Work<'_>,
     number: u32,
     source: &mut R,
     room: Written,
 ) -> Result<Option<Piece<Written>>, ReadFailure>
     ensures { ReadsNext (R.left source.old) (R.left source.new) (R.is_broken source.old) (R.is_broken source.new)
-        (Makes IsWritten (message_output work.job work.hex number) (is_good work.job)) result }
+        (Makes IsWritten (message_output work.entry number) (is_good work.entry.job)) result }
 {
     match work.job {
-        Job::Show => shown::<R, L>(alloc, number, source, room.into_outline(alloc)),
-        Job::Check => checked::<R, L>(alloc, number, source, room.into_octets(alloc)),
-        Job::Canonicalise => canonical::<R, L>(alloc, work.hex, source, room.into_octets(alloc)),
+        Job::Show => shown::<R, L>(alloc, work, number, source, room),
+        Job::Check => checked::<R, L>(alloc, work, number, source, room.into_octets()),
+        Job::Digest => digested::<R, L>(alloc, work, number, source, room.into_octets()),
+        Job::Canonicalise => { canonical::<R, L>(alloc, work, number, source, room.into_octets()) }
     }
 }
 
 fn shown<R: Source, L: Look<R>>(
     alloc: Global,
+    work: Work<'_>,
     number: u32,
     source: &mut R,
-    room: Outline,
+    room: Written,
 ) -> Result<Option<Piece<Written>>, ReadFailure>
     ensures { ReadsNext (R.left source.old) (R.left source.new) (R.is_broken source.old) (R.is_broken source.new)
-        (λ p octets. (hex : Bool) → Makes IsWritten (message_output Job.Show hex number) (is_good Job.Show) p octets) result }
+        (Makes IsWritten (message_text Job.Show work.entry.hex work.entry.name.now (label_of work.entry.is_named work.entry.name.now) number) (is_good Job.Show)) result }
 {
-    let Some(read) = read_outline_in::<R, L>(alloc, source, room)? else {
+    let (octets, outline) = room.into_both(alloc);
+    let Some(read) = read_outline_in::<R, L>(alloc, source, outline)? else {
         return Ok(None);
     };
-    let octets = read.read;
-    match Text::new(number, read.outline) {
+    let size = read.read;
+    match labelled_text(octets, work, number, read.outline) {
         Ok(text) => Ok(Some(Piece {
-            text: Written::Shown(text),
+            text,
             is_good: true,
-            octets,
+            octets: size,
         })),
         Err(AllocError) => Err(ReadFailure::OutOfMemory),
     }
 }
 
+/// The text of the message that the outline is of, after its label. A name of more than 4,611,686,018,427,387,902 octets is out of memory.
+fn labelled_text(
+    room: Vec<u8>,
+    work: Work<'_>,
+    number: u32,
+    outline: Outline,
+) -> Result<Written, AllocError>
+    ensures { (a : Apdu) → IsOutlineOf outline a
+        → IfOk result (λ text. IsWritten text (label_of work.entry.is_named work.entry.name.now ++ shown_text number a)) }
+{
+    let label = label(room, work)?;
+    if label.len() > LONGEST {
+        return Err(AllocError);
+    }
+    let text = Text::new(number, outline)?;
+    Ok(Written::Shown { label, text })
+}
+
+/// What the line of a message begins with, in the memory of `room`, whose octets are forgotten.
+fn label(room: Vec<u8>, work: Work<'_>) -> Result<Vec<u8>, AllocError>
+    ensures { IfOk result (λ line. line.items ≡ label_of work.entry.is_named work.entry.name.now) }
+{
+    let mut line = room;
+    line.clear();
+    if !work.is_named {
+        return Ok(line);
+    }
+    line.extend_from_slice(work.name.as_bytes())?;
+    line.extend_from_slice(b": ")?;
+    Ok(line)
+}
+
 fn checked<R: Source, L: Look<R>>(
     alloc: Global,
+    work: Work<'_>,
     number: u32,
     source: &mut R,
     room: Vec<u8>,
 ) -> Result<Option<Piece<Written>>, ReadFailure>
     ensures { ReadsNext (R.left source.old) (R.left source.new) (R.is_broken source.old) (R.is_broken source.new)
-        (λ p octets. (hex : Bool) → Makes IsWritten (message_output Job.Check hex number) (is_good Job.Check) p octets) result }
+        (Makes IsWritten (message_text Job.Check work.entry.hex work.entry.name.now (label_of work.entry.is_named work.entry.name.now) number) (is_good Job.Check)) result }
 {
     let Some((found, normal)) = check_one_in::<R, L>(alloc, source, room)? else {
         return Ok(None);
     };
-    match check_line(normal, number, found) {
+    match check_line(normal, work, number, found) {
         Ok(text) => Ok(Some(Piece {
             text: Written::Octets(text),
             is_good: found.is_normal,
@@ -108,15 +143,19 @@ fn checked<R: Source, L: Look<R>>(
 }
 
 /// The line that says whether a message is its normal form, in the memory of `room`, whose octets are forgotten.
-fn check_line(room: Vec<u8>, number: u32, found: Checked) -> Result<Vec<u8>, AllocError>
-    ensures { IfOk result (λ line. line.items ≡ line_of_check number found.apdu found.octets found.is_normal found.normal) }
+fn check_line(
+    room: Vec<u8>,
+    work: Work<'_>,
+    number: u32,
+    found: Checked,
+) -> Result<Vec<u8>, AllocError>
+    ensures { IfOk result (λ line. line.items ≡ line_of_check (label_of work.entry.is_named work.entry.name.now) number found.apdu found.octets found.is_normal found.normal) }
 {
     let name = match apdu_name(found.apdu) {
         Some(name) => name,
         None => "",
     };
-    let mut line = room;
-    line.clear();
+    let mut line = label(room, work)?;
     line.extend_from_slice(b"message ")?;
     line.extend_from_slice(Buffer::new().format(number).as_bytes())?;
     line.extend_from_slice(b": ")?;
@@ -124,29 +163,84 @@ fn check_line(room: Vec<u8>, number: u32, found: Checked) -> Result<Vec<u8>, All
     line.extend_from_slice(b", ")?;
     line.extend_from_slice(Buffer::new().format(found.octets).as_bytes())?;
     line.extend_from_slice(b" octets, ")?;
+    push_check_end(&mut line, found)?;
+    Ok(line)
+}
+
+fn push_check_end(line: &mut Vec<u8>, found: Checked) -> Result<(), AllocError>
+    ensures { OnOk result (line.new.items ≡ line.old.items ++ check_end found.is_normal found.normal) }
+{
     if found.is_normal {
         line.extend_from_slice(b"normal\n")?;
-        return Ok(line);
+        return Ok(());
     }
     line.extend_from_slice(b"not normal, normal form ")?;
     line.extend_from_slice(Buffer::new().format(found.normal).as_bytes())?;
     line.extend_from_slice(b" octets\n")?;
+    Ok(())
+}
+
+fn digested<R: Source, L: Look<R>>(
+    alloc: Global,
+    work: Work<'_>,
+    number: u32,
+    source: &mut R,
+    room: Vec<u8>,
+) -> Result<Option<Piece<Written>>, ReadFailure>
+    ensures { ReadsNext (R.left source.old) (R.left source.new) (R.is_broken source.old) (R.is_broken source.new)
+        (Makes IsWritten (message_text Job.Digest work.entry.hex work.entry.name.now (label_of work.entry.is_named work.entry.name.now) number) (is_good Job.Digest)) result }
+{
+    let Some(normal) = NormalForms.next::<R, L>(alloc, 1, source, room)? else {
+        return Ok(None);
+    };
+    let octets = normal.octets;
+    let digest = normal_digest(&normal.text);
+    match digest_line(alloc, normal.text, &digest, work.name, number) {
+        Ok(text) => Ok(Some(Piece {
+            text: Written::Octets(text),
+            is_good: true,
+            octets,
+        })),
+        Err(AllocError) => Err(ReadFailure::OutOfMemory),
+    }
+}
+
+/// The line of a message with this digest, in the memory of `room`, whose octets are forgotten.
+fn digest_line(
+    alloc: Global,
+    room: Vec<u8>,
+    digest: &[u8],
+    name: &str,
+    number: u32,
+) -> Result<Vec<u8>, AllocError>
+    ensures { IfOk result (λ line. line.items ≡ line_of_digest digest.now name.now number) }
+{
+    let digits = hex::encode(alloc, digest)?;
+    let mut line = room;
+    line.clear();
+    line.extend_from_slice(digits.as_bytes())?;
+    line.extend_from_slice(b"  ")?;
+    line.extend_from_slice(name.as_bytes())?;
+    line.extend_from_slice(b":")?;
+    line.extend_from_slice(Buffer::new().format(number).as_bytes())?;
+    line.extend_from_slice(b"\n")?;
     Ok(line)
 }
 
 fn canonical<R: Source, L: Look<R>>(
     alloc: Global,
-    hex: bool,
+    work: Work<'_>,
+    number: u32,
     source: &mut R,
     room: Vec<u8>,
 ) -> Result<Option<Piece<Written>>, ReadFailure>
     ensures { ReadsNext (R.left source.old) (R.left source.new) (R.is_broken source.old) (R.is_broken source.new)
-        (λ p octets. (number : ℕ) → Makes IsWritten (message_output Job.Canonicalise hex number) (is_good Job.Canonicalise) p octets) result }
+        (Makes IsWritten (message_text Job.Canonicalise work.entry.hex work.entry.name.now (label_of work.entry.is_named work.entry.name.now) number) (is_good Job.Canonicalise)) result }
 {
-    let Some(normal) = NormalForms.next::<R, L>(alloc, 1, source, room)? else {
+    let Some(normal) = NormalForms.next::<R, L>(alloc, number, source, room)? else {
         return Ok(None);
     };
-    if !hex {
+    if !work.hex {
         return Ok(Some(Piece {
             text: Written::Octets(normal.text),
             is_good: normal.is_good,

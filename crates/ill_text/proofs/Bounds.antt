@@ -245,10 +245,10 @@ head_size i name small short =
     let c = length-append (codes "message " ++ decimal i ++ codes " ") name in
     omega (arith, number, short, a, b, c, length-append (codes "message " ++ decimal i ++ codes " " ++ name) (codes "\n"))
 
-sum_size : (head lines : List ℕ) (n : ℕ) → length head ≤ 200 → length lines ≤ 17_179_869_284 * n → n ≤ 16_777_216 → length (head ++ lines) < 2 ^ 63
+sum_size : (head lines : List ℕ) (n : ℕ) → length head ≤ 200 → length lines ≤ 17_179_869_284 * n → n ≤ 16_777_216 → length (head ++ lines) < 2 ^ 62
 sum_size head lines n h l le = omega (arith, h, l, le, length-append head lines)
 
-pub text_bound : (i : ℕ) (a : Apdu) (ms : List Mark) → i < 2 ^ 64 → IsMarked (choice_of a) ms → length ms ≤ 16_777_216 → length (shown_text i a) < 2 ^ 63
+pub text_bound : (i : ℕ) (a : Apdu) (ms : List Mark) → i < 2 ^ 64 → IsMarked (choice_of a) ms → length ms ≤ 16_777_216 → length (shown_text i a) < 2 ^ 62
 text_bound i a ms small h le =
     let p : Place = record { path = []; name = []; node = row_node IllApdu (a.number - 1) } in
     let name = row_name IllApdu (a.number - 1) in

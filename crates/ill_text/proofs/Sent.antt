@@ -104,7 +104,7 @@ is_broken E told told' b b' o o' h f broke =
     let s = f told [] h in
     (subst (λ (x : Bool). elim x as (λ _. Type 0) [ false ↦ s.rest ≡ take o'.len o'.waiting | true ↦ (0 < length s.rest) × IsTrue b' ]) broke s.left).1
 
-pub some_sent : (E : List ℕ) (told told' : Option (List ℕ)) (b b' : Bool) (o o' : Out) → Stands told [] (sending told b o) → Adds E (sending told b o) (sending told' b' o') → o'.broken ≡ true → length E < 2 ^ 63
+pub some_sent : (E : List ℕ) (told told' : Option (List ℕ)) (b b' : Bool) (o o' : Out) → Stands told [] (sending told b o) → Adds E (sending told b o) (sending told' b' o') → o'.broken ≡ true → length E < 2 ^ 62
     → Appends told told' (take o'.written E) × (o'.written < length E) × IsTrue b'
 unfolding Adds
 some_sent E told told' b b' o o' h f broke small =

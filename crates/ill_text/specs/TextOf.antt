@@ -7,4 +7,4 @@ use Rattle.ill_text.specs.declared.text.Text.{Text}
 
 -- these octets are the text
 abbrev pub IsTextOf : Text → List ℕ → Type 0
-IsTextOf text octets = (a : Apdu) × IsOutlineOf text.outline a × (octets ≡ shown_text text.number a) × (length octets < 2 ^ 63)
+IsTextOf text octets = (a : Apdu) × IsOutlineOf text.outline a × (octets ≡ shown_text text.number a) × (length octets < 2 ^ 62)

@@ -1,6 +1,6 @@
 //! Where a source or a sink breaks.
 use ber_core::{Pieces, Room, ToWrite};
-use ill_jobs::{Job, RunFault, Verdict, run, run_same};
+use ill_jobs::{Job, RunFault, Verdict, Work, run, run_same};
 use std::test::Fail;
 use test_support::octets_of;
 
@@ -19,13 +19,13 @@ fn a_broken_sink_has_the_first_octets(rt: HostRuntime) -> Result<(), Fail> {
     for n in 0..LINES.len() {
         let mut source = Pieces::new(&octets, 64, None);
         let mut sink: Room<128> = Room::new(64, Some(n));
-        let answer = run(alloc, Job::Check, false, &mut source, &mut sink);
+        let answer = run(alloc, Work::new(Job::Check, false), &mut source, &mut sink);
         assert!(rt; answer == Err(RunFault::WriteFault(n as u128)), "{n}");
         assert!(rt; LINES.as_bytes().get(..n) == Some(sink.octets()), "{n}");
     }
     let mut source = Pieces::new(&octets, 64, None);
     let mut sink: Room<128> = Room::new(7, None);
-    let answer = run(alloc, Job::Check, false, &mut source, &mut sink);
+    let answer = run(alloc, Work::new(Job::Check, false), &mut source, &mut sink);
     assert!(rt; answer == Ok(Verdict::Good));
     assert!(rt; sink.octets() == LINES.as_bytes());
     Ok(())
@@ -39,7 +39,12 @@ fn a_broken_source_leaves_the_output_of_whole_messages(rt: HostRuntime) -> Resul
         let mut source = Pieces::new(&octets, 64, Some(breaks_at));
         let mut written = Vec::new(alloc);
         let mut sink = ToWrite::new(&mut written);
-        let answer = run(alloc, Job::Canonicalise, false, &mut source, &mut sink);
+        let answer = run(
+            alloc,
+            Work::new(Job::Canonicalise, false),
+            &mut source,
+            &mut sink,
+        );
         let whole = if breaks_at < 33 { 0 } else { 33 };
         assert!(rt; answer == Err(RunFault::ReadFault), "{breaks_at}");
         assert!(rt;
@@ -56,7 +61,7 @@ fn nothing_is_written_where_a_text_breaks(rt: HostRuntime) {
     let mut source = Pieces::new(TWICE.as_bytes(), 64, Some(100));
     let mut written = Vec::new(alloc);
     let mut sink = ToWrite::new(&mut written);
-    let answer = run(alloc, Job::Show, true, &mut source, &mut sink);
+    let answer = run(alloc, Work::new(Job::Show, true), &mut source, &mut sink);
     assert!(rt; answer == Err(RunFault::ReadFault));
     assert!(rt; written.is_empty());
 }

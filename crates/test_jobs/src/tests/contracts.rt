@@ -1,12 +1,12 @@
 //! Contracts that leave one result: what two calls on the same arguments return is proved equal of their contracts alone. So a body
 //! that returns anything else doesn't meet its contract. That memory was refused, and that a source or the sink broke, are the results
 //! that may come besides.
-ghost use Rattle.std.specs.Prelude.{◌≡◌, ◌≤◌, ◌+◌, ℕ, [], Ok, Err, IfOk, length};
+ghost use Rattle.std.specs.Prelude.{◌≡◌, ◌≤◌, ◌+◌, ℕ, [], Ok, Err, true, false, IfOk, length};
 ghost use Rattle.ill_jobs.specs.Ran.{IsFault};
 ghost use Rattle.ill_schema.specs.Message.{apdu_of};
 
 use ber_core::{Pieces, Room};
-use ill_jobs::{Job, RunFault, Verdict, run, run_same};
+use ill_jobs::{RunFault, Verdict, Work, run, run_same};
 use ill_normal::{Refusal, Side};
 use ill_schema::Message;
 use ill_text::show_text;
@@ -30,8 +30,7 @@ fn apdus_are_shown_in_one_way(
 
 /// Equal inputs have one verdict. Where one has a verdict, the other is not refused.
 fn inputs_have_one_verdict(
-    job: Job,
-    hex: bool,
+    work: Work<'_>,
     source: &mut Pieces,
     sink: &mut Room<64>,
     other: &mut Pieces,
@@ -43,34 +42,36 @@ fn inputs_have_one_verdict(
     ensures fault { (v : Verdict) (e : RunFault) → result.0 ≡ Ok v → result.1 ≡ Err e → IsFault e }
 {
     (
-        run(alloc, job, hex, source, sink),
-        run(alloc, job, hex, other, other_sink),
+        run(alloc, work, source, sink),
+        run(alloc, work, other, other_sink),
     )
 }
 
 /// A write fault of a job counts the octets that the sink took of the whole output.
 fn write_faults_count_what_the_sink_took(
-    job: Job,
+    work: Work<'_>,
     source: &mut Pieces,
     sink: &mut Room<64>,
     alloc: Global,
 ) -> Result<Verdict, RunFault>
-    requires { sink.old.octets ≡ [] }
+    requires plain { work.hex ≡ false }
+    requires empty { sink.old.octets ≡ [] }
     ensures { (n : ℕ) → result ≡ Err (RunFault.WriteFault n) → length sink.new.octets ≡ n }
 {
-    run(alloc, job, false, source, sink)
+    run(alloc, work, source, sink)
 }
 
 /// Of a text at most 4,194,305 octets are taken, whatever the result.
 fn texts_are_taken_to_their_bound(
-    job: Job,
+    work: Work<'_>,
     source: &mut Pieces,
     sink: &mut Room<64>,
     alloc: Global,
 ) -> Result<Verdict, RunFault>
+    requires { work.hex ≡ true }
     ensures { length source.old.octets ≤ 4_194_305 + length source.new.octets }
 {
-    run(alloc, job, true, source, sink)
+    run(alloc, work, source, sink)
 }
 
 /// Equal pairs of inputs have one verdict. Where one pair has a verdict, the other is not refused.

@@ -1,9 +1,13 @@
 //! What `run` writes and answers, row by row.
-use ber_core::{Pieces, ToWrite};
-use ill_jobs::{Job, RunFault, Verdict, run};
+use ber_core::{Pieces, Room, ToWrite};
+use ill_jobs::{Job, RunFault, Verdict, Work, run};
 use ill_normal::{Cause, Refusal};
+use std::alloc::Global;
 use std::test::Fail;
 use test_support::octets_of;
+
+/// SHA-256 of the EXPIRED's normal form, by `sha256sum`.
+const DIGEST: &str = "41b0dca84b6db1db587880995cae8f2ae640c5af026d4d9745a5bc56ba11a782";
 
 /// A run. The input is text where `hex` says so, and otherwise octets, here in hexadecimal.
 struct Row {
@@ -119,10 +123,109 @@ fn each_run(rt: HostRuntime) -> Result<(), Fail> {
             let mut source = Pieces::new(&input, per_call, None);
             let mut written = Vec::new(alloc);
             let mut sink = ToWrite::new(&mut written);
-            let answer = run(alloc, row.job, row.hex, &mut source, &mut sink);
+            let answer = run(alloc, Work::new(row.job, row.hex), &mut source, &mut sink);
             assert!(rt; answer == row.answer, "{}", row.name);
             assert!(rt; written.as_slice() == row.output.as_bytes(), "{}", row.name);
         }
+    }
+    Ok(())
+}
+
+/// An EXPIRED in its normal form, and then in indefinite lengths.
+const TWICE: &str =
+    "741f301d800102a10aa1031b0147a2031b0151a20ca00a8008323032343032323974803080800102a180a1801b01470000a2801b015100000000a280a080800832303234303232390000000000000000";
+
+/// The normal form of both.
+const FORMS: &str =
+    "741f301d800102a10aa1031b0147a2031b0151a20ca00a80083230323430323239741f301d800102a10aa1031b0147a2031b0151a20ca00a80083230323430323239";
+
+/// An OVERDUE as it is shown, but for its first line.
+const OVERDUE: &str =
+    "6c2c302a800102a10aa1031b0147a2031b0151a20ca00a80083230323430323239bf290a80083230323430323239";
+
+const OVERDUE_LINES: &str =
+    "protocol-version-num = 2\ntransaction-id.transaction-group-qualifier = general \"G\"\ntransaction-id.transaction-qualifier = general \"Q\"\nservice-date-time.date-time-of-this-service.date = 20240229\ndate-due.date-due-field = 20240229\ndate-due.renewable = TRUE\n";
+
+/// What a job writes of an input, and its verdict.
+fn written(
+    alloc: Global,
+    work: Work<'_>,
+    digits: &str,
+) -> Result<(Option<Verdict>, Vec<u8>), Fail> {
+    let input = octets_of(alloc, digits)?;
+    let mut written = Vec::new(alloc);
+    let mut sink = ToWrite::new(&mut written);
+    let answer = run(alloc, work, &mut Pieces::new(&input, 4096, None), &mut sink);
+    Ok((answer.ok(), written))
+}
+
+#[test]
+fn digests_name_the_input(rt: HostRuntime) -> Result<(), Fail> {
+    let alloc = rt.alloc();
+    for is_named in [false, true] {
+        let work = Work {
+            job: Job::Digest,
+            hex: false,
+            name: "a b.ber",
+            is_named,
+        };
+        let (verdict, text) = written(alloc, work, TWICE)?;
+        let want = format!(in alloc; "{DIGEST}  a b.ber:1\n{DIGEST}  a b.ber:2\n")?;
+        assert!(rt; verdict == Some(Verdict::Good));
+        assert!(rt; text.as_slice() == want.as_bytes());
+    }
+    let (_, text) = written(alloc, Work::new(Job::Digest, false), TWICE)?;
+    let want = format!(in alloc; "{DIGEST}  -:1\n{DIGEST}  -:2\n")?;
+    assert!(rt; text.as_slice() == want.as_bytes());
+    Ok(())
+}
+
+#[test]
+fn lines_begin_with_the_name(rt: HostRuntime) -> Result<(), Fail> {
+    let alloc = rt.alloc();
+    let named = |job| Work {
+        job,
+        hex: false,
+        name: "a b.ber",
+        is_named: true,
+    };
+    let (verdict, text) = written(alloc, named(Job::Check), TWICE)?;
+    let want =
+        "a b.ber: message 1: Expired, 33 octets, normal\na b.ber: message 2: Expired, 47 octets, not normal, normal form 33 octets\n";
+    assert!(rt; verdict == Some(Verdict::NotGood));
+    assert!(rt; text.as_slice() == want.as_bytes());
+
+    let mut two = String::from_str(alloc, OVERDUE)?;
+    two.push_str(OVERDUE)?;
+    let (verdict, text) = written(alloc, named(Job::Show), &two)?;
+    let want = format!(in alloc;
+        "a b.ber: message 1 Overdue\n{OVERDUE_LINES}a b.ber: message 2 Overdue\n{OVERDUE_LINES}"
+    )?;
+    assert!(rt; verdict == Some(Verdict::Good));
+    assert!(rt; text.as_slice() == want.as_bytes());
+
+    let (_, text) = written(alloc, named(Job::Canonicalise), TWICE)?;
+    let forms = octets_of(alloc, FORMS)?;
+    assert!(rt; text.as_slice() == forms.as_slice());
+    Ok(())
+}
+
+#[test]
+fn a_sink_that_breaks_has_the_front_of_the_lines(rt: HostRuntime) -> Result<(), Fail> {
+    let alloc = rt.alloc();
+    let work = Work {
+        job: Job::Show,
+        hex: false,
+        name: "a.ber",
+        is_named: true,
+    };
+    let (_, whole) = written(alloc, work, OVERDUE)?;
+    let input = octets_of(alloc, OVERDUE)?;
+    for room in 0..60usize {
+        let mut sink: Room<64> = Room::new(64, Some(room));
+        let answer = run(alloc, work, &mut Pieces::new(&input, 4096, None), &mut sink);
+        assert!(rt; answer == Err(RunFault::WriteFault(room as u128)), "{room}");
+        assert!(rt; whole.get(..room) == Some(sink.octets()), "{room}");
     }
     Ok(())
 }
@@ -141,7 +244,12 @@ fn hexadecimal_text_has_a_limit(rt: HostRuntime) -> Result<(), Fail> {
         let mut source = Pieces::new(text, 65_536, None);
         let mut written = Vec::new(alloc);
         let mut sink = ToWrite::new(&mut written);
-        let answer = run(alloc, Job::Canonicalise, true, &mut source, &mut sink);
+        let answer = run(
+            alloc,
+            Work::new(Job::Canonicalise, true),
+            &mut source,
+            &mut sink,
+        );
         assert!(rt; answer == wanted, "{name}");
         assert!(rt; written.is_empty(), "{name}");
     }

@@ -25,5 +25,6 @@ returns c =
     let shape : (a b : App) → a ≡ b → a.top ≡ b.top = λ a b e. ap (λ (x : App). x.top) e in
     let one = c.in_ok-subcommand.ensures.shape c.in_ok-show.ensures.1 ∙ ap₂ with_subcommand top_is (shape _ _ c.in_ok-show.ensures.0) in
     let two = c.in_ok-subcommand-2.ensures.shape c.in_ok-check.ensures.1 ∙ ap₂ with_subcommand one (shape _ _ c.in_ok-check.ensures.0) in
-    let three = c.in_ok-subcommand-3.ensures.shape c.in_ok-same.ensures.1 ∙ ap₂ with_subcommand two (shape _ _ c.in_ok-same.ensures.0) in
-    IfOk-weaker c.subcommand-4.result _ _ (λ r h. h.shape c.in_ok-canonicalise.ensures.1 ∙ ap₂ with_subcommand three (shape _ _ c.in_ok-canonicalise.ensures.0)) c.subcommand-4.ensures
+    let three = c.in_ok-subcommand-3.ensures.shape c.in_ok-digest.ensures.1 ∙ ap₂ with_subcommand two (shape _ _ c.in_ok-digest.ensures.0) in
+    let four = c.in_ok-subcommand-4.ensures.shape c.in_ok-same.ensures.1 ∙ ap₂ with_subcommand three (shape _ _ c.in_ok-same.ensures.0) in
+    IfOk-weaker c.subcommand-5.result _ _ (λ r h. h.shape c.in_ok-canonicalise.ensures.1 ∙ ap₂ with_subcommand four (shape _ _ c.in_ok-canonicalise.ensures.0)) c.subcommand-5.ensures

@@ -2,36 +2,36 @@ use Rattle.std.proofs.Common.{◌≡◌, ◌++◌, ℕ, Bool, true, false, List,
 use Rattle.ill_jobs.specs.Hexadecimal.{hex_octets}
 use Rattle.ill_jobs.specs.Ran.{AnswersVerdict, DoesMessages, RunDone}
 use Rattle.ill_jobs.specs.declared.fault.RunFault.{RunFault}
-use Rattle.ill_jobs.specs.declared.job.Job.{Job}
 use Rattle.ill_jobs.specs.declared.job.Verdict.{Verdict}
+use Rattle.ill_jobs.specs.declared.job.Work.{Work}
 use Rattle.ill_jobs.proofs.TextAnswers.{same_octets}
 use Rattle.test_jobs.proofs.tests.contracts.inputs_have_one_verdict.Goals as goal
 
-answered : (hex : Bool) (job : Job) (s t : List ℕ) (held held' : Option (List ℕ)) (v : Verdict) → RunDone hex job (Some s) (Some t) held held' v
-    → (r : Result Verdict RunFault) → DoesMessages job hex s r → AnswersVerdict r v
-answered false job s t held held' v d r does =
+answered : (hex : Bool) (work : Work) (s t : List ℕ) (held held' : Option (List ℕ)) (v : Verdict) → RunDone hex work (Some s) (Some t) held held' v
+    → (r : Result Verdict RunFault) → DoesMessages work.job hex s r → AnswersVerdict r v
+answered false work s t held held' v d r does =
     let o = d.writes.octets in
     let e : s ≡ o = d.writes.taken ∙ ap (λ l. o ++ l) d.end ∙ append-nil o in
     subst (λ w. AnswersVerdict r w) (sym d.is_verdict) (does o d.messages (ap Ok e) d.writes.spelled d.few)
-answered true job s t held held' v d r does =
+answered true work s t held held' v d r does =
     let i = d.2.1 in
     let o = i.writes.octets in
     let e : d.0 ≡ o = i.writes.taken ∙ ap (λ l. o ++ l) i.end ∙ append-nil o in
     let h : hex_octets s ≡ Ok d.0 = same_octets s (Some t) d.1.text d.1.taken ∙ d.1.stands in
     subst (λ w. AnswersVerdict r w) (sym i.is_verdict) (does o i.messages (h ∙ ap Ok e) i.writes.spelled i.few)
 
-once : (hex : Bool) (job : Job) (s s' t : List ℕ) (held held' : Option (List ℕ)) (q r : Result Verdict RunFault) (v : Verdict) → s ≡ s' → q ≡ Ok v
-    → IfOk q (RunDone hex job (Some s) (Some t) held held') → DoesMessages job hex s' r → AnswersVerdict r v
-once hex job s s' t held held' q r v e p d does =
-    answered hex job s t held held' v (subst (λ x. IfOk x (RunDone hex job (Some s) (Some t) held held')) p d) r
-    (subst (λ x. DoesMessages job hex x r) (sym e) does)
+once : (hex : Bool) (work : Work) (s s' t : List ℕ) (held held' : Option (List ℕ)) (q r : Result Verdict RunFault) (v : Verdict) → s ≡ s' → q ≡ Ok v
+    → IfOk q (RunDone hex work (Some s) (Some t) held held') → DoesMessages work.job hex s' r → AnswersVerdict r v
+once hex work s s' t held held' q r v e p d does =
+    answered hex work s t held held' v (subst (λ x. IfOk x (RunDone hex work (Some s) (Some t) held held')) p d) r
+    (subst (λ x. DoesMessages work.job hex x r) (sym e) does)
 
 pub returns-clause-verdict : goal.returns-clause-verdict
 returns-clause-verdict c v w p q =
-    sym (subst (λ r. AnswersVerdict r v) q (once c.args.hex c.args.job c.args.source.now.octets c.args.other.now.octets c.run.new.source.octets
+    sym (subst (λ r. AnswersVerdict r v) q (once c.args.work.hex c.args.work c.args.source.now.octets c.args.other.now.octets c.run.new.source.octets
     (Some c.args.sink.now.octets) (Some c.run.new.sink.octets) c.run.result c.run-2.result v c.requires p c.run.ensures.done c.run-2.ensures.does))
 
 pub returns-clause-fault : goal.returns-clause-fault
 returns-clause-fault c v e p q =
-    subst (λ r. AnswersVerdict r v) q (once c.args.hex c.args.job c.args.source.now.octets c.args.other.now.octets c.run.new.source.octets
+    subst (λ r. AnswersVerdict r v) q (once c.args.work.hex c.args.work c.args.source.now.octets c.args.other.now.octets c.run.new.source.octets
     (Some c.args.sink.now.octets) (Some c.run.new.sink.octets) c.run.result c.run-2.result v c.requires p c.run.ensures.done c.run-2.ensures.does)

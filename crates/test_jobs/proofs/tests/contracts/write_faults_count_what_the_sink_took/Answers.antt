@@ -2,15 +2,15 @@ use Rattle.std.proofs.Common.{◌≡◌, ◌++◌, ◌<◌, ℕ, Bool, false, Li
 use Rattle.ill_normal.specs.Calls.{taking, putting}
 use Rattle.ill_jobs.specs.Ran.{StopsAfter}
 use Rattle.ill_jobs.specs.declared.fault.RunFault.{RunFault}
-use Rattle.ill_jobs.specs.declared.job.Job.{Job}
+use Rattle.ill_jobs.specs.declared.job.Work.{Work}
 use Rattle.test_jobs.proofs.tests.contracts.write_faults_count_what_the_sink_took.Goals as goal
 
 length_of : (held new out : List ℕ) (n : ℕ) → held ≡ [] → new ≡ held ++ take n out → n < length out → length new ≡ n
 length_of held new out n e w l = omega (arith, ap length e, ap length w, length-append held (take n out), length-take n out, l)
 
-counted : (job : Job) (left left' : Option (List ℕ)) (held new : List ℕ) (x y : Bool) (n : ℕ) → held ≡ []
-    → StopsAfter job false (taking left left' x) (putting (Some held) (Some new) y) (RunFault.WriteFault n) → length new ≡ n
-counted job left left' held new x y n e h =
+counted : (work : Work) (left left' : Option (List ℕ)) (held new : List ℕ) (x y : Bool) (n : ℕ) → held ≡ []
+    → StopsAfter work (taking left left' x) (putting (Some held) (Some new) y) (RunFault.WriteFault n) → length new ≡ n
+counted work left left' held new x y n e h =
     let b = h.stops.2 in
     length_of held new _ n e b.written b.not_all
 
@@ -20,5 +20,5 @@ returns c n p =
     let left' = Some c.run.new.source.octets in
     let x = c.run.new.source.broken in
     let y = c.run.new.sink.broken in
-    counted c.args.job left left' c.args.sink.now.octets c.run.new.sink.octets x y n c.requires
-    (subst (λ r. IfErr r (StopsAfter c.args.job false (taking left left' x) (putting (Some c.args.sink.now.octets) (Some c.run.new.sink.octets) y))) p c.run.ensures.fails)
+    counted c.args.work left left' c.args.sink.now.octets c.run.new.sink.octets x y n c.requires.empty
+    (subst (λ r. IfErr r (StopsAfter c.args.work (taking left left' x) (putting (Some c.args.sink.now.octets) (Some c.run.new.sink.octets) y))) p (rw c.requires.plain at c.run.ensures.fails))
