@@ -1,6 +1,6 @@
 use Rattle.std.proofs.Common.{◌<◌, length, IsTrue}
 use Rattle.ill_going.specs.code.Taking.{Framing}
-use Rattle.ill_going.proofs.next.take_element.Given as goal
+use Rattle.ill_going.proofs.next.take_framed.Given as goal
 
 abbrev pub invariant-element : goal.invariant-element
 invariant-element g l = record {
