@@ -77,7 +77,7 @@ FinishesAt (Length constructed) marks deep x = IsLengthThen constructed marks de
 FinishesAt (LongLength long) marks deep x = IsLongThen long.left long.value marks deep x
 FinishesAt (Contents contents) marks deep x = IsContentsThen contents.left marks deep x
 FinishesAt Mark marks deep x = IsMarkThen marks deep x
-FinishesAt Untold marks deep x = ⊥
+FinishesAt (Untold left) marks deep x = ⊥
 
 abbrev pub Finishes : Framer → List ℕ → Type 0
 Finishes framer x = FinishesAt framer.stage framer.marks (18_446_744_073_709_551_615 - framer.marks) x

@@ -51,8 +51,8 @@ enum Stage {
     Contents(Contents),
     /// The second octet of an end mark.
     Mark,
-    /// Nothing: the end can't be told.
-    Untold,
+    /// Nothing: the end can't be told. Where it was a length that is too great, so many of its octets are still to come.
+    Untold(u8),
 }
 
 /// Further octets of a length, and what those before say.
@@ -91,7 +91,7 @@ impl Framer {
         ensures { (b : List ℕ) → IsFed self.now b → Judged b result }
     {
         match self.stage {
-            Stage::Untold => Frame::Untold,
+            Stage::Untold(_) => Frame::Untold,
             Stage::Between => {
                 if self.marks == 0 {
                     Frame::Whole
@@ -111,10 +111,19 @@ impl Framer {
         ensures any { (b octets : List ℕ) → IsFed self.now b → length octets < result → IsPart (b ++ octets) }
     {
         match self.stage {
-            Stage::Untold => 0,
+            Stage::Untold(_) => 0,
             Stage::Between => { if self.marks == 0 { 0 } else { 1 } }
             Stage::Contents(contents) => contents.left,
             _ => 1,
+        }
+    }
+
+    /// How many octets a length still has that is too great to be framed; 0 in every other case. No octet after them says more of
+    /// that length.
+    pub fn lacks(&self) -> u8 {
+        match self.stage {
+            Stage::Untold(left) => left,
+            _ => 0,
         }
     }
 
@@ -169,7 +178,7 @@ impl Framer {
             Stage::LongLength(long) => self.after_long(long, octet),
             Stage::Contents(contents) => self.contents(contents.left - 1),
             Stage::Mark => self.after_mark(octet),
-            Stage::Untold => self,
+            Stage::Untold(_) => self,
         }
     }
 
@@ -200,7 +209,7 @@ impl Framer {
     {
         let constructed = octet / 32 % 2 == 1;
         if octet == 0 {
-            self.at(Stage::Untold)
+            self.at(Stage::Untold(0))
         } else if octet % 32 == 31 {
             self.at(Stage::Number(constructed))
         } else {
@@ -213,7 +222,7 @@ impl Framer {
         ensures { (x : List ℕ) → Closes self.marks (18_446_744_073_709_551_615 - self.marks) (octet ∷ x) ↔ Finishes result x }
     {
         if self.marks == 0 {
-            self.at(Stage::Untold)
+            self.at(Stage::Untold(0))
         } else if octet == 0 {
             Framer {
                 stage: Stage::Mark,
@@ -244,7 +253,7 @@ impl Framer {
                 stage: Stage::Between,
                 marks: self.marks + 1,
             },
-            128 | 255 => self.at(Stage::Untold),
+            128 | 255 => self.at(Stage::Untold(0)),
             _ => self.at(Stage::LongLength(LongLength {
                 left: octet - 128,
                 value: 0,
@@ -259,7 +268,7 @@ impl Framer {
         let left = long.left - 1;
         let value = long.value * 256 + u32::from(octet);
         if !fits(value, left) {
-            self.at(Stage::Untold)
+            self.at(Stage::Untold(left))
         } else if left == 0 {
             self.contents(value)
         } else {
@@ -274,7 +283,7 @@ impl Framer {
         if octet == 0 {
             self.at(Stage::Between)
         } else {
-            self.at(Stage::Untold)
+            self.at(Stage::Untold(0))
         }
     }
 }

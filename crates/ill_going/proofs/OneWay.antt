@@ -2,11 +2,8 @@
 use Rattle.std.proofs.Common.{◌≡◌, ℕ, suc, ◌<◌, ◌≤◌, List, [], ◌∷◌, ◌++◌, length, take, Some, refl, sym, ap, ap₂, subst, ◌∙◌, arith, inl, inr, append_assoc, append-nil, length-append}
 use Rattle.std.proofs.lemmas.List.{append_cancel_left, take_all}
 use Rattle.ber_leaf.specs.Profile.{profile_two}
-use Rattle.ber_frame.specs.Framed.{IsFrame, IsPart}
-use Rattle.ber_frame.proofs.Frames.{one_frame, part_and_whole}
-use Rattle.ber_frame.proofs.FrameSteps.{front_of}
-use Rattle.std.proofs.lemmas.Bool.{cases_lt}
-use Rattle.ill_schema.proofs.Streams.{take_front}
+use Rattle.ber_frame.specs.Framed.{IsFrame}
+use Rattle.ber_frame.proofs.Frames.{one_frame}
 use Rattle.ill_going.specs.Gone.{HasNoEnd}
 use Rattle.ill_schema.specs.declared.refusal.Refusal.{Refusal}
 use Rattle.ill_schema.specs.Apdu.{Apdu, SpellsApdu}
@@ -15,7 +12,7 @@ use Rattle.ill_refusals.specs.Outcome.{OnlyRefuses}
 use Rattle.ill_normal.specs.Messages.{Spelling, output_from}
 use Rattle.ill_normal.proofs.Canonical.{spells_once, refuses_whole}
 use Rattle.ill_going.specs.Items.{Item, good, bad, AreItems, written_from, good_ones, HasNoMore, IsRefusedFor}
-use Rattle.ill_going.proofs.TakenElements.{spelling_framed}
+use Rattle.ill_going.proofs.TakenElements.{spelling_framed, none_begins}
 
 module _ (text : ℕ → Spelling → List ℕ) (same : (j k : ℕ) (m : Spelling) → text j m ≡ text k m) where
   output_at : (i j : ℕ) (ms : List Spelling) → output_from text i ms ≡ output_from text j ms
@@ -72,13 +69,8 @@ one_way s rest over (bad o r ∷ xs) (bad p q ∷ ys) h n k m =
 
 -- where no end can be told no message ends
 pub no_end_no_more : (octets rest : List ℕ) → HasNoEnd octets (Some rest) → length octets < 18_446_744_073_709_551_615 → HasNoMore (octets ++ rest)
-no_end_no_more octets rest (inl h) lt x y frame e = elim (cases_lt (length x) (length octets)) [
-  | inl less ↦
-      let t = front_of x octets y rest (omega (arith, less)) (sym e) in
-      let front : take (length x) octets ≡ x = ap (λ z. take (length x) z) t.1 ∙ take_front x t.0 in
-      part_and_whole x (subst IsPart front (h.1 (length x) less)) frame
-  | inr ge ↦ let t = front_of octets x rest y ge e in h.0 t.0 (subst IsFrame t.1 frame)
-]
+no_end_no_more octets rest (inl h) lt x y frame e =
+    none_begins h.front (h.more ++ rest) h.untold h.within x y frame (sym (append_assoc h.front h.more rest) ∙ ap (λ z. z ++ rest) (sym h.joined) ∙ e)
 no_end_no_more octets rest (inr (p, inl end)) lt x y frame e =
     let all : octets ≡ x ++ y = sym (append-nil octets) ∙ ap (λ z. octets ++ z) (sym end) ∙ e in
     let whole : x ≡ octets ++ p.0 =

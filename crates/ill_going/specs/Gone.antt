@@ -1,5 +1,5 @@
 -- What a call that goes on after refusals does to its source, its sink and its reports.
-use Rattle.std.specs.Prelude.{◌≡◌, ◌⊎◌, ℕ, ◌+◌, ◌<◌, ◌≤◌, Bool, false, List, [], ◌∷◌, length, take, Option, IsTrue}
+use Rattle.std.specs.Prelude.{◌≡◌, ◌⊎◌, ℕ, ◌+◌, ◌<◌, ◌≤◌, Bool, false, List, [], ◌∷◌, ◌++◌, length, take, Option, IsTrue}
 use Rattle.std.specs.Io.KnownBytes.{Consumes, Keeps, Appends, IsAtEnd}
 use Rattle.ber_frame.specs.Framed.{IsPart, IsUntold}
 use Rattle.ill_schema.specs.declared.refusal.Refusal.{Refusal}
@@ -28,12 +28,18 @@ pub record Goes (text : ℕ → Spelling → List ℕ) (left left' held held' : 
   pub written : Appends held held' (written_from text 1 items)
   pub reported : Adds reports.old reports.new (reports_from 1 items)
 
--- where an element ends that begins so can't be told: no element does, but any fewer of these octets are part of one; or they are part of one, and
--- the input ends in them, or they are too many to count
+-- of these octets no element begins with the first ones, of which any fewer are part of one
+pub record IsEndless (octets : List ℕ) : Type 0 where
+  pub front : List ℕ
+  pub more : List ℕ
+  pub joined : octets ≡ front ++ more
+  pub untold : IsUntold front
+  pub within : (n : ℕ) → n < length front → IsPart (take n front)
+
+-- where an element ends that begins with these octets can't be told; or they are part of one, and the input ends in them, or they are too many
+-- to count
 abbrev pub HasNoEnd : List ℕ → Option (List ℕ) → Type 0
-HasNoEnd octets left' =
-    (IsUntold octets × ((n : ℕ) → n < length octets → IsPart (take n octets)))
-    ⊎ (IsPart octets × (IsAtEnd left' ⊎ (18_446_744_073_709_551_615 ≤ length octets)))
+HasNoEnd octets left' = IsEndless octets ⊎ (IsPart octets × (IsAtEnd left' ⊎ (18_446_744_073_709_551_615 ≤ length octets)))
 
 -- after this many messages one was refused whose end can't be told, which was reported
 pub record LosesEnd (left left' : Option (List ℕ)) (reports : Reporting) (before : ℕ) : Type 0 where

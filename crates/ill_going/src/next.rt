@@ -2,8 +2,8 @@
 ghost use Rattle.std.specs.Prelude.{◌≡◌, ℕ, ◌-◌, ◌<◌, ◌≤◌, List, [], ◌++◌, length, take, IfOk, IfErr, OnOk, IsTrue, MatchOption};
 ghost use Rattle.std.specs.Io.KnownBytes.{Consumes, IsAtEnd, Keeps};
 ghost use Rattle.ber_frame.specs.Framed.{IsPart};
-ghost use Rattle.ber_frame.specs.Framer.{IsFed};
-ghost use Rattle.ill_going.specs.code.Taking.{is_whole, IsNext, Takes, TakesElement, TakesPart};
+ghost use Rattle.ber_frame.specs.Framer.{IsFed, Judged};
+ghost use Rattle.ill_going.specs.code.Taking.{is_whole, IsNext, Takes, TakesElement, TakesPart, TakesRest, Took};
 
 use crate::going::Why;
 use ber_core::{AtHand, FromSlice, Look, Source};
@@ -87,8 +87,30 @@ fn ends(frame: Frame) -> bool
 }
 
 /// Takes the next element, up to where its end can't be told or the input ends, and keeps its first octets, as many as a message may have.
+/// Of a length that is too great it takes the rest, so that the reader sees it whole.
 fn take_element<R: Source, L: Look<R>>(source: &mut R, kept: &mut Vec<u8>) -> Result<Frame, Unread>
-    ensures element { IfOk result (TakesElement (R.left source.old) (R.left source.new) kept.new.items) }
+    ensures element { IfOk result (Took (R.left source.old) (R.left source.new) kept.new.items) }
+    ensures broken { IfErr result (λ e. e ≡ Unread.Broken → IsTrue (R.is_broken source.new) × TakesPart (R.left source.old) (R.left source.new)) }
+    ensures stays { IsTrue (R.is_broken source.old) → IsTrue (R.is_broken source.new) }
+{
+    let framer = match take_framed::<R, L>(source, kept) {
+        Ok(framer) => framer,
+        Err(unread) => return Err(unread),
+    };
+    match framer.frame() {
+        Frame::Untold => match take_rest(source, kept, framer.lacks()) {
+            Ok(()) => Ok(Frame::Untold),
+            Err(unread) => Err(unread),
+        },
+        Frame::Whole => Ok(Frame::Whole),
+        Frame::Part => Ok(Frame::Part),
+    }
+}
+
+/// Takes octets and feeds a framer with them, up to where nothing more is needed or the input ends, and keeps the first ones.
+fn take_framed<R: Source, L: Look<R>>(source: &mut R, kept: &mut Vec<u8>) -> Result<Framer, Unread>
+    ensures element { IfOk result (λ framer. (frame : Frame) → ((b : List ℕ) → IsFed framer b → Judged b frame)
+        → TakesElement (R.left source.old) (R.left source.new) kept.new.items frame) }
     ensures broken { IfErr result (λ e. e ≡ Unread.Broken → IsTrue (R.is_broken source.new) × TakesPart (R.left source.old) (R.left source.new)) }
     ensures stays { IsTrue (R.is_broken source.old) → IsTrue (R.is_broken source.new) }
 {
@@ -97,12 +119,33 @@ fn take_element<R: Source, L: Look<R>>(source: &mut R, kept: &mut Vec<u8>) -> Re
     let mut buffer = [0; CHUNK];
     'element: for _ in 0..u64::MAX {
         match take_some::<R, L>(source, &mut framer, kept, &mut buffer) {
-            Ok(0) => return Ok(framer.frame()),
+            Ok(0) => return Ok(framer),
             Ok(_) => {}
             Err(unread) => return Err(unread),
         }
     }
-    Ok(framer.frame())
+    Ok(framer)
+}
+
+/// Takes so many octets more, or as many as there are, and keeps them.
+fn take_rest<R: Source>(source: &mut R, kept: &mut Vec<u8>, count: u8) -> Result<(), Unread>
+    ensures rest { OnOk result (TakesRest (R.left source.old) (R.left source.new) kept.old.items kept.new.items) }
+    ensures broken { IfErr result (λ e. e ≡ Unread.Broken → IsTrue (R.is_broken source.new)
+        × TakesRest (R.left source.old) (R.left source.new) kept.old.items kept.new.items) }
+    ensures stays { IsTrue (R.is_broken source.old) → IsTrue (R.is_broken source.new) }
+{
+    let mut octet = [0];
+    'rest: for _ in 0..count {
+        match source.take(&mut octet) {
+            Ok(0) => return Ok(()),
+            Ok(_) => match keep(kept, &octet) {
+                Ok(()) => {}
+                Err(AllocError) => return Err(Unread::OutOfMemory),
+            },
+            Err(_) => return Err(Unread::Broken),
+        }
+    }
+    Ok(())
 }
 
 /// Takes some octets of an element, feeds a framer with them, and returns how many they are; 0 where the element or the input ends, or

@@ -58,7 +58,7 @@ const MISSING_TIME: Cause = Cause::Missing(PartId {
     row: 2,
 });
 
-const ROWS: [Row; 10] = [
+const ROWS: [Row; 12] = [
     Row {
         name: "nothing",
         input: &[],
@@ -122,6 +122,20 @@ const ROWS: [Row; 10] = [
         written: 0,
         reports: &[(1, 0, Cause::BadLength, false)],
         messages: 1,
+    },
+    Row {
+        name: "a length of 4,294,967,296 in five octets",
+        input: &["74850100000000", EXPIRED_HEX],
+        written: 0,
+        reports: &[(1, 0, Cause::TooLong, false)],
+        messages: 1,
+    },
+    Row {
+        name: "cut short in a length that is too great",
+        input: &[EXPIRED_HEX, "7489010000"],
+        written: 1,
+        reports: &[(2, 5, Cause::Truncated, false)],
+        messages: 2,
     },
     Row {
         name: "half an end mark",

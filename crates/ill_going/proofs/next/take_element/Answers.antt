@@ -1,22 +1,14 @@
-use Rattle.std.proofs.Common.{arith}
-use Rattle.ill_going.proofs.TakenElements.{framing_more, element_ends, element_endless, part_taken}
+use Rattle.ber_frame.specs.declared.framer.Frame.TheVariants as framed
+use Rattle.ill_going.proofs.TakenElements.{took_untold, untold_broken}
 use Rattle.ill_going.proofs.next.take_element.Goals as goal
 
-pub returns-in-Ok-eq0-clause-element : goal.returns-in-Ok-eq0-clause-element
-returns-in-Ok-eq0-clause-element g c =
-    element_ends _ _ _ _ _ _ _ _ c.in-Ok-eq0.field-0 c.element.invariant.framing c.in-Ok-eq0.ensures.takes c.frame.result c.in-Ok-eq0.field-0-test c.frame.ensures
+pub returns-in-Ok-take_rest-clause-element : goal.returns-in-Ok-take_rest-clause-element
+returns-in-Ok-take_rest-clause-element g c = took_untold _ _ _ _ _ (c.in-Ok.ensures.element framed.Untold c.in-Untold.ensures) c.in-Ok-take_rest.ensures.rest
 
-pub returns-in-Err-clause-broken : goal.returns-in-Err-clause-broken
-returns-in-Err-clause-broken g c is_broken =
-    let broken = c.in-Err.ensures.broken is_broken in
-    (broken.0, part_taken _ _ _ _ _ _ c.element.invariant.framing broken.1 (c.in-Err.ensures.part is_broken))
+pub returns-in-Err-take_rest-clause-broken : goal.returns-in-Err-take_rest-clause-broken
+returns-in-Err-take_rest-clause-broken g c is_broken =
+    let broken = c.in-Err-take_rest.ensures.broken is_broken in
+    (broken.0, untold_broken _ _ _ _ _ (c.in-Ok.ensures.element framed.Untold c.in-Untold.ensures) broken.1)
 
-pub element-preserved : goal.element-preserved
-element-preserved g c = record {
-  framing = framing_more _ _ _ _ _ _ _ _ c.in-Ok.field-0 c.element.invariant.framing c.in-Ok.ensures.takes _ (let some = c.in-Ok.field-0-test.1 in omega arith);
-  space = omega (arith, c.in-Ok.ensures.room, c.element.invariant.space);
-  stays = λ h. c.in-Ok.ensures.stays (c.element.invariant.stays h);
-}
-
-pub returns-clause-element : goal.returns-clause-element
-returns-clause-element g c = element_endless _ _ _ _ c.element.counter c.frame-2.result c.element.invariant.framing (omega arith) c.frame-2.ensures
+pub returns-in-Part-clause-element : goal.returns-in-Part-clause-element
+returns-in-Part-clause-element g c = c.in-Ok.ensures.element framed.Part c.in-Part.ensures

@@ -3,7 +3,7 @@ use Rattle.ber_frame.proofs.FrameEnds.{Needs, needs_one, need_least, no_part, no
 use Rattle.ber_frame.proofs.framer.Framer.need.Goals as goal
 
 pub returns-in-Untold-clause-some : goal.returns-in-Untold-clause-some
-returns-in-Untold-clause-some c b h = λ p. absurd (no_more c.args.self.now b h c.in-Untold.is p)
+returns-in-Untold-clause-some c b h = λ p. absurd (no_more c.args.self.now b _ h c.in-Untold.is p)
 
 pub returns-then-self-eq0-clause-some : goal.returns-then-self-eq0-clause-some
 returns-then-self-eq0-clause-some c b h = λ p. absurd (no_part c.args.self.now b h c.in-Between.is c.if-self-eq0.true p)
@@ -25,7 +25,7 @@ returns-in_default-clause-at_least c =
 
 pub returns-else-self-eq0-clause-any : goal.returns-else-self-eq0-clause-any
 returns-else-self-eq0-clause-any c b octets h lt =
-    with_none b octets lt (is_part c.args.self.now b h (λ e. let here = c.in-Between.is in cc) (λ _. omega arith))
+    with_none b octets lt (is_part c.args.self.now b h (λ _ e. let here = c.in-Between.is in cc) (λ _. omega arith))
 
 pub returns-in-Contents-clause-any : goal.returns-in-Contents-clause-any
 returns-in-Contents-clause-any c b octets h lt = within_contents c.args.self.now c.in-Contents.contents b octets c.in-Contents.is lt h
