@@ -4,3 +4,4 @@ pub mod Hexadecimal
 pub mod Ran
 pub mod Compared
 pub mod code
+pub mod Going

@@ -2,6 +2,7 @@
 #![tactic(auto)]
 
 mod fault;
+mod going;
 mod hexadecimal;
 mod job;
 mod messages;
@@ -11,7 +12,9 @@ mod text;
 mod written;
 
 pub use fault::RunFault;
+pub use going::{run_on, run_on_by};
 pub use hexadecimal::text_octets;
+pub use ill_going::{Gone, Report, Reports};
 pub use job::{Job, Verdict, Work};
 pub use messages::{run, run_by};
 pub use same::run_same;

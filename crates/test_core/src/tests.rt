@@ -4,6 +4,7 @@ mod buffers;
 mod contracts;
 mod der_buffers;
 mod fake;
+mod frames;
 mod headers;
 mod leaves;
 mod readers;

@@ -1,6 +1,7 @@
 //! The jobs, on rows of inputs and where sources and sinks break.
 mod breaks;
 mod contracts;
+mod going;
 mod runs;
 mod sames;
 mod shows;

@@ -2,6 +2,7 @@
 mod check;
 mod compare;
 mod contracts;
+mod going;
 mod hostile;
 mod one;
 mod rows;

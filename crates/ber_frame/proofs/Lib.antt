@@ -1,0 +1,4 @@
+pub mod FrameSteps
+pub mod LengthSteps
+pub mod FrameEnds
+pub mod Frames

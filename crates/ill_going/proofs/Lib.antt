@@ -1,0 +1,3 @@
+pub mod TakenElements
+pub mod GoneMessages
+pub mod OneWay

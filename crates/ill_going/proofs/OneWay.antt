@@ -1,0 +1,83 @@
+-- An input is messages in one way.
+use Rattle.std.proofs.Common.{◌≡◌, ℕ, suc, ◌<◌, ◌≤◌, List, [], ◌∷◌, ◌++◌, length, take, Some, refl, sym, ap, ap₂, subst, ◌∙◌, arith, inl, inr, append_assoc, append-nil, length-append}
+use Rattle.std.proofs.lemmas.List.{append_cancel_left, take_all}
+use Rattle.ber_leaf.specs.Profile.{profile_two}
+use Rattle.ber_frame.specs.Framed.{IsFrame}
+use Rattle.ber_frame.proofs.Frames.{one_frame}
+use Rattle.ill_going.specs.Gone.{HasNoEnd}
+use Rattle.ill_schema.specs.declared.refusal.Refusal.{Refusal}
+use Rattle.ill_schema.specs.Apdu.{Apdu, SpellsApdu}
+use Rattle.ill_refusals.specs.Fault.{Fault, fault_of, Refuses}
+use Rattle.ill_refusals.specs.Outcome.{OnlyRefuses}
+use Rattle.ill_normal.specs.Messages.{Spelling, output_from}
+use Rattle.ill_normal.proofs.Canonical.{spells_once, refuses_whole}
+use Rattle.ill_going.specs.Items.{Item, good, bad, AreItems, written_from, good_ones, HasNoMore, IsRefusedFor}
+use Rattle.ill_going.proofs.TakenElements.{spelling_framed, none_begins}
+
+module _ (text : ℕ → Spelling → List ℕ) (same : (j k : ℕ) (m : Spelling) → text j m ≡ text k m) where
+  output_at : (i j : ℕ) (ms : List Spelling) → output_from text i ms ≡ output_from text j ms
+  output_at i j [] = refl
+  output_at i j (m ∷ ms) = ap₂ (λ (a b : List ℕ). a ++ b) (same i j m) (output_at (suc i) (suc j) ms)
+
+  pub good_written : (i : ℕ) (items : List Item) → written_from text i items ≡ output_from text 1 (good_ones items)
+  good_written i [] = refl
+  good_written i (good m ∷ items) = ap₂ (λ (a b : List ℕ). a ++ b) (same i 1 m) (good_written (suc i) items ∙ output_at 1 2 (good_ones items))
+  good_written i (bad octets refusal ∷ items) = good_written (suc i) items
+
+-- a message that is spelled isn't refused
+not_both : {A : Type 0} (a : Apdu) (b octets : List ℕ) (refusal : Refusal) → SpellsApdu profile_two a b → b ≡ octets → IsRefusedFor octets refusal → A
+not_both a b octets refusal h e is =
+    let short : length b ≤ 1_048_576 = h.encodes.short in
+    let all : take 1_048_576 octets ≡ b = ap (λ z. take 1_048_576 z) (sym e) ∙ take_all 1_048_576 b short in
+    absurd (refuses_whole b (fault_of refusal) a (inl (subst (λ z. OnlyRefuses profile_two z (fault_of refusal)) all is)) h)
+
+same_refusal : (r q : Refusal) → fault_of r ≡ fault_of q → r ≡ q
+same_refusal r q e = ap (λ (f : Fault). let x : Refusal = record { at = f.at; cause = f.cause } in x) e
+
+refused_once : (r q : Refusal) (a b : List ℕ) → a ≡ b → IsRefusedFor a r → IsRefusedFor b q → r ≡ q
+refused_once r q a b e h k = same_refusal r q (sym (h.1 (fault_of q) (subst (λ z. Refuses profile_two (take 1_048_576 z) (fault_of q)) (sym e) k.0)))
+
+same_good : (m n : Spelling) → m.octets ≡ n.octets → SpellsApdu profile_two m.apdu m.octets → SpellsApdu profile_two n.apdu n.octets → m ≡ n
+same_good m n e h k =
+    let a : m.apdu ≡ n.apdu = spells_once m.apdu n.apdu n.octets (subst (SpellsApdu profile_two m.apdu) e h) k in
+    ap₂ (λ (x : Apdu) (y : List ℕ). let z : Spelling = record { apdu = x; octets = y } in z) a e
+
+-- a front of both, and what is left of each
+heads : (s a b t u : List ℕ) → s ≡ a ++ t → s ≡ b ++ u → IsFrame a → IsFrame b → (a ≡ b) × (t ≡ u)
+heads s a b t u p q h k =
+    let e = one_frame a b t u h k (sym p ∙ q) in (e, append_cancel_left a t u (sym p ∙ q ∙ ap (λ z. z ++ u) (sym e)))
+
+pub one_way : (s rest over : List ℕ) (items others : List Item) → AreItems s items rest → HasNoMore rest → AreItems s others over → HasNoMore over
+    → (items ≡ others) × (rest ≡ over)
+one_way s rest over [] [] h n k m = (refl, sym h ∙ k)
+one_way s rest over [] (good y ∷ ys) h n k m = absurd (n y.octets k.0 (spelling_framed y.apdu y.octets k.2) (sym h ∙ k.1))
+one_way s rest over [] (bad o r ∷ ys) h n k m = absurd (n o k.0 k.2 (sym h ∙ k.1))
+one_way s rest over (good x ∷ xs) [] h n k m = absurd (m x.octets h.0 (spelling_framed x.apdu x.octets h.2) (sym k ∙ h.1))
+one_way s rest over (bad o r ∷ xs) [] h n k m = absurd (m o h.0 h.2 (sym k ∙ h.1))
+one_way s rest over (good x ∷ xs) (good y ∷ ys) h n k m =
+    let e = heads s x.octets y.octets h.0 k.0 h.1 k.1 (spelling_framed x.apdu x.octets h.2) (spelling_framed y.apdu y.octets k.2) in
+    let next = one_way h.0 rest over xs ys h.3 n (subst (λ z. AreItems z ys over) (sym e.1) k.3) m in
+    (ap₂ (λ (a : Spelling) (b : List Item). good a ∷ b) (same_good x y e.0 h.2 k.2) next.0, next.1)
+one_way s rest over (good x ∷ xs) (bad o r ∷ ys) h n k m =
+    let e = heads s x.octets o h.0 k.0 h.1 k.1 (spelling_framed x.apdu x.octets h.2) k.2 in not_both x.apdu x.octets o r h.2 e.0 k.3
+one_way s rest over (bad o r ∷ xs) (good y ∷ ys) h n k m =
+    let e = heads s o y.octets h.0 k.0 h.1 k.1 h.2 (spelling_framed y.apdu y.octets k.2) in not_both y.apdu y.octets o r k.2 (sym e.0) h.3
+one_way s rest over (bad o r ∷ xs) (bad p q ∷ ys) h n k m =
+    let e = heads s o p h.0 k.0 h.1 k.1 h.2 k.2 in
+    let next = one_way h.0 rest over xs ys h.4 n (subst (λ z. AreItems z ys over) (sym e.1) k.4) m in
+    (ap₂ (λ (a : Item) (b : List Item). a ∷ b) (ap₂ (λ (a : List ℕ) (b : Refusal). bad a b) e.0 (refused_once r q o p e.0 h.3 k.3)) next.0, next.1)
+
+-- where no end can be told no message ends
+pub no_end_no_more : (octets rest : List ℕ) → HasNoEnd octets (Some rest) → length octets < 18_446_744_073_709_551_615 → HasNoMore (octets ++ rest)
+no_end_no_more octets rest (inl h) lt x y frame e =
+    none_begins h.front (h.more ++ rest) h.untold h.within x y frame (sym (append_assoc h.front h.more rest) ∙ ap (λ z. z ++ rest) (sym h.joined) ∙ e)
+no_end_no_more octets rest (inr (p, inl end)) lt x y frame e =
+    let all : octets ≡ x ++ y = sym (append-nil octets) ∙ ap (λ z. octets ++ z) (sym end) ∙ e in
+    let whole : x ≡ octets ++ p.0 =
+    one_frame x (octets ++ p.0) (y ++ p.0) [] frame p.2 (sym (append_assoc x y p.0) ∙ ap (λ z. z ++ p.0) (sym all) ∙ sym (append-nil (octets ++ p.0))) in
+    p.1 (none p.0 (omega (arith, ap length all, length-append x y, ap length whole, length-append octets p.0)))
+  where
+    none : (z : List ℕ) → length z ≡ 0 → z ≡ []
+    none [] h = refl
+    none (o ∷ z) h = absurd (omega (arith, h))
+no_end_no_more octets rest (inr (p, inr le)) lt x y frame e = omega (arith, le, lt)

@@ -1,0 +1,98 @@
+-- What a call that goes on after refusals does to its source, its sink and its reports.
+use Rattle.std.specs.Prelude.{◌≡◌, ◌⊎◌, ℕ, ◌+◌, ◌<◌, ◌≤◌, Bool, false, List, [], ◌∷◌, ◌++◌, length, take, Option, IsTrue}
+use Rattle.std.specs.Io.KnownBytes.{Consumes, Keeps, Appends, IsAtEnd}
+use Rattle.ber_frame.specs.Framed.{IsPart, IsUntold}
+use Rattle.ill_schema.specs.declared.refusal.Refusal.{Refusal}
+use Rattle.ill_read.specs.Answers.{TakesNoMessage}
+use Rattle.ill_normal.specs.Calls.{Taking, taking, Putting, putting}
+use Rattle.ill_normal.specs.Messages.{Spelling, BreaksWithin}
+use Rattle.ill_going.specs.Items.{Item, AreItems, IsRefusedFor, written_from, report, reports_from, all_good, Adds}
+use Rattle.ill_going.specs.declared.report.Report.{Report}
+use Rattle.ill_going.specs.declared.going.Gone.{Gone}
+use Rattle.ill_going.specs.declared.going.Halted.{Halted}
+use Rattle.ill_going.specs.declared.going.Why.{Why}
+
+-- what was reported, over a call, where that is known
+pub record Reporting : Type 0 where
+  pub old : Option (List Report)
+  pub new : Option (List Report)
+
+abbrev pub reporting : Option (List Report) → Option (List Report) → Reporting
+reporting old new = record { old = old; new = new }
+
+-- the octets that were taken are these messages; what is written of them was put, and what is refused was reported
+pub record Goes (text : ℕ → Spelling → List ℕ) (left left' held held' : Option (List ℕ)) (reports : Reporting) (items : List Item) : Type 0 where
+  pub octets : List ℕ
+  pub are : AreItems octets items []
+  pub taken : Consumes left left' octets
+  pub written : Appends held held' (written_from text 1 items)
+  pub reported : Adds reports.old reports.new (reports_from 1 items)
+
+-- of these octets no element begins with the first ones, of which any fewer are part of one
+pub record IsEndless (octets : List ℕ) : Type 0 where
+  pub front : List ℕ
+  pub more : List ℕ
+  pub joined : octets ≡ front ++ more
+  pub untold : IsUntold front
+  pub within : (n : ℕ) → n < length front → IsPart (take n front)
+
+-- where an element ends that begins with these octets can't be told; or they are part of one, and the input ends in them, or they are too many
+-- to count
+abbrev pub HasNoEnd : List ℕ → Option (List ℕ) → Type 0
+HasNoEnd octets left' = IsEndless octets ⊎ (IsPart octets × (IsAtEnd left' ⊎ (18_446_744_073_709_551_615 ≤ length octets)))
+
+-- after this many messages one was refused whose end can't be told, which was reported
+pub record LosesEnd (left left' : Option (List ℕ)) (reports : Reporting) (before : ℕ) : Type 0 where
+  pub octets : List ℕ
+  pub refusal : Refusal
+  pub taken : Consumes left left' octets
+  pub no_end : HasNoEnd octets left'
+  pub refused : IsRefusedFor octets refusal
+  pub reported : Adds reports.old reports.new (report (before + 1) refusal false ∷ [])
+
+-- nothing was left
+pub record IsDone (left left' : Option (List ℕ)) (reports : Reporting) : Type 0 where
+  pub none : Consumes left left' []
+  pub end : IsAtEnd left'
+  pub reported : Adds reports.old reports.new []
+
+-- what came after these messages: the end of the input, or one more that was refused, whose end can't be told
+abbrev pub EndsWith : Option (List ℕ) → Option (List ℕ) → Reporting → List Item → Gone → Type 0
+EndsWith left left' reports items gone =
+    (IsDone left left' reports × (gone.messages ≡ length items) × (gone.refused ≡ length (reports_from 1 items)))
+    ⊎ (LosesEnd left left' reports (length items) × (gone.messages ≡ length items + 1) × (gone.refused ≡ length (reports_from 1 items) + 1))
+
+-- the input was gone through, as far as the ends of its messages can be told
+pub record GoesThrough (text : ℕ → Spelling → List ℕ) (is_good : Spelling → Bool) (source : Taking) (sink : Putting) (reports : Reporting) (gone : Gone) : Type 0 where
+  pub items : List Item
+  pub rest : Option (List ℕ)
+  pub reported : Option (List Report)
+  pub goes : Goes text source.left rest sink.held sink.held' (reporting reports.old reported) items
+  pub ends : EndsWith rest source.left' (reporting reported reports.new) items gone
+  pub few : gone.messages ≤ 1_000_000
+  pub all : gone.all_good ≡ all_good is_good items
+
+-- why no further message was gone through, after `before` of them
+abbrev pub Halts : (ℕ → Spelling → List ℕ) → Taking → Putting → ℕ → Why → Type 0
+Halts text source sink before Why.OutOfMemory = (before < 1_000_000) × Keeps sink.held sink.held'
+Halts text source sink before Why.ReadFault =
+    (before ≤ 1_000_000) × IsTrue source.broken × TakesNoMessage source.left source.left' × Keeps sink.held sink.held'
+Halts text source sink before (Why.WriteFault n) = (before < 1_000_000) × BreaksWithin (text (before + 1)) source sink n
+Halts text source sink before Why.TooMany =
+    (before ≡ 1_000_000) × ((octet : ℕ) × Consumes source.left source.left' (octet ∷ [])) × Keeps sink.held sink.held'
+
+-- the octets of the last message that were written, where the sink broke within it
+abbrev pub part_of : Why → ℕ
+part_of (Why.WriteFault n) = n
+part_of _ = 0
+
+-- the messages before the end, and why there was one
+pub record HaltsAfter (text : ℕ → Spelling → List ℕ) (source : Taking) (sink : Putting) (reports : Reporting) (halted : Halted) : Type 0 where
+  pub items : List Item
+  pub rest : Option (List ℕ)
+  pub grown : Option (List ℕ)
+  pub goes : Goes text source.left rest sink.held grown reports items
+  pub messages : halted.messages ≡ length items
+  pub refused : halted.refused ≡ length (reports_from 1 items)
+  pub written : halted.written ≡ length (written_from text 1 items) + part_of halted.why
+  pub halts : Halts text (taking rest source.left' source.broken) (putting grown sink.held' sink.broken) halted.messages halted.why

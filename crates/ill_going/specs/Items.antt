@@ -1,0 +1,62 @@
+-- An input that isn't given up at a message that is refused: what it is, what is written of it, and what is reported.
+use Rattle.std.specs.Prelude.{◌≡◌, ℕ, suc, Bool, true, ◌&&◌, List, [], ◌∷◌, ◌++◌, take, Option, Some, None}
+use Rattle.ber_leaf.specs.Profile.{profile_two}
+use Rattle.ber_frame.specs.Framed.{IsFrame}
+use Rattle.ill_schema.specs.declared.refusal.Refusal.{Refusal}
+use Rattle.ill_schema.specs.Apdu.{SpellsApdu}
+use Rattle.ill_refusals.specs.Fault.{fault_of}
+use Rattle.ill_refusals.specs.Outcome.{OnlyRefuses}
+use Rattle.ill_normal.specs.Messages.{Spelling}
+use Rattle.ill_going.specs.declared.report.Report.{Report}
+
+-- one message of an input: a spelling, or octets that are refused
+pub data Item : Type 0 where
+  good : Spelling → Item
+  bad : List ℕ → Refusal → Item
+
+-- the refusal says the one fault of the octets; of more than a message may have, that of the first 1,048,576
+abbrev pub IsRefusedFor : List ℕ → Refusal → Type 0
+IsRefusedFor octets refusal = OnlyRefuses profile_two (take 1_048_576 octets) (fault_of refusal)
+
+-- s is these messages, one after another, and then the rest; those that are refused are framed elements
+abbrev pub AreItems : List ℕ → List Item → List ℕ → Type 0
+AreItems s [] rest = s ≡ rest
+AreItems s (good m ∷ items) rest = (t : List ℕ) × (s ≡ m.octets ++ t) × SpellsApdu profile_two m.apdu m.octets × AreItems t items rest
+AreItems s (bad octets refusal ∷ items) rest = (t : List ℕ) × (s ≡ octets ++ t) × IsFrame octets × IsRefusedFor octets refusal × AreItems t items rest
+
+-- what is written of messages that are numbered from i on, where `text i m` is written of message i if it isn't refused
+abbrev pub written_from : (ℕ → Spelling → List ℕ) → ℕ → List Item → List ℕ
+written_from text i [] = []
+written_from text i (good m ∷ items) = text i m ++ written_from text (suc i) items
+written_from text i (bad octets refusal ∷ items) = written_from text (suc i) items
+
+abbrev pub report : ℕ → Refusal → Bool → Report
+report i refusal ends = record { message = i; refusal = refusal; ends = ends }
+
+-- what is reported: each message that is refused
+abbrev pub reports_from : ℕ → List Item → List Report
+reports_from i [] = []
+reports_from i (good m ∷ items) = reports_from (suc i) items
+reports_from i (bad octets refusal ∷ items) = report i refusal true ∷ reports_from (suc i) items
+
+-- whether each message that isn't refused is as it should be
+abbrev pub all_good : (Spelling → Bool) → List Item → Bool
+all_good is_good [] = true
+all_good is_good (good m ∷ items) = is_good m && all_good is_good items
+all_good is_good (bad octets refusal ∷ items) = all_good is_good items
+
+-- the messages that aren't refused
+abbrev pub good_ones : List Item → List Spelling
+good_ones [] = []
+good_ones (good m ∷ items) = m ∷ good_ones items
+good_ones (bad octets refusal ∷ items) = good_ones items
+
+-- known reports grow by these
+abbrev pub Adds : Option (List Report) → Option (List Report) → List Report → Type 0
+Adds None new more = Unit {0}
+Adds (Some old) None more = ⊥
+Adds (Some old) (Some new) more = new ≡ old ++ more
+
+-- no front of the octets is a framed element, so no message ends in them
+abbrev pub HasNoMore : List ℕ → Type 0
+HasNoMore s = (x y : List ℕ) → IsFrame x → s ≡ x ++ y → ⊥

@@ -1,0 +1,3 @@
+pub mod Items
+pub mod Gone
+pub mod code

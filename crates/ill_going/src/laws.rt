@@ -1,0 +1,22 @@
+//! What holds of the definitions alone.
+ghost use Rattle.std.specs.Prelude.{◌≡◌, ℕ, ◌<◌, List, ◌++◌, length, Some};
+ghost use Rattle.ill_normal.specs.Messages.{Spelling, output_from};
+ghost use Rattle.ill_going.specs.Gone.{HasNoEnd};
+ghost use Rattle.ill_going.specs.Items.{Item, AreItems, written_from, good_ones, HasNoMore};
+
+/// What is written of an input's good messages is what is written of them alone, if it doesn't depend on their numbers.
+pub fn good_ones_are_written()
+    ensures { (text : ℕ → Spelling → List ℕ) (i : ℕ) (items : List Item) → ((j k : ℕ) (m : Spelling) → text j m ≡ text k m)
+        → written_from text i items ≡ output_from text 1 (good_ones items) }
+{}
+
+/// An input is messages in one way, as far as their ends can be told.
+pub fn one_way()
+    ensures { (s rest over : List ℕ) (items others : List Item) → AreItems s items rest → HasNoMore rest → AreItems s others over → HasNoMore over
+        → (items ≡ others) × (rest ≡ over) }
+{}
+
+/// Where an end can't be told no message ends, so the work has come as far as it can.
+pub fn lost_ends_are_last()
+    ensures { (octets rest : List ℕ) → HasNoEnd octets (Some rest) → length octets < 18_446_744_073_709_551_615 → HasNoMore (octets ++ rest) }
+{}

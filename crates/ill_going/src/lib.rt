@@ -1,0 +1,11 @@
+//! The messages of an input one after another, where a message that is refused doesn't end the work.
+#![tactic(auto)]
+
+mod going;
+mod laws;
+mod next;
+mod report;
+
+pub use going::{Gone, Halted, Why, keep_going};
+pub use laws::{good_ones_are_written, lost_ends_are_last, one_way};
+pub use report::{Report, Reports};

@@ -1,0 +1,199 @@
+//! The next message of an input: its octets, up to where they end by their framing, and what is made of them.
+ghost use Rattle.std.specs.Prelude.{◌≡◌, ℕ, ◌-◌, ◌<◌, ◌≤◌, List, [], ◌++◌, length, take, IfOk, IfErr, OnOk, IsTrue, MatchOption};
+ghost use Rattle.std.specs.Io.KnownBytes.{Consumes, IsAtEnd, Keeps};
+ghost use Rattle.ber_frame.specs.Framed.{IsPart};
+ghost use Rattle.ber_frame.specs.Framer.{IsFed, Judged};
+ghost use Rattle.ill_going.specs.code.Taking.{is_whole, IsNext, Takes, TakesElement, TakesPart, TakesRest, Took};
+
+use crate::going::Why;
+use ber_core::{AtHand, FromSlice, Look, Source};
+use ber_frame::{Frame, Framer};
+use ill_normal::{LIMIT, Maker, Piece, ReadFailure, Refusal};
+use std::alloc::{AllocError, Global};
+
+/// How many octets are asked of a source at once.
+const CHUNK: usize = 1024;
+
+/// The next message.
+#[derive(Drop)]
+pub enum Next<T: Drop> {
+    /// What was made of it.
+    Read(Piece<T>),
+    /// Why it is refused, and whether its end is known.
+    Refused { refusal: Refusal, ends: bool },
+}
+
+/// Why no message was read.
+#[derive(Clone, Copy)]
+pub enum Unread {
+    OutOfMemory,
+    Broken,
+}
+
+impl Unread {
+    ghost use Rattle.ill_going.specs.code.Ending.{why_of};
+
+    /// Why the work stops.
+    pub fn why(self) -> Why
+        ensures { result ≡ why_of self }
+    {
+        match self {
+            Unread::OutOfMemory => Why::OutOfMemory,
+            Unread::Broken => Why::ReadFault,
+        }
+    }
+}
+
+/// Reads the next message, and has made of it what is written, or says why it is refused; None at the end of the input. Its octets are
+/// kept in `kept`.
+pub fn next_message<M: Maker, R: Source, L: Look<R>>(
+    alloc: Global,
+    maker: &M,
+    number: u32,
+    source: &mut R,
+    kept: &mut Vec<u8>,
+    room: M::Out,
+) -> Result<Option<Next<M::Out>>, Unread>
+    ensures next { IfOk result (λ found. MatchOption found (Consumes (R.left source.old) (R.left source.new) [] × IsAtEnd (R.left source.new))
+        (IsNext M.Out.is (M.text maker.now number) (M.is_good maker.now) (R.left source.old) (R.left source.new))) }
+    ensures broken { IfErr result (λ e. e ≡ Unread.Broken → IsTrue (R.is_broken source.new) × TakesPart (R.left source.old) (R.left source.new)) }
+    ensures stays { IsTrue (R.is_broken source.old) → IsTrue (R.is_broken source.new) }
+{
+    let frame = match take_element::<R, L>(source, kept) {
+        Ok(frame) => frame,
+        Err(unread) => return Err(unread),
+    };
+    let mut octets = FromSlice::new(kept.as_slice());
+    match maker.next::<FromSlice<'_>, AtHand>(alloc, number, &mut octets, room) {
+        Ok(Some(piece)) => Ok(Some(Next::Read(piece))),
+        Ok(None) => Ok(None),
+        Err(ReadFailure::Refused(refusal)) => {
+            let ends = ends(frame);
+            Ok(Some(Next::Refused { refusal, ends }))
+        }
+        Err(ReadFailure::OutOfMemory) => Err(Unread::OutOfMemory),
+        Err(ReadFailure::ReadFault) => unreachable!(),
+    }
+}
+
+/// Whether an element's end was found.
+fn ends(frame: Frame) -> bool
+    ensures { result ≡ is_whole frame }
+{
+    match frame {
+        Frame::Whole => true,
+        Frame::Part | Frame::Untold => false,
+    }
+}
+
+/// Takes the next element, up to where its end can't be told or the input ends, and keeps its first octets, as many as a message may have.
+/// Of a length that is too great it takes the rest, so that the reader sees it whole.
+fn take_element<R: Source, L: Look<R>>(source: &mut R, kept: &mut Vec<u8>) -> Result<Frame, Unread>
+    ensures element { IfOk result (Took (R.left source.old) (R.left source.new) kept.new.items) }
+    ensures broken { IfErr result (λ e. e ≡ Unread.Broken → IsTrue (R.is_broken source.new) × TakesPart (R.left source.old) (R.left source.new)) }
+    ensures stays { IsTrue (R.is_broken source.old) → IsTrue (R.is_broken source.new) }
+{
+    let framer = match take_framed::<R, L>(source, kept) {
+        Ok(framer) => framer,
+        Err(unread) => return Err(unread),
+    };
+    match framer.frame() {
+        Frame::Untold => match take_rest(source, kept, framer.lacks()) {
+            Ok(()) => Ok(Frame::Untold),
+            Err(unread) => Err(unread),
+        },
+        Frame::Whole => Ok(Frame::Whole),
+        Frame::Part => Ok(Frame::Part),
+    }
+}
+
+/// Takes octets and feeds a framer with them, up to where nothing more is needed or the input ends, and keeps the first ones.
+fn take_framed<R: Source, L: Look<R>>(source: &mut R, kept: &mut Vec<u8>) -> Result<Framer, Unread>
+    ensures element { IfOk result (λ framer. (frame : Frame) → ((b : List ℕ) → IsFed framer b → Judged b frame)
+        → TakesElement (R.left source.old) (R.left source.new) kept.new.items frame) }
+    ensures broken { IfErr result (λ e. e ≡ Unread.Broken → IsTrue (R.is_broken source.new) × TakesPart (R.left source.old) (R.left source.new)) }
+    ensures stays { IsTrue (R.is_broken source.old) → IsTrue (R.is_broken source.new) }
+{
+    kept.clear();
+    let mut framer = Framer::new();
+    let mut buffer = [0; CHUNK];
+    'element: for _ in 0..u64::MAX {
+        match take_some::<R, L>(source, &mut framer, kept, &mut buffer) {
+            Ok(0) => return Ok(framer),
+            Ok(_) => {}
+            Err(unread) => return Err(unread),
+        }
+    }
+    Ok(framer)
+}
+
+/// Takes so many octets more, or as many as there are, and keeps them.
+fn take_rest<R: Source>(source: &mut R, kept: &mut Vec<u8>, count: u8) -> Result<(), Unread>
+    ensures rest { OnOk result (TakesRest (R.left source.old) (R.left source.new) kept.old.items kept.new.items) }
+    ensures broken { IfErr result (λ e. e ≡ Unread.Broken → IsTrue (R.is_broken source.new)
+        × TakesRest (R.left source.old) (R.left source.new) kept.old.items kept.new.items) }
+    ensures stays { IsTrue (R.is_broken source.old) → IsTrue (R.is_broken source.new) }
+{
+    let mut octet = [0];
+    'rest: for _ in 0..count {
+        match source.take(&mut octet) {
+            Ok(0) => return Ok(()),
+            Ok(_) => match keep(kept, &octet) {
+                Ok(()) => {}
+                Err(AllocError) => return Err(Unread::OutOfMemory),
+            },
+            Err(_) => return Err(Unread::Broken),
+        }
+    }
+    Ok(())
+}
+
+/// Takes some octets of an element, feeds a framer with them, and returns how many they are; 0 where the element or the input ends, or
+/// where the element's end can't be told.
+fn take_some<R: Source, L: Look<R>>(
+    source: &mut R,
+    framer: &mut Framer,
+    kept: &mut Vec<u8>,
+    buffer: &mut [u8],
+) -> Result<usize, Unread>
+    requires { 0 < length buffer.old }
+    ensures takes { IfOk result (Takes (R.left source.old) (R.left source.new) framer.old framer.new kept.old.items kept.new.items) }
+    ensures broken { IfErr result (λ e. e ≡ Unread.Broken → IsTrue (R.is_broken source.new) × Keeps (R.left source.old) (R.left source.new)) }
+    ensures part { IfErr result (λ e. e ≡ Unread.Broken → (b : List ℕ) → IsFed framer.old b → IsPart b) }
+    ensures stays { IsTrue (R.is_broken source.old) → IsTrue (R.is_broken source.new) }
+    ensures room { length buffer.new ≡ length buffer.old }
+{
+    let hand = L::at_hand(source);
+    let seen = framer.feed(hand);
+    if seen > 0 {
+        return match keep(kept, &hand[..seen]) {
+            Ok(()) => {
+                L::pass(source, seen);
+                Ok(seen)
+            }
+            Err(AllocError) => Err(Unread::OutOfMemory),
+        };
+    }
+    let wanted = (framer.need() as usize).min(buffer.len());
+    if wanted == 0 {
+        return Ok(0);
+    }
+    let Ok(count) = source.take(&mut buffer[..wanted]) else {
+        return Err(Unread::Broken);
+    };
+    let octets = &buffer[..count];
+    let _ = framer.feed(octets);
+    match keep(kept, octets) {
+        Ok(()) => Ok(count),
+        Err(AllocError) => Err(Unread::OutOfMemory),
+    }
+}
+
+/// Keeps octets, as far as a message may have more.
+fn keep(kept: &mut Vec<u8>, octets: &[u8]) -> Result<(), AllocError>
+    ensures { OnOk result (kept.new.items ≡ kept.old.items ++ take (1_048_576 - length kept.old.items) octets.now) }
+{
+    let room = (LIMIT as usize).saturating_sub(kept.len());
+    let count = octets.len().min(room);
+    kept.extend_from_slice(&octets[..count])
+}

@@ -1,0 +1,97 @@
+//! Jobs that go on after a message that is refused.
+ghost use Rattle.std.specs.Prelude.{◌≡◌, IfOk, IfErr, IsTrue};
+ghost use Rattle.ill_normal.specs.Calls.{taking, putting};
+ghost use Rattle.ill_going.specs.Gone.{GoesThrough, reporting};
+ghost use Rattle.ill_jobs.specs.Output.{message_output, is_good};
+ghost use Rattle.ill_jobs.specs.Going.{halt_fault, GoesOn, GoesOnFails, HaltsFor};
+
+use crate::fault::RunFault;
+use crate::hexadecimal::read_hex;
+use crate::job::Work;
+use ber_core::{AtHand, FromSlice, Look, Sink, Source, Unseen};
+use ill_going::{Gone, Halted, Reports, Why, keep_going};
+use std::alloc::Global;
+
+/// Does a job as [`run`](crate::run) does, and where a message is refused, reports it and goes on with the next one. It ends where its
+/// outermost element does, as its length or its end marks tell; where that can't be told, the report says so, and the input is read no
+/// further. Numbers count refused messages, too. What is written of the others is what would be written without the refused ones, but
+/// for their numbers.
+///
+/// # Errors
+///
+/// Why the job was not done to the end of the input, see [`RunFault`]; a refused message is no such fault.
+pub fn run_on<R: Source, W: Sink, T: Reports>(
+    alloc: Global,
+    work: Work<'_>,
+    source: &mut R,
+    sink: &mut W,
+    reports: &mut T,
+) -> Result<Gone, RunFault>
+    ensures done { IfOk result (GoesOn work.entry.hex work.entry (taking (R.left source.old) (R.left source.new) (R.is_broken source.new))
+        (putting (W.contents sink.old) (W.contents sink.new) (W.is_broken sink.new)) (reporting (T.reported reports.old) (T.reported reports.new))) }
+    ensures fails { IfErr result (GoesOnFails work.entry.hex work.entry (taking (R.left source.old) (R.left source.new) (R.is_broken source.new))
+        (putting (W.contents sink.old) (W.contents sink.new) (W.is_broken sink.new)) (reporting (T.reported reports.old) (T.reported reports.new))) }
+    ensures source_stays { IsTrue (R.is_broken source.old) → IsTrue (R.is_broken source.new) }
+    ensures sink_stays { IsTrue (W.is_broken sink.old) → IsTrue (W.is_broken sink.new) }
+{
+    run_on_by::<R, Unseen, W, T>(alloc, work, source, sink, reports)
+}
+
+/// Does a job as [`run_on`] does, by a way to look at the source.
+///
+/// # Errors
+///
+/// Those of [`run_on`].
+pub fn run_on_by<R: Source, L: Look<R>, W: Sink, T: Reports>(
+    alloc: Global,
+    work: Work<'_>,
+    source: &mut R,
+    sink: &mut W,
+    reports: &mut T,
+) -> Result<Gone, RunFault>
+    ensures done { IfOk result (GoesOn work.entry.hex work.entry (taking (R.left source.old) (R.left source.new) (R.is_broken source.new))
+        (putting (W.contents sink.old) (W.contents sink.new) (W.is_broken sink.new)) (reporting (T.reported reports.old) (T.reported reports.new))) }
+    ensures fails { IfErr result (GoesOnFails work.entry.hex work.entry (taking (R.left source.old) (R.left source.new) (R.is_broken source.new))
+        (putting (W.contents sink.old) (W.contents sink.new) (W.is_broken sink.new)) (reporting (T.reported reports.old) (T.reported reports.new))) }
+    ensures source_stays { IsTrue (R.is_broken source.old) → IsTrue (R.is_broken source.new) }
+    ensures sink_stays { IsTrue (W.is_broken sink.old) → IsTrue (W.is_broken sink.new) }
+{
+    if !work.hex {
+        return go_on::<R, L, W, T>(alloc, work, source, sink, reports);
+    }
+    let octets = read_hex(alloc, source)?;
+    let mut messages = FromSlice::new(&octets);
+    go_on::<FromSlice<'_>, AtHand, W, T>(alloc, work, &mut messages, sink, reports)
+}
+
+fn go_on<R: Source, L: Look<R>, W: Sink, T: Reports>(
+    alloc: Global,
+    work: Work<'_>,
+    source: &mut R,
+    sink: &mut W,
+    reports: &mut T,
+) -> Result<Gone, RunFault>
+    ensures through { IfOk result (GoesThrough (message_output work.entry) (is_good work.entry.job) (taking (R.left source.old) (R.left source.new) (R.is_broken source.new))
+        (putting (W.contents sink.old) (W.contents sink.new) (W.is_broken sink.new)) (reporting (T.reported reports.old) (T.reported reports.new))) }
+    ensures halts { IfErr result (HaltsFor work.entry (taking (R.left source.old) (R.left source.new) (R.is_broken source.new))
+        (putting (W.contents sink.old) (W.contents sink.new) (W.is_broken sink.new)) (reporting (T.reported reports.old) (T.reported reports.new))) }
+    ensures source_stays { IsTrue (R.is_broken source.old) → IsTrue (R.is_broken source.new) }
+    ensures sink_stays { IsTrue (W.is_broken sink.old) → IsTrue (W.is_broken sink.new) }
+{
+    match keep_going::<Work<'_>, R, L, W, T>(alloc, &work, source, sink, reports) {
+        Ok(gone) => Ok(gone),
+        Err(halted) => Err(fault_of(halted)),
+    }
+}
+
+/// Why a job went no further.
+fn fault_of(halted: Halted) -> RunFault
+    ensures { result ≡ halt_fault halted.written halted.why }
+{
+    match halted.why {
+        Why::OutOfMemory => RunFault::OutOfMemory,
+        Why::ReadFault => RunFault::ReadFault,
+        Why::WriteFault(_) => RunFault::WriteFault(halted.written),
+        Why::TooMany => RunFault::TooManyMessages,
+    }
+}

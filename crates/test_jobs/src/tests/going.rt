@@ -1,0 +1,148 @@
+//! What `run_on` writes and reports, row by row.
+use ber_core::{Pieces, ToWrite};
+use ill_jobs::{Gone, Job, Report, Reports, RunFault, Work, run_on};
+use ill_normal::{Cause, Refusal};
+use std::test::Fail;
+use test_support::octets_of;
+
+/// What was reported.
+#[derive(Drop)]
+struct Told {
+    reports: Vec<Report>,
+}
+
+impl Reports for Told {
+    ghost use Rattle.std.specs.Prelude.{None};
+
+    ghost reported = { λ _. None };
+
+    fn report(&mut self, report: Report) {
+        let _ = self.reports.push(report);
+    }
+}
+
+/// A run. The input is text where `hex` says so, and otherwise octets, here in hexadecimal. In it the second message is a NULL, if it is
+/// gone through.
+struct Row {
+    name: &'static str,
+    job: Job,
+    hex: bool,
+    input: &'static str,
+    output: &'static str,
+    answer: Result<Gone, RunFault>,
+}
+
+/// An EXPIRED in normal form, a NULL, and the EXPIRED with indefinite lengths.
+const BETWEEN: &str =
+    "741f301d800102a10aa1031b0147a2031b0151a20ca00a80083230323430323239050074803080800102a180a1801b01470000a2801b015100000000a280a080800832303234303232390000000000000000";
+
+const ROWS: [Row; 6] = [
+    Row {
+        name: "check",
+        job: Job::Check,
+        hex: false,
+        input: BETWEEN,
+        output: "message 1: Expired, 33 octets, normal\nmessage 3: Expired, 47 octets, not normal, normal form 33 octets\n",
+        answer: Ok(Gone {
+            messages: 3,
+            refused: 1,
+            all_good: false,
+        }),
+    },
+    Row {
+        name: "check-text",
+        job: Job::Check,
+        hex: true,
+        input: BETWEEN,
+        output: "message 1: Expired, 33 octets, normal\nmessage 3: Expired, 47 octets, not normal, normal form 33 octets\n",
+        answer: Ok(Gone {
+            messages: 3,
+            refused: 1,
+            all_good: false,
+        }),
+    },
+    Row {
+        name: "canonicalise-text",
+        job: Job::Canonicalise,
+        hex: true,
+        input: BETWEEN,
+        output: "741f301d800102a10aa1031b0147a2031b0151a20ca00a80083230323430323239\n741f301d800102a10aa1031b0147a2031b0151a20ca00a80083230323430323239\n",
+        answer: Ok(Gone {
+            messages: 3,
+            refused: 1,
+            all_good: true,
+        }),
+    },
+    Row {
+        name: "show",
+        job: Job::Show,
+        hex: false,
+        input: BETWEEN,
+        output: "message 1 Expired\nprotocol-version-num = 2\ntransaction-id.transaction-group-qualifier = general \"G\"\ntransaction-id.transaction-qualifier = general \"Q\"\nservice-date-time.date-time-of-this-service.date = 20240229\nmessage 3 Expired\nprotocol-version-num = 2\ntransaction-id.transaction-group-qualifier = general \"G\"\ntransaction-id.transaction-qualifier = general \"Q\"\nservice-date-time.date-time-of-this-service.date = 20240229\n",
+        answer: Ok(Gone {
+            messages: 3,
+            refused: 1,
+            all_good: true,
+        }),
+    },
+    Row {
+        name: "odd-text",
+        job: Job::Check,
+        hex: true,
+        input: "05 0",
+        output: "",
+        answer: Err(RunFault::OddHex),
+    },
+    Row {
+        name: "bad-digit",
+        job: Job::Check,
+        hex: true,
+        input: "05 0G",
+        output: "",
+        answer: Err(RunFault::BadHex(3)),
+    },
+];
+
+#[test]
+fn refused_messages_are_reported_and_passed_over(rt: HostRuntime) -> Result<(), Fail> {
+    let alloc = rt.alloc();
+    for row in &ROWS {
+        let octets = if row.hex {
+            row.input.as_bytes().to_vec(alloc)?
+        } else {
+            octets_of(alloc, row.input)?
+        };
+        let mut source = Pieces::new(&octets, 64, None);
+        let mut written = Vec::new(alloc);
+        let mut told = Told {
+            reports: Vec::new(alloc),
+        };
+        let answer = run_on(
+            alloc,
+            Work::new(row.job, row.hex),
+            &mut source,
+            &mut ToWrite::new(&mut written),
+            &mut told,
+        );
+        assert!(rt; answer == row.answer, "{}", row.name);
+        assert!(rt; written.as_slice() == row.output.as_bytes(), "{}", row.name);
+        let null = Report {
+            message: 2,
+            refusal: Refusal {
+                at: 0,
+                cause: Cause::UnexpectedTag,
+            },
+            ends: true,
+        };
+        if row.answer.is_ok() {
+            assert!(rt;
+                told.reports.as_slice() == [null].as_slice(),
+                "{}",
+                row.name
+            );
+        } else {
+            assert!(rt; told.reports.is_empty(), "{}", row.name);
+        }
+    }
+    Ok(())
+}
