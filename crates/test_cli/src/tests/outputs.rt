@@ -296,7 +296,12 @@ fn write_faults_count_what_left_the_buffer(rt: HostRuntime) -> Result<(), Fail> 
 fn help_goes_to_standard_output(rt: HostRuntime) -> Result<(), Fail> {
     let ended = run_line(&rt, "check --help", Start::default())?;
     assert!(rt; ended.status == 0 && ended.errors.is_empty() && !ended.output.is_empty());
-    let ended = run_line(&rt, "check", Start::default())?;
-    assert!(rt; ended.status == 2 && ended.output.is_empty() && !ended.errors.is_empty());
+    let ended = run_line(&rt, "--version", Start::default())?;
+    assert!(rt; ended.status == 0 && ended.errors.is_empty() && !ended.output.is_empty());
+    for line in ["check", "shwo a", "same a", "check --hexx a"] {
+        let ended = run_line(&rt, line, Start::default())?;
+        assert!(rt; ended.status == 2 && ended.output.is_empty(), "{line}");
+        assert!(rt; !ended.errors.is_empty(), "{line}");
+    }
     Ok(())
 }
