@@ -28,8 +28,11 @@ lines_rule = record (new_rule (codes "lines")) { long = Some (codes "lines"); ac
 abbrev pub each_file : Text → App
 each_file name = with_rule (with_rule (with_rule (new_app name) hex_rule) list_rule) files_rule
 
+abbrev pub with_lines : Text → App
+with_lines name = with_rule (with_rule (new_app name) hex_rule) lines_rule
+
 abbrev pub each_line : Text → App
-each_line name = with_rule (with_rule (with_rule (with_rule (new_app name) hex_rule) lines_rule) list_rule) files_rule
+each_line name = with_rule (with_rule (with_lines name) list_rule) files_rule
 
 -- a command on two files, and one that has lines, too
 
@@ -37,8 +40,7 @@ abbrev pub two_files : Text → App
 two_files name = with_rule (with_rule (with_rule (new_app name) hex_rule) (file_rule (codes "first"))) (file_rule (codes "second"))
 
 abbrev pub two_files_or_lines : Text → App
-two_files_or_lines name =
-    with_rule (with_rule (with_rule (with_rule (new_app name) hex_rule) lines_rule) (file_rule (codes "first"))) (file_rule (codes "second"))
+two_files_or_lines name = with_rule (with_rule (with_lines name) (file_rule (codes "first"))) (file_rule (codes "second"))
 
 abbrev pub top : App
 top = let a = new_app (codes "illcanon") in

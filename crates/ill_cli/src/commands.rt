@@ -1,6 +1,6 @@
 //! The commands: what is opened, and what is done with it.
 ghost use Rattle.std.specs.Prelude.{◌≡◌};
-ghost use Rattle.ill_cli.specs.Lined.{line_job_of};
+ghost use Rattle.ill_cli.specs.code.Lined.{line_job_of};
 ghost use Rattle.ill_cli.specs.Status.{status_is};
 
 use crate::each::each_input;

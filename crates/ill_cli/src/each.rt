@@ -1,6 +1,6 @@
 //! A job with each of several files, in turn.
 ghost use Rattle.std.specs.Prelude.{◌≡◌, ◌<◌, ◌++◌, [], ◌∷◌, map, length, IfOk, IfNone, IfSome};
-ghost use Rattle.ill_cli.specs.Listed.{names_in};
+ghost use Rattle.ill_cli.specs.code.Listed.{names_in};
 ghost use Rattle.ill_cli.specs.Status.{IsStatusOfEach, worst};
 
 use crate::commands::{Doing, end, to_standard_output};

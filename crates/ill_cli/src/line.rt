@@ -3,7 +3,7 @@ ghost use Rattle.std.specs.Prelude.{◌≡◌, ◌+◌, List, [], map, codes, fa
 ghost use Rattle.std.specs.String.{string_bytes};
 ghost use Rattle.clap.specs.Words.{FailsBy, Text, all_of, app_of, fault_of, found_of, rows_of, rule_of, subcommand_of, subcommand_rows_of};
 ghost use Rattle.clap.specs.declared.builder.command.Command.TheViews.{out-Command as fields_of};
-ghost use Rattle.ill_cli.specs.CommandLine.{each_file, each_line, file_rule, files_rule, hex_rule, lines_rule, list_rule, program, two_files, two_files_or_lines};
+ghost use Rattle.ill_cli.specs.CommandLine.{each_file, each_line, file_rule, files_rule, hex_rule, lines_rule, list_rule, program, two_files, two_files_or_lines, with_lines};
 ghost use Rattle.ill_cli.specs.declared.orders.Inputs.{Inputs};
 ghost use Rattle.ill_cli.specs.declared.orders.Order.{Order};
 ghost use Rattle.ill_cli.specs.declared.orders.Task.{Task};
@@ -86,6 +86,22 @@ fn on_each<'a>(
         .arg(files(alloc))
 }
 
+/// A command that reads lines, too.
+fn by_lines<'a>(
+    alloc: Global,
+    name: &'a str,
+    about: &'a str,
+    after: &'a str,
+) -> Result<Command<'a>, AllocError>
+    ensures { IfOk result (λ c. (app_of c ≡ with_lines name.entry.now) × ((fields_of c).has_globals ≡ false)) }
+{
+    Command::new(alloc, name)
+        .about(about)
+        .after_help(after)
+        .arg(hex_flag(alloc))?
+        .arg(lines_flag(alloc))
+}
+
 fn on_each_or_lines<'a>(
     alloc: Global,
     name: &'a str,
@@ -94,11 +110,7 @@ fn on_each_or_lines<'a>(
 ) -> Result<Command<'a>, AllocError>
     ensures { IfOk result (λ c. (app_of c ≡ each_line name.entry.now) × ((fields_of c).has_globals ≡ false)) }
 {
-    Command::new(alloc, name)
-        .about(about)
-        .after_help(after)
-        .arg(hex_flag(alloc))?
-        .arg(lines_flag(alloc))?
+    by_lines(alloc, name, about, after)?
         .arg(list(alloc))?
         .arg(files(alloc))
 }
@@ -137,12 +149,9 @@ fn same<'a>(alloc: Global) -> Result<Command<'a>, AllocError>
 fn canonicalise<'a>(alloc: Global) -> Result<Command<'a>, AllocError>
     ensures { IfOk result (λ c. (app_of c ≡ two_files_or_lines (codes "canonicalise")) × ((fields_of c).has_globals ≡ false)) }
 {
+    let about = "Writes the normal form (DER) of each message in IN to OUT";
     let output = "Where the normal forms go; `-` is standard output";
-    Command::new(alloc, "canonicalise")
-        .about("Writes the normal form (DER) of each message in IN to OUT")
-        .after_help(help::CANONICALISE)
-        .arg(hex_flag(alloc))?
-        .arg(lines_flag(alloc))?
+    by_lines(alloc, "canonicalise", about, help::CANONICALISE)?
         .arg(file(alloc, "first", "IN", "The messages; `-` is standard input"))?
         .arg(file(alloc, "second", "OUT", output))
 }
