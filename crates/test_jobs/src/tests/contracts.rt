@@ -1,12 +1,13 @@
 //! Contracts that leave one result: what two calls on the same arguments return is proved equal of their contracts alone. So a body
 //! that returns anything else doesn't meet its contract. That memory was refused, and that a source or the sink broke, are the results
 //! that may come besides.
-ghost use Rattle.std.specs.Prelude.{◌≡◌, ◌≤◌, ◌+◌, ℕ, [], Ok, Err, true, false, IfOk, length};
+ghost use Rattle.std.specs.Prelude.{◌≡◌, ◌≤◌, ◌+◌, ℕ, Bool, [], Ok, Err, true, false, IfOk, length};
 ghost use Rattle.ill_jobs.specs.Ran.{IsFault};
 ghost use Rattle.ill_schema.specs.Message.{apdu_of};
 
 use ber_core::{Pieces, Room};
 use ill_jobs::{RunFault, Verdict, Work, run, run_same};
+use ill_lines::{LineJob, LinesFault, run_lines};
 use ill_normal::{Refusal, Side};
 use ill_schema::Message;
 use ill_text::show_text;
@@ -44,6 +45,26 @@ fn inputs_have_one_verdict(
     (
         run(alloc, work, source, sink),
         run(alloc, work, other, other_sink),
+    )
+}
+
+/// Equal inputs have one output of lines, and one answer to whether all are good.
+fn lines_have_one_output(
+    job: LineJob,
+    source: &mut Pieces,
+    sink: &mut Room<64>,
+    other: &mut Pieces,
+    other_sink: &mut Room<64>,
+    alloc: Global,
+) -> (Result<bool, LinesFault>, Result<bool, LinesFault>)
+    requires source { source.old.octets ≡ other.old.octets }
+    requires sink { sink.old.octets ≡ other_sink.old.octets }
+    ensures good { (g h : Bool) → result.0 ≡ Ok g → result.1 ≡ Ok h → g ≡ h }
+    ensures output { (g h : Bool) → result.0 ≡ Ok g → result.1 ≡ Ok h → sink.new.octets ≡ other_sink.new.octets }
+{
+    (
+        run_lines(alloc, job, source, sink),
+        run_lines(alloc, job, other, other_sink),
     )
 }
 

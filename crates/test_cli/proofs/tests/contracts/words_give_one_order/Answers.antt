@@ -1,0 +1,82 @@
+use Rattle.std.proofs.Common.{◌≡◌, ℕ, IfOk, List, [], ◌∷◌, Option, Some, None, Result, Ok, unwrap_or, option_map, codes, length, slice_index, arith, refl, sym, ap, ap₂, subst, ◌∙◌}
+use Rattle.clap.specs.Walk.{Row, Text, all_of, first_of}
+use Rattle.ill_cli.specs.Orders.{HasFiles, IsOrderOf, verb, verb_name}
+use Rattle.ill_cli.specs.declared.fault.LineFault.{LineFault}
+use Rattle.ill_cli.specs.declared.orders.Order.{Order}
+use Rattle.ill_cli.specs.declared.orders.Task.{Task}
+use Rattle.ill_cli.specs.declared.orders.Verb.{Verb}
+use Rattle.ill_jobs.specs.declared.job.Job.{Job}
+use Rattle.test_cli.specs.Tasks.{IsSameTask, named}
+use Rattle.test_cli.proofs.tests.contracts.words_give_one_order.Goals as goal
+
+verb_is : (v w : Verb) → verb_name v ≡ verb_name w → v ≡ w
+verb_is Verb.Show Verb.Show e = refl
+verb_is Verb.Show Verb.Check e = absurd (let q : 4 ≡ 5 = ap length e in omega (arith, q))
+verb_is Verb.Show Verb.Digest e = absurd (let q : 4 ≡ 6 = ap length e in omega (arith, q))
+verb_is Verb.Show Verb.Same e = absurd (let q : 104 ≡ 97 = ap (λ (l : List ℕ). slice_index l 1) e in omega (arith, q))
+verb_is Verb.Show Verb.Canonicalise e = absurd (let q : 4 ≡ 12 = ap length e in omega (arith, q))
+verb_is Verb.Check Verb.Show e = absurd (let q : 5 ≡ 4 = ap length e in omega (arith, q))
+verb_is Verb.Check Verb.Check e = refl
+verb_is Verb.Check Verb.Digest e = absurd (let q : 5 ≡ 6 = ap length e in omega (arith, q))
+verb_is Verb.Check Verb.Same e = absurd (let q : 5 ≡ 4 = ap length e in omega (arith, q))
+verb_is Verb.Check Verb.Canonicalise e = absurd (let q : 5 ≡ 12 = ap length e in omega (arith, q))
+verb_is Verb.Digest Verb.Show e = absurd (let q : 6 ≡ 4 = ap length e in omega (arith, q))
+verb_is Verb.Digest Verb.Check e = absurd (let q : 6 ≡ 5 = ap length e in omega (arith, q))
+verb_is Verb.Digest Verb.Digest e = refl
+verb_is Verb.Digest Verb.Same e = absurd (let q : 6 ≡ 4 = ap length e in omega (arith, q))
+verb_is Verb.Digest Verb.Canonicalise e = absurd (let q : 6 ≡ 12 = ap length e in omega (arith, q))
+verb_is Verb.Same Verb.Show e = absurd (let q : 97 ≡ 104 = ap (λ (l : List ℕ). slice_index l 1) e in omega (arith, q))
+verb_is Verb.Same Verb.Check e = absurd (let q : 4 ≡ 5 = ap length e in omega (arith, q))
+verb_is Verb.Same Verb.Digest e = absurd (let q : 4 ≡ 6 = ap length e in omega (arith, q))
+verb_is Verb.Same Verb.Same e = refl
+verb_is Verb.Same Verb.Canonicalise e = absurd (let q : 4 ≡ 12 = ap length e in omega (arith, q))
+verb_is Verb.Canonicalise Verb.Show e = absurd (let q : 12 ≡ 4 = ap length e in omega (arith, q))
+verb_is Verb.Canonicalise Verb.Check e = absurd (let q : 12 ≡ 5 = ap length e in omega (arith, q))
+verb_is Verb.Canonicalise Verb.Digest e = absurd (let q : 12 ≡ 6 = ap length e in omega (arith, q))
+verb_is Verb.Canonicalise Verb.Same e = absurd (let q : 12 ≡ 4 = ap length e in omega (arith, q))
+verb_is Verb.Canonicalise Verb.Canonicalise e = refl
+
+abbrev each_of : List Row → List Text × Option Text
+each_of rows = (unwrap_or (all_of (codes "file") rows) [], first_of (codes "files-from") rows)
+
+abbrev two_of : List Row → List Text × Option Text
+two_of rows = (unwrap_or (first_of (codes "first") rows) [] ∷ unwrap_or (first_of (codes "second") rows) [] ∷ [], None)
+
+abbrev named_by : Verb → List Row → List Text × Option Text
+named_by Verb.Show rows = each_of rows
+named_by Verb.Check rows = each_of rows
+named_by Verb.Digest rows = each_of rows
+named_by Verb.Same rows = two_of rows
+named_by Verb.Canonicalise rows = two_of rows
+
+two : (rows : List Row) (first second : Text) → first_of (codes "first") rows ≡ Some first → first_of (codes "second") rows ≡ Some second
+    → unwrap_or (first_of (codes "first") rows) [] ∷ unwrap_or (first_of (codes "second") rows) [] ∷ [] ≡ first ∷ second ∷ []
+two rows first second e f = ap₂ (λ (x y : Option Text). unwrap_or x [] ∷ unwrap_or y [] ∷ []) e f
+
+named_is : (rows : List Row) (t : Task) → HasFiles rows t → named_by (verb t) rows ≡ named t
+named_is rows (Task.Each Job.Show inputs) h = ap₂ (λ (x : List Text) (y : Option Text). (x, y)) h.0 h.1
+named_is rows (Task.Each Job.Check inputs) h = ap₂ (λ (x : List Text) (y : Option Text). (x, y)) h.0 h.1
+named_is rows (Task.Each Job.Digest inputs) h = ap₂ (λ (x : List Text) (y : Option Text). (x, y)) h.0 h.1
+named_is rows (Task.Each Job.Canonicalise inputs) h = absurd h
+named_is rows (Task.Canonicalise input output) h = ap (λ (x : List Text). (x, None)) (two rows input.now output.now h.0 h.1)
+named_is rows (Task.Compare first second) h = ap (λ (x : List Text). (x, None)) (two rows first.now second.now h.0 h.1)
+
+-- what was found is of one command, with one list of rows
+one_found : (found : Option (Text × List Row)) (name other : Text) (rows more : List Row) → found ≡ Some (name, rows) → found ≡ Some (other, more) → (name ≡ other) × (rows ≡ more)
+one_found found name other rows more e f =
+    let g : Some (name, rows) ≡ Some (other, more) = sym e ∙ f in (
+      ap (λ (o : Option (Text × List Row)). unwrap_or (option_map (λ (p : Text × List Row). p.0) o) []) g,
+      ap (λ (o : Option (Text × List Row)). unwrap_or (option_map (λ (p : Text × List Row). p.1) o) []) g,
+    )
+
+same : (found : Option (Text × List Row)) (one other : Order) → IsOrderOf found one → IsOrderOf found other → IsSameTask one.task other.task
+same found one other h k =
+    let f = one_found found (verb_name (verb one.task)) (verb_name (verb other.task)) h.rows k.rows h.command k.command in
+    let v = verb_is (verb one.task) (verb other.task) f.0 in
+    (v, sym (named_is h.rows one.task h.files) ∙ ap₂ named_by v f.1 ∙ named_is k.rows other.task k.files)
+
+given : (found : Option (Text × List Row)) (r : Result Order LineFault) (order : Order) → r ≡ Ok order → IfOk r (IsOrderOf found) → IsOrderOf found order
+given found r order e h = subst (λ x. IfOk x (IsOrderOf found)) e h
+
+pub returns : goal.returns
+returns c one other p q = same _ one other (given _ c.order.result one p c.order.ensures.order) (given _ c.order-2.result other q c.order-2.ensures.order)
