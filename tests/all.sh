@@ -1,7 +1,7 @@
 #!/bin/sh
 # Builds the programs and runs what isn't part of rt ci: the documents and their examples, growths of memory refused in turn, the program on its rows, the program under faults,
 # the calls for C, and, where Python, GNU time or YAZ's headers are installed, the package for Python, the comparisons with another encoder,
-# judge and text, the time and memory of the worst inputs, and the comparison with YAZ's codec. Takes minutes where the crates have to be proved first.
+# judge and text, lines, the time and memory of the worst inputs, and the comparison with YAZ's codec. Takes minutes where the crates have to be proved first.
 cd "$(dirname "$0")" || exit 2
 (cd ../crates/illcanon && rt run -- --version >/dev/null 2>&1) || exit 2
 status=0
@@ -9,7 +9,7 @@ command -v python3 >/dev/null && { python3 trusted.py --check && python3 docs.py
 command -v python3 >/dev/null && { python3 ../vectors/make.py --check && ../vectors/run.py --adapter illcanon || status=1; }
 (cd ../crates/ill_c && rt lib >/dev/null 2>&1) && make -s -C ../bindings/c all example || exit 2
 scripts="growths.sh program.sh faults.sh ../bindings/c/tests/run.sh"
-command -v python3 >/dev/null && scripts="$scripts ../bindings/python/tests/run.sh spellings.py refusals.py shown.py"
+command -v python3 >/dev/null && scripts="$scripts ../bindings/python/tests/run.sh spellings.py refusals.py shown.py lines.py"
 command -v python3 >/dev/null && [ -x /usr/bin/time ] && scripts="$scripts worst.py"
 [ -e /usr/include/yaz/ill.h ] && scripts="$scripts peer.sh"
 for script in $scripts; do

@@ -238,7 +238,7 @@ def section(title, text, seeds):
 
 APDU = "Rattle.ill_schema.specs.Apdu"
 HEADLINE = [(APDU, name) for name in ("SpellsApdu", "Accepts", "normal_form", "IsStream")]
-PRODUCT = "ber_core ber_frame ber_leaf ill_schema ill_refusals ill_read ill_write ill_normal ill_going ill_text ill_jobs ill_cli ill_digest ill_c ill_parts ill_apdu_results ill_apdu_requests ill_apdu".split()
+PRODUCT = "ber_core ber_frame ber_leaf ill_schema ill_refusals ill_read ill_write ill_normal ill_going ill_text ill_jobs ill_lines ill_cli ill_digest ill_c ill_parts ill_apdu_results ill_apdu_requests ill_apdu".split()
 
 
 def document():
@@ -247,6 +247,7 @@ def document():
     text += ["The definitions between a theorem and its reader. `tests/trusted.py` prints this list, and `tests/all.sh` fails where it is out of date. Each definition is named with the words that it cites, and so on to the end. The types that Rust code declares, and the definitions of std, of `jiff`, of `hex` and of `sha2`, are cited too, and not listed.", ""]
     text += section("The theorem", "What the four claims of README.md say: which octets spell an APDU, what an input has at its front, what the normal form is, and what a stream is.", HEADLINE)
     text += section("The program's jobs", "All that the contracts of `ill_jobs::run` and `ill_jobs::run_same` say, with causes and offsets, text and hexadecimal digits.", run)
+    text += section("Lines", "All that the contract of `ill_lines::run_lines` says.", contracts_of("ill_lines", ("run_lines",)))
     text += section("The calls for C", "All that the contracts of `ill_c` say, with what a call leaves in the caller's memory, and causes as numbers.", contracts_of("ill_c"))
     return "\n".join(text)
 

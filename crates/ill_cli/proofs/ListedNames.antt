@@ -1,7 +1,7 @@
 -- The first name of a list.
 use Rattle.std.proofs.Common.{◌≡◌, ℕ, suc, ◌+◌, ◌-◌, ◌<◌, ◌≤◌, ◌==◌, false, List, ◌∷◌, ◌++◌, length, take, drop, get_or, drop-cons, length-drop, add-one, sym, ap, ◌∙◌, arith}
 use Rattle.std.proofs.lemmas.List.{take-append-drop, take_all}
-use Rattle.ill_cli.specs.Listed.{names_in}
+use Rattle.ill_cli.specs.code.Listed.{names_in}
 use Rattle.ill_lines.specs.Parts.{has_end}
 use Rattle.ill_lines.proofs.PartEnds.{last_part, part_ended}
 

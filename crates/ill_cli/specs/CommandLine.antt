@@ -20,12 +20,27 @@ list_rule = record (new_rule (codes "files-from")) { long = Some (codes "files-f
 abbrev pub files_rule : Rule
 files_rule = record (new_rule (codes "file")) { value_names = 1; action = Some Append }
 
--- a command on any number of files, and on two
+-- the flag `--lines`
+abbrev pub lines_rule : Rule
+lines_rule = record (new_rule (codes "lines")) { long = Some (codes "lines"); action = Some SetTrue }
+
+-- a command on any number of files, and one that has lines, too
 abbrev pub each_file : Text → App
 each_file name = with_rule (with_rule (with_rule (new_app name) hex_rule) list_rule) files_rule
 
+abbrev pub with_lines : Text → App
+with_lines name = with_rule (with_rule (new_app name) hex_rule) lines_rule
+
+abbrev pub each_line : Text → App
+each_line name = with_rule (with_rule (with_lines name) list_rule) files_rule
+
+-- a command on two files, and one that has lines, too
+
 abbrev pub two_files : Text → App
 two_files name = with_rule (with_rule (with_rule (new_app name) hex_rule) (file_rule (codes "first"))) (file_rule (codes "second"))
+
+abbrev pub two_files_or_lines : Text → App
+two_files_or_lines name = with_rule (with_rule (with_lines name) (file_rule (codes "first"))) (file_rule (codes "second"))
 
 abbrev pub top : App
 top = let a = new_app (codes "illcanon") in
@@ -33,5 +48,5 @@ top = let a = new_app (codes "illcanon") in
 
 -- the program with its five commands
 abbrev pub program : App
-program = with_subcommand (with_subcommand (with_subcommand (with_subcommand (with_subcommand top (each_file (codes "show")).top) (each_file (codes "check")).top)
-    (each_file (codes "digest")).top) (two_files (codes "same")).top) (two_files (codes "canonicalise")).top
+program = with_subcommand (with_subcommand (with_subcommand (with_subcommand (with_subcommand top (each_file (codes "show")).top) (each_line (codes "check")).top)
+    (each_line (codes "digest")).top) (two_files (codes "same")).top) (two_files_or_lines (codes "canonicalise")).top

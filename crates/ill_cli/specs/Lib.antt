@@ -1,6 +1,6 @@
 pub mod CommandLine
 pub mod Orders
-pub mod Listed
 pub mod Refused
 pub mod Status
 pub mod Opened
+pub mod code

@@ -1,5 +1,5 @@
 -- Which words give an order.
-use Rattle.std.specs.Prelude.{◌≡◌, ◌≢◌, ◌<◌, ◌+◌, ℕ, true, false, List, [], ◌∷◌, map, codes, count_by, Option, Some, None, option_map, unwrap_or}
+use Rattle.std.specs.Prelude.{◌≡◌, ◌≢◌, ◌<◌, ◌+◌, ℕ, true, false, List, [], ◌∷◌, length, map, codes, count_by, Option, Some, None, option_map, unwrap_or}
 use Rattle.std.specs.Str.{bytes_eq}
 use Rattle.clap.specs.Walk.{Row, Text, all_of, first_of, one_of}
 use Rattle.ill_cli.specs.declared.orders.Inputs.{Inputs}
@@ -43,12 +43,15 @@ HasFiles rows (Task.Each job inputs) = HasInputs rows inputs
 HasFiles rows (Task.Canonicalise input output) = HasPair rows input.now output.now
 HasFiles rows (Task.Compare first second) = HasPair rows first.now second.now
 
--- what was found for a command is the order's command, flag and files
+-- what was found for a command is the order's command, flags and files
 pub record IsOrderOf (found : Option (Text × List Row)) (order : Order) : Type 0 where
   pub rows : List Row
   pub command : found ≡ Some (verb_name (verb order.task), rows)
   pub hex : one_of (codes "hex") rows ≡ Some (codes "true") → order.hex ≡ true
   pub no_hex : one_of (codes "hex") rows ≡ Some (codes "false") → order.hex ≡ false
+  pub lines : one_of (codes "lines") rows ≡ Some (codes "true") → order.lines ≡ true
+  pub no_lines : one_of (codes "lines") rows ≡ Some (codes "false") → order.lines ≡ false
+  pub never_lines : one_of (codes "lines") rows ≡ None → order.lines ≡ false
   pub files : HasFiles rows order.task
 
 -- how many of the words are `-`
@@ -71,6 +74,18 @@ IsTwice order = elim order.task as (λ _. Type 0) [
 abbrev pub NamesNothing : Order → Type 0
 NamesNothing order = elim order.task as (λ _. Type 0) [
   | Task.Each job inputs ↦ (inputs.files.items ≡ []) × (inputs.list ≡ None)
+  | Task.Canonicalise input output ↦ ⊥
+  | Task.Compare first second ↦ ⊥
+]
+
+-- lines are texts of their own, and not parts of one
+abbrev pub IsBoth : Order → Type 0
+IsBoth order = (order.hex ≡ true) × (order.lines ≡ true)
+
+-- the lines of one file are read, and of no other
+abbrev pub NamesNotOne : Order → Type 0
+NamesNotOne order = (order.lines ≡ true) × elim order.task as (λ _. Type 0) [
+  | Task.Each job inputs ↦ ((length inputs.files.items ≡ 1) × (inputs.list ≡ None) → ⊥)
   | Task.Canonicalise input output ↦ ⊥
   | Task.Compare first second ↦ ⊥
 ]

@@ -1,5 +1,6 @@
 //! The commands: what is opened, and what is done with it.
 ghost use Rattle.std.specs.Prelude.{◌≡◌};
+ghost use Rattle.ill_cli.specs.code.Lined.{line_job_of};
 ghost use Rattle.ill_cli.specs.Status.{status_is};
 
 use crate::each::each_input;
@@ -10,8 +11,9 @@ use crate::orders::{Order, Task};
 use crate::replacement::{self, Replacement};
 use crate::same_file::FileId;
 use crate::words::words_of;
-use ber_core::{Ahead, AtHand, ToWrite};
+use ber_core::{Ahead, AtHand, Source, ToWrite};
 use ill_jobs::{Job, RunFault, Verdict, Work, run_by, run_same};
+use ill_lines::{LineJob, LinesFault, run_lines};
 use std::alloc::Global;
 use std::fs::{self, OpenFile};
 use std::io::{self, BufWriter, Write};
@@ -32,12 +34,53 @@ pub fn run_program<R: Print + Eprint + Input + Files + Env + AllocGlobal>(rt: &R
 
 /// Does what an order says, prints the line of each fault, and returns the exit status.
 pub fn obey<R: Print + Eprint + Input + Files + AllocGlobal>(rt: &R, order: Order<'_>) -> u8 {
-    let hex = order.hex;
-    match order.task {
-        Task::Each { job, inputs } => each_input(rt, job, hex, &inputs),
-        Task::Canonicalise { input, output } => end(rt, &canonicalise(rt, hex, input, output)),
+    let Order { hex, lines, task } = order;
+    match task {
+        Task::Each { job, inputs } => match (lines, line_job(job), inputs.files.as_slice()) {
+            (true, Some(job), [input]) => end(rt, &each_line(rt, job, input)),
+            _ => each_input(rt, job, hex, &inputs),
+        },
+        Task::Canonicalise { input, output } => {
+            let doing = if lines {
+                Doing::Lines(LineJob::Canonicalise)
+            } else {
+                Doing::Messages(Work::new(Job::Canonicalise, hex))
+            };
+            end(rt, &canonicalise(rt, doing, input, output))
+        }
         Task::Compare { first, second } => end(rt, &compare(rt, hex, first, second)),
     }
+}
+
+/// What is done with the messages of an input.
+#[derive(Clone, Copy)]
+pub(crate) enum Doing<'a> {
+    /// A job with one message after another.
+    Messages(Work<'a>),
+    /// A result for each line.
+    Lines(LineJob),
+}
+
+/// What a job does with lines; None for `show`, which has none.
+fn line_job(job: Job) -> Option<LineJob>
+    ensures { result ≡ line_job_of job }
+{
+    match job {
+        Job::Show => None,
+        Job::Check => Some(LineJob::Check),
+        Job::Digest => Some(LineJob::Digest),
+        Job::Canonicalise => Some(LineJob::Canonicalise),
+    }
+}
+
+/// Writes the result of each line of an input to standard output.
+fn each_line<R: Print + Input + Files + AllocGlobal>(
+    rt: &R,
+    job: LineJob,
+    input: &str,
+) -> Result<Verdict, Fault> {
+    let mut source = open(rt, input)?;
+    to_standard_output(rt, Doing::Lines(job), &mut source)
 }
 
 /// Prints the line of a fault, and returns the exit status.
@@ -70,7 +113,7 @@ fn compare<R: Print + Input + Files + AllocGlobal>(
 /// Writes normal forms. The output is opened only once the input is, and only if it isn't the same file.
 fn canonicalise<R: Print + Input + Files + AllocGlobal>(
     rt: &R,
-    hex: bool,
+    doing: Doing<'_>,
     input: &str,
     name: &str,
 ) -> Result<Verdict, Fault> {
@@ -79,12 +122,12 @@ fn canonicalise<R: Print + Input + Files + AllocGlobal>(
     let (mut source, input) = open_and_identify(rt, input)?;
     if name == "-" {
         refuse_same_file(input, output)?;
-        return to_standard_output(rt, normal_forms(hex), &mut source);
+        return to_standard_output(rt, doing, &mut source);
     }
     refuse_same_file(input, FileId::of_name(rt, name))?;
     match replacement::begin(rt, name)? {
-        Some(new) => to_replacement(rt, hex, &mut source, new, name),
-        None => to_file(rt, hex, &mut source, name),
+        Some(new) => to_replacement(rt, doing, &mut source, new, name),
+        None => to_file(rt, doing, &mut source, name),
     }
 }
 
@@ -96,40 +139,35 @@ fn refuse_same_file(input: Option<FileId>, output: Option<FileId>) -> Result<(),
     Ok(())
 }
 
-/// Normal forms, as octets or as hexadecimal text.
-fn normal_forms(hex: bool) -> Work<'static> {
-    Work::new(Job::Canonicalise, hex)
-}
-
 /// Does a job with an input, and writes to standard output.
 pub(crate) fn to_standard_output<R: Print + Input + Files + AllocGlobal>(
     rt: &R,
-    work: Work<'_>,
+    doing: Doing<'_>,
     source: &mut InputSource<R>,
 ) -> Result<Verdict, Fault> {
     let alloc = rt.alloc();
     let mut writer = BufWriter::new(alloc, io::writer(rt)).map_err(|_| Fault::out_of_memory())?;
-    to_writer(alloc, work, source, &mut writer)
+    to_writer(alloc, doing, source, &mut writer)
 }
 
-/// Writes normal forms straight to the file of this name.
+/// Writes straight to the file of this name.
 fn to_file<R: Input + Files + AllocGlobal>(
     rt: &R,
-    hex: bool,
+    doing: Doing<'_>,
     source: &mut InputSource<R>,
     name: &str,
 ) -> Result<Verdict, Fault> {
     let alloc = rt.alloc();
     let file = fs::create(rt, name).map_err(|_| Fault::cannot_open(alloc, name))?;
     let mut writer = BufWriter::new(alloc, file).map_err(|_| Fault::out_of_memory())?;
-    to_writer(alloc, normal_forms(hex), source, &mut writer)
+    to_writer(alloc, doing, source, &mut writer)
 }
 
-/// Writes normal forms to a new file, and gives it this name at the end. Where not all of the output reached the disk, the
+/// Writes to a new file, and gives it this name at the end. Where not all of the output reached the disk, the
 /// new file is removed, and the old one stays as it was.
 fn to_replacement<R: Input + Files + AllocGlobal>(
     rt: &R,
-    hex: bool,
+    doing: Doing<'_>,
     source: &mut InputSource<R>,
     new: Replacement<R::File>,
     name: &str,
@@ -140,7 +178,7 @@ fn to_replacement<R: Input + Files + AllocGlobal>(
         let _ = fs::remove_file(rt, part.as_str());
         return Err(Fault::out_of_memory());
     };
-    let done = to_writer(alloc, normal_forms(hex), source, &mut writer);
+    let done = to_writer(alloc, doing, source, &mut writer);
     let done = synced(done, writer.get_ref());
     if is_output_lost(&done) {
         let _ = fs::remove_file(rt, part.as_str());
@@ -155,13 +193,34 @@ fn to_replacement<R: Input + Files + AllocGlobal>(
 
 fn to_writer<S: Ahead, W: Write + Drop>(
     alloc: Global,
-    work: Work<'_>,
+    doing: Doing<'_>,
     source: &mut S,
     writer: &mut BufWriter<W>,
 ) -> Result<Verdict, Fault> {
+    let work = match doing {
+        Doing::Messages(work) => work,
+        Doing::Lines(job) => return lines_to(alloc, job, source, writer.get_mut()),
+    };
     let mut sink = ToWrite::new(&mut *writer);
     let done = run_by::<S, AtHand, ToWrite<&mut BufWriter<W>>>(alloc, work, source, &mut sink);
     flushed(done, writer)
+}
+
+/// Writes the results of lines, without a buffer, so that they are there before more input is waited for.
+fn lines_to<S: Source, W: Write>(
+    alloc: Global,
+    job: LineJob,
+    source: &mut S,
+    writer: &mut W,
+) -> Result<Verdict, Fault> {
+    let mut sink = ToWrite::new(&mut *writer);
+    match run_lines(alloc, job, source, &mut sink) {
+        Ok(true) => Ok(Verdict::Good),
+        Ok(false) => Ok(Verdict::NotGood),
+        Err(LinesFault::OutOfMemory) => Err(Fault::out_of_memory()),
+        Err(LinesFault::ReadFault) => Err(Fault::from(RunFault::ReadFault)),
+        Err(LinesFault::WriteFault) => Err(Fault::Flush),
+    }
 }
 
 /// Writes what is still in the buffer, so that the output of the messages before a fault isn't lost. A write fault counts

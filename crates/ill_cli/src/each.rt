@@ -1,9 +1,9 @@
 //! A job with each of several files, in turn.
 ghost use Rattle.std.specs.Prelude.{◌≡◌, ◌<◌, ◌++◌, [], ◌∷◌, map, length, IfOk, IfNone, IfSome};
-ghost use Rattle.ill_cli.specs.Listed.{names_in};
+ghost use Rattle.ill_cli.specs.code.Listed.{names_in};
 ghost use Rattle.ill_cli.specs.Status.{IsStatusOfEach, worst};
 
-use crate::commands::{end, to_standard_output};
+use crate::commands::{Doing, end, to_standard_output};
 use crate::fault::{Fault, LineFault, is_output_lost, print_of, status_of};
 use crate::input::{open, read_whole};
 use crate::names::{Name, printed};
@@ -157,5 +157,5 @@ fn one_file<R: Print + Input + Files + AllocGlobal>(
         name: &name,
         is_named,
     };
-    to_standard_output(rt, work, &mut source)
+    to_standard_output(rt, Doing::Messages(work), &mut source)
 }

@@ -23,6 +23,12 @@ pub enum LineFault {
     /// No file is named.
     #[error("FILE or --files-from is missing")]
     NoFile,
+    /// Lines are texts of their own.
+    #[error("--lines excludes --hex")]
+    LinesAndHex,
+    /// The lines of none or of several files.
+    #[error("--lines reads one FILE")]
+    NotOneFile,
 }
 
 /// Why the program has not done what its words say. Each is printed as one line.
@@ -158,7 +164,8 @@ pub fn status_of(done: &Result<Verdict, Fault>) -> u8
         Ok(Verdict::Good) => 0,
         Ok(Verdict::NotGood) => 1,
         Err(Fault::Line(LineFault::Line(error))) => line_status(error),
-        Err(Fault::Line(LineFault::SameWord | LineFault::NoFile) | Fault::SameFile) => 2,
+        Err(Fault::Line(LineFault::SameWord | LineFault::NoFile)) => 2,
+        Err(Fault::Line(LineFault::LinesAndHex | LineFault::NotOneFile) | Fault::SameFile) => 2,
         Err(Fault::Run(RunLine(fault))) => run_status(fault),
         Err(Fault::CannotOpen(_) | Fault::CannotReplace(_) | Fault::Flush) => 3,
     }

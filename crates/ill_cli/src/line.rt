@@ -3,12 +3,12 @@ ghost use Rattle.std.specs.Prelude.{◌≡◌, ◌+◌, List, [], map, codes, fa
 ghost use Rattle.std.specs.String.{string_bytes};
 ghost use Rattle.clap.specs.Words.{FailsBy, Text, all_of, app_of, fault_of, found_of, rows_of, rule_of, subcommand_of, subcommand_rows_of};
 ghost use Rattle.clap.specs.declared.builder.command.Command.TheViews.{out-Command as fields_of};
-ghost use Rattle.ill_cli.specs.CommandLine.{each_file, file_rule, files_rule, hex_rule, list_rule, program, two_files};
+ghost use Rattle.ill_cli.specs.CommandLine.{each_file, each_line, file_rule, files_rule, hex_rule, lines_rule, list_rule, program, two_files, two_files_or_lines, with_lines};
 ghost use Rattle.ill_cli.specs.declared.orders.Inputs.{Inputs};
 ghost use Rattle.ill_cli.specs.declared.orders.Order.{Order};
 ghost use Rattle.ill_cli.specs.declared.orders.Task.{Task};
 ghost use Rattle.ill_cli.specs.declared.orders.Verb.{Verb};
-ghost use Rattle.ill_cli.specs.Orders.{dashes, list_dashes, verb as verb_of_task, verb_name, HasFiles, HasInputs, HasPair, IsOrderOf, IsTwice, NamesNothing};
+ghost use Rattle.ill_cli.specs.Orders.{dashes, list_dashes, verb as verb_of_task, verb_name, HasFiles, HasInputs, HasPair, IsBoth, IsOrderOf, IsTwice, NamesNotOne, NamesNothing};
 ghost use Rattle.ill_cli.specs.Refused.{IsFaultOf, IsRefusedBy};
 
 use crate::fault::LineFault;
@@ -36,6 +36,18 @@ fn file<'a>(alloc: Global, id: &'a str, name: &'a str, help: &'a str) -> Arg<'a>
         .value_name(name)
         .required(true)
         .help(help)
+}
+
+fn lines_flag<'a>(alloc: Global) -> Arg<'a>
+    ensures rule { rule_of result ≡ lines_rule }
+    ensures local { result.global ≡ false }
+{
+    Arg::new(alloc, "lines")
+        .long("lines")
+        .action(ArgAction::SetTrue)
+        .help(
+            "Each line of the input is a message in hexadecimal, and each line of the output its result",
+        )
 }
 
 fn list<'a>(alloc: Global) -> Arg<'a>
@@ -74,6 +86,35 @@ fn on_each<'a>(
         .arg(files(alloc))
 }
 
+/// A command that reads lines, too.
+fn by_lines<'a>(
+    alloc: Global,
+    name: &'a str,
+    about: &'a str,
+    after: &'a str,
+) -> Result<Command<'a>, AllocError>
+    ensures { IfOk result (λ c. (app_of c ≡ with_lines name.entry.now) × ((fields_of c).has_globals ≡ false)) }
+{
+    Command::new(alloc, name)
+        .about(about)
+        .after_help(after)
+        .arg(hex_flag(alloc))?
+        .arg(lines_flag(alloc))
+}
+
+fn on_each_or_lines<'a>(
+    alloc: Global,
+    name: &'a str,
+    about: &'a str,
+    after: &'a str,
+) -> Result<Command<'a>, AllocError>
+    ensures { IfOk result (λ c. (app_of c ≡ each_line name.entry.now) × ((fields_of c).has_globals ≡ false)) }
+{
+    by_lines(alloc, name, about, after)?
+        .arg(list(alloc))?
+        .arg(files(alloc))
+}
+
 fn show<'a>(alloc: Global) -> Result<Command<'a>, AllocError>
     ensures { IfOk result (λ c. (app_of c ≡ each_file (codes "show")) × ((fields_of c).has_globals ≡ false)) }
 {
@@ -81,17 +122,17 @@ fn show<'a>(alloc: Global) -> Result<Command<'a>, AllocError>
 }
 
 fn check<'a>(alloc: Global) -> Result<Command<'a>, AllocError>
-    ensures { IfOk result (λ c. (app_of c ≡ each_file (codes "check")) × ((fields_of c).has_globals ≡ false)) }
+    ensures { IfOk result (λ c. (app_of c ≡ each_line (codes "check")) × ((fields_of c).has_globals ≡ false)) }
 {
     let about = "Reports for each message whether it is in normal form";
-    on_each(alloc, "check", about, help::CHECK)
+    on_each_or_lines(alloc, "check", about, help::CHECK)
 }
 
 fn digest<'a>(alloc: Global) -> Result<Command<'a>, AllocError>
-    ensures { IfOk result (λ c. (app_of c ≡ each_file (codes "digest")) × ((fields_of c).has_globals ≡ false)) }
+    ensures { IfOk result (λ c. (app_of c ≡ each_line (codes "digest")) × ((fields_of c).has_globals ≡ false)) }
 {
     let about = "Writes the digest of each message, the same however it is spelled";
-    on_each(alloc, "digest", about, help::DIGEST)
+    on_each_or_lines(alloc, "digest", about, help::DIGEST)
 }
 
 fn same<'a>(alloc: Global) -> Result<Command<'a>, AllocError>
@@ -106,13 +147,11 @@ fn same<'a>(alloc: Global) -> Result<Command<'a>, AllocError>
 }
 
 fn canonicalise<'a>(alloc: Global) -> Result<Command<'a>, AllocError>
-    ensures { IfOk result (λ c. (app_of c ≡ two_files (codes "canonicalise")) × ((fields_of c).has_globals ≡ false)) }
+    ensures { IfOk result (λ c. (app_of c ≡ two_files_or_lines (codes "canonicalise")) × ((fields_of c).has_globals ≡ false)) }
 {
+    let about = "Writes the normal form (DER) of each message in IN to OUT";
     let output = "Where the normal forms go; `-` is standard output";
-    Command::new(alloc, "canonicalise")
-        .about("Writes the normal form (DER) of each message in IN to OUT")
-        .after_help(help::CANONICALISE)
-        .arg(hex_flag(alloc))?
+    by_lines(alloc, "canonicalise", about, help::CANONICALISE)?
         .arg(file(alloc, "first", "IN", "The messages; `-` is standard input"))?
         .arg(file(alloc, "second", "OUT", output))
 }
@@ -141,13 +180,15 @@ fn program<'a>(alloc: Global) -> Result<Command<'a>, AllocError>
 /// # Errors
 ///
 /// What `clap` reports of words that are no command line, or that ask for help. Or two files are named by the same word: `-`
-/// for a file that is read, any but `-` for `canonicalise`. Or no file is named.
+/// for a file that is read, any but `-` for `canonicalise`. Or no file is named; or of `--lines` not one, or with `--hex`.
 pub fn order<'a>(alloc: Global, words: &'a [String]) -> Result<Order<'a>, LineFault>
     // The words have the order's command, flag and files; standard input is not read twice, no file is written that is read by the same
-    // word, and there are files.
+    // word, and there are files. Lines are those of one file, and no hexadecimal text.
     ensures order { IfOk result (IsOrderOf (subcommand_of program (map string_bytes words.entry.now))) }
     ensures not_twice { IfOk result (λ order. IsTwice order → ⊥) }
     ensures some { IfOk result (λ order. NamesNothing order → ⊥) }
+    ensures not_both { IfOk result (λ order. IsBoth order → ⊥) }
+    ensures one { IfOk result (λ order. NamesNotOne order → ⊥) }
     ensures fault { IfErr result (IsFaultOf (subcommand_of program (map string_bytes words.entry.now))) }
     // What clap finds wrong is refused, and nothing else, unless memory runs out.
     ensures faults { IsRefusedBy (fault_of program (map string_bytes words.entry.now)) result }
@@ -161,6 +202,12 @@ pub fn order<'a>(alloc: Global, words: &'a [String]) -> Result<Order<'a>, LineFa
     }
     if names_nothing(&order) {
         return Err(LineFault::NoFile);
+    }
+    if order.lines && order.hex {
+        return Err(LineFault::LinesAndHex);
+    }
+    if names_not_one(&order) {
+        return Err(LineFault::NotOneFile);
     }
     Ok(order)
 }
@@ -202,6 +249,19 @@ fn names_nothing(order: &Order<'_>) -> bool
     }
 }
 
+/// Whether the lines are to be read of no file, or of several.
+fn names_not_one(order: &Order<'_>) -> bool
+    ensures { IsTrue result ↔ NamesNotOne order.now }
+{
+    if !order.lines {
+        return false;
+    }
+    match &order.task {
+        Task::Each { inputs, .. } => inputs.files.len() != 1 || inputs.list.is_some(),
+        Task::Canonicalise { .. } | Task::Compare { .. } => false,
+    }
+}
+
 fn read<'a>(alloc: Global, words: &'a [String]) -> Result<Order<'a>, Error>
     ensures order { IfOk result (IsOrderOf (subcommand_of program (map string_bytes words.entry.now))) }
     ensures faults { FailsBy (fault_of program (map string_bytes words.entry.now)) result }
@@ -229,6 +289,7 @@ fn order_of<'a>(alloc: Global, matches: &ArgMatches<'a>) -> Result<Option<Order<
     };
     Ok(Some(Order {
         hex: words.get_flag("hex"),
+        lines: words.get_flag("lines"),
         task,
     }))
 }

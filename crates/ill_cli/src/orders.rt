@@ -17,6 +17,8 @@ pub enum Verb {
 pub struct Order<'a> {
     /// Whether inputs are hexadecimal text.
     pub hex: bool,
+    /// Whether each line of the input is a message in hexadecimal, and each line of the output its result.
+    pub lines: bool,
     pub task: Task<'a>,
 }
 

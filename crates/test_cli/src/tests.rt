@@ -6,3 +6,4 @@ mod lines;
 mod lists;
 mod names;
 mod outputs;
+mod results;

@@ -22,6 +22,7 @@ fn words_give_one_order<'a>(
 /// No order reads standard input twice or writes a file that it reads by the same word, and each has a file.
 fn orders_have_files_of_their_own(words: &[String], alloc: Global) {
     if let Ok(order) = order(alloc, words) {
+        prove!(!order.lines || !order.hex);
         match order.task {
             Task::Canonicalise { input, output } => {
                 prove!(input == "-" || input != output);

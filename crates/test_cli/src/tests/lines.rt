@@ -31,12 +31,12 @@ fn are_same(words: &[&str], wanted: &[&str]) -> bool {
 fn gives_each(
     alloc: Global,
     line: &str,
-    (wanted_job, wanted_hex): (Job, bool),
+    (wanted_job, wanted_hex, wanted_lines): (Job, bool, bool),
     wanted_files: &[&str],
     wanted_list: Option<&str>,
 ) -> Result<bool, AllocError> {
     let words = words_of(alloc, line)?;
-    let Ok(Order { hex, task }) = order(alloc, &words) else {
+    let Ok(Order { hex, lines, task }) = order(alloc, &words) else {
         return Ok(false);
     };
     let Task::Each { job, inputs } = task else {
@@ -45,6 +45,7 @@ fn gives_each(
     Ok(
         job == wanted_job
             && hex == wanted_hex
+            && lines == wanted_lines
             && are_same(&inputs.files, wanted_files)
             && inputs.list == wanted_list,
     )
@@ -60,28 +61,28 @@ fn jobs_have_their_files(rt: HostRuntime) -> Result<(), AllocError> {
     ] {
         let one = format!(in alloc; "illcanon {name} a")?;
         assert!(rt;
-            gives_each(alloc, &one, (job, false), &["a"], None)?,
+            gives_each(alloc, &one, (job, false, false), &["a"], None)?,
             "{name}"
         );
         let several = format!(in alloc; "illcanon {name} b --hex - a b")?;
         let files = ["b", "-", "a", "b"];
         assert!(rt;
-            gives_each(alloc, &several, (job, true), &files, None)?,
+            gives_each(alloc, &several, (job, true, false), &files, None)?,
             "{name}"
         );
         let listed = format!(in alloc; "illcanon {name} --files-from - a")?;
         assert!(rt;
-            gives_each(alloc, &listed, (job, false), &["a"], Some("-"))?,
+            gives_each(alloc, &listed, (job, false, false), &["a"], Some("-"))?,
             "{name}"
         );
         let only = format!(in alloc; "illcanon {name} --files-from=list")?;
         assert!(rt;
-            gives_each(alloc, &only, (job, false), &[], Some("list"))?,
+            gives_each(alloc, &only, (job, false, false), &[], Some("list"))?,
             "{name}"
         );
         let option = format!(in alloc; "illcanon {name} -- --hex")?;
         assert!(rt;
-            gives_each(alloc, &option, (job, false), &["--hex"], None)?,
+            gives_each(alloc, &option, (job, false, false), &["--hex"], None)?,
             "{name}"
         );
     }
@@ -91,15 +92,20 @@ fn jobs_have_their_files(rt: HostRuntime) -> Result<(), AllocError> {
 #[test]
 fn other_commands_have_two_files(rt: HostRuntime) -> Result<(), AllocError> {
     let alloc = rt.alloc();
-    for (line, wanted_hex, (one, other)) in [
-        ("illcanon canonicalise --hex - -", true, ("-", "-")),
-        ("illcanon canonicalise - out", false, ("-", "out")),
+    for (line, (wanted_hex, wanted_lines), (one, other)) in [
+        ("illcanon canonicalise --hex - -", (true, false), ("-", "-")),
+        ("illcanon canonicalise - out", (false, false), ("-", "out")),
+        (
+            "illcanon canonicalise --lines a -",
+            (false, true),
+            ("a", "-"),
+        ),
     ] {
         let words = words_of(alloc, line)?;
         let found = order(alloc, &words);
         assert!(rt;
-            matches!(&found, Ok(Order { hex, task: Task::Canonicalise { input, output } })
-            if *hex == wanted_hex && *input == one && *output == other),
+            matches!(&found, Ok(Order { hex, lines, task: Task::Canonicalise { input, output } })
+            if *hex == wanted_hex && *lines == wanted_lines && *input == one && *output == other),
             "{line}"
         );
     }
@@ -110,7 +116,7 @@ fn other_commands_have_two_files(rt: HostRuntime) -> Result<(), AllocError> {
         let words = words_of(alloc, line)?;
         let found = order(alloc, &words);
         assert!(rt;
-            matches!(&found, Ok(Order { hex, task: Task::Compare { first, second } })
+            matches!(&found, Ok(Order { hex, lines: false, task: Task::Compare { first, second } })
             if *hex == wanted_hex && *first == one && *second == other),
             "{line}"
         );
@@ -130,6 +136,38 @@ fn the_same_word_twice_is_refused(rt: HostRuntime) -> Result<(), AllocError> {
         let words = words_of(alloc, line)?;
         let found = order(alloc, &words);
         assert!(rt; matches!(&found, Err(LineFault::SameWord)), "{line}");
+    }
+    Ok(())
+}
+
+#[test]
+fn lines_are_those_of_one_file(rt: HostRuntime) -> Result<(), AllocError> {
+    let alloc = rt.alloc();
+    for (line, job) in [
+        ("illcanon check --lines a", Job::Check),
+        ("illcanon digest a --lines", Job::Digest),
+    ] {
+        assert!(rt;
+            gives_each(alloc, line, (job, false, true), &["a"], None)?,
+            "{line}"
+        );
+    }
+    for line in [
+        "illcanon check --lines a b",
+        "illcanon check --lines --files-from a",
+        "illcanon digest --lines a --files-from -",
+    ] {
+        let words = words_of(alloc, line)?;
+        let found = order(alloc, &words);
+        assert!(rt; matches!(&found, Err(LineFault::NotOneFile)), "{line}");
+    }
+    for line in [
+        "illcanon check --lines --hex a",
+        "illcanon canonicalise --hex --lines - -",
+    ] {
+        let words = words_of(alloc, line)?;
+        let found = order(alloc, &words);
+        assert!(rt; matches!(&found, Err(LineFault::LinesAndHex)), "{line}");
     }
     Ok(())
 }
@@ -243,6 +281,16 @@ fn each_fault_is_one_line(rt: HostRuntime) -> Result<(), AllocError> {
             1,
         ),
         (Fault::from(LineFault::SameWord), "the same word twice", 2),
+        (
+            Fault::from(LineFault::LinesAndHex),
+            "--lines excludes --hex",
+            2,
+        ),
+        (
+            Fault::from(LineFault::NotOneFile),
+            "--lines reads one FILE",
+            2,
+        ),
         (
             Fault::from(LineFault::NoFile),
             "FILE or --files-from is missing",

@@ -1,5 +1,5 @@
 use Rattle.std.proofs.Common.{◌≡◌, ◌++◌, map, take, length}
-use Rattle.ill_cli.specs.Listed.{names_in}
+use Rattle.ill_cli.specs.code.Listed.{names_in}
 use Rattle.ill_cli.proofs.each.names_of.Given as goal
 
 abbrev pub invariant-loop-file : goal.invariant-loop-file

@@ -19,5 +19,8 @@ returns-clause-some c =
       command = both_parts _ _ _ c.in-Some.name.now rows is_name are_rows ∙ ap (λ (w : Text). Some (w, rows)) name;
       hex = λ h. c.get_flag.ensures.value (one_text-rows found (codes "hex") ∙ h);
       no_hex = λ h. c.get_flag.ensures.other (one_text-rows found (codes "hex") ∙ h);
+      lines = λ h. c.get_flag-2.ensures.value (one_text-rows found (codes "lines") ∙ h);
+      no_lines = λ h. c.get_flag-2.ensures.other (one_text-rows found (codes "lines") ∙ h);
+      never_lines = λ h. c.get_flag-2.ensures.none (one_text-rows found (codes "lines") ∙ h);
       files = task.1;
     }
