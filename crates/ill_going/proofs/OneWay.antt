@@ -1,6 +1,6 @@
 -- An input is messages in one way.
-use Rattle.std.proofs.Common.{◌≡◌, ℕ, suc, ◌<◌, ◌≤◌, List, [], ◌∷◌, ◌++◌, length, take, Some, refl, sym, ap, ap₂, subst, ◌∙◌, arith, inl, inr, append_assoc, append-nil, length-append}
-use Rattle.std.proofs.lemmas.List.{append_cancel_left, take_all}
+use Rattle.std.proofs.Common.{◌≡◌, ◌≢◌, ℕ, suc, ◌<◌, ◌≤◌, List, [], ◌∷◌, ◌++◌, length, take, drop, Some, refl, sym, ap, ap₂, subst, ◌∙◌, arith, inl, inr, append_assoc, append-nil, length-append}
+use Rattle.std.proofs.lemmas.List.{append_cancel_left, take_all, take-append-drop}
 use Rattle.ber_leaf.specs.Profile.{profile_two}
 use Rattle.ber_frame.specs.Framed.{IsFrame}
 use Rattle.ber_frame.proofs.Frames.{one_frame}
@@ -8,6 +8,8 @@ use Rattle.ill_going.specs.Gone.{HasNoEnd}
 use Rattle.ill_schema.specs.declared.refusal.Refusal.{Refusal}
 use Rattle.ill_schema.specs.Apdu.{Apdu, SpellsApdu}
 use Rattle.ill_refusals.specs.Fault.{Fault, fault_of, Refuses}
+use Rattle.ill_schema.specs.declared.refusal.Cause.{Cause}
+use Rattle.ill_refusals.proofs.Prefixes.{refusal_stays}
 use Rattle.ill_refusals.specs.Outcome.{OnlyRefuses}
 use Rattle.ill_normal.specs.Messages.{Spelling, output_from}
 use Rattle.ill_normal.proofs.Canonical.{spells_once, refuses_whole}
@@ -81,3 +83,9 @@ no_end_no_more octets rest (inr (p, inl end)) lt x y frame e =
     none [] h = refl
     none (o ∷ z) h = absurd (omega (arith, h))
 no_end_no_more octets rest (inr (p, inr le)) lt x y frame e = omega (arith, le, lt)
+
+pub still_refused : (octets rest : List ℕ) (refusal : Refusal) → refusal.cause ≢ Cause.Truncated → IsRefusedFor octets refusal → Refuses profile_two (octets ++ rest) (fault_of refusal)
+still_refused octets rest refusal more h =
+    let all : take 1_048_576 octets ++ (drop 1_048_576 octets ++ rest) ≡ octets ++ rest =
+    sym (append_assoc (take 1_048_576 octets) (drop 1_048_576 octets) rest) ∙ ap (λ z. z ++ rest) (take-append-drop 1_048_576 octets) in
+    subst (λ z. Refuses profile_two z (fault_of refusal)) all (refusal_stays profile_two (take 1_048_576 octets) (drop 1_048_576 octets ++ rest) (fault_of refusal) more h.0)

@@ -1,8 +1,13 @@
 //! What holds of the definitions alone.
-ghost use Rattle.std.specs.Prelude.{◌≡◌, ℕ, ◌<◌, List, ◌++◌, length, Some};
+ghost use Rattle.std.specs.Prelude.{◌≡◌, ◌≢◌, ℕ, ◌<◌, List, ◌++◌, length, Some};
+ghost use Rattle.ber_leaf.specs.Profile.{profile_two};
+ghost use Rattle.ill_schema.specs.declared.refusal.Refusal.{Refusal};
+ghost use Rattle.ill_refusals.specs.Fault.{fault_of, Refuses};
 ghost use Rattle.ill_normal.specs.Messages.{Spelling, output_from};
 ghost use Rattle.ill_going.specs.Gone.{HasNoEnd};
-ghost use Rattle.ill_going.specs.Items.{Item, AreItems, written_from, good_ones, HasNoMore};
+ghost use Rattle.ill_going.specs.Items.{Item, AreItems, written_from, good_ones, HasNoMore, IsRefusedFor};
+
+use ill_normal::Cause;
 
 /// What is written of an input's good messages is what is written of them alone, if it doesn't depend on their numbers.
 pub fn good_ones_are_written()
@@ -19,4 +24,10 @@ pub fn one_way()
 /// Where an end can't be told no message ends, so the work has come as far as it can.
 pub fn lost_ends_are_last()
     ensures { (octets rest : List ℕ) → HasNoEnd octets (Some rest) → length octets < 18_446_744_073_709_551_615 → HasNoMore (octets ++ rest) }
+{}
+
+/// A refusal that says more than that the octets end is that of the input that they begin, so it is what a call returns that stops there.
+pub fn refusals_are_of_the_input()
+    ensures { (octets rest : List ℕ) (refusal : Refusal) → refusal.cause ≢ Cause.Truncated → IsRefusedFor octets refusal
+        → Refuses profile_two (octets ++ rest) (fault_of refusal) }
 {}

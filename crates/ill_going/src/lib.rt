@@ -7,5 +7,5 @@ mod next;
 mod report;
 
 pub use going::{Gone, Halted, Why, keep_going};
-pub use laws::{good_ones_are_written, lost_ends_are_last, one_way};
+pub use laws::{good_ones_are_written, lost_ends_are_last, one_way, refusals_are_of_the_input};
 pub use report::{Report, Reports};

@@ -3,7 +3,8 @@ use super::{EXPIRED, EXPIRED_HEX, INDEFINITE_HEX};
 use ber_core::{AtHand, FromSlice, Unseen};
 use ill_going::{Gone, Halted, Report, Reports, Why, keep_going};
 use ill_normal::{
-    Broken, Cause, NodeId, NormalForms, PartId, Pieces, Refusal, Room, Source, ToWrite,
+    Broken, Cause, NodeId, NormalFailure, NormalForms, PartId, Pieces, Refusal, Room, Source,
+    StreamCause, ToWrite, normalise_stream,
 };
 use std::alloc::{AllocError, Global};
 use std::test::Fail;
@@ -169,6 +170,39 @@ fn joined(alloc: Global, words: &[&str]) -> Result<Vec<u8>, Fail> {
         octets.extend_from_slice(&octets_of(alloc, word)?)?;
     }
     Ok(octets)
+}
+
+/// The number and the refusal of the first message that is refused, by a call that stops there.
+fn first_refused(alloc: Global, octets: &[u8]) -> Option<(u32, Refusal)> {
+    let mut source = FromSlice::new(octets);
+    let mut sink = Vec::new(alloc);
+    let result = normalise_stream(alloc, &mut source, &mut ToWrite::new(&mut sink));
+    let Err(failure) = result else {
+        return None;
+    };
+    match failure.why {
+        StreamCause::Normal(NormalFailure::Refused(refusal)) => {
+            Some((failure.whole.saturating_add(1), refusal))
+        }
+        _ => None,
+    }
+}
+
+#[test]
+fn the_first_is_refused_as_by_a_call_that_stops(rt: HostRuntime) -> Result<(), Fail> {
+    let alloc = rt.alloc();
+    for row in &ROWS {
+        let octets = joined(alloc, row.input)?;
+        let first = row.reports.first().map(|(message, at, cause, _)| (
+            *message,
+            Refusal {
+                at: *at,
+                cause: *cause,
+            },
+        ));
+        assert!(rt; first_refused(alloc, &octets) == first, "{}", row.name);
+    }
+    Ok(())
 }
 
 #[test]
