@@ -73,7 +73,7 @@ struct Contents {
 
 impl Framer {
     ghost use Rattle.std.specs.Prelude.{◌≡◌, ℕ, ◌-◌, List, [], ◌∷◌, ◌++◌, length, take};
-    ghost use Rattle.ber_frame.specs.Framed.{IsFrame, IsPart};
+    ghost use Rattle.ber_frame.specs.Framed.{IsFrame, IsPart, IsUntold};
     ghost use Rattle.ber_frame.specs.Framer.{IsFed, Judged, Finishes, Closes, IsElementThen, IsContentsThen, IsLongThen, IsLengthThen, IsNumberThen, IsMarkThen};
 
     /// A framer that was fed nothing.
@@ -120,7 +120,9 @@ impl Framer {
 
     /// How many octets a length still has that is too great to be framed; 0 in every other case. No octet after them says more of
     /// that length.
-    pub fn lacks(&self) -> u8 {
+    pub fn lacks(&self) -> u8
+        ensures { (b : List ℕ) → IsFed self.now b → (IsUntold b → ⊥) → result ≡ 0 }
+    {
         match self.stage {
             Stage::Untold(left) => left,
             _ => 0,

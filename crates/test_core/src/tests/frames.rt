@@ -130,3 +130,19 @@ fn elements_are_framed_however_deep(rt: HostRuntime) {
     assert_eq!(rt; framer.frame(), Frame::Whole);
     assert_eq!(rt; framer.need(), 0);
 }
+
+#[test]
+fn octets_of_a_great_length_are_missing(rt: HostRuntime) {
+    let rows: [(&[u8], u8); 5] = [
+        (&[0x04, 0x85, 0x01], 4),
+        (&[0x30, 0xFE, 0x00, 0x01], 124),
+        (&[0x04, 0x84, 0xFF, 0xFF, 0xFF, 0xFF], 0),
+        (&[0x04, 0x80], 0),
+        (&[0x04, 0x85, 0x00], 0),
+    ];
+    for (octets, lacks) in rows {
+        let mut framer = Framer::new();
+        assert_eq!(rt; framer.feed(octets), octets.len(), "{octets:?}");
+        assert_eq!(rt; framer.lacks(), lacks, "{octets:?}");
+    }
+}

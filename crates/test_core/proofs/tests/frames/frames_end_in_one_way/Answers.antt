@@ -8,11 +8,11 @@ prove-unreachable-requires c =
     let second = c.feed-second.ensures in
     c.if-prove.true
     (ends_once c.args.octets.now c.feed-first.result c.feed-second.result c.feed-first.new.self c.feed-second.new.self first.count second.count
-        (first.fed [] c.new-one.ensures) (second.fed [] c.new-other.ensures) (λ k. first.within [] k c.new-one.ensures) (λ k. second.within [] k c.new-other.ensures)
-        first.all second.all)
+    (first.fed [] c.new-one.ensures) (second.fed [] c.new-other.ensures) (λ k. first.within [] k c.new-one.ensures) (λ k. second.within [] k c.new-other.ensures)
+    first.all second.all)
 
 pub prove-unreachable-requires-2 : goal.prove-unreachable-requires-2
 prove-unreachable-requires-2 c =
     let same : c.frame.result ≡ c.frame-2.result = judged_once c.args.octets.now c.feed-first.result c.feed-second.result c.frame.result c.frame-2.result c.if-prove.false
-        (c.frame.ensures _ (c.feed-first.ensures.fed [] c.new-one.ensures)) (c.frame-2.ensures _ (c.feed-second.ensures.fed [] c.new-other.ensures)) in
+    (c.frame.ensures _ (c.feed-first.ensures.fed [] c.new-one.ensures)) (c.frame-2.ensures _ (c.feed-second.ensures.fed [] c.new-other.ensures)) in
     search rules
