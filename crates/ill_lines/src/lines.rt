@@ -49,6 +49,7 @@ impl Lines {
         Ok(())
     }
 
+    #[inline(always)]
     fn feed_one(&mut self, alloc: Global, job: LineJob, octet: u8) -> Result<(), AllocError>
         ensures done { (s put : List ℕ) → StandsAfter job s put self.old → OnOk result (StandsAfter job (s ++ octet ∷ []) put self.new) }
         ensures same { (s put : List ℕ) → StandsAfter job s put self.old → OnErr result (StandsAfter job s put self.new) }
@@ -61,6 +62,7 @@ impl Lines {
     }
 
     /// Keeps an octet of the line, unless more are there than it may have.
+    #[inline(always)]
     fn keep(&mut self, octet: u8) -> Result<(), AllocError>
         ensures kept { (rest : List ℕ) → self.old.part.items ≡ take 4_194_305 rest → OnOk result (self.new.part.items ≡ take 4_194_305 (rest ++ octet ∷ [])) }
         ensures same { OnErr result (self.new.part.items ≡ self.old.part.items) }
