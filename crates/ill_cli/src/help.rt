@@ -25,6 +25,7 @@ each line begins with the name of its file and `: `.
 
 Example: illcanon check messages.ber | grep 'not normal'
          find archive -name '*.ber' -print0 | illcanon check --files-from -
+         illcanon check --lines messages.txt | grep -n refused
 
 Status: 0 all are normal; 1 one is not normal or is refused, or the hexadecimal text
 is invalid; 2 usage; 3 memory, files or pipes. Of several files: 3 if one gave 3,
@@ -36,6 +37,7 @@ digits, two blanks, the name of the file, `:` and the number of the message. Mes
 that say the same have the same digest, however they are spelled.
 
 Example: illcanon digest *.ber | sort | uniq -w 64 -D    # copies
+         illcanon digest --lines messages.txt | paste - messages.txt
 
 Status: 0 done; 1 a message is refused, or the hexadecimal text is invalid; 2 usage;
 3 memory, files or pipes. Of several files: 3 if one gave 3, else 1 if one gave 1.";
@@ -59,7 +61,11 @@ file beside it, OUT.part, which takes the name OUT at the end. So OUT is as it w
 the output can't be written, or if the command is killed. All other files (devices,
 pipes, links) are written directly, and so is OUT where no new file can be made.
 
+With --lines each line of OUT is the normal form of the message in this line of IN, or
+why there is none, as `refused at 0: Truncated` or `hex: odd number of digits`.
+
 Example: illcanon canonicalise messages.ber messages.der
+         illcanon canonicalise --lines messages.txt - | sort -u
 
 Status: 0 done; 1 a message is refused, or the hexadecimal text is invalid; 2 usage,
 or IN and OUT are the same file; 3 memory, files or pipes.";
