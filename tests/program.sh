@@ -65,6 +65,40 @@ row check-of-every-part 1 "$(cat "$examples/every-part.check")\n" '' check "$exa
 row every-part-into-a-file 0 '' '' canonicalise "$examples/every-part.ber" OUT
 cmp -s OUT "$examples/every-part.der" || { failed=$((failed + 1)) && echo 'failed: OUT is not the normal forms of every-part'; }
 octets F $INDEFINITE
+# The elements of a message, by hand.
+row dump-of-indefinite 0 'message 1: Expired, 47 octets, not normal, normal form 33 octets
+      0  74 80  Expired  (indefinite)
+      2    30 80  SEQUENCE  (indefinite)
+      4      80 01  protocol-version-num = 2
+      7      a1 80  transaction-id  (indefinite)
+      9        a1 80  transaction-group-qualifier  (indefinite)
+     11          1b 01  GeneralString = "G"
+     14        00 00  end mark
+     16        a2 80  transaction-qualifier  (indefinite)
+     18          1b 01  GeneralString = "Q"
+     21        00 00  end mark
+     23      00 00  end mark
+     25      a2 80  service-date-time  (indefinite)
+     27        a0 80  date-time-of-this-service  (indefinite)
+     29          80 08  date = 20240229
+     39        00 00  end mark
+     41      00 00  end mark
+     43    00 00  end mark
+     45  00 00  end mark
+' '' dump F
+octets F $CUT
+row dump-of-a-refused-message 1 'message 1: refused
+      0  74 1f  Expired
+      2    30 1d  SEQUENCE
+      4      80 01  protocol-version-num = 2
+refused at 7: UnexpectedTag
+    the tag is not due there
+    path Expired
+    found [2] constructed: a2
+    due [1] transaction-id
+' 'illcanon: refused at 7 in message 1: UnexpectedTag\n' dump F
+row dump-of-no-file 3 '' 'illcanon: cannot open NAME\n' dump NAME
+octets F $INDEFINITE
 row check-of-indefinite 1 'message 1: Expired, 47 octets, not normal, normal form 33 octets\n' '' check F
 row canonicalise-into-a-file 0 '' '' canonicalise F OUT
 octets G $EXPIRED
@@ -95,12 +129,25 @@ row file-left-out 2 '' any same F
 row word-too-many 2 '' any check F G
 row no-such-flag 2 '' any check --hexx F
 row version 0 'illcanon 0.1.0\n' '' --version
-for words in --help 'show --help' 'check --help' 'same --help' 'canonicalise --help' 'help same'; do
+for words in --help 'show --help' 'check --help' 'same --help' 'canonicalise --help' 'dump --help' 'help same'; do
     "$program" $words >out 2>err
     status=$?
     grep -q '^Example: ' out && grep -q '^Status: ' out && cp out want-out || echo no example or status >want-out
     : >want-err
     compare "help: $words" 0
+done
+
+for words in 'help causes' 'help profile'; do
+    "$program" $words >out 2>err
+    status=$?
+    cp out want-out
+    : >want-err
+    [ "$(wc -l <out)" -gt 20 ] || echo 'no such text' >want-out
+    compare "$words" 0
+done
+# A topic of help is no command.
+for words in causes profile 'causes --' 'causes F'; do
+    row "topic: $words" 2 '' any $words
 done
 
 # What can't be opened, read or written.

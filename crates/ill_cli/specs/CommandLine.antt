@@ -46,7 +46,13 @@ abbrev pub top : App
 top = let a = new_app (codes "illcanon") in
     record a { top = record a.top { has_version = true; subcommand_required = true; arg_required_else_help = true } }
 
--- the program with its five commands
+-- a topic of `help`: a command that has only a help text
+abbrev pub topic : Text → App
+topic name = let a = new_app name in
+    record a { top = record a.top { subcommand_required = true; arg_required_else_help = true } }
+
+-- the program with its six commands, and two topics
 abbrev pub program : App
-program = with_subcommand (with_subcommand (with_subcommand (with_subcommand (with_subcommand top (each_file (codes "show")).top) (each_line (codes "check")).top)
-    (each_line (codes "digest")).top) (two_files (codes "same")).top) (two_files_or_lines (codes "canonicalise")).top
+program = with_subcommand (with_subcommand (with_subcommand (with_subcommand (with_subcommand (with_subcommand (with_subcommand (with_subcommand top
+    (each_file (codes "show")).top) (each_line (codes "check")).top) (each_line (codes "digest")).top) (each_file (codes "dump")).top)
+    (two_files (codes "same")).top) (two_files_or_lines (codes "canonicalise")).top) (topic (codes "causes")).top) (topic (codes "profile")).top

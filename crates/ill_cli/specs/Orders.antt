@@ -12,6 +12,7 @@ abbrev pub verb_name : Verb → Text
 verb_name Verb.Show = codes "show"
 verb_name Verb.Check = codes "check"
 verb_name Verb.Digest = codes "digest"
+verb_name Verb.Dump = codes "dump"
 verb_name Verb.Same = codes "same"
 verb_name Verb.Canonicalise = codes "canonicalise"
 
@@ -24,6 +25,7 @@ verb_of_job Job.Canonicalise = Verb.Canonicalise
 
 abbrev pub verb : Task → Verb
 verb (Task.Each job inputs) = verb_of_job job
+verb (Task.Dump inputs) = Verb.Dump
 verb (Task.Canonicalise input output) = Verb.Canonicalise
 verb (Task.Compare first second) = Verb.Same
 
@@ -40,6 +42,7 @@ HasPair rows first second = (first_of (codes "first") rows ≡ Some first) × (f
 abbrev pub HasFiles : List Row → Task → Type 0
 HasFiles rows (Task.Each Job.Canonicalise inputs) = ⊥
 HasFiles rows (Task.Each job inputs) = HasInputs rows inputs
+HasFiles rows (Task.Dump inputs) = HasInputs rows inputs
 HasFiles rows (Task.Canonicalise input output) = HasPair rows input.now output.now
 HasFiles rows (Task.Compare first second) = HasPair rows first.now second.now
 
@@ -66,6 +69,7 @@ list_dashes (Some list) = dashes (list ∷ [])
 abbrev pub IsTwice : Order → Type 0
 IsTwice order = elim order.task as (λ _. Type 0) [
   | Task.Each job inputs ↦ 1 < dashes (map (λ word. word.now) inputs.files.items) + list_dashes (option_map (λ word. word.now) inputs.list)
+  | Task.Dump inputs ↦ 1 < dashes (map (λ word. word.now) inputs.files.items) + list_dashes (option_map (λ word. word.now) inputs.list)
   | Task.Canonicalise input output ↦ (input.now ≢ codes "-") × (output.now ≡ input.now)
   | Task.Compare first second ↦ (first.now ≡ codes "-") × (second.now ≡ codes "-")
 ]
@@ -74,6 +78,7 @@ IsTwice order = elim order.task as (λ _. Type 0) [
 abbrev pub NamesNothing : Order → Type 0
 NamesNothing order = elim order.task as (λ _. Type 0) [
   | Task.Each job inputs ↦ (inputs.files.items ≡ []) × (inputs.list ≡ None)
+  | Task.Dump inputs ↦ (inputs.files.items ≡ []) × (inputs.list ≡ None)
   | Task.Canonicalise input output ↦ ⊥
   | Task.Compare first second ↦ ⊥
 ]
@@ -86,6 +91,7 @@ IsBoth order = (order.hex ≡ true) × (order.lines ≡ true)
 abbrev pub NamesNotOne : Order → Type 0
 NamesNotOne order = (order.lines ≡ true) × elim order.task as (λ _. Type 0) [
   | Task.Each job inputs ↦ ((length inputs.files.items ≡ 1) × (inputs.list ≡ None) → ⊥)
+  | Task.Dump inputs ↦ ⊥
   | Task.Canonicalise input output ↦ ⊥
   | Task.Compare first second ↦ ⊥
 ]

@@ -3,7 +3,7 @@ ghost use Rattle.std.specs.Prelude.{◌≡◌};
 ghost use Rattle.ill_cli.specs.code.Lined.{line_job_of};
 ghost use Rattle.ill_cli.specs.Status.{status_is};
 
-use crate::each::each_input;
+use crate::each::{Each, each_input};
 use crate::fault::{Fault, is_output_lost, print, status_of};
 use crate::input::{InputSource, open, open_and_identify};
 use crate::line::order;
@@ -11,7 +11,8 @@ use crate::orders::{Order, Task};
 use crate::replacement::{self, Replacement};
 use crate::same_file::FileId;
 use crate::words::words_of;
-use ber_core::{Ahead, AtHand, Source, ToWrite};
+use ber_core::{Ahead, AtHand, Sink, Source, ToWrite};
+use ill_dump::{Dump, run_dump};
 use ill_jobs::{Job, RunFault, Verdict, Work, run_by, run_same};
 use ill_lines::{LineJob, LinesFault, run_lines};
 use std::alloc::Global;
@@ -38,8 +39,9 @@ pub fn obey<R: Print + Eprint + Input + Files + AllocGlobal>(rt: &R, order: Orde
     match task {
         Task::Each { job, inputs } => match (lines, line_job(job), inputs.files.as_slice()) {
             (true, Some(job), [input]) => end(rt, &each_line(rt, job, input)),
-            _ => each_input(rt, job, hex, &inputs),
+            _ => each_input(rt, Each::Job(job), hex, &inputs),
         },
+        Task::Dump { inputs } => each_input(rt, Each::Dump, hex, &inputs),
         Task::Canonicalise { input, output } => {
             let doing = if lines {
                 Doing::Lines(LineJob::Canonicalise)
@@ -57,6 +59,8 @@ pub fn obey<R: Print + Eprint + Input + Files + AllocGlobal>(rt: &R, order: Orde
 pub(crate) enum Doing<'a> {
     /// A job with one message after another.
     Messages(Work<'a>),
+    /// The elements of one message after another.
+    Dump(Dump<'a>),
     /// A result for each line.
     Lines(LineJob),
 }
@@ -197,13 +201,29 @@ fn to_writer<S: Ahead, W: Write + Drop>(
     source: &mut S,
     writer: &mut BufWriter<W>,
 ) -> Result<Verdict, Fault> {
-    let work = match doing {
-        Doing::Messages(work) => work,
-        Doing::Lines(job) => return lines_to(alloc, job, source, writer.get_mut()),
-    };
+    if let Doing::Lines(job) = doing {
+        return lines_to(alloc, job, source, writer.get_mut());
+    }
     let mut sink = ToWrite::new(&mut *writer);
-    let done = run_by::<S, AtHand, ToWrite<&mut BufWriter<W>>>(alloc, work, source, &mut sink);
+    let done = messages_to::<S, ToWrite<&mut BufWriter<W>>>(alloc, doing, source, &mut sink);
     flushed(done, writer)
+}
+
+/// Writes what is made of one message after another.
+fn messages_to<S: Ahead, W: Sink>(
+    alloc: Global,
+    doing: Doing<'_>,
+    source: &mut S,
+    sink: &mut W,
+) -> Result<Verdict, RunFault> {
+    match doing {
+        Doing::Messages(work) => run_by::<S, AtHand, W>(alloc, work, source, sink),
+        Doing::Dump(dump) => {
+            run_dump::<S, AtHand, W>(alloc, dump, source, sink)?;
+            Ok(Verdict::Good)
+        }
+        Doing::Lines(_) => Ok(Verdict::Good),
+    }
 }
 
 /// Writes the results of lines, without a buffer, so that they are there before more input is waited for.

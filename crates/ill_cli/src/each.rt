@@ -8,15 +8,43 @@ use crate::fault::{Fault, LineFault, is_output_lost, print_of, status_of};
 use crate::input::{open, read_whole};
 use crate::names::{Name, printed};
 use crate::orders::Inputs;
+use ill_dump::Dump;
 use ill_jobs::{Job, Verdict, Work};
 use std::alloc::{AllocError, Global};
 use std::rt::Files;
 use std::str;
 
+/// What is done with each file.
+#[derive(Clone, Copy)]
+pub(crate) enum Each {
+    Job(Job),
+    /// The elements of the messages are written.
+    Dump,
+}
+
+impl Each {
+    /// What is done with the messages of the file of this name.
+    fn doing(self, hex: bool, name: &str, is_named: bool) -> Doing<'_> {
+        match self {
+            Each::Job(job) => Doing::Messages(Work {
+                job,
+                hex,
+                name,
+                is_named,
+            }),
+            Each::Dump => Doing::Dump(Dump {
+                hex,
+                name,
+                is_named,
+            }),
+        }
+    }
+}
+
 /// Does a job with each input, prints the line of each fault, and returns the exit status. Of several files each line names its file.
 pub fn each_input<R: Print + Eprint + Input + Files + AllocGlobal>(
     rt: &R,
-    job: Job,
+    each: Each,
     hex: bool,
     inputs: &Inputs<'_>,
 ) -> u8 {
@@ -32,8 +60,8 @@ pub fn each_input<R: Print + Eprint + Input + Files + AllocGlobal>(
         return end(rt, &Err(Fault::from(LineFault::SameWord)));
     }
     match names.as_slice() {
-        [name] => end(rt, &one_file(rt, job, hex, name, false)),
-        names => each_file(rt, job, hex, names),
+        [name] => end(rt, &one_file(rt, each, hex, name, false)),
+        names => each_file(rt, each, hex, names),
     }
 }
 
@@ -100,7 +128,7 @@ fn is_dash_twice(names: &[&[u8]], list: Option<&str>) -> bool {
 /// file more is done.
 fn each_file<R: Print + Eprint + Input + Files + AllocGlobal>(
     rt: &R,
-    job: Job,
+    each: Each,
     hex: bool,
     names: &[&[u8]],
 ) -> u8
@@ -108,7 +136,7 @@ fn each_file<R: Print + Eprint + Input + Files + AllocGlobal>(
 {
     let mut status = 0;
     for name in names {
-        let done = one_file(rt, job, hex, name, true);
+        let done = one_file(rt, each, hex, name, true);
         if let Err(fault) = &done {
             // Where standard error is closed, only the status is left to tell.
             let _ = print_of(rt, name, fault);
@@ -137,7 +165,7 @@ fn worse(before: u8, next: u8) -> u8
 /// Does a job with the file of this name, and writes to standard output.
 fn one_file<R: Print + Input + Files + AllocGlobal>(
     rt: &R,
-    job: Job,
+    each: Each,
     hex: bool,
     name: &[u8],
     is_named: bool,
@@ -151,11 +179,5 @@ fn one_file<R: Print + Input + Files + AllocGlobal>(
     };
     let mut source = open(rt, file)?;
     let name = printed(alloc, file).map_err(|_| Fault::out_of_memory())?;
-    let work = Work {
-        job,
-        hex,
-        name: &name,
-        is_named,
-    };
-    to_standard_output(rt, Doing::Messages(work), &mut source)
+    to_standard_output(rt, each.doing(hex, &name, is_named), &mut source)
 }

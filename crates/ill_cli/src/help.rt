@@ -5,6 +5,9 @@ pub const PROGRAM: &str = "\
 
 Example: illcanon check messages.ber
 
+`illcanon help causes` explains why messages are refused, and `illcanon help profile`
+says what is read of a message.
+
 Status: 0 done, and all is well; 1 a message is refused or not normal, messages are
 different, or the hexadecimal text is invalid; 2 usage; 3 memory, files or pipes.";
 
@@ -38,6 +41,24 @@ that say the same have the same digest, however they are spelled.
 
 Example: illcanon digest *.ber | sort | uniq -w 64 -D    # copies
          illcanon digest --lines messages.txt | paste - messages.txt
+
+Status: 0 done; 1 a message is refused, or the hexadecimal text is invalid; 2 usage;
+3 memory, files or pipes. Of several files: 3 if one gave 3, else 1 if one gave 1.";
+
+pub const DUMP: &str = "\
+Each message has the line that `check` writes, and then a line for each element as it is
+spelled: its offset in the message, its identifier and length octets, its name in the
+tables, and the value of a leaf; and in brackets what is not normal in its spelling, as
+`indefinite`, `length in 3 octets where 1 does`, `segment`, `default written`,
+`TRUE as 01` or `without inner SEQUENCE`. Where a message is refused, the elements
+before the place have their lines, and then comes the refusal: the cause in words, the
+names of the elements round the place, what was found there, and which tags were due.
+
+Example: illcanon dump messages.ber
+         echo 740430020500 | illcanon dump --hex -
+
+`illcanon help causes` explains each cause, and `illcanon help profile` says what is
+read of a message.
 
 Status: 0 done; 1 a message is refused, or the hexadecimal text is invalid; 2 usage;
 3 memory, files or pipes. Of several files: 3 if one gave 3, else 1 if one gave 1.";

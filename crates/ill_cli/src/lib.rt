@@ -20,6 +20,7 @@ mod names;
 mod orders;
 mod replacement;
 mod same_file;
+mod topics;
 mod words;
 
 pub use commands::{obey, run_program};

@@ -3,7 +3,7 @@ ghost use Rattle.std.specs.Prelude.{◌≡◌, ◌+◌, List, [], map, codes, fa
 ghost use Rattle.std.specs.String.{string_bytes};
 ghost use Rattle.clap.specs.Words.{FailsBy, Text, all_of, app_of, fault_of, found_of, rows_of, rule_of, subcommand_of, subcommand_rows_of};
 ghost use Rattle.clap.specs.declared.builder.command.Command.TheViews.{out-Command as fields_of};
-ghost use Rattle.ill_cli.specs.CommandLine.{each_file, each_line, file_rule, files_rule, hex_rule, lines_rule, list_rule, program, two_files, two_files_or_lines, with_lines};
+ghost use Rattle.ill_cli.specs.CommandLine.{each_file, each_line, file_rule, files_rule, hex_rule, lines_rule, list_rule, program, topic, two_files, two_files_or_lines, with_lines};
 ghost use Rattle.ill_cli.specs.declared.orders.Inputs.{Inputs};
 ghost use Rattle.ill_cli.specs.declared.orders.Order.{Order};
 ghost use Rattle.ill_cli.specs.declared.orders.Task.{Task};
@@ -14,6 +14,7 @@ ghost use Rattle.ill_cli.specs.Refused.{IsFaultOf, IsRefusedBy};
 use crate::fault::LineFault;
 use crate::help;
 use crate::orders::{Inputs, Order, Task, Verb};
+use crate::topics;
 use clap::{Arg, ArgAction, ArgMatches, Command, Error};
 use ill_jobs::Job;
 use std::alloc::{AllocError, Global};
@@ -135,6 +136,13 @@ fn digest<'a>(alloc: Global) -> Result<Command<'a>, AllocError>
     on_each_or_lines(alloc, "digest", about, help::DIGEST)
 }
 
+fn dump<'a>(alloc: Global) -> Result<Command<'a>, AllocError>
+    ensures { IfOk result (λ c. (app_of c ≡ each_file (codes "dump")) × ((fields_of c).has_globals ≡ false)) }
+{
+    let about = "Writes each element of the messages as it is spelled, and why one is refused";
+    on_each(alloc, "dump", about, help::DUMP)
+}
+
 fn same<'a>(alloc: Global) -> Result<Command<'a>, AllocError>
     ensures { IfOk result (λ c. (app_of c ≡ two_files (codes "same")) × ((fields_of c).has_globals ≡ false)) }
 {
@@ -156,6 +164,18 @@ fn canonicalise<'a>(alloc: Global) -> Result<Command<'a>, AllocError>
         .arg(file(alloc, "second", "OUT", output))
 }
 
+/// A topic of `help`: a command that only has a help text.
+fn topic<'a>(alloc: Global, name: &'a str, text: &'a str) -> Command<'a>
+    ensures app { app_of result ≡ topic name.entry.now }
+    ensures local { (fields_of result).has_globals ≡ false }
+{
+    Command::new(alloc, name)
+        .hide(true)
+        .override_help(text)
+        .subcommand_required(true)
+        .arg_required_else_help(true)
+}
+
 fn program<'a>(alloc: Global) -> Result<Command<'a>, AllocError>
     ensures { IfOk result (λ c. app_of c ≡ program) }
 {
@@ -171,8 +191,11 @@ fn program<'a>(alloc: Global) -> Result<Command<'a>, AllocError>
         .subcommand(show(alloc)?)?
         .subcommand(check(alloc)?)?
         .subcommand(digest(alloc)?)?
+        .subcommand(dump(alloc)?)?
         .subcommand(same(alloc)?)?
-        .subcommand(canonicalise(alloc)?)
+        .subcommand(canonicalise(alloc)?)?
+        .subcommand(topic(alloc, "causes", topics::CAUSES))?
+        .subcommand(topic(alloc, "profile", topics::PROFILE))
 }
 
 /// Reads the words of a command line, the program's own name first.
@@ -217,7 +240,7 @@ fn is_twice(order: &Order<'_>) -> bool
     ensures { IsTrue result ↔ IsTwice order.now }
 {
     match &order.task {
-        Task::Each { inputs, .. } => dashes(inputs) > 1,
+        Task::Each { inputs, .. } | Task::Dump { inputs } => dashes(inputs) > 1,
         Task::Canonicalise { input, output } => *input != "-" && *output == *input,
         Task::Compare { first, second } => *first == "-" && *second == "-",
     }
@@ -244,7 +267,9 @@ fn names_nothing(order: &Order<'_>) -> bool
     ensures { IsTrue result ↔ NamesNothing order.now }
 {
     match &order.task {
-        Task::Each { inputs, .. } => inputs.files.is_empty() && inputs.list.is_none(),
+        Task::Each { inputs, .. } | Task::Dump { inputs } => {
+            inputs.files.is_empty() && inputs.list.is_none()
+        }
         Task::Canonicalise { .. } | Task::Compare { .. } => false,
     }
 }
@@ -258,7 +283,7 @@ fn names_not_one(order: &Order<'_>) -> bool
     }
     match &order.task {
         Task::Each { inputs, .. } => inputs.files.len() != 1 || inputs.list.is_some(),
-        Task::Canonicalise { .. } | Task::Compare { .. } => false,
+        Task::Dump { .. } | Task::Canonicalise { .. } | Task::Compare { .. } => false,
     }
 }
 
@@ -306,6 +331,7 @@ fn task_of<'a>(
         Verb::Show => each(alloc, Job::Show, words),
         Verb::Check => each(alloc, Job::Check, words),
         Verb::Digest => each(alloc, Job::Digest, words),
+        Verb::Dump => elements(alloc, words),
         Verb::Same => Ok(compare(words)),
         Verb::Canonicalise => Ok(normal_forms(words)),
     }
@@ -314,11 +340,24 @@ fn task_of<'a>(
 fn each<'a>(alloc: Global, job: Job, words: &ArgMatches<'a>) -> Result<Option<Task<'a>>, AllocError>
     ensures { IfOk result (λ found. (inputs : Inputs) × (found ≡ Some (Task.Each job inputs)) × HasInputs (rows_of (found_of words.now)) inputs) }
 {
-    let inputs = Inputs {
+    let inputs = inputs(alloc, words)?;
+    Ok(Some(Task::Each { job, inputs }))
+}
+
+fn elements<'a>(alloc: Global, words: &ArgMatches<'a>) -> Result<Option<Task<'a>>, AllocError>
+    ensures { IfOk result (λ found. (inputs : Inputs) × (found ≡ Some (Task.Dump inputs)) × HasInputs (rows_of (found_of words.now)) inputs) }
+{
+    let inputs = inputs(alloc, words)?;
+    Ok(Some(Task::Dump { inputs }))
+}
+
+fn inputs<'a>(alloc: Global, words: &ArgMatches<'a>) -> Result<Inputs<'a>, AllocError>
+    ensures { IfOk result (HasInputs (rows_of (found_of words.now))) }
+{
+    Ok(Inputs {
         files: names(alloc, words)?,
         list: words.get_str("files-from"),
-    };
-    Ok(Some(Task::Each { job, inputs }))
+    })
 }
 
 /// The words FILE.
@@ -362,6 +401,7 @@ fn verb_of(name: &str) -> Option<Verb>
         "show" => Some(Verb::Show),
         "check" => Some(Verb::Check),
         "digest" => Some(Verb::Digest),
+        "dump" => Some(Verb::Dump),
         "same" => Some(Verb::Same),
         "canonicalise" => Some(Verb::Canonicalise),
         _ => None,

@@ -7,6 +7,7 @@ pub enum Verb {
     Show,
     Check,
     Digest,
+    Dump,
     Same,
     Canonicalise,
 }
@@ -27,6 +28,8 @@ pub struct Order<'a> {
 pub enum Task<'a> {
     /// A job with the messages of each file, in turn.
     Each { job: Job, inputs: Inputs<'a> },
+    /// The elements of the messages of each file, in turn.
+    Dump { inputs: Inputs<'a> },
     /// The normal forms of the messages of one file, into another.
     Canonicalise { input: &'a str, output: &'a str },
     /// A comparison of two files.

@@ -7,6 +7,7 @@ use Rattle.ill_cli.specs.declared.orders.Task.{Task}
 -- the files that a task names, and the list of more
 abbrev pub named : Task → List Text × Option Text
 named (Task.Each job inputs) = (map (λ word. word.now) inputs.files.items, option_map (λ word. word.now) inputs.list)
+named (Task.Dump inputs) = (map (λ word. word.now) inputs.files.items, option_map (λ word. word.now) inputs.list)
 named (Task.Canonicalise input output) = (input.now ∷ output.now ∷ [], None)
 named (Task.Compare first second) = (first.now ∷ second.now ∷ [], None)
 

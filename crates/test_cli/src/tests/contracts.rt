@@ -30,7 +30,7 @@ fn orders_have_files_of_their_own(words: &[String], alloc: Global) {
             Task::Compare { first, second } => {
                 prove!(first != "-" || second != "-");
             }
-            Task::Each { inputs, .. } => {
+            Task::Each { inputs, .. } | Task::Dump { inputs } => {
                 prove!(!inputs.files.is_empty() || inputs.list.is_some());
             }
         }

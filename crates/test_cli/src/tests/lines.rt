@@ -90,6 +90,19 @@ fn jobs_have_their_files(rt: HostRuntime) -> Result<(), AllocError> {
 }
 
 #[test]
+fn dump_has_its_files(rt: HostRuntime) -> Result<(), AllocError> {
+    let alloc = rt.alloc();
+    let words = words_of(alloc, "illcanon dump --hex a - --files-from list")?;
+    let Ok(Order { hex, lines, task: Task::Dump { inputs } }) = order(alloc, &words) else {
+        assert!(rt; false, "an order");
+        return Ok(());
+    };
+    assert!(rt; hex && !lines);
+    assert!(rt; are_same(&inputs.files, &["a", "-"]) && inputs.list == Some("list"));
+    Ok(())
+}
+
+#[test]
 fn other_commands_have_two_files(rt: HostRuntime) -> Result<(), AllocError> {
     let alloc = rt.alloc();
     for (line, (wanted_hex, wanted_lines), (one, other)) in [
@@ -132,6 +145,7 @@ fn the_same_word_twice_is_refused(rt: HostRuntime) -> Result<(), AllocError> {
         "illcanon canonicalise a a",
         "illcanon check - a -",
         "illcanon digest --files-from - -",
+        "illcanon dump - -",
     ] {
         let words = words_of(alloc, line)?;
         let found = order(alloc, &words);

@@ -26,5 +26,8 @@ returns c =
     let one = c.in_ok-subcommand.ensures.shape c.in_ok-show.ensures.1 ∙ ap₂ with_subcommand top_is (shape _ _ c.in_ok-show.ensures.0) in
     let two = c.in_ok-subcommand-2.ensures.shape c.in_ok-check.ensures.1 ∙ ap₂ with_subcommand one (shape _ _ c.in_ok-check.ensures.0) in
     let three = c.in_ok-subcommand-3.ensures.shape c.in_ok-digest.ensures.1 ∙ ap₂ with_subcommand two (shape _ _ c.in_ok-digest.ensures.0) in
-    let four = c.in_ok-subcommand-4.ensures.shape c.in_ok-same.ensures.1 ∙ ap₂ with_subcommand three (shape _ _ c.in_ok-same.ensures.0) in
-    IfOk-weaker c.subcommand-5.result _ _ (λ r h. h.shape c.in_ok-canonicalise.ensures.1 ∙ ap₂ with_subcommand four (shape _ _ c.in_ok-canonicalise.ensures.0)) c.subcommand-5.ensures
+    let four = c.in_ok-subcommand-4.ensures.shape c.in_ok-dump.ensures.1 ∙ ap₂ with_subcommand three (shape _ _ c.in_ok-dump.ensures.0) in
+    let five = c.in_ok-subcommand-5.ensures.shape c.in_ok-same.ensures.1 ∙ ap₂ with_subcommand four (shape _ _ c.in_ok-same.ensures.0) in
+    let six = c.in_ok-subcommand-6.ensures.shape c.in_ok-canonicalise.ensures.1 ∙ ap₂ with_subcommand five (shape _ _ c.in_ok-canonicalise.ensures.0) in
+    let seven = c.in_ok-subcommand-7.ensures.shape c.topic.ensures.local ∙ ap₂ with_subcommand six (shape _ _ c.topic.ensures.app) in
+    IfOk-weaker c.subcommand-8.result _ _ (λ r h. h.shape c.topic-2.ensures.local ∙ ap₂ with_subcommand seven (shape _ _ c.topic-2.ensures.app)) c.subcommand-8.ensures

@@ -13,26 +13,37 @@ verb_is : (v w : Verb) → verb_name v ≡ verb_name w → v ≡ w
 verb_is Verb.Show Verb.Show e = refl
 verb_is Verb.Show Verb.Check e = absurd (let q : 4 ≡ 5 = ap length e in omega (arith, q))
 verb_is Verb.Show Verb.Digest e = absurd (let q : 4 ≡ 6 = ap length e in omega (arith, q))
+verb_is Verb.Show Verb.Dump e = absurd (let q : 115 ≡ 100 = ap (λ (l : List ℕ). slice_index l 0) e in omega (arith, q))
 verb_is Verb.Show Verb.Same e = absurd (let q : 104 ≡ 97 = ap (λ (l : List ℕ). slice_index l 1) e in omega (arith, q))
 verb_is Verb.Show Verb.Canonicalise e = absurd (let q : 4 ≡ 12 = ap length e in omega (arith, q))
 verb_is Verb.Check Verb.Show e = absurd (let q : 5 ≡ 4 = ap length e in omega (arith, q))
 verb_is Verb.Check Verb.Check e = refl
 verb_is Verb.Check Verb.Digest e = absurd (let q : 5 ≡ 6 = ap length e in omega (arith, q))
+verb_is Verb.Check Verb.Dump e = absurd (let q : 5 ≡ 4 = ap length e in omega (arith, q))
 verb_is Verb.Check Verb.Same e = absurd (let q : 5 ≡ 4 = ap length e in omega (arith, q))
 verb_is Verb.Check Verb.Canonicalise e = absurd (let q : 5 ≡ 12 = ap length e in omega (arith, q))
 verb_is Verb.Digest Verb.Show e = absurd (let q : 6 ≡ 4 = ap length e in omega (arith, q))
 verb_is Verb.Digest Verb.Check e = absurd (let q : 6 ≡ 5 = ap length e in omega (arith, q))
 verb_is Verb.Digest Verb.Digest e = refl
+verb_is Verb.Digest Verb.Dump e = absurd (let q : 6 ≡ 4 = ap length e in omega (arith, q))
 verb_is Verb.Digest Verb.Same e = absurd (let q : 6 ≡ 4 = ap length e in omega (arith, q))
 verb_is Verb.Digest Verb.Canonicalise e = absurd (let q : 6 ≡ 12 = ap length e in omega (arith, q))
+verb_is Verb.Dump Verb.Show e = absurd (let q : 100 ≡ 115 = ap (λ (l : List ℕ). slice_index l 0) e in omega (arith, q))
+verb_is Verb.Dump Verb.Check e = absurd (let q : 4 ≡ 5 = ap length e in omega (arith, q))
+verb_is Verb.Dump Verb.Digest e = absurd (let q : 4 ≡ 6 = ap length e in omega (arith, q))
+verb_is Verb.Dump Verb.Dump e = refl
+verb_is Verb.Dump Verb.Same e = absurd (let q : 100 ≡ 115 = ap (λ (l : List ℕ). slice_index l 0) e in omega (arith, q))
+verb_is Verb.Dump Verb.Canonicalise e = absurd (let q : 4 ≡ 12 = ap length e in omega (arith, q))
 verb_is Verb.Same Verb.Show e = absurd (let q : 97 ≡ 104 = ap (λ (l : List ℕ). slice_index l 1) e in omega (arith, q))
 verb_is Verb.Same Verb.Check e = absurd (let q : 4 ≡ 5 = ap length e in omega (arith, q))
 verb_is Verb.Same Verb.Digest e = absurd (let q : 4 ≡ 6 = ap length e in omega (arith, q))
+verb_is Verb.Same Verb.Dump e = absurd (let q : 115 ≡ 100 = ap (λ (l : List ℕ). slice_index l 0) e in omega (arith, q))
 verb_is Verb.Same Verb.Same e = refl
 verb_is Verb.Same Verb.Canonicalise e = absurd (let q : 4 ≡ 12 = ap length e in omega (arith, q))
 verb_is Verb.Canonicalise Verb.Show e = absurd (let q : 12 ≡ 4 = ap length e in omega (arith, q))
 verb_is Verb.Canonicalise Verb.Check e = absurd (let q : 12 ≡ 5 = ap length e in omega (arith, q))
 verb_is Verb.Canonicalise Verb.Digest e = absurd (let q : 12 ≡ 6 = ap length e in omega (arith, q))
+verb_is Verb.Canonicalise Verb.Dump e = absurd (let q : 12 ≡ 4 = ap length e in omega (arith, q))
 verb_is Verb.Canonicalise Verb.Same e = absurd (let q : 12 ≡ 4 = ap length e in omega (arith, q))
 verb_is Verb.Canonicalise Verb.Canonicalise e = refl
 
@@ -46,6 +57,7 @@ abbrev named_by : Verb → List Row → List Text × Option Text
 named_by Verb.Show rows = each_of rows
 named_by Verb.Check rows = each_of rows
 named_by Verb.Digest rows = each_of rows
+named_by Verb.Dump rows = each_of rows
 named_by Verb.Same rows = two_of rows
 named_by Verb.Canonicalise rows = two_of rows
 
@@ -58,6 +70,7 @@ named_is rows (Task.Each Job.Show inputs) h = ap₂ (λ (x : List Text) (y : Opt
 named_is rows (Task.Each Job.Check inputs) h = ap₂ (λ (x : List Text) (y : Option Text). (x, y)) h.0 h.1
 named_is rows (Task.Each Job.Digest inputs) h = ap₂ (λ (x : List Text) (y : Option Text). (x, y)) h.0 h.1
 named_is rows (Task.Each Job.Canonicalise inputs) h = absurd h
+named_is rows (Task.Dump inputs) h = ap₂ (λ (x : List Text) (y : Option Text). (x, y)) h.0 h.1
 named_is rows (Task.Canonicalise input output) h = ap (λ (x : List Text). (x, None)) (two rows input.now output.now h.0 h.1)
 named_is rows (Task.Compare first second) h = ap (λ (x : List Text). (x, None)) (two rows first.now second.now h.0 h.1)
 

@@ -1,0 +1,39 @@
+# illcanon: `make` proves and builds the program, `make check` proves and tests everything, `make install` copies the program, its man
+# page and its completions, and `make uninstall` removes them again.
+#
+# PREFIX is the folder that they are copied to; DESTDIR is put before it, for packages. The libraries for C and Python have a Makefile of
+# their own: bindings/c.
+
+PREFIX = /usr/local
+DESTDIR =
+BINDIR = $(PREFIX)/bin
+MANDIR = $(PREFIX)/share/man
+BASH_COMPLETIONS = $(PREFIX)/share/bash-completion/completions
+ZSH_COMPLETIONS = $(PREFIX)/share/zsh/site-functions
+FISH_COMPLETIONS = $(PREFIX)/share/fish/vendor_completions.d
+INSTALL = install
+PROGRAM = crates/illcanon/out/illcanon
+
+.PHONY: all check install uninstall
+
+all:
+	cd crates/illcanon && rt run -- --version
+
+# It is built where it is absent; `make` builds it again.
+$(PROGRAM):
+	cd crates/illcanon && rt run -- --version
+
+check:
+	rt ci
+
+install: $(PROGRAM)
+	$(INSTALL) -d '$(DESTDIR)$(BINDIR)' '$(DESTDIR)$(MANDIR)/man1' '$(DESTDIR)$(BASH_COMPLETIONS)' '$(DESTDIR)$(ZSH_COMPLETIONS)' '$(DESTDIR)$(FISH_COMPLETIONS)'
+	$(INSTALL) -m 755 $(PROGRAM) '$(DESTDIR)$(BINDIR)/illcanon'
+	$(INSTALL) -m 644 man/illcanon.1 '$(DESTDIR)$(MANDIR)/man1/illcanon.1'
+	$(INSTALL) -m 644 completions/illcanon.bash '$(DESTDIR)$(BASH_COMPLETIONS)/illcanon'
+	$(INSTALL) -m 644 completions/_illcanon '$(DESTDIR)$(ZSH_COMPLETIONS)/_illcanon'
+	$(INSTALL) -m 644 completions/illcanon.fish '$(DESTDIR)$(FISH_COMPLETIONS)/illcanon.fish'
+
+uninstall:
+	rm -f '$(DESTDIR)$(BINDIR)/illcanon' '$(DESTDIR)$(MANDIR)/man1/illcanon.1' '$(DESTDIR)$(BASH_COMPLETIONS)/illcanon'
+	rm -f '$(DESTDIR)$(ZSH_COMPLETIONS)/_illcanon' '$(DESTDIR)$(FISH_COMPLETIONS)/illcanon.fish'

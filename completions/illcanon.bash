@@ -1,0 +1,35 @@
+# Completion of illcanon for bash: commands, options, topics of `help`, and files.
+
+_illcanon() {
+    local word=${COMP_WORDS[COMP_CWORD]} command='' words='' i
+    for ((i = 1; i < COMP_CWORD; i++)); do
+        case ${COMP_WORDS[i]} in
+            --) break ;;
+            -*) ;;
+            *) command=${COMP_WORDS[i]} && break ;;
+        esac
+    done
+    case $command in
+        '') words='show check digest dump same canonicalise help --help --version -h -V' ;;
+        help) words='show check digest dump same canonicalise help causes profile' ;;
+        show) words='--hex --files-from --help -h' ;;
+        check) words='--hex --lines --files-from --help -h' ;;
+        digest) words='--hex --lines --files-from --help -h' ;;
+        dump) words='--hex --files-from --help -h' ;;
+        same) words='--hex --help -h' ;;
+        canonicalise) words='--hex --lines --help -h' ;;
+    esac
+    # After `--` all words are files.
+    for ((i = 1; i < COMP_CWORD; i++)); do
+        [[ ${COMP_WORDS[i]} == -- ]] && words=''
+    done
+    COMPREPLY=()
+    if [[ -z $command || $command == help || $word == -?* || $word == - ]]; then
+        mapfile -t COMPREPLY < <(compgen -W "$words" -- "$word")
+    else
+        compopt -o default 2>/dev/null
+    fi
+    return 0
+}
+
+complete -F _illcanon illcanon

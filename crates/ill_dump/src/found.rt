@@ -1,0 +1,42 @@
+//! The header of an element, as it is in the octets.
+use ber_core::{Header, HeaderState, Id};
+
+/// The octets of a header, as far as they reach.
+#[derive(Clone, Copy)]
+pub struct Begun {
+    /// The identifier, once it is whole, and how many octets it has.
+    pub id: Option<(Id, usize)>,
+    /// The header, once it is whole.
+    pub header: Option<Header>,
+    /// How many octets were read: those of the header, or up to where it is invalid.
+    pub size: usize,
+}
+
+/// Reads the header that the octets begin with.
+pub fn begin(octets: &[u8]) -> Begun {
+    let mut state = HeaderState::new();
+    let mut begun = Begun {
+        id: None,
+        header: None,
+        size: 0,
+    };
+    for (index, octet) in octets.iter().enumerate() {
+        let pushed = state.push(*octet);
+        begun.size = index.saturating_add(1);
+        if begun.id.is_none() {
+            begun.id = match state.id() {
+                Some(id) => Some((id, begun.size)),
+                None => None,
+            };
+        }
+        match pushed {
+            Ok(Some(header)) => {
+                begun.header = Some(header);
+                return begun;
+            }
+            Ok(None) => {}
+            Err(_) => return begun,
+        }
+    }
+    begun
+}

@@ -1,0 +1,100 @@
+//! What an element is called.
+use crate::lines::Lines;
+use ber_core::{Class, Id};
+use ill_cells::{Found, Slot, What};
+use ill_schema::{NodeId, PartId, part_name};
+use std::alloc::AllocError;
+
+/// The name of an element.
+#[derive(Clone, Copy)]
+pub enum Label {
+    /// That of its row, or of the alternative that it is.
+    Row(PartId),
+    /// Those of a row, and of the alternative of its choice.
+    Alternative(PartId, PartId),
+    /// That of the row of a list, and how many items come before it.
+    Item(PartId, usize),
+    /// That of its type: the row's name is that of the element round it.
+    Type(&'static str),
+}
+
+/// The name of what was found in an element of this node, after `items` elements.
+pub fn label_of(found: Found, round: NodeId, items: usize) -> Label {
+    let part = found.part();
+    match found.slot() {
+        Slot::Row => match found.alternative() {
+            Some(_) => {
+                let row = found.row();
+                Label::Alternative(PartId { node: round, row }, part)
+            }
+            None => Label::Row(part),
+        },
+        Slot::Item => Label::Item(part, items),
+        Slot::Inner => match found.alternative() {
+            Some(_) => Label::Row(part),
+            None => Label::Type(type_name(found.what())),
+        },
+        Slot::Segment => Label::Type("OCTET STRING"),
+    }
+}
+
+/// The name of a type.
+fn type_name(what: What) -> &'static str {
+    match what {
+        What::Boolean => "BOOLEAN",
+        What::Integer => "INTEGER",
+        What::Enumerated => "ENUMERATED",
+        What::General => "GeneralString",
+        What::Visible | What::Date | What::Time => "VisibleString",
+        What::Printable => "PrintableString",
+        What::Segment => "OCTET STRING",
+        What::Sequence | What::List | What::Wrapper | What::LooseWrapper | What::LeftOut => {
+            "SEQUENCE"
+        }
+    }
+}
+
+/// The name of a row.
+fn row_name(part: PartId) -> &'static str {
+    match part_name(part) {
+        Some((_, row)) => row,
+        None => "",
+    }
+}
+
+impl Label {
+    /// Whether the name is one of the tables.
+    pub fn is_named(self) -> bool {
+        !matches!(self, Label::Type(_))
+    }
+
+    pub fn put(self, lines: &mut Lines) -> Result<(), AllocError> {
+        match self {
+            Label::Row(part) => lines.text(row_name(part)),
+            Label::Alternative(row, part) => {
+                lines.text(row_name(row))?;
+                lines.text(".")?;
+                lines.text(row_name(part))
+            }
+            Label::Item(part, index) => {
+                lines.text(row_name(part))?;
+                lines.text("[")?;
+                lines.count(index)?;
+                lines.text("]")
+            }
+            Label::Type(name) => lines.text(name),
+        }
+    }
+}
+
+/// A tag as it is written in ASN.1.
+pub fn put_tag(lines: &mut Lines, id: Id) -> Result<(), AllocError> {
+    lines.text(match id.class() {
+        Class::Universal => "[UNIVERSAL ",
+        Class::Application => "[APPLICATION ",
+        Class::Context => "[",
+        Class::Private => "[PRIVATE ",
+    })?;
+    lines.number(i64::from(id.number()))?;
+    lines.text("]")
+}

@@ -1,0 +1,77 @@
+//! What is not normal in the spelling of an element.
+use crate::lines::Lines;
+use ber_core::Len;
+use std::alloc::AllocError;
+
+/// Notes at the end of a line, in brackets, with commas between them.
+#[derive(Drop)]
+pub struct Notes {
+    is_open: bool,
+}
+
+impl Notes {
+    pub fn new() -> Notes {
+        Notes { is_open: false }
+    }
+
+    /// One more note begins.
+    pub fn begin(&mut self, lines: &mut Lines) -> Result<(), AllocError> {
+        lines.text(if self.is_open { ", " } else { "  (" })?;
+        self.is_open = true;
+        Ok(())
+    }
+
+    pub fn note(&mut self, lines: &mut Lines, text: &str) -> Result<(), AllocError> {
+        self.begin(lines)?;
+        lines.text(text)
+    }
+
+    /// The bracket after them, where there are some.
+    pub fn end(self, lines: &mut Lines) -> Result<(), AllocError> {
+        if self.is_open {
+            lines.text(")")?;
+        }
+        Ok(())
+    }
+
+    /// Of a length in this number of octets.
+    pub fn length(&mut self, lines: &mut Lines, len: Len, octets: usize) -> Result<(), AllocError> {
+        let size = match len {
+            Len::Indefinite => return self.note(lines, "indefinite"),
+            Len::Definite(size) => size,
+        };
+        let least = least_octets(size);
+        if octets <= least {
+            return Ok(());
+        }
+        self.begin(lines)?;
+        lines.text("length in ")?;
+        lines.count(octets)?;
+        lines.text(" octets where ")?;
+        lines.count(least)?;
+        lines.text(if least == 1 { " does" } else { " do" })
+    }
+
+    /// Of a BOOLEAN.
+    pub fn flag(&mut self, lines: &mut Lines, content: &[u8]) -> Result<(), AllocError> {
+        match content {
+            [octet] if *octet != 0 && *octet != 0xFF => {
+                self.begin(lines)?;
+                lines.text("TRUE as ")?;
+                lines.octet(*octet)
+            }
+            _ => Ok(()),
+        }
+    }
+}
+
+/// How many octets a length has at least (X.690, 10.1).
+fn least_octets(size: u32) -> usize {
+    match size {
+        0..0x80 => 1,
+        0x80..0x100 => 2,
+        0x100..0x1_0000 => 3,
+        0x1_0000..0x100_0000 => 4,
+        _ => 5,
+    }
+}

@@ -1,0 +1,179 @@
+//! A refusal in words: its cause, where it is, what was found there, and what was due.
+use crate::cause::{cause_text, put_refusal};
+use crate::found::{Begun, begin};
+use crate::label::{Label, label_of, put_tag};
+use crate::lines::Lines;
+use crate::walk::Walk;
+use ber_core::{Class, Id, Len};
+use ill_cells::What;
+use ill_schema::{Cause, Refusal};
+use std::alloc::AllocError;
+
+/// The tags that are tried where it is said what is due: class, first and last number. The tables have no others.
+const TAGS: [(Class, u32, u32); 3] = [
+    (Class::Universal, 1, 30),
+    (Class::Application, 0, 30),
+    (Class::Context, 0, 60),
+];
+
+/// Makes the lines of a refusal, of a message that was gone through up to its place.
+pub fn put_lines(
+    lines: &mut Lines,
+    walk: &Walk,
+    octets: &[u8],
+    refusal: Refusal,
+) -> Result<(), AllocError> {
+    put_refusal(lines, refusal)?;
+    lines.text("    ")?;
+    lines.text(cause_text(refusal.cause))?;
+    lines.text("\n")?;
+    if refusal.cause == Cause::NormalTooLong {
+        return Ok(());
+    }
+    let begun = begin(octets_at(octets, refusal.at as usize, walk.bound()));
+    put_path(lines, walk, begun, refusal.cause)?;
+    put_found(lines, octets, begun, refusal)?;
+    match refusal.cause {
+        Cause::UnexpectedTag | Cause::Missing(_) => put_due(lines, walk),
+        _ => Ok(()),
+    }
+}
+
+/// The octets from a place up to a bound.
+fn octets_at(octets: &[u8], at: usize, bound: usize) -> &[u8] {
+    match octets.get(at..bound.min(octets.len())) {
+        Some(rest) => rest,
+        None => &[],
+    }
+}
+
+/// Whether the fault is of an element whose tag was read.
+fn is_of_element(cause: Cause) -> bool {
+    !matches!(
+        cause,
+        Cause::Truncated | Cause::Missing(_) | Cause::BadEnd | Cause::BadTag
+    )
+}
+
+/// The names of the elements round the place, and of the element that was found there, if it has one.
+fn put_path(
+    lines: &mut Lines,
+    walk: &Walk,
+    begun: Begun,
+    cause: Cause,
+) -> Result<(), AllocError> {
+    lines.text("    path ")?;
+    let mut some = walk.put_path(lines)?;
+    if let Some(label) = label_of_found(walk, begun, cause) {
+        if some {
+            lines.text(".")?;
+        }
+        label.put(lines)?;
+        some = true;
+    }
+    lines.text(if some { "\n" } else { "none\n" })
+}
+
+/// The name of the element that was found, if it has one of the tables.
+fn label_of_found(walk: &Walk, begun: Begun, cause: Cause) -> Option<Label> {
+    if !is_of_element(cause) {
+        return None;
+    }
+    let (id, _) = begun.id?;
+    let place = walk.place();
+    let label = label_of(place.find(id)?, place.node(), walk.items());
+    label.is_named().then_some(label)
+}
+
+/// What was found.
+fn put_found(
+    lines: &mut Lines,
+    octets: &[u8],
+    begun: Begun,
+    refusal: Refusal,
+) -> Result<(), AllocError> {
+    let rest = octets_at(octets, refusal.at as usize, usize::MAX);
+    lines.text("    found ")?;
+    match refusal.cause {
+        Cause::Truncated => lines.text("the end of the input")?,
+        Cause::Missing(_) => lines.text("the end of the element")?,
+        Cause::BadEnd => lines.hex(first(rest, 2))?,
+        cause => put_header(lines, rest, begun, cause)?,
+    }
+    lines.text("\n")
+}
+
+/// The tag of an element, and those of its octets that the cause is about.
+fn put_header(
+    lines: &mut Lines,
+    rest: &[u8],
+    begun: Begun,
+    cause: Cause,
+) -> Result<(), AllocError> {
+    if begun.size == 0 {
+        return lines.text("nothing before the end");
+    }
+    let Some((id, id_size)) = begun.id else {
+        return lines.hex(first(rest, begun.size));
+    };
+    put_tag(lines, id)?;
+    lines.text(if id.constructed() {
+        " constructed: "
+    } else {
+        " primitive: "
+    })?;
+    let size = match cause {
+        Cause::UnexpectedTag | Cause::LeftOut(_) | Cause::WrongForm | Cause::TooDeep => id_size,
+        Cause::BadLength | Cause::Overrun | Cause::TooLong => begun.size,
+        _ => begun.size.saturating_add(content_size(begun, id)),
+    };
+    lines.hex(first(rest, size))
+}
+
+/// How many octets the content of a primitive element has.
+fn content_size(begun: Begun, id: Id) -> usize {
+    match begun.header {
+        Some(header) if !id.constructed() => match header.len {
+            Len::Definite(size) => size as usize,
+            Len::Indefinite => 0,
+        },
+        _ => 0,
+    }
+}
+
+fn first(octets: &[u8], count: usize) -> &[u8] {
+    match octets.get(..count) {
+        Some(front) => front,
+        None => octets,
+    }
+}
+
+/// What was due: a line for each tag, and one for the end of the element, where nothing is missing in it.
+fn put_due(lines: &mut Lines, walk: &Walk) -> Result<(), AllocError> {
+    for (class, low, high) in TAGS {
+        for number in low..=high {
+            if let Some(id) = Id::new(class, true, number) {
+                put_due_tag(lines, walk, id)?;
+            }
+        }
+    }
+    if walk.is_inside() && !walk.place().is_missing() {
+        lines.text("    due the end of the element\n")?;
+    }
+    Ok(())
+}
+
+fn put_due_tag(lines: &mut Lines, walk: &Walk, id: Id) -> Result<(), AllocError> {
+    let place = walk.place();
+    let Some(found) = place.find(id) else {
+        return Ok(());
+    };
+    lines.text("    due ")?;
+    put_tag(lines, id)?;
+    lines.text(" ")?;
+    label_of(found, place.node(), walk.items()).put(lines)?;
+    if found.what() == What::LeftOut {
+        lines.text(" (not read)")?;
+    }
+    lines.text("\n")
+}

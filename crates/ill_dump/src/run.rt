@@ -1,0 +1,230 @@
+//! The messages of an input, one after another.
+ghost use Rattle.std.specs.Prelude.{IsTrue};
+
+use crate::found::begin;
+use crate::label::label_of;
+use crate::lines::Lines;
+use crate::refusal;
+use crate::walk::Walk;
+use ber_core::{AtHand, FromSlice, Look, Sink, Source};
+use ill_cells::At;
+use ill_jobs::{RunFault, read_most, text_octets};
+use ill_read::{Normal, ReadFailure, read_kept_normal_in};
+use ill_schema::Refusal;
+use ill_write::put_all;
+use std::alloc::{AllocError, Global};
+
+/// How many messages an input may have.
+const MESSAGES: u32 = 1_000_000;
+
+/// How many octets a hexadecimal text may have.
+const MOST: usize = 4_194_304;
+
+/// How many octets are made before they are written.
+const FULL: usize = 4096;
+
+/// How an input is read, and how the first line of each message names it.
+#[derive(Clone, Copy, Debug)]
+pub struct Dump<'a> {
+    /// Whether the input is hexadecimal text.
+    pub hex: bool,
+    /// The name of the input.
+    pub name: &'a str,
+    /// Whether the first line of a message begins with the name and `: `.
+    pub is_named: bool,
+}
+
+/// Writes the messages of an input as they are spelled, one after another up to its end: for each a line as `check` writes it, and then a
+/// line for each element. Of a message that is refused it writes the elements before the place, and then the refusal in words. One message
+/// is held at a time, of at most 1,048,576 octets, and its normal form.
+///
+/// # Errors
+///
+/// Why not all of the input was written, see [`RunFault`]. Of a refused message all lines were written.
+pub fn run_dump<R: Source, L: Look<R>, W: Sink>(
+    alloc: Global,
+    dump: Dump<'_>,
+    source: &mut R,
+    sink: &mut W,
+) -> Result<(), RunFault>
+    ensures source_stays { IsTrue (R.is_broken source.old) → IsTrue (R.is_broken source.new) }
+    ensures sink_stays { IsTrue (W.is_broken sink.old) → IsTrue (W.is_broken sink.new) }
+{
+    if !dump.hex {
+        return dump_messages::<R, L, W>(alloc, dump, source, sink);
+    }
+    let text = read_most(alloc, source, MOST + 1)?;
+    let octets = text_octets(alloc, &text)?;
+    let mut messages = FromSlice::new(&octets);
+    dump_messages::<FromSlice<'_>, AtHand, W>(alloc, dump, &mut messages, sink)
+}
+
+fn dump_messages<R: Source, L: Look<R>, W: Sink>(
+    alloc: Global,
+    dump: Dump<'_>,
+    source: &mut R,
+    sink: &mut W,
+) -> Result<(), RunFault>
+    ensures source_stays { IsTrue (R.is_broken source.old) → IsTrue (R.is_broken source.new) }
+    ensures sink_stays { IsTrue (W.is_broken sink.old) → IsTrue (W.is_broken sink.new) }
+{
+    let mut out = Out {
+        lines: Lines::new(alloc),
+        written: 0,
+    };
+    let mut kept = Vec::new(alloc);
+    let mut room = Vec::new(alloc);
+    for before in 0..MESSAGES {
+        let message = before + 1;
+        kept.clear();
+        let read = read_kept_normal_in::<R, L>(alloc, source, room, &mut kept);
+        match read {
+            Ok(Some(normal)) => {
+                put_message(alloc, dump, message, &kept, &normal, &mut out, sink)?;
+                room = normal.octets;
+            }
+            Ok(None) => return Ok(()),
+            Err(ReadFailure::Refused(refusal)) => {
+                put_refused(alloc, dump, message, &kept, refusal, &mut out, sink)?;
+                return Err(RunFault::Refused { message, refusal });
+            }
+            Err(ReadFailure::OutOfMemory) => return Err(RunFault::OutOfMemory),
+            Err(ReadFailure::ReadFault) => return Err(RunFault::ReadFault),
+        }
+    }
+    match source.take(&mut [0]) {
+        Ok(0) => Ok(()),
+        Ok(_) => Err(RunFault::TooManyMessages),
+        Err(_) => Err(RunFault::ReadFault),
+    }
+}
+
+/// What was written, and what is to be.
+#[derive(Drop)]
+struct Out {
+    lines: Lines,
+    written: u128,
+}
+
+impl Out {
+    /// Writes the lines that were made.
+    fn put<W: Sink>(&mut self, sink: &mut W) -> Result<(), RunFault>
+        ensures stays { IsTrue (W.is_broken sink.old) → IsTrue (W.is_broken sink.new) }
+    {
+        match put_all(sink, &self.lines.octets) {
+            Ok(()) => {
+                self.written = self.written.saturating_add(self.lines.octets.len() as u128);
+                self.lines.octets.clear();
+                Ok(())
+            }
+            Err(count) => {
+                let written = self.written.saturating_add(count as u128);
+                Err(RunFault::WriteFault(written))
+            }
+        }
+    }
+}
+
+/// What was made is in memory, or memory ran out.
+fn made<T: Drop>(made: Result<T, AllocError>) -> Result<T, RunFault> {
+    match made {
+        Ok(made) => Ok(made),
+        Err(AllocError) => Err(RunFault::OutOfMemory),
+    }
+}
+
+/// Writes the lines of a message.
+fn put_message<W: Sink>(
+    alloc: Global,
+    dump: Dump<'_>,
+    message: u32,
+    octets: &[u8],
+    normal: &Normal,
+    out: &mut Out,
+    sink: &mut W,
+) -> Result<(), RunFault>
+    ensures stays { IsTrue (W.is_broken sink.old) → IsTrue (W.is_broken sink.new) }
+{
+    made(put_head(dump, message, &mut out.lines))?;
+    made(put_check(octets, &normal.octets, &mut out.lines))?;
+    let mut walk = Walk::new(alloc);
+    put_elements(&mut walk, octets, octets.len(), out, sink)?;
+    out.put(sink)
+}
+
+/// Writes the lines of a message that is refused.
+fn put_refused<W: Sink>(
+    alloc: Global,
+    dump: Dump<'_>,
+    message: u32,
+    octets: &[u8],
+    refusal: Refusal,
+    out: &mut Out,
+    sink: &mut W,
+) -> Result<(), RunFault>
+    ensures stays { IsTrue (W.is_broken sink.old) → IsTrue (W.is_broken sink.new) }
+{
+    made(put_head(dump, message, &mut out.lines))?;
+    made(out.lines.text("refused\n"))?;
+    let mut walk = Walk::new(alloc);
+    put_elements(&mut walk, octets, refusal.at as usize, out, sink)?;
+    made(refusal::put_lines(&mut out.lines, &walk, octets, refusal))?;
+    out.put(sink)
+}
+
+/// Writes the lines of the elements that begin before `stop`.
+fn put_elements<W: Sink>(
+    walk: &mut Walk,
+    octets: &[u8],
+    stop: usize,
+    out: &mut Out,
+    sink: &mut W,
+) -> Result<(), RunFault>
+    ensures stays { IsTrue (W.is_broken sink.old) → IsTrue (W.is_broken sink.new) }
+{
+    for _ in 0..=octets.len() {
+        if !made(walk.step(octets, stop, &mut out.lines))? {
+            return Ok(());
+        }
+        if out.lines.octets.len() >= FULL {
+            out.put(sink)?;
+        }
+    }
+    Ok(())
+}
+
+/// What the first line of a message begins with.
+fn put_head(dump: Dump<'_>, message: u32, lines: &mut Lines) -> Result<(), AllocError> {
+    if dump.is_named {
+        lines.text(dump.name)?;
+        lines.text(": ")?;
+    }
+    lines.text("message ")?;
+    lines.number(i64::from(message))?;
+    lines.text(": ")
+}
+
+/// The rest of the line of a message: its APDU, its size, and whether it is in normal form.
+fn put_check(octets: &[u8], normal: &[u8], lines: &mut Lines) -> Result<(), AllocError> {
+    put_apdu(octets, lines)?;
+    lines.text(", ")?;
+    lines.count(octets.len())?;
+    if octets == normal {
+        return lines.text(" octets, normal\n");
+    }
+    lines.text(" octets, not normal, normal form ")?;
+    lines.count(normal.len())?;
+    lines.text(" octets\n")
+}
+
+/// The name of the APDU that the octets begin.
+fn put_apdu(octets: &[u8], lines: &mut Lines) -> Result<(), AllocError> {
+    let top = At::top();
+    let Some((id, _)) = begin(octets).id else {
+        return Ok(());
+    };
+    match top.find(id) {
+        Some(found) => label_of(found, top.node(), 0).put(lines),
+        None => Ok(()),
+    }
+}

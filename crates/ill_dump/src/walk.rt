@@ -1,0 +1,292 @@
+//! Goes through a message from element to element, and makes a line of each.
+use crate::found::{Begun, begin};
+use crate::label::{Label, label_of};
+use crate::lines::Lines;
+use crate::note::Notes;
+use crate::value::{leaf_type, put_leaf};
+use ber_core::{Header, Len};
+use ill_cells::{At, Found, What};
+use ill_schema::LIMIT;
+use std::alloc::{AllocError, Global};
+
+/// An element that is open.
+#[derive(Clone, Copy)]
+struct Open {
+    /// The place in it that was reached.
+    place: At,
+    label: Label,
+    /// Where it ends, if its length says so.
+    end: Option<usize>,
+    /// How many elements it has so far.
+    items: usize,
+}
+
+/// How far a message was gone through.
+#[derive(Drop)]
+pub struct Walk {
+    alloc: Global,
+    open: Vec<Open>,
+    at: usize,
+}
+
+/// An element with a whole header.
+#[derive(Clone, Copy)]
+struct Element {
+    found: Found,
+    header: Header,
+    label: Label,
+    /// How many octets its identifier has, and its whole header.
+    id_size: usize,
+    size: usize,
+}
+
+impl Walk {
+    pub fn new(alloc: Global) -> Walk {
+        Walk {
+            alloc,
+            open: Vec::new(alloc),
+            at: 0,
+        }
+    }
+
+    /// Where the next element may begin, once what ended there is closed.
+    pub fn place(&self) -> At {
+        match self.open.as_slice().last() {
+            Some(open) => open.place,
+            None => At::top(),
+        }
+    }
+
+    /// How many elements the innermost one has so far.
+    pub fn items(&self) -> usize {
+        match self.open.as_slice().last() {
+            Some(open) => open.items,
+            None => 0,
+        }
+    }
+
+    /// Whether an element is open.
+    pub fn is_inside(&self) -> bool {
+        !self.open.is_empty()
+    }
+
+    /// The offset that no octet of the next element may reach.
+    pub fn bound(&self) -> usize {
+        let mut bound = LIMIT as usize;
+        for open in self.open.as_slice() {
+            if let Some(end) = open.end {
+                bound = end;
+            }
+        }
+        bound
+    }
+
+    /// The names of the open elements, with points between them. Returns whether there are any.
+    pub fn put_path(&self, lines: &mut Lines) -> Result<bool, AllocError> {
+        let mut some = false;
+        for open in self.open.as_slice() {
+            if open.label.is_named() {
+                if some {
+                    lines.text(".")?;
+                }
+                open.label.put(lines)?;
+                some = true;
+            }
+        }
+        Ok(some)
+    }
+
+    /// Makes the line of the next element or end mark, if it begins before `stop`. Returns whether there was one.
+    pub fn step(
+        &mut self,
+        octets: &[u8],
+        stop: usize,
+        lines: &mut Lines,
+    ) -> Result<bool, AllocError> {
+        self.close_ended();
+        if self.at >= stop {
+            return Ok(false);
+        }
+        let Some(rest) = octets.get(self.at..) else {
+            return Ok(false);
+        };
+        if self.awaits_end_mark() && matches!(rest, [0, 0, ..]) {
+            self.end_mark(lines)?;
+            return Ok(true);
+        }
+        let Some(element) = self.element(begin(rest)) else {
+            return Ok(false);
+        };
+        self.put_element(element, octets, rest, stop, lines)?;
+        self.pass(element, octets.len())?;
+        Ok(true)
+    }
+
+    /// Closes the elements that end here, but for one in which something is missing.
+    fn close_ended(&mut self) {
+        for _ in 0..self.open.len() {
+            match self.open.as_slice().last() {
+                Some(open) if open.end == Some(self.at) && !open.place.is_missing() => {}
+                _ => return,
+            }
+            let _ = self.open.pop();
+        }
+    }
+
+    fn awaits_end_mark(&self) -> bool {
+        match self.open.as_slice().last() {
+            Some(open) => open.end.is_none(),
+            None => false,
+        }
+    }
+
+    /// The line of an end mark.
+    fn end_mark(&mut self, lines: &mut Lines) -> Result<(), AllocError> {
+        let _ = self.open.pop();
+        lines.offset(self.at)?;
+        lines.text("  ")?;
+        lines.indent(self.open.len())?;
+        lines.text("00 00  end mark\n")?;
+        self.at = self.at.saturating_add(2);
+        Ok(())
+    }
+
+    /// The element that a header begins, if one is due.
+    fn element(&self, begun: Begun) -> Option<Element> {
+        let (id, id_size) = begun.id?;
+        let header = begun.header?;
+        let place = self.place();
+        let found = place.find(id)?;
+        Some(Element {
+            found,
+            header,
+            label: label_of(found, place.node(), self.items()),
+            id_size,
+            size: begun.size,
+        })
+    }
+
+    fn put_element(
+        &self,
+        element: Element,
+        octets: &[u8],
+        rest: &[u8],
+        stop: usize,
+        lines: &mut Lines,
+    ) -> Result<(), AllocError> {
+        lines.offset(self.at)?;
+        lines.text("  ")?;
+        lines.indent(self.open.len())?;
+        lines.hex(rest.get(..element.size).unwrap_or(&[]))?;
+        lines.text("  ")?;
+        element.label.put(lines)?;
+        let mut notes = Notes::new();
+        let size = element.size.saturating_sub(element.id_size);
+        if element.header.id.constructed() {
+            notes.length(lines, element.header.len, size)?;
+            self.put_constructed(element, octets, stop, lines, &mut notes)?;
+        } else {
+            self.put_primitive(element, rest, lines, &mut notes)?;
+        }
+        notes.end(lines)?;
+        lines.text("\n")
+    }
+
+    fn put_constructed(
+        &self,
+        element: Element,
+        octets: &[u8],
+        stop: usize,
+        lines: &mut Lines,
+        notes: &mut Notes,
+    ) -> Result<(), AllocError> {
+        match element.found.what() {
+            What::Segment => notes.note(lines, "segment"),
+            What::LooseWrapper if self.is_bare(element, octets, stop) => {
+                notes.note(lines, "without inner SEQUENCE")
+            }
+            what if leaf_type(what).is_some() => notes.note(lines, "in segments"),
+            _ => Ok(()),
+        }
+    }
+
+    /// Whether a wrapper has no SEQUENCE in it.
+    fn is_bare(&self, element: Element, octets: &[u8], stop: usize) -> bool {
+        if element.header.len == Len::Definite(0) {
+            return true;
+        }
+        let next = self.at.saturating_add(element.size);
+        match octets.get(next) {
+            Some(octet) => next < stop && *octet != 0x30,
+            None => false,
+        }
+    }
+
+    fn put_primitive(
+        &self,
+        element: Element,
+        rest: &[u8],
+        lines: &mut Lines,
+        notes: &mut Notes,
+    ) -> Result<(), AllocError> {
+        let length = element.size.saturating_sub(element.id_size);
+        let Some(content) = rest.get(element.size..element.end_from(0)) else {
+            notes.length(lines, element.header.len, length)?;
+            return notes.note(lines, "cut short");
+        };
+        lines.text(" = ")?;
+        let what = element.found.what();
+        let is_default = match leaf_type(what) {
+            Some(leaf) => put_leaf(lines, self.alloc, leaf, element.found.part(), content)?,
+            None => {
+                lines.quoted(content)?;
+                false
+            }
+        };
+        notes.length(lines, element.header.len, length)?;
+        if what == What::Segment {
+            notes.note(lines, "segment")?;
+        }
+        if what == What::Boolean {
+            notes.flag(lines, content)?;
+        }
+        if is_default {
+            notes.note(lines, "default written")?;
+        }
+        Ok(())
+    }
+
+    /// Goes on after a primitive element, at most to the end of the input, or into one that is constructed.
+    fn pass(&mut self, element: Element, octets: usize) -> Result<(), AllocError> {
+        let last = self.open.len().saturating_sub(1);
+        if let Some(open) = self.open.get_mut(last) {
+            open.place = element.found.after();
+            open.items = open.items.saturating_add(1);
+        }
+        if !element.header.id.constructed() {
+            self.at = element.end_from(self.at).min(octets);
+            return Ok(());
+        }
+        let end = match element.header.len {
+            Len::Definite(_) => Some(element.end_from(self.at)),
+            Len::Indefinite => None,
+        };
+        self.at = self.at.saturating_add(element.size);
+        self.open.extend_from_slice(&[Open {
+            place: element.found.first(),
+            label: element.label,
+            end,
+            items: 0,
+        }])
+    }
+}
+
+impl Element {
+    /// Where it ends, if it begins there and its length is definite.
+    fn end_from(self, at: usize) -> usize {
+        match self.header.len {
+            Len::Definite(size) => at.saturating_add(self.size).saturating_add(size as usize),
+            Len::Indefinite => at.saturating_add(self.size),
+        }
+    }
+}
