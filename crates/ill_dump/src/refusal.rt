@@ -56,12 +56,7 @@ fn is_of_element(cause: Cause) -> bool {
 }
 
 /// The names of the elements round the place, and of the element that was found there, if it has one.
-fn put_path(
-    lines: &mut Lines,
-    walk: &Walk,
-    begun: Begun,
-    cause: Cause,
-) -> Result<(), AllocError> {
+fn put_path(lines: &mut Lines, walk: &Walk, begun: Begun, cause: Cause) -> Result<(), AllocError> {
     lines.text("    path ")?;
     let mut some = walk.put_path(lines)?;
     if let Some(label) = label_of_found(walk, begun, cause) {

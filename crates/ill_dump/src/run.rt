@@ -1,5 +1,11 @@
 //! The messages of an input, one after another.
-ghost use Rattle.std.specs.Prelude.{IsTrue};
+ghost use Rattle.std.specs.Prelude.{◌≡◌, IfOk, IfErr, IfSome, IsTrue};
+ghost use Rattle.std.specs.Io.KnownBytes.{IsAtEnd};
+ghost use Rattle.ill_jobs.specs.declared.fault.RunFault.{RunFault};
+ghost use Rattle.ill_read.specs.declared.failure.ReadFailure.{ReadFailure};
+ghost use Rattle.ill_jobs.specs.Ran.{FailsText, TextOf};
+ghost use Rattle.ill_dump.specs.Dumped.{BreaksSink, DumpFails, IfRefused, IsRefusedIn};
+ghost use Rattle.ill_dump.specs.code.NoRefusal.{NoRefusal};
 
 use crate::found::begin;
 use crate::label::label_of;
@@ -47,16 +53,28 @@ pub fn run_dump<R: Source, L: Look<R>, W: Sink>(
     source: &mut R,
     sink: &mut W,
 ) -> Result<(), RunFault>
+    // A message that is refused is so by the one fault of what was left.
+    ensures fails { IfErr result (DumpFails dump.entry.hex (R.left source.old) (R.left source.new) (R.is_broken source.new)) }
+    ensures breaks { IfErr result (λ fault. BreaksSink fault (W.is_broken sink.new)) }
     ensures source_stays { IsTrue (R.is_broken source.old) → IsTrue (R.is_broken source.new) }
     ensures sink_stays { IsTrue (W.is_broken sink.old) → IsTrue (W.is_broken sink.new) }
 {
     if !dump.hex {
         return dump_messages::<R, L, W>(alloc, dump, source, sink);
     }
-    let text = read_most(alloc, source, MOST + 1)?;
-    let octets = text_octets(alloc, &text)?;
+    let octets = read_hex(alloc, source)?;
     let mut messages = FromSlice::new(&octets);
     dump_messages::<FromSlice<'_>, AtHand, W>(alloc, dump, &mut messages, sink)
+}
+
+/// Reads a hexadecimal text to its end.
+fn read_hex<R: Source>(alloc: Global, source: &mut R) -> Result<Vec<u8>, RunFault>
+    ensures octets { IfOk result (λ octets. TextOf (R.left source.old) (R.left source.new) octets.items) }
+    ensures fails { IfErr result (FailsText (R.left source.old) (R.left source.new) (R.is_broken source.new)) }
+    ensures stays { IsTrue (R.is_broken source.old) → IsTrue (R.is_broken source.new) }
+{
+    let text = read_most(alloc, source, MOST + 1)?;
+    text_octets(alloc, &text)
 }
 
 fn dump_messages<R: Source, L: Look<R>, W: Sink>(
@@ -65,6 +83,9 @@ fn dump_messages<R: Source, L: Look<R>, W: Sink>(
     source: &mut R,
     sink: &mut W,
 ) -> Result<(), RunFault>
+    ensures end { IfOk result (λ _. IsAtEnd (R.left source.new)) }
+    ensures refused { IfErr result (λ fault. IfSome (R.left source.old) (λ s. IfRefused fault (IsRefusedIn s))) }
+    ensures breaks { IfErr result (λ fault. BreaksSink fault (W.is_broken sink.new)) }
     ensures source_stays { IsTrue (R.is_broken source.old) → IsTrue (R.is_broken source.new) }
     ensures sink_stays { IsTrue (W.is_broken sink.old) → IsTrue (W.is_broken sink.new) }
 {
@@ -84,12 +105,10 @@ fn dump_messages<R: Source, L: Look<R>, W: Sink>(
                 room = normal.octets;
             }
             Ok(None) => return Ok(()),
-            Err(ReadFailure::Refused(refusal)) => {
-                put_refused(alloc, dump, message, &kept, refusal, &mut out, sink)?;
-                return Err(RunFault::Refused { message, refusal });
+            Err(failure) => {
+                let (octets, out) = (&kept, &mut out);
+                return Err(put_failure(alloc, dump, message, octets, failure, out, sink));
             }
-            Err(ReadFailure::OutOfMemory) => return Err(RunFault::OutOfMemory),
-            Err(ReadFailure::ReadFault) => return Err(RunFault::ReadFault),
         }
     }
     match source.take(&mut [0]) {
@@ -109,6 +128,8 @@ struct Out {
 impl Out {
     /// Writes the lines that were made.
     fn put<W: Sink>(&mut self, sink: &mut W) -> Result<(), RunFault>
+        ensures breaks { IfErr result (λ fault. BreaksSink fault (W.is_broken sink.new)) }
+        ensures refuses { IfErr result NoRefusal }
         ensures stays { IsTrue (W.is_broken sink.old) → IsTrue (W.is_broken sink.new) }
     {
         match put_all(sink, &self.lines.octets) {
@@ -126,7 +147,9 @@ impl Out {
 }
 
 /// What was made is in memory, or memory ran out.
-fn made<T: Drop>(made: Result<T, AllocError>) -> Result<T, RunFault> {
+fn made<T: Drop>(made: Result<T, AllocError>) -> Result<T, RunFault>
+    ensures { IfErr result (λ fault. fault ≡ RunFault.OutOfMemory) }
+{
     match made {
         Ok(made) => Ok(made),
         Err(AllocError) => Err(RunFault::OutOfMemory),
@@ -143,6 +166,8 @@ fn put_message<W: Sink>(
     out: &mut Out,
     sink: &mut W,
 ) -> Result<(), RunFault>
+    ensures breaks { IfErr result (λ fault. BreaksSink fault (W.is_broken sink.new)) }
+    ensures refuses { IfErr result NoRefusal }
     ensures stays { IsTrue (W.is_broken sink.old) → IsTrue (W.is_broken sink.new) }
 {
     made(put_head(dump, message, &mut out.lines))?;
@@ -150,6 +175,31 @@ fn put_message<W: Sink>(
     let mut walk = Walk::new(alloc);
     put_elements(&mut walk, octets, octets.len(), out, sink)?;
     out.put(sink)
+}
+
+/// Why no message was read, after the lines of one that is refused were written.
+fn put_failure<W: Sink>(
+    alloc: Global,
+    dump: Dump<'_>,
+    message: u32,
+    octets: &[u8],
+    failure: ReadFailure,
+    out: &mut Out,
+    sink: &mut W,
+) -> RunFault
+    ensures refused { IfRefused result (λ refusal. failure ≡ ReadFailure.Refused refusal) }
+    ensures breaks { BreaksSink result (W.is_broken sink.new) }
+    ensures stays { IsTrue (W.is_broken sink.old) → IsTrue (W.is_broken sink.new) }
+{
+    let refusal = match failure {
+        ReadFailure::Refused(refusal) => refusal,
+        ReadFailure::OutOfMemory => return RunFault::OutOfMemory,
+        ReadFailure::ReadFault => return RunFault::ReadFault,
+    };
+    match put_refused(alloc, dump, message, octets, refusal, out, sink) {
+        Ok(()) => RunFault::Refused { message, refusal },
+        Err(fault) => fault,
+    }
 }
 
 /// Writes the lines of a message that is refused.
@@ -162,6 +212,8 @@ fn put_refused<W: Sink>(
     out: &mut Out,
     sink: &mut W,
 ) -> Result<(), RunFault>
+    ensures breaks { IfErr result (λ fault. BreaksSink fault (W.is_broken sink.new)) }
+    ensures refuses { IfErr result NoRefusal }
     ensures stays { IsTrue (W.is_broken sink.old) → IsTrue (W.is_broken sink.new) }
 {
     made(put_head(dump, message, &mut out.lines))?;
@@ -180,6 +232,8 @@ fn put_elements<W: Sink>(
     out: &mut Out,
     sink: &mut W,
 ) -> Result<(), RunFault>
+    ensures breaks { IfErr result (λ fault. BreaksSink fault (W.is_broken sink.new)) }
+    ensures refuses { IfErr result NoRefusal }
     ensures stays { IsTrue (W.is_broken sink.old) → IsTrue (W.is_broken sink.new) }
 {
     for _ in 0..=octets.len() {
