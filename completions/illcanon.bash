@@ -1,12 +1,13 @@
 # Completion of illcanon for bash: commands, options, topics of `help`, and files.
 
 _illcanon() {
-    local word=${COMP_WORDS[COMP_CWORD]} command='' words='' i
+    local word=${COMP_WORDS[COMP_CWORD]} command='' words='' options=yes i
     for ((i = 1; i < COMP_CWORD; i++)); do
         case ${COMP_WORDS[i]} in
-            --) break ;;
+            # After it all words are files.
+            --) options='' ;;
             -*) ;;
-            *) command=${COMP_WORDS[i]} && break ;;
+            *) command=${command:-${COMP_WORDS[i]}} ;;
         esac
     done
     case $command in
@@ -19,12 +20,8 @@ _illcanon() {
         same) words='--hex --help -h' ;;
         canonicalise) words='--hex --lines --help -h' ;;
     esac
-    # After `--` all words are files.
-    for ((i = 1; i < COMP_CWORD; i++)); do
-        [[ ${COMP_WORDS[i]} == -- ]] && words=''
-    done
     COMPREPLY=()
-    if [[ -z $command || $command == help || $word == -?* || $word == - ]]; then
+    if [[ -z $command || $command == help || ($options && $word == -*) ]]; then
         mapfile -t COMPREPLY < <(compgen -W "$words" -- "$word")
     else
         compopt -o default 2>/dev/null
