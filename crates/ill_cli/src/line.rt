@@ -12,9 +12,8 @@ ghost use Rattle.ill_cli.specs.Orders.{dashes, list_dashes, verb as verb_of_task
 ghost use Rattle.ill_cli.specs.Refused.{IsFaultOf, IsRefusedBy};
 
 use crate::fault::LineFault;
-use crate::help;
 use crate::orders::{Inputs, Order, Task, Verb};
-use crate::topics;
+use crate::{help, topics};
 use clap::{Arg, ArgAction, ArgMatches, Command, Error};
 use ill_jobs::Job;
 use std::alloc::{AllocError, Global};
