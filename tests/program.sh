@@ -126,7 +126,7 @@ row hex-text-too-long 1 '' 'illcanon: hex: too long\n' show --hex -
 # Words that are no command line, help and version.
 row no-such-command 2 '' any shwo F
 row file-left-out 2 '' any same F
-row word-too-many 2 '' any check F G
+row word-too-many 2 '' any same F G F
 row no-such-flag 2 '' any check --hexx F
 row version 0 'illcanon 0.1.0\n' '' --version
 for words in --help 'show --help' 'check --help' 'same --help' 'canonicalise --help' 'dump --help' 'help same'; do
