@@ -25,22 +25,33 @@ verb_of_job Job.Canonicalise = Verb.Canonicalise
 abbrev pub verb : Task → Verb
 verb (Task.Each job inputs) = verb_of_job job
 verb (Task.Canonicalise input output) = Verb.Canonicalise
+verb (Task.Collect inputs output) = Verb.Canonicalise
 verb (Task.Compare first second) = Verb.Same
+
+-- the words FILE
+abbrev pub files_in : List Row → List Text
+files_in rows = unwrap_or (all_of (codes "file") rows) []
 
 -- the files of a job are the words FILE, and the word of `--files-from`
 abbrev pub HasInputs : List Row → Inputs → Type 0
-HasInputs rows inputs = (unwrap_or (all_of (codes "file") rows) [] ≡ map (λ word. word.now) inputs.files.items)
+HasInputs rows inputs = (files_in rows ≡ map (λ word. word.now) inputs.files.items)
     × (first_of (codes "files-from") rows ≡ option_map (λ word. word.now) inputs.list)
 
--- two words
+-- two words of their own
 abbrev pub HasPair : List Row → Text → Text → Type 0
 HasPair rows first second = (first_of (codes "first") rows ≡ Some first) × (first_of (codes "second") rows ≡ Some second)
 
--- the task has the files that were found; `canonicalise` has two of them
+-- two words and no other, and neither `-o` nor `--files-from`
+abbrev pub HasTwo : List Row → Text → Text → Type 0
+HasTwo rows input output = (files_in rows ≡ input ∷ output ∷ [])
+    × (first_of (codes "files-from") rows ≡ None) × (first_of (codes "output") rows ≡ None)
+
+-- the task has the files that were found; `canonicalise` has IN and OUT, or any number of files and the word of `-o`
 abbrev pub HasFiles : List Row → Task → Type 0
 HasFiles rows (Task.Each Job.Canonicalise inputs) = ⊥
 HasFiles rows (Task.Each job inputs) = HasInputs rows inputs
-HasFiles rows (Task.Canonicalise input output) = HasPair rows input.now output.now
+HasFiles rows (Task.Canonicalise input output) = HasTwo rows input.now output.now
+HasFiles rows (Task.Collect inputs output) = HasInputs rows inputs × (first_of (codes "output") rows ≡ Some output.now)
 HasFiles rows (Task.Compare first second) = HasPair rows first.now second.now
 
 -- what was found for a command is the order's command, flags and files
@@ -52,6 +63,9 @@ pub record IsOrderOf (found : Option (Text × List Row)) (order : Order) : Type 
   pub lines : one_of (codes "lines") rows ≡ Some (codes "true") → order.lines ≡ true
   pub no_lines : one_of (codes "lines") rows ≡ Some (codes "false") → order.lines ≡ false
   pub never_lines : one_of (codes "lines") rows ≡ None → order.lines ≡ false
+  pub going : one_of (codes "keep-going") rows ≡ Some (codes "true") → order.keep_going ≡ true
+  pub no_going : one_of (codes "keep-going") rows ≡ Some (codes "false") → order.keep_going ≡ false
+  pub never_going : one_of (codes "keep-going") rows ≡ None → order.keep_going ≡ false
   pub files : HasFiles rows order.task
 
 -- how many of the words are `-`
@@ -62,19 +76,33 @@ abbrev pub list_dashes : Option Text → ℕ
 list_dashes None = 0
 list_dashes (Some list) = dashes (list ∷ [])
 
+-- a file is read by this word, which isn't that of standard output
+abbrev pub IsWritten : Inputs → Text → Type 0
+IsWritten inputs output = (output ≢ codes "-")
+    × (Contains output (map (λ word. word.now) inputs.files.items) ⊎ (option_map (λ word. word.now) inputs.list ≡ Some output))
+
+-- standard input is read more than once
+abbrev pub ReadsTwice : Inputs → Type 0
+ReadsTwice inputs = 1 < dashes (map (λ word. word.now) inputs.files.items) + list_dashes (option_map (λ word. word.now) inputs.list)
+
 -- standard input is read twice, or the output is the input
 abbrev pub IsTwice : Order → Type 0
 IsTwice order = elim order.task as (λ _. Type 0) [
-  | Task.Each job inputs ↦ 1 < dashes (map (λ word. word.now) inputs.files.items) + list_dashes (option_map (λ word. word.now) inputs.list)
+  | Task.Each job inputs ↦ ReadsTwice inputs
   | Task.Canonicalise input output ↦ (input.now ≢ codes "-") × (output.now ≡ input.now)
+  | Task.Collect inputs output ↦ ReadsTwice inputs ⊎ IsWritten inputs output.now
   | Task.Compare first second ↦ (first.now ≡ codes "-") × (second.now ≡ codes "-")
 ]
 
--- there is neither a file nor a list of files
+-- neither a file nor a list of files
+abbrev pub HasNone : Inputs → Type 0
+HasNone inputs = (inputs.files.items ≡ []) × (inputs.list ≡ None)
+
 abbrev pub NamesNothing : Order → Type 0
 NamesNothing order = elim order.task as (λ _. Type 0) [
-  | Task.Each job inputs ↦ (inputs.files.items ≡ []) × (inputs.list ≡ None)
+  | Task.Each job inputs ↦ HasNone inputs
   | Task.Canonicalise input output ↦ ⊥
+  | Task.Collect inputs output ↦ HasNone inputs
   | Task.Compare first second ↦ ⊥
 ]
 
@@ -82,10 +110,19 @@ NamesNothing order = elim order.task as (λ _. Type 0) [
 abbrev pub IsBoth : Order → Type 0
 IsBoth order = (order.hex ≡ true) × (order.lines ≡ true)
 
+-- each line has its result, and none is passed over
+abbrev pub LinesGoOn : Order → Type 0
+LinesGoOn order = (order.keep_going ≡ true) × (order.lines ≡ true)
+
+-- one file, and no list of files
+abbrev pub HasOne : Inputs → Type 0
+HasOne inputs = (length inputs.files.items ≡ 1) × (inputs.list ≡ None)
+
 -- the lines of one file are read, and of no other
 abbrev pub NamesNotOne : Order → Type 0
 NamesNotOne order = (order.lines ≡ true) × elim order.task as (λ _. Type 0) [
-  | Task.Each job inputs ↦ ((length inputs.files.items ≡ 1) × (inputs.list ≡ None) → ⊥)
+  | Task.Each job inputs ↦ (HasOne inputs → ⊥)
   | Task.Canonicalise input output ↦ ⊥
+  | Task.Collect inputs output ↦ (HasOne inputs → ⊥)
   | Task.Compare first second ↦ ⊥
 ]

@@ -10,20 +10,24 @@
 //! ```
 #![tactic(auto)]
 
+mod collect;
 mod commands;
 mod each;
 mod fault;
+mod going;
 mod help;
 mod input;
 mod line;
 mod names;
 mod orders;
+mod output;
 mod replacement;
 mod same_file;
 mod words;
 
 pub use commands::{obey, run_program};
 pub use fault::{CauseName, Fault, LineFault, RunLine, print, status_of};
+pub use going::ReportLine;
 pub use input::Opened;
 pub use line::order;
 pub use names::Name;
