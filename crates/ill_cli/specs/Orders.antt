@@ -1,5 +1,5 @@
 -- Which words give an order.
-use Rattle.std.specs.Prelude.{◌≡◌, ◌≢◌, ◌<◌, ◌+◌, ℕ, true, false, List, [], ◌∷◌, length, map, codes, count_by, Option, Some, None, option_map, unwrap_or}
+use Rattle.std.specs.Prelude.{◌≡◌, ◌≢◌, ◌⊎◌, ◌<◌, ◌+◌, ℕ, true, false, List, [], ◌∷◌, length, map, codes, count_by, Option, Some, None, option_map, unwrap_or}
 use Rattle.std.specs.Str.{bytes_eq}
 use Rattle.clap.specs.Walk.{Row, Text, all_of, first_of, one_of}
 use Rattle.ill_cli.specs.declared.orders.Inputs.{Inputs}
@@ -68,29 +68,32 @@ pub record IsOrderOf (found : Option (Text × List Row)) (order : Order) : Type 
   pub never_going : one_of (codes "keep-going") rows ≡ None → order.keep_going ≡ false
   pub files : HasFiles rows order.task
 
--- how many of the words are `-`
-abbrev pub dashes : List Text → ℕ
-dashes words = count_by (λ word. bytes_eq word (codes "-")) words
+-- how many of the words are this name
+abbrev pub times : Text → List Text → ℕ
+times name words = count_by (λ word. bytes_eq word name) words
 
-abbrev pub list_dashes : Option Text → ℕ
-list_dashes None = 0
-list_dashes (Some list) = dashes (list ∷ [])
+abbrev pub list_times : Text → Option Text → ℕ
+list_times name None = 0
+list_times name (Some list) = times name (list ∷ [])
 
--- a file is read by this word, which isn't that of standard output
-abbrev pub IsWritten : Inputs → Text → Type 0
-IsWritten inputs output = (output ≢ codes "-")
-    × (Contains output (map (λ word. word.now) inputs.files.items) ⊎ (option_map (λ word. word.now) inputs.list ≡ Some output))
+-- how often a file of this name is read
+abbrev pub reads : Inputs → Text → ℕ
+reads inputs name = times name (map (λ word. word.now) inputs.files.items) + list_times name (option_map (λ word. word.now) inputs.list)
 
--- standard input is read more than once
-abbrev pub ReadsTwice : Inputs → Type 0
-ReadsTwice inputs = 1 < dashes (map (λ word. word.now) inputs.files.items) + list_dashes (option_map (λ word. word.now) inputs.list)
+-- a file of this name is read, which isn't standard output
+abbrev pub IsRead : Inputs → Text → Type 0
+IsRead inputs output = (output ≢ codes "-") × (0 < reads inputs output)
+
+-- standard input is read twice, or the output, too
+abbrev pub IsReadAgain : Inputs → Text → Type 0
+IsReadAgain inputs output = (1 < reads inputs (codes "-")) ⊎ IsRead inputs output
 
 -- standard input is read twice, or the output is the input
 abbrev pub IsTwice : Order → Type 0
 IsTwice order = elim order.task as (λ _. Type 0) [
-  | Task.Each job inputs ↦ ReadsTwice inputs
+  | Task.Each job inputs ↦ 1 < reads inputs (codes "-")
   | Task.Canonicalise input output ↦ (input.now ≢ codes "-") × (output.now ≡ input.now)
-  | Task.Collect inputs output ↦ ReadsTwice inputs ⊎ IsWritten inputs output.now
+  | Task.Collect inputs output ↦ IsReadAgain inputs output.now
   | Task.Compare first second ↦ (first.now ≡ codes "-") × (second.now ≡ codes "-")
 ]
 

@@ -1,7 +1,8 @@
 -- Why words give no order.
-use Rattle.std.specs.Prelude.{◌≡◌, [], Option, List, Result, Ok, Err}
-use Rattle.clap.specs.Walk.{Row, Text}
-use Rattle.clap.specs.Words.{HasKind, Kinds}
+use Rattle.std.specs.Prelude.{◌≡◌, ◌⊎◌, ◌<◌, List, [], length, codes, Option, Some, None, is_some, Result, Ok, Err, IsTrue}
+use Rattle.clap.specs.Walk.{Row, Text, first_of}
+use Rattle.clap.specs.Words.{HasKind, Kinds, kind_of}
+use Rattle.clap.specs.declared.error.kind.ErrorKind.{ErrorKind}
 use Rattle.ill_cli.specs.declared.orders.Order.{Order}
 use Rattle.ill_cli.specs.declared.fault.LineFault.{LineFault}
 use Rattle.ill_cli.specs.declared.fault.LineFault.TheVariants.{Line, SameWord, Missing, Unexpected, LinesAndHex, LinesAndKeepGoing, NotOneFile}
@@ -9,7 +10,7 @@ use Rattle.ill_cli.specs.Orders.{files_in, IsBoth, IsOrderOf, IsTwice, LinesGoOn
 
 -- words of `canonicalise` that are fewer than IN and OUT, or stand with a list of files, and have no `-o`
 abbrev pub LacksTwo : List Row → Type 0
-LacksTwo rows = (first_of (codes "output") rows ≡ None) × ((length (files_in rows) < 2) ⊎ (first_of (codes "files-from") rows ≢ None))
+LacksTwo rows = (first_of (codes "output") rows ≡ None) × ((length (files_in rows) < 2) ⊎ IsTrue (is_some (first_of (codes "files-from") rows)))
 
 -- words of `canonicalise` that are more than IN and OUT, and have no `-o`
 abbrev pub ExceedsTwo : List Row → Type 0
@@ -43,6 +44,6 @@ IsRefusedBy kinds (Err NotOneFile) = kinds ≡ []
 -- words of `canonicalise` without `-o` are not IN and OUT
 abbrev pub IsNotTwo : List Row → LineFault → Type 0
 IsNotTwo rows (Missing error) = (kind_of error ≡ ErrorKind.MissingRequiredArgument)
-    × ((length (files_in rows) < 2) ⊎ (first_of (codes "files-from") rows ≢ None))
+    × ((length (files_in rows) < 2) ⊎ IsTrue (is_some (first_of (codes "files-from") rows)))
 IsNotTwo rows (Unexpected error) = (kind_of error ≡ ErrorKind.UnknownArgument) × (2 < length (files_in rows))
 IsNotTwo rows fault = ⊥

@@ -12,11 +12,13 @@ pub struct ReportLine(pub Report);
 
 impl fmt::Display for ReportLine {
     fn fmt<W: fmt::Write>(&self, f: &mut fmt::Formatter<W>) -> fmt::Result {
-        let ReportLine(Report {
-            message,
-            refusal,
-            ends,
-        }) = *self;
+        let ReportLine(
+            Report {
+                message,
+                refusal,
+                ends,
+            },
+        ) = *self;
         let line = RunLine(RunFault::Refused { message, refusal });
         if ends {
             write!(f, "{line}")

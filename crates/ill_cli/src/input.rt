@@ -7,8 +7,9 @@ use crate::output::{Flushing, Output, OutputOf};
 use crate::same_file::FileId;
 use ber_core::{Ahead, Broken, FromBuffer, Source};
 use ill_jobs::{RunFault, read_most};
+use std::alloc::Global;
 use std::fs::{self, OpenFile};
-use std::io::Printer;
+use std::io::{Printer, Read, Write};
 use std::rt::Files;
 
 /// A source that was opened: standard input or a file.
@@ -62,15 +63,17 @@ impl<S: Ahead, F: Ahead> Ahead for Opened<S, F> {
 pub type Reading<'o, 'r, R, I> = FromBuffer<Flushing<'o, I, Printer<'r, R>, <R as Files>::File>>;
 
 /// The source of an input under the runtime `R`, which shares the output.
-pub type InputSource<'o, 'r, R> =
-    Opened<Reading<'o, 'r, R, <R as Input>::Reader>, Reading<'o, 'r, R, <R as Files>::File>>;
+pub type InputSource<'o, 'r, R> = Opened<
+    Reading<'o, 'r, R, <R as Input>::Reader>,
+    Reading<'o, 'r, R, <R as Files>::File>,
+>;
 
 /// Opens the input of this name, standard input for `-`.
 ///
 /// # Errors
 ///
 /// There is no file of this name that can be read, or memory ran out.
-pub fn open<'o, 'r, R: Print + Input + Files + AllocGlobal>(
+pub fn open<'o, 'r: 'o, R: Print + Input + Files + AllocGlobal>(
     rt: &'r R,
     name: &str,
     output: &'o OutputOf<'r, R>,
@@ -97,7 +100,7 @@ pub fn read_whole<R: Print + Input + Files + AllocGlobal>(
 }
 
 /// Opens an input as [`open`] does, and returns which regular file it is, None where it is not one.
-pub fn open_and_identify<'o, 'r, R: Print + Input + Files + AllocGlobal>(
+pub fn open_and_identify<'o, 'r: 'o, R: Print + Input + Files + AllocGlobal>(
     rt: &'r R,
     name: &str,
     output: &'o OutputOf<'r, R>,
@@ -105,14 +108,19 @@ pub fn open_and_identify<'o, 'r, R: Print + Input + Files + AllocGlobal>(
     let alloc = rt.alloc();
     if name == "-" {
         let file = FileId::of_standard_input(rt);
-        let inner = rt.reader();
-        let source =
-            FromBuffer::new(alloc, Flushing { inner, output }).map_err(|_| Fault::out_of_memory())?;
+        let source = buffered(alloc, rt.reader(), output)?;
         return Ok((Opened::Standard(source), file));
     }
-    let inner = fs::open(rt, name).map_err(|_| Fault::cannot_open(alloc, name))?;
-    let file = FileId::of(inner.metadata());
-    let source =
-        FromBuffer::new(alloc, Flushing { inner, output }).map_err(|_| Fault::out_of_memory())?;
-    Ok((Opened::File(source), file))
+    let opened = fs::open(rt, name).map_err(|_| Fault::cannot_open(alloc, name))?;
+    let file = FileId::of(opened.metadata());
+    Ok((Opened::File(buffered(alloc, opened, output)?), file))
+}
+
+/// A reader as a source, which has the output written before it reads.
+fn buffered<'o, I: Read + Drop, S: Write + Drop, F: Write + Drop>(
+    alloc: Global,
+    inner: I,
+    output: &'o Output<S, F>,
+) -> Result<FromBuffer<Flushing<'o, I, S, F>>, Fault> {
+    FromBuffer::new(alloc, Flushing { inner, output }).map_err(|_| Fault::out_of_memory())
 }

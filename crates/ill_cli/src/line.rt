@@ -1,17 +1,15 @@
 //! The command line.
-ghost use Rattle.std.specs.Prelude.{◌≡◌, ◌+◌, List, [], map, codes, false, Some, Result, Err, option_map, unwrap_or, IfOk, IfErr, IfSome, IfNone, IsTrue, ◌↔◌};
+ghost use Rattle.std.specs.Prelude.{◌≡◌, ◌+◌, List, [], map, codes, false, Some, Err, option_map, is_some, length, IfOk, IfErr, IfSome, IfNone, IsTrue, ◌↔◌};
 ghost use Rattle.std.specs.String.{string_bytes};
-ghost use Rattle.clap.specs.Words.{FailsBy, HasKind, Text, all_of, app_of, fault_of, found_of, kind_of, rows_of, rule_of, subcommand_of, subcommand_rows_of};
+ghost use Rattle.clap.specs.Words.{FailsBy, Text, app_of, fault_of, first_of, found_of, kind_of, rows_of, rule_of, subcommand_of, subcommand_rows_of};
 ghost use Rattle.clap.specs.declared.builder.command.Command.TheViews.{out-Command as fields_of};
-ghost use Rattle.clap.specs.declared.error.Error.{Error};
 ghost use Rattle.clap.specs.declared.error.kind.ErrorKind.{ErrorKind};
 ghost use Rattle.ill_cli.specs.CommandLine.{each_file, each_going, each_line, file_rule, files_rule, flag_rule, into_one, list_rule, output_rule, program, two_files, with_lines};
-ghost use Rattle.ill_cli.specs.declared.fault.LineFault.{LineFault};
 ghost use Rattle.ill_cli.specs.declared.orders.Inputs.{Inputs};
 ghost use Rattle.ill_cli.specs.declared.orders.Order.{Order};
 ghost use Rattle.ill_cli.specs.declared.orders.Task.{Task};
 ghost use Rattle.ill_cli.specs.declared.orders.Verb.{Verb};
-ghost use Rattle.ill_cli.specs.Orders.{dashes, files_in, list_dashes, verb as verb_of_task, verb_name, HasFiles, HasInputs, HasPair, HasTwo, IsBoth, IsOrderOf, IsTwice, IsWritten, LinesGoOn, NamesNotOne, NamesNothing};
+ghost use Rattle.ill_cli.specs.Orders.{files_in, reads, verb as verb_of_task, verb_name, HasFiles, HasInputs, HasPair, IsBoth, IsOrderOf, IsRead, IsReadAgain, IsTwice, LinesGoOn, NamesNotOne, NamesNothing};
 ghost use Rattle.ill_cli.specs.Refused.{IsFaultOf, IsNotTwo, IsRefusedBy};
 
 use crate::fault::LineFault;
@@ -133,8 +131,11 @@ fn on_each_or_lines<'a>(
 fn show<'a>(alloc: Global) -> Result<Command<'a>, AllocError>
     ensures { IfOk result (λ c. (app_of c ≡ each_going (codes "show")) × ((fields_of c).has_globals ≡ false)) }
 {
-    on_each(alloc, "show", "Writes the messages as text", help::SHOW)?
-        .arg(flag(alloc, "keep-going", KEEP_GOING))
+    on_each(alloc, "show", "Writes the messages as text", help::SHOW)?.arg(flag(
+        alloc,
+        "keep-going",
+        KEEP_GOING,
+    ))
 }
 
 fn check<'a>(alloc: Global) -> Result<Command<'a>, AllocError>
@@ -243,42 +244,41 @@ fn is_twice(order: &Order<'_>) -> bool
     ensures { IsTrue result ↔ IsTwice order.now }
 {
     match &order.task {
-        Task::Each { inputs, .. } => dashes(inputs) > 1,
-        Task::Collect { inputs, output } => dashes(inputs) > 1 || is_read(inputs, output),
+        Task::Each { inputs, .. } => reads(inputs, "-") > 1,
+        Task::Collect { inputs, output } => is_read_again(inputs, output),
         Task::Canonicalise { input, output } => *input != "-" && *output == *input,
         Task::Compare { first, second } => *first == "-" && *second == "-",
     }
 }
 
-/// How often standard input is named.
-fn dashes(inputs: &Inputs<'_>) -> usize
-    ensures { result ≡ dashes (map (λ word. word.now) inputs.now.files.items) + list_dashes (option_map (λ word. word.now) inputs.now.list) }
+/// Whether standard input is read twice, or the output, too.
+fn is_read_again(inputs: &Inputs<'_>, output: &str) -> bool
+    ensures { IsTrue result ↔ IsReadAgain inputs.now output.now }
 {
-    let mut count = 0;
-    for word in &inputs.files {
-        if *word == "-" {
-            count += 1;
-        }
-    }
-    if inputs.list == Some("-") {
-        count += 1;
-    }
-    count
+    reads(inputs, "-") > 1 || is_read(inputs, output)
 }
 
 /// Whether a file of this name is read, which isn't standard output.
 fn is_read(inputs: &Inputs<'_>, output: &str) -> bool
-    ensures { IsTrue result ↔ IsWritten inputs.now output.now }
+    ensures { IsTrue result ↔ IsRead inputs.now output.now }
 {
-    if output == "-" {
-        return false;
-    }
+    output != "-" && reads(inputs, output) > 0
+}
+
+/// How often a file of this name is read.
+fn reads(inputs: &Inputs<'_>, name: &str) -> usize
+    ensures { result ≡ reads inputs.now name.now }
+{
+    let mut count = 0;
     for word in &inputs.files {
-        if *word == output {
-            return true;
+        if *word == name {
+            count += 1;
         }
     }
-    inputs.list == Some(output)
+    if inputs.list == Some(name) {
+        count += 1;
+    }
+    count
 }
 
 /// Whether there is neither a file nor a list of files.
@@ -314,8 +314,14 @@ fn no_file(alloc: Global, task: &Task<'_>) -> Result<Error, AllocError>
 {
     let mut command = match task {
         Task::Each { job: Job::Show, .. } => show(alloc)?.bin_name("illcanon show")?,
-        Task::Each { job: Job::Check, .. } => check(alloc)?.bin_name("illcanon check")?,
-        Task::Each { job: Job::Digest, .. } => digest(alloc)?.bin_name("illcanon digest")?,
+        Task::Each {
+            job: Job::Check,
+            ..
+        } => check(alloc)?.bin_name("illcanon check")?,
+        Task::Each {
+            job: Job::Digest,
+            ..
+        } => digest(alloc)?.bin_name("illcanon digest")?,
         _ => canonicalise(alloc)?,
     };
     command.error(ErrorKind::MissingRequiredArgument, help::NO_FILE)
@@ -365,31 +371,51 @@ fn no_order(alloc: Global, matches: &ArgMatches<'_>) -> LineFault
 fn not_two(alloc: Global, words: &ArgMatches<'_>) -> Result<LineFault, AllocError>
     ensures { IfOk result (IsNotTwo (rows_of (found_of words.now))) }
 {
-    if words.get_str("files-from").is_some() {
-        return missing(alloc, help::NO_OUTPUT);
+    if has_list(words) {
+        return Ok(LineFault::Missing(missing(alloc, help::NO_OUTPUT)?));
     }
-    let files = match words.get_strs("file") {
-        Some(files) => files,
-        None => &[],
-    };
-    match files {
-        [] => missing(alloc, help::NO_IN),
-        [_] => missing(alloc, help::NO_OUT),
-        [_, _] => Err(AllocError),
-        [_, _, more, ..] => {
-            let message = format!(in alloc; "unexpected argument '{more}' found")?;
-            let error = canonicalise(alloc)?.error(ErrorKind::UnknownArgument, &message)?;
-            Ok(LineFault::Unexpected(error))
-        }
+    match count_of(words) {
+        0 => Ok(LineFault::Missing(missing(alloc, help::NO_IN)?)),
+        1 => Ok(LineFault::Missing(missing(alloc, help::NO_OUT)?)),
+        2 => Err(AllocError),
+        _ => Ok(LineFault::Unexpected(unexpected(alloc, words)?)),
     }
 }
 
-/// That `canonicalise` has too few words.
-fn missing(alloc: Global, message: &str) -> Result<LineFault, AllocError>
-    ensures { IfOk result (λ fault. (error : Error) × (fault ≡ LineFault.Missing error) × (kind_of error ≡ ErrorKind.MissingRequiredArgument)) }
+/// How many words FILE there are.
+fn count_of(words: &ArgMatches<'_>) -> usize
+    ensures { result ≡ length (files_in (rows_of (found_of words.now))) }
 {
-    let error = canonicalise(alloc)?.error(ErrorKind::MissingRequiredArgument, message)?;
-    Ok(LineFault::Missing(error))
+    match words.get_strs("file") {
+        Some(files) => files.len(),
+        None => 0,
+    }
+}
+
+/// Whether there is a list of files.
+fn has_list(words: &ArgMatches<'_>) -> bool
+    ensures { result ≡ is_some (first_of (codes "files-from") (rows_of (found_of words.now))) }
+{
+    words.get_str("files-from").is_some()
+}
+
+/// That `canonicalise` has too few words.
+fn missing(alloc: Global, message: &str) -> Result<Error, AllocError>
+    ensures { IfOk result (λ e. kind_of e ≡ ErrorKind.MissingRequiredArgument) }
+{
+    canonicalise(alloc)?.error(ErrorKind::MissingRequiredArgument, message)
+}
+
+/// That `canonicalise` has a third word.
+fn unexpected(alloc: Global, words: &ArgMatches<'_>) -> Result<Error, AllocError>
+    ensures { IfOk result (λ e. kind_of e ≡ ErrorKind.UnknownArgument) }
+{
+    let word = match words.get_strs("file") {
+        Some([_, _, word, ..]) => *word,
+        _ => "",
+    };
+    let message = format!(in alloc; "unexpected argument '{word}' found")?;
+    canonicalise(alloc)?.error(ErrorKind::UnknownArgument, &message)
 }
 
 fn order_of<'a>(alloc: Global, matches: &ArgMatches<'a>) -> Result<Option<Order<'a>>, AllocError>
@@ -464,10 +490,7 @@ fn compare<'a>(words: &ArgMatches<'a>) -> Option<Task<'a>>
     Some(Task::Compare { first, second })
 }
 
-fn normal_forms<'a>(
-    alloc: Global,
-    words: &ArgMatches<'a>,
-) -> Result<Option<Task<'a>>, AllocError>
+fn normal_forms<'a>(alloc: Global, words: &ArgMatches<'a>) -> Result<Option<Task<'a>>, AllocError>
     ensures some { IfOk result (λ found. IfSome found (λ task. (verb_of_task task ≡ Verb.Canonicalise) × HasFiles (rows_of (found_of words.now)) task)) }
     ensures none { IfOk result (λ found. IfNone found ((task : Task) → verb_of_task task ≡ Verb.Canonicalise → HasFiles (rows_of (found_of words.now)) task → ⊥)) }
 {

@@ -32,10 +32,7 @@ pub enum Task<'a> {
     /// The normal forms of the messages of one file, into another.
     Canonicalise { input: &'a str, output: &'a str },
     /// The normal forms of the messages of each file, in turn, into one file.
-    Collect {
-        inputs: Inputs<'a>,
-        output: &'a str,
-    },
+    Collect { inputs: Inputs<'a>, output: &'a str },
     /// A comparison of two files.
     Compare { first: &'a str, second: &'a str },
 }

@@ -1,4 +1,6 @@
 //! The output of a command. It is flushed before the input waits for more.
+ghost use Rattle.std.specs.Prelude.{◌≤◌, length, IfOk};
+
 use crate::fault::{Fault, RunLine, is_output_lost};
 use crate::replacement::{self, Replacement};
 use ill_jobs::{RunFault, Verdict};
@@ -89,7 +91,10 @@ impl<S: Write + Drop, F: Write + Drop> Output<S, F> {
         Ok(())
     }
 
-    fn put(&self, octets: &[u8], is_direct: bool) -> io::Result<usize> {
+    /// Writes octets, or keeps them until more are there, and returns how many.
+    fn put(&self, octets: &[u8], is_direct: bool) -> io::Result<usize>
+        ensures { IfOk result (λ n. n ≤ length octets.now) }
+    {
         if let Ok(mut held) = self.open.try_borrow_mut() {
             if let Some(open) = held.as_mut() {
                 if open.is_lost {
