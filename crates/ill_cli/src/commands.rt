@@ -7,15 +7,16 @@ use crate::collect::collect;
 use crate::each::each_input;
 use crate::fault::{Fault, print, status_of};
 use crate::going::{Printed, verdict_of};
-use crate::input::{open, open_and_identify};
+use crate::input::{Shared, open, open_alone, open_and_identify};
 use crate::line::order;
 use crate::orders::{Order, Task};
-use crate::output::{self, Output, OutputOf, ToOutput, begin, begin_standard};
+use crate::output::{self, Output, ToOutput, begin, begin_standard};
 use crate::same_file::FileId;
 use crate::words::words_of;
-use ber_core::{Ahead, AtHand, ToWrite};
+use ber_core::{AtHand, ToWrite};
 use ill_jobs::{Job, RunFault, Verdict, Work, run_by, run_on_by, run_same};
 use ill_lines::{LineJob, LinesFault, run_lines};
+use std::io::{self, BufWriter, Read, Write};
 use std::rt::{Env, Files};
 
 /// Does what the process's words say, prints the line of each fault, and returns the exit status: 0, 1, 2 or 3, as [`status_of`] says.
@@ -113,7 +114,9 @@ fn each_line<R: Print + Eprint + Input + Files + AllocGlobal>(
 ) -> Result<Verdict, Fault> {
     let output = Output::new();
     let mut source = open(rt, input, &output)?;
-    to_standard_output(rt, Doing::Lines(job), &mut source, &output)
+    begin_standard(rt, &output)?;
+    let done = put_all(rt, Doing::Lines(job), &mut source, &output);
+    output.finish(done)
 }
 
 /// Prints the line of a fault, and returns the exit status.
@@ -135,16 +138,29 @@ fn compare<R: Print + Input + Files + AllocGlobal>(
     second: &str,
 ) -> Result<Verdict, Fault> {
     let alloc = rt.alloc();
-    let output = Output::new();
-    let mut first = open(rt, first, &output)?;
-    let mut second = open(rt, second, &output)?;
-    begin_standard(rt, &output)?;
-    let mut sink = ToWrite::new(ToOutput {
-        output: &output,
-        is_direct: false,
-    });
+    let (mut first, _) = open_alone(rt, first)?;
+    let (mut second, _) = open_alone(rt, second)?;
+    let mut writer = BufWriter::new(alloc, io::writer(rt)).map_err(|_| Fault::out_of_memory())?;
+    let mut sink = ToWrite::new(&mut writer);
     let done = run_same(alloc, hex, &mut first, &mut second, &mut sink);
-    output.finish(done.map_err(Fault::from))
+    flushed(done, &mut writer)
+}
+
+/// Writes what is still in the buffer. A write fault counts the octets that left the buffer.
+fn flushed<W: Write + Drop>(
+    done: Result<Verdict, RunFault>,
+    writer: &mut BufWriter<W>,
+) -> Result<Verdict, Fault> {
+    let flushed = writer.flush();
+    let kept = writer.buffer().len() as u128;
+    match done {
+        Err(RunFault::WriteFault(count)) => {
+            Err(Fault::from(RunFault::WriteFault(count.saturating_sub(kept))))
+        }
+        _ if flushed.is_err() => Err(Fault::Flush),
+        Ok(verdict) => Ok(verdict),
+        Err(fault) => Err(Fault::from(fault)),
+    }
 }
 
 /// Writes normal forms. The output is opened only once the input is, and only if it isn't the same file.
@@ -166,25 +182,16 @@ pub(crate) fn canonicalise<R: Print + Eprint + Input + Files + AllocGlobal>(
     output::end(rt, &output, part, name, done)
 }
 
-/// Does a job with an input, and writes to standard output.
-pub(crate) fn to_standard_output<'r, R: Print + Eprint + Files + AllocGlobal, S: Ahead>(
-    rt: &'r R,
-    doing: Doing<'_>,
-    source: &mut S,
-    output: &OutputOf<'r, R>,
-) -> Result<Verdict, Fault> {
-    begin_standard(rt, output)?;
-    let done = put_all(rt, doing, source, output);
-    output.finish(done)
-}
-
 /// Does a job with an input.
-pub(crate) fn put_all<'r, R: Print + Eprint + Files + AllocGlobal, S: Ahead>(
-    rt: &'r R,
+pub(crate) fn put_all<'o, R, I: Read, J: Read, S: Write + Drop, F: Write + Drop>(
+    rt: &R,
     doing: Doing<'_>,
-    source: &mut S,
-    output: &OutputOf<'r, R>,
-) -> Result<Verdict, Fault> {
+    source: &mut Shared<'o, I, J, S, F>,
+    output: &'o Output<S, F>,
+) -> Result<Verdict, Fault>
+where
+    R: Eprint + AllocGlobal,
+{
     let alloc = rt.alloc();
     let mut sink = ToWrite::new(ToOutput {
         output,
@@ -192,14 +199,22 @@ pub(crate) fn put_all<'r, R: Print + Eprint + Files + AllocGlobal, S: Ahead>(
         is_direct: matches!(doing, Doing::Lines(_)),
     });
     match doing {
-        Doing::Messages(work) => match run_by::<S, AtHand, _>(alloc, work, source, &mut sink) {
+        Doing::Messages(work) => match run_by::<Shared<'o, I, J, S, F>, AtHand, _>(
+            alloc, work, source, &mut sink,
+        ) {
             Ok(verdict) => Ok(verdict),
             Err(fault) => Err(Fault::from(fault)),
         },
         Doing::Going(work) => {
             let name = work.is_named.then_some(work.name);
             let mut reports = Printed { rt, name };
-            match run_on_by::<S, AtHand, _, _>(alloc, work, source, &mut sink, &mut reports) {
+            match run_on_by::<Shared<'o, I, J, S, F>, AtHand, _, _>(
+                alloc,
+                work,
+                source,
+                &mut sink,
+                &mut reports,
+            ) {
                 Ok(gone) => Ok(verdict_of(gone)),
                 Err(fault) => Err(Fault::from(fault)),
             }

@@ -3,12 +3,12 @@ ghost use Rattle.std.specs.Prelude.{◌≡◌, ◌<◌, ◌++◌, [], ◌∷◌,
 ghost use Rattle.ill_cli.specs.code.Listed.{names_in};
 ghost use Rattle.ill_cli.specs.Status.{IsStatusOfEach, worst};
 
-use crate::commands::{How, end, to_standard_output};
+use crate::commands::{How, end, put_all};
 use crate::fault::{Fault, LineFault, is_output_lost, print_of, status_of};
 use crate::input::{open, read_whole};
 use crate::names::{Name, printed};
 use crate::orders::Inputs;
-use crate::output::Output;
+use crate::output::{Output, begin_standard};
 use crate::same_file::FileId;
 use ill_jobs::{Job, Verdict, Work};
 use std::alloc::{AllocError, Global};
@@ -40,7 +40,7 @@ pub fn each_input<R: Print + Eprint + Input + Files + AllocGlobal>(
 }
 
 /// The octets of a list of names, none where there is no list, and which regular file it is.
-pub fn list_of<R: Print + Input + Files + AllocGlobal>(
+pub fn list_of<R: Input + Files + AllocGlobal>(
     rt: &R,
     list: Option<&str>,
 ) -> Result<(Vec<u8>, Option<FileId>), Fault> {
@@ -158,7 +158,9 @@ fn one_file<R: Print + Eprint + Input + Files + AllocGlobal>(
         name: &name,
         is_named,
     };
-    to_standard_output(rt, how.doing(work), &mut source, &output)
+    begin_standard(rt, &output)?;
+    let done = put_all(rt, how.doing(work), &mut source, &output);
+    output.finish(done)
 }
 
 /// The name of a file as text. Other octets name no file that can be opened.

@@ -59,13 +59,19 @@ impl<S: Ahead, F: Ahead> Ahead for Opened<S, F> {
     }
 }
 
-/// What reads an input, after it has the output written.
-pub type Reading<'o, 'r, R, I> = FromBuffer<Flushing<'o, I, Printer<'r, R>, <R as Files>::File>>;
+/// The source of an input, from readers that have the output written before they read.
+pub type Shared<'o, I, J, S, F> = Opened<
+    FromBuffer<Flushing<'o, I, S, F>>,
+    FromBuffer<Flushing<'o, J, S, F>>,
+>;
 
 /// The source of an input under the runtime `R`, which shares the output.
-pub type InputSource<'o, 'r, R> = Opened<
-    Reading<'o, 'r, R, <R as Input>::Reader>,
-    Reading<'o, 'r, R, <R as Files>::File>,
+pub type InputSource<'o, 'r, R> = Shared<
+    'o,
+    <R as Input>::Reader,
+    <R as Files>::File,
+    Printer<'r, R>,
+    <R as Files>::File,
 >;
 
 /// Opens the input of this name, standard input for `-`.
@@ -87,16 +93,35 @@ pub fn open<'o, 'r: 'o, R: Print + Input + Files + AllocGlobal>(
 /// # Errors
 ///
 /// There is no file of this name that can be read, reading it fails, or memory ran out.
-pub fn read_whole<R: Print + Input + Files + AllocGlobal>(
+pub fn read_whole<R: Input + Files + AllocGlobal>(
     rt: &R,
     name: &str,
 ) -> Result<(Vec<u8>, Option<FileId>), Fault> {
-    let output = Output::new();
-    let (mut source, file) = open_and_identify(rt, name, &output)?;
+    let (mut source, file) = open_alone(rt, name)?;
     match read_most(rt.alloc(), &mut source, usize::MAX) {
         Ok(octets) => Ok((octets, file)),
         Err(why) => Err(Fault::from(RunFault::from(why))),
     }
+}
+
+/// The source of an input that has no output to share.
+pub type AloneSource<R> = Opened<FromBuffer<<R as Input>::Reader>, FromBuffer<<R as Files>::File>>;
+
+/// Opens an input as [`open_and_identify`] does, whose reads wait for nothing.
+pub fn open_alone<R: Input + Files + AllocGlobal>(
+    rt: &R,
+    name: &str,
+) -> Result<(AloneSource<R>, Option<FileId>), Fault> {
+    let alloc = rt.alloc();
+    if name == "-" {
+        let file = FileId::of_standard_input(rt);
+        let source = FromBuffer::new(alloc, rt.reader()).map_err(|_| Fault::out_of_memory())?;
+        return Ok((Opened::Standard(source), file));
+    }
+    let opened = fs::open(rt, name).map_err(|_| Fault::cannot_open(alloc, name))?;
+    let file = FileId::of(opened.metadata());
+    let source = FromBuffer::new(alloc, opened).map_err(|_| Fault::out_of_memory())?;
+    Ok((Opened::File(source), file))
 }
 
 /// Opens an input as [`open`] does, and returns which regular file it is, None where it is not one.

@@ -1,5 +1,5 @@
 //! The command line.
-ghost use Rattle.std.specs.Prelude.{◌≡◌, ◌+◌, List, [], map, codes, false, Some, Err, option_map, is_some, length, IfOk, IfErr, IfSome, IfNone, IsTrue, ◌↔◌};
+ghost use Rattle.std.specs.Prelude.{◌≡◌, ◌≢◌, ◌+◌, List, [], ◌∷◌, map, codes, false, Some, Err, option_map, is_some, None, length, IfOk, IfErr, IfSome, IfNone, IsTrue, ◌↔◌};
 ghost use Rattle.std.specs.String.{string_bytes};
 ghost use Rattle.clap.specs.Words.{FailsBy, Text, app_of, fault_of, first_of, found_of, kind_of, rows_of, rule_of, subcommand_of, subcommand_rows_of};
 ghost use Rattle.clap.specs.declared.builder.command.Command.TheViews.{out-Command as fields_of};
@@ -358,13 +358,15 @@ fn no_order(alloc: Global, matches: &ArgMatches<'_>) -> LineFault
     let Some((name, words)) = matches.subcommand() else {
         return LineFault::Line(Error::from(AllocError));
     };
-    if name != "canonicalise" || words.get_str("output").is_some() {
-        return LineFault::Line(Error::from(AllocError));
+    if name == "canonicalise" {
+        if let None = words.get_str("output") {
+            return match not_two(alloc, words) {
+                Ok(fault) => fault,
+                Err(AllocError) => LineFault::Line(Error::from(AllocError)),
+            };
+        }
     }
-    match not_two(alloc, words) {
-        Ok(fault) => fault,
-        Err(AllocError) => LineFault::Line(Error::from(AllocError)),
-    }
+    LineFault::Line(Error::from(AllocError))
 }
 
 /// Why words are not IN and OUT, in clap's words.
@@ -495,13 +497,36 @@ fn normal_forms<'a>(alloc: Global, words: &ArgMatches<'a>) -> Result<Option<Task
     ensures none { IfOk result (λ found. IfNone found ((task : Task) → verb_of_task task ≡ Verb.Canonicalise → HasFiles (rows_of (found_of words.now)) task → ⊥)) }
 {
     let inputs = inputs(alloc, words)?;
-    if let Some(output) = words.get_str("output") {
-        return Ok(Some(Task::Collect { inputs, output }));
+    match words.get_str("output") {
+        Some(output) => Ok(Some(Task::Collect { inputs, output })),
+        None => match in_and_out(&inputs) {
+            Some((input, output)) => Ok(Some(Task::Canonicalise { input, output })),
+            None => Ok(None),
+        },
     }
-    match (inputs.files.as_slice(), inputs.list) {
-        ([input, output], None) => Ok(Some(Task::Canonicalise { input, output })),
-        _ => Ok(None),
+}
+
+/// IN and OUT, where there are two words and no list of files.
+fn in_and_out<'a>(inputs: &Inputs<'a>) -> Option<(&'a str, &'a str)>
+    ensures words { IfSome result (λ two. map (λ word. word.now) inputs.now.files.items ≡ two.0.now ∷ two.1.now ∷ []) }
+    ensures list { IfSome result (λ two. inputs.now.list ≡ None) }
+    ensures none { IfNone result (length inputs.now.files.items ≡ 2 → inputs.now.list ≡ None → ⊥) }
+{
+    match inputs.list {
+        Some(_) => None,
+        None => two_of(&inputs.files),
     }
+}
+
+/// Two words, if there is no third.
+fn two_of<'a>(words: &[&'a str]) -> Option<(&'a str, &'a str)>
+    ensures some { IfSome result (λ two. map (λ word. word.now) words.now ≡ two.0.now ∷ two.1.now ∷ []) }
+    ensures none { IfNone result (length words.now ≢ 2) }
+{
+    if words.len() != 2 {
+        return None;
+    }
+    Some((words[0], words[1]))
 }
 
 fn pair<'a>(words: &ArgMatches<'a>) -> Option<(&'a str, &'a str)>

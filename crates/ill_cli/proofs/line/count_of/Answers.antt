@@ -1,4 +1,5 @@
-use Rattle.std.proofs.Common.{◌∙◌, [], length, map, option_map, unwrap_or, sym, ap, codes, length-map}
+use Rattle.std.proofs.Common.{◌∙◌, [], length, map, option_map, unwrap_or, sym, ap, codes}
+use Rattle.std.proofs.lemmas.List.{length-map}
 use Rattle.clap.specs.Words.{found_of}
 use Rattle.clap.proofs.WalkLemmas.{raw_values-rows}
 use Rattle.ill_cli.proofs.line.count_of.Goals as goal
