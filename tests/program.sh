@@ -126,7 +126,21 @@ row hex-text-too-long 1 '' 'illcanon: hex: too long\n' show --hex -
 # Words that are no command line, help and version.
 row no-such-command 2 '' any shwo F
 row file-left-out 2 '' any same F
-row word-too-many 2 '' any same F G F
+row word-too-many 2 '' any same F G H
+required='error: the following required arguments were not provided:\n  '
+usage='\n\nUsage: illcanon '
+help="\n\nFor more information, try '--help'.\n"
+two_forms="${usage}canonicalise [OPTIONS] <IN> <OUT>\n       illcanon canonicalise [OPTIONS] -o <OUT> <FILE>...$help"
+for command in show check digest; do
+    row "no-file: $command" 2 '' "$required<FILE>...$usage$command [OPTIONS] [FILE]...$help" $command
+done
+row no-in 2 '' "$required<IN>\n  <OUT>$two_forms" canonicalise
+row no-out 2 '' "$required<OUT>$two_forms" canonicalise F
+row no-file-for-out 2 '' "$required<FILE>...$two_forms" canonicalise -o F
+row list-without-out 2 '' "$required-o <OUT>$two_forms" canonicalise --files-from F G H
+row a-third-word 2 '' "error: unexpected argument 'H' found$two_forms" canonicalise F G H
+row lines-and-keep-going 2 '' 'illcanon: --lines excludes --keep-going\n' check --lines --keep-going F
+row same-keeps-not-going 2 '' any same --keep-going F F
 row no-such-flag 2 '' any check --hexx F
 row version 0 'illcanon 0.1.0\n' '' --version
 for words in --help 'show --help' 'check --help' 'same --help' 'canonicalise --help' 'dump --help' 'help same'; do
@@ -149,6 +163,92 @@ done
 for words in causes profile 'causes --' 'causes F'; do
     row "topic: $words" 2 '' any $words
 done
+# Messages that are passed over. An EXPIRED with nothing in it is refused at its end; one without its second part, and without its
+# end marks, is refused at 7, and its end is unknown.
+EMPTY=7400
+normal='Expired, 33 octets, normal\n'
+not_normal='Expired, 47 octets, not normal, normal form 33 octets\n'
+missing='Missing Expired.protocol-version-num\n'
+unknown='refused at 7 in message 2: Missing Expired.transaction-id; its end is unknown\n'
+digest=41b0dca84b6db1db587880995cae8f2ae640c5af026d4d9745a5bc56ba11a782
+octets GOOD $EXPIRED
+octets FIRST $EMPTY$EXPIRED$INDEFINITE
+octets MIDDLE $EXPIRED$EMPTY$EXPIRED
+octets LAST $EXPIRED$EXPIRED$EMPTY
+octets ENDLESS $EXPIRED$INCOMPLETE$EXPIRED
+: >NOTHING
+row going-over-the-first 1 "message 2: ${normal}message 3: $not_normal" "illcanon: refused at 2 in message 1: $missing" check --keep-going FIRST
+row going-over-the-middle 1 "message 1: ${normal}message 3: $normal" "illcanon: refused at 2 in message 2: $missing" check --keep-going MIDDLE
+row going-over-the-last 1 "message 1: ${normal}message 2: $normal" "illcanon: refused at 2 in message 3: $missing" check --keep-going LAST
+row not-going-over-the-middle 1 "message 1: $normal" "illcanon: refused at 2 in message 2: $missing" check MIDDLE
+row going-to-an-unknown-end 1 "message 1: $normal" "illcanon: $unknown" check --keep-going ENDLESS
+row going-over-no-message 0 '' '' check --keep-going NOTHING
+row going-over-a-good-one 0 "message 1: $normal" '' check --keep-going GOOD
+row going-over-files 1 "FIRST: message 2: ${normal}FIRST: message 3: ${not_normal}ENDLESS: message 1: ${normal}GOOD: message 1: $normal" \
+    "illcanon: FIRST: refused at 2 in message 1: ${missing}illcanon: ENDLESS: $unknown" check --keep-going FIRST NOTHING ENDLESS GOOD
+row going-over-an-absent-file 3 "GOOD: message 1: $normal" 'illcanon: cannot open ABSENT\n' check --keep-going ABSENT GOOD
+row going-digest 1 "$digest  MIDDLE:1\n$digest  MIDDLE:3\n" "illcanon: refused at 2 in message 2: $missing" digest --keep-going MIDDLE
+printf '%s\n%s %s\n' $EXPIRED $EMPTY $EXPIRED >in
+row going-in-hexadecimal 1 "$EXPIRED\n$EXPIRED\n" "illcanon: refused at 2 in message 2: $missing" canonicalise --keep-going --hex - -
+octets in $EMPTY$EXPIRED$EMPTY
+row going-show 1 'message 2 Expired\nprotocol-version-num = 2\ntransaction-id.transaction-group-qualifier = general "G"\ntransaction-id.transaction-qualifier = general "Q"\nservice-date-time.date-time-of-this-service.date = 20240229\n' \
+    "illcanon: refused at 2 in message 1: ${missing}illcanon: refused at 2 in message 3: $missing" show --keep-going -
+: >in
+
+# Many files into one. forms NAME COUNT: OUT holds the normal form this many times
+forms() {
+    i=0
+    while [ $i -lt "$2" ]; do cat GOOD; i=$((i + 1)); done >WANTED
+    cmp -s WANTED OUT || { failed=$((failed + 1)) && echo "failed: $1: OUT is not the normal forms"; }
+}
+row many-into-one 0 '' '' canonicalise -o OUT GOOD NOTHING GOOD
+forms many-into-one 2
+row many-of-which-two-are-bad 1 '' "illcanon: FIRST: refused at 2 in message 1: ${missing}illcanon: MIDDLE: refused at 2 in message 2: $missing" canonicalise -o OUT FIRST MIDDLE GOOD
+forms many-of-which-two-are-bad 2
+row many-going-over 1 '' "illcanon: FIRST: refused at 2 in message 1: ${missing}illcanon: ENDLESS: $unknown" canonicalise --keep-going -o OUT FIRST ENDLESS GOOD
+forms many-going-over 4
+row one-going-over 1 '' "illcanon: refused at 2 in message 1: $missing" canonicalise --keep-going FIRST OUT
+forms one-going-over 2
+row one-by-the-option 1 '' "illcanon: refused at 2 in message 1: $missing" canonicalise -o OUT FIRST
+forms one-by-the-option 0
+printf 'GOOD\0MIDDLE' >LIST
+row many-of-a-list 1 '' "illcanon: LAST: refused at 2 in message 3: ${missing}illcanon: MIDDLE: refused at 2 in message 2: $missing" \
+    canonicalise -o OUT --files-from LIST LAST --keep-going
+forms many-of-a-list 5
+row many-with-an-absent-one 3 '' 'illcanon: cannot open ABSENT\n' canonicalise --output OUT ABSENT GOOD
+forms many-with-an-absent-one 1
+row absent-ones-leave-out-as-it-was 3 '' 'illcanon: cannot open ABSENT\nillcanon: cannot open absent/too\n' canonicalise -o OUT ABSENT absent/too
+forms absent-ones-leave-out-as-it-was 1
+row out-is-one-of-many 2 '' 'illcanon: IN and OUT are the same file\n' canonicalise -o OUT GOOD ./OUT
+row out-is-the-list 2 '' 'illcanon: IN and OUT are the same file\n' canonicalise -o ./OUT GOOD --files-from OUT
+row out-is-one-of-the-words 2 '' 'illcanon: the same word twice\n' canonicalise -o OUT GOOD OUT
+row full-device-for-many 3 '' 'illcanon: write fault after 0 octets\n' canonicalise -o /dev/full GOOD GOOD
+forms what-many-leave 1
+ls | grep part && failed=$((failed + 1)) && echo 'failed: a temporary file is left'
+rm -f OUT WANTED LIST NOTHING
+
+# What is made of the messages that came is written before more is waited for.
+mkfifo ASKED TOLD
+for words in 'canonicalise - -' 'canonicalise -o - - NOTHING' 'check -' 'digest --keep-going -' 'show -'; do
+    : >NOTHING
+    "$program" $words <ASKED >TOLD 2>err &
+    exec 3>ASKED 4<TOLD
+    cat GOOD >&3
+    case $words in canonicalise*) timeout 10 head -c 33 <&4 >out ;; *) timeout 10 head -n 1 <&4 >out ;; esac
+    first=$(wc -c <out)
+    cat GOOD >&3
+    exec 3>&-
+    cat <&4 >>out
+    exec 4<&-
+    wait $!
+    status=$?
+    if [ $status = 0 ] && [ "$first" -gt 0 ] && [ "$(wc -c <out)" -gt "$first" ] && [ ! -s err ]; then
+        passed=$((passed + 1))
+    else
+        failed=$((failed + 1)) && echo "failed: flushed before it waits: $words: status $status, $first octets first"
+    fi
+done
+rm ASKED TOLD NOTHING FIRST MIDDLE LAST ENDLESS
 
 # What can't be opened, read or written.
 mkdir D
@@ -318,12 +418,15 @@ fi
     printf '\0\0\0\0\0\0'
 } >LARGE
 cp OLD OUT
-{ for _ in $(seq 100); do cat LARGE; done; sleep 60; } | "$program" canonicalise - OUT 2>err &
+mkfifo ENDLESS
+"$program" canonicalise - OUT <ENDLESS 2>err &
+exec 3>ENDLESS
+for _ in $(seq 100); do cat LARGE; done >&3
 for _ in $(seq 200); do [ "$(stat -c %s OUT.part 2>/dev/null || echo 0)" -gt 100000000 ] && break; sleep 0.1; done
-pkill -9 -x -f "$program canonicalise - OUT"
+kill -9 $!
 wait $! 2>/dev/null
+exec 3>&-
 if cmp -s OLD OUT && [ -s OUT.part ]; then passed=$((passed + 1)); else failed=$((failed + 1)) && echo 'failed: killed: OUT is not what it was'; fi
-pkill -f -x 'sleep 60' 2>/dev/null
 row after-a-kill 0 '' '' canonicalise F OUT
 cmp -s G OUT || { failed=$((failed + 1)) && echo 'failed: OUT is not the normal form after a kill'; }
 rm OUT.part

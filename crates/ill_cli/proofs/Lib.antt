@@ -1,3 +1,4 @@
+pub mod Canonicalised
 pub mod Found
 pub mod ListedNames
 pub mod Worst

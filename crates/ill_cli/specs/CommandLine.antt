@@ -4,9 +4,9 @@ use Rattle.clap.specs.Walk.{Rule, Text}
 use Rattle.clap.specs.Simple.{App, new_app, new_rule, with_rule, with_subcommand}
 use Rattle.clap.specs.declared.builder.action.ArgAction.TheVariants.{Append, SetTrue}
 
--- the flag `--hex`
-abbrev pub hex_rule : Rule
-hex_rule = record (new_rule (codes "hex")) { long = Some (codes "hex"); action = Some SetTrue }
+-- the flag `--NAME`
+abbrev pub flag_rule : Text → Rule
+flag_rule name = record (new_rule name) { long = Some name; action = Some SetTrue }
 
 -- a file that must be named
 abbrev pub file_rule : Text → Rule
@@ -20,27 +20,31 @@ list_rule = record (new_rule (codes "files-from")) { long = Some (codes "files-f
 abbrev pub files_rule : Rule
 files_rule = record (new_rule (codes "file")) { value_names = 1; action = Some Append }
 
--- the flag `--lines`
-abbrev pub lines_rule : Rule
-lines_rule = record (new_rule (codes "lines")) { long = Some (codes "lines"); action = Some SetTrue }
+-- the option `-o OUT`, `--output OUT`
+abbrev pub output_rule : Rule
+output_rule = record (new_rule (codes "output")) { long = Some (codes "output"); short = Some 111; value_names = 1 }
 
--- a command on any number of files, and one that has lines, too
+-- a command on any number of files, one that goes on after a message that is refused, too, and one that has lines, too
+
 abbrev pub each_file : Text → App
-each_file name = with_rule (with_rule (with_rule (new_app name) hex_rule) list_rule) files_rule
+each_file name = with_rule (with_rule (with_rule (new_app name) (flag_rule (codes "hex"))) list_rule) files_rule
+
+abbrev pub each_going : Text → App
+each_going name = with_rule (each_file name) (flag_rule (codes "keep-going"))
 
 abbrev pub with_lines : Text → App
-with_lines name = with_rule (with_rule (new_app name) hex_rule) lines_rule
+with_lines name = with_rule (with_rule (with_rule (new_app name) (flag_rule (codes "hex"))) (flag_rule (codes "keep-going"))) (flag_rule (codes "lines"))
 
 abbrev pub each_line : Text → App
 each_line name = with_rule (with_rule (with_lines name) list_rule) files_rule
 
--- a command on two files, and one that has lines, too
-
+-- a command on two files
 abbrev pub two_files : Text → App
-two_files name = with_rule (with_rule (with_rule (new_app name) hex_rule) (file_rule (codes "first"))) (file_rule (codes "second"))
+two_files name = with_rule (with_rule (with_rule (new_app name) (flag_rule (codes "hex"))) (file_rule (codes "first"))) (file_rule (codes "second"))
 
-abbrev pub two_files_or_lines : Text → App
-two_files_or_lines name = with_rule (with_rule (with_lines name) (file_rule (codes "first"))) (file_rule (codes "second"))
+-- a command that writes what it makes of any number of files into one, or of one file into another
+abbrev pub into_one : Text → App
+into_one name = with_rule (with_rule (with_rule (with_lines name) output_rule) list_rule) files_rule
 
 abbrev pub top : App
 top = let a = new_app (codes "illcanon") in
@@ -54,5 +58,5 @@ topic name = let a = new_app name in
 -- the program with its six commands, and two topics
 abbrev pub program : App
 program = with_subcommand (with_subcommand (with_subcommand (with_subcommand (with_subcommand (with_subcommand (with_subcommand (with_subcommand top
-    (each_file (codes "show")).top) (each_line (codes "check")).top) (each_line (codes "digest")).top) (each_file (codes "dump")).top)
-    (two_files (codes "same")).top) (two_files_or_lines (codes "canonicalise")).top) (topic (codes "causes")).top) (topic (codes "profile")).top
+    (each_going (codes "show")).top) (each_line (codes "check")).top) (each_line (codes "digest")).top) (each_file (codes "dump")).top)
+    (two_files (codes "same")).top) (into_one (codes "canonicalise")).top) (topic (codes "causes")).top) (topic (codes "profile")).top

@@ -1,5 +1,5 @@
 -- Which words give an order.
-use Rattle.std.specs.Prelude.{◌≡◌, ◌≢◌, ◌<◌, ◌+◌, ℕ, true, false, List, [], ◌∷◌, length, map, codes, count_by, Option, Some, None, option_map, unwrap_or}
+use Rattle.std.specs.Prelude.{◌≡◌, ◌≢◌, ◌⊎◌, ◌<◌, ◌+◌, ℕ, true, false, List, [], ◌∷◌, length, map, codes, count_by, Option, Some, None, option_map, unwrap_or}
 use Rattle.std.specs.Str.{bytes_eq}
 use Rattle.clap.specs.Walk.{Row, Text, all_of, first_of, one_of}
 use Rattle.ill_cli.specs.declared.orders.Inputs.{Inputs}
@@ -27,23 +27,34 @@ abbrev pub verb : Task → Verb
 verb (Task.Each job inputs) = verb_of_job job
 verb (Task.Dump inputs) = Verb.Dump
 verb (Task.Canonicalise input output) = Verb.Canonicalise
+verb (Task.Collect inputs output) = Verb.Canonicalise
 verb (Task.Compare first second) = Verb.Same
+
+-- the words FILE
+abbrev pub files_in : List Row → List Text
+files_in rows = unwrap_or (all_of (codes "file") rows) []
 
 -- the files of a job are the words FILE, and the word of `--files-from`
 abbrev pub HasInputs : List Row → Inputs → Type 0
-HasInputs rows inputs = (unwrap_or (all_of (codes "file") rows) [] ≡ map (λ word. word.now) inputs.files.items)
+HasInputs rows inputs = (files_in rows ≡ map (λ word. word.now) inputs.files.items)
     × (first_of (codes "files-from") rows ≡ option_map (λ word. word.now) inputs.list)
 
--- two words
+-- two words of their own
 abbrev pub HasPair : List Row → Text → Text → Type 0
 HasPair rows first second = (first_of (codes "first") rows ≡ Some first) × (first_of (codes "second") rows ≡ Some second)
 
--- the task has the files that were found; `canonicalise` has two of them
+-- two words and no other, and neither `-o` nor `--files-from`
+abbrev pub HasTwo : List Row → Text → Text → Type 0
+HasTwo rows input output = (files_in rows ≡ input ∷ output ∷ [])
+    × (first_of (codes "files-from") rows ≡ None) × (first_of (codes "output") rows ≡ None)
+
+-- the task has the files that were found; `canonicalise` has IN and OUT, or any number of files and the word of `-o`
 abbrev pub HasFiles : List Row → Task → Type 0
 HasFiles rows (Task.Each Job.Canonicalise inputs) = ⊥
 HasFiles rows (Task.Each job inputs) = HasInputs rows inputs
 HasFiles rows (Task.Dump inputs) = HasInputs rows inputs
-HasFiles rows (Task.Canonicalise input output) = HasPair rows input.now output.now
+HasFiles rows (Task.Canonicalise input output) = HasTwo rows input.now output.now
+HasFiles rows (Task.Collect inputs output) = HasInputs rows inputs × (first_of (codes "output") rows ≡ Some output.now)
 HasFiles rows (Task.Compare first second) = HasPair rows first.now second.now
 
 -- what was found for a command is the order's command, flags and files
@@ -55,31 +66,51 @@ pub record IsOrderOf (found : Option (Text × List Row)) (order : Order) : Type 
   pub lines : one_of (codes "lines") rows ≡ Some (codes "true") → order.lines ≡ true
   pub no_lines : one_of (codes "lines") rows ≡ Some (codes "false") → order.lines ≡ false
   pub never_lines : one_of (codes "lines") rows ≡ None → order.lines ≡ false
+  pub going : one_of (codes "keep-going") rows ≡ Some (codes "true") → order.keep_going ≡ true
+  pub no_going : one_of (codes "keep-going") rows ≡ Some (codes "false") → order.keep_going ≡ false
+  pub never_going : one_of (codes "keep-going") rows ≡ None → order.keep_going ≡ false
   pub files : HasFiles rows order.task
 
--- how many of the words are `-`
-abbrev pub dashes : List Text → ℕ
-dashes words = count_by (λ word. bytes_eq word (codes "-")) words
+-- how many of the words are this name
+abbrev pub times : Text → List Text → ℕ
+times name words = count_by (λ word. bytes_eq word name) words
 
-abbrev pub list_dashes : Option Text → ℕ
-list_dashes None = 0
-list_dashes (Some list) = dashes (list ∷ [])
+abbrev pub list_times : Text → Option Text → ℕ
+list_times name None = 0
+list_times name (Some list) = times name (list ∷ [])
+
+-- how often a file of this name is read
+abbrev pub reads : Inputs → Text → ℕ
+reads inputs name = times name (map (λ word. word.now) inputs.files.items) + list_times name (option_map (λ word. word.now) inputs.list)
+
+-- a file of this name is read, which isn't standard output
+abbrev pub IsRead : Inputs → Text → Type 0
+IsRead inputs output = (output ≢ codes "-") × (0 < reads inputs output)
+
+-- standard input is read twice, or the output, too
+abbrev pub IsReadAgain : Inputs → Text → Type 0
+IsReadAgain inputs output = (1 < reads inputs (codes "-")) ⊎ IsRead inputs output
 
 -- standard input is read twice, or the output is the input
 abbrev pub IsTwice : Order → Type 0
 IsTwice order = elim order.task as (λ _. Type 0) [
-  | Task.Each job inputs ↦ 1 < dashes (map (λ word. word.now) inputs.files.items) + list_dashes (option_map (λ word. word.now) inputs.list)
-  | Task.Dump inputs ↦ 1 < dashes (map (λ word. word.now) inputs.files.items) + list_dashes (option_map (λ word. word.now) inputs.list)
+  | Task.Each job inputs ↦ 1 < reads inputs (codes "-")
+  | Task.Dump inputs ↦ 1 < reads inputs (codes "-")
   | Task.Canonicalise input output ↦ (input.now ≢ codes "-") × (output.now ≡ input.now)
+  | Task.Collect inputs output ↦ IsReadAgain inputs output.now
   | Task.Compare first second ↦ (first.now ≡ codes "-") × (second.now ≡ codes "-")
 ]
 
--- there is neither a file nor a list of files
+-- neither a file nor a list of files
+abbrev pub HasNone : Inputs → Type 0
+HasNone inputs = (inputs.files.items ≡ []) × (inputs.list ≡ None)
+
 abbrev pub NamesNothing : Order → Type 0
 NamesNothing order = elim order.task as (λ _. Type 0) [
-  | Task.Each job inputs ↦ (inputs.files.items ≡ []) × (inputs.list ≡ None)
-  | Task.Dump inputs ↦ (inputs.files.items ≡ []) × (inputs.list ≡ None)
+  | Task.Each job inputs ↦ HasNone inputs
+  | Task.Dump inputs ↦ HasNone inputs
   | Task.Canonicalise input output ↦ ⊥
+  | Task.Collect inputs output ↦ HasNone inputs
   | Task.Compare first second ↦ ⊥
 ]
 
@@ -87,11 +118,20 @@ NamesNothing order = elim order.task as (λ _. Type 0) [
 abbrev pub IsBoth : Order → Type 0
 IsBoth order = (order.hex ≡ true) × (order.lines ≡ true)
 
+-- each line has its result, and none is passed over
+abbrev pub LinesGoOn : Order → Type 0
+LinesGoOn order = (order.keep_going ≡ true) × (order.lines ≡ true)
+
+-- one file, and no list of files
+abbrev pub HasOne : Inputs → Type 0
+HasOne inputs = (length inputs.files.items ≡ 1) × (inputs.list ≡ None)
+
 -- the lines of one file are read, and of no other
 abbrev pub NamesNotOne : Order → Type 0
 NamesNotOne order = (order.lines ≡ true) × elim order.task as (λ _. Type 0) [
-  | Task.Each job inputs ↦ ((length inputs.files.items ≡ 1) × (inputs.list ≡ None) → ⊥)
+  | Task.Each job inputs ↦ (HasOne inputs → ⊥)
   | Task.Dump inputs ↦ ⊥
   | Task.Canonicalise input output ↦ ⊥
+  | Task.Collect inputs output ↦ (HasOne inputs → ⊥)
   | Task.Compare first second ↦ ⊥
 ]

@@ -3,21 +3,21 @@ ghost use Rattle.std.specs.Prelude.{◌≡◌};
 ghost use Rattle.ill_cli.specs.code.Lined.{line_job_of};
 ghost use Rattle.ill_cli.specs.Status.{status_is};
 
+use crate::collect::collect;
 use crate::each::{Each, each_input};
-use crate::fault::{Fault, is_output_lost, print, status_of};
-use crate::input::{InputSource, open, open_and_identify};
+use crate::fault::{Fault, print, status_of};
+use crate::going::{Printed, verdict_of};
+use crate::input::{Shared, open, open_alone, open_and_identify};
 use crate::line::order;
 use crate::orders::{Order, Task};
-use crate::replacement::{self, Replacement};
+use crate::output::{self, Output, ToOutput, begin, begin_standard};
 use crate::same_file::FileId;
 use crate::words::words_of;
-use ber_core::{Ahead, AtHand, Sink, Source, ToWrite};
+use ber_core::{AtHand, ToWrite};
 use ill_dump::{Dump, run_dump};
-use ill_jobs::{Job, RunFault, Verdict, Work, run_by, run_same};
+use ill_jobs::{Job, RunFault, Verdict, Work, run_by, run_on_by, run_same};
 use ill_lines::{LineJob, LinesFault, run_lines};
-use std::alloc::Global;
-use std::fs::{self, OpenFile};
-use std::io::{self, BufWriter, Write};
+use std::io::{self, BufWriter, Read, Write};
 use std::rt::{Env, Files};
 
 /// Does what the process's words say, prints the line of each fault, and returns the exit status: 0, 1, 2 or 3, as [`status_of`] says.
@@ -35,30 +35,63 @@ pub fn run_program<R: Print + Eprint + Input + Files + Env + AllocGlobal>(rt: &R
 
 /// Does what an order says, prints the line of each fault, and returns the exit status.
 pub fn obey<R: Print + Eprint + Input + Files + AllocGlobal>(rt: &R, order: Order<'_>) -> u8 {
-    let Order { hex, lines, task } = order;
+    let Order {
+        hex,
+        lines,
+        keep_going,
+        task,
+    } = order;
+    let how = How { hex, keep_going };
     match task {
         Task::Each { job, inputs } => match (lines, line_job(job), inputs.files.as_slice()) {
             (true, Some(job), [input]) => end(rt, &each_line(rt, job, input)),
-            _ => each_input(rt, Each::Job(job), hex, &inputs),
+            _ => each_input(rt, Each::Job(job), how, &inputs),
         },
-        Task::Dump { inputs } => each_input(rt, Each::Dump, hex, &inputs),
+        Task::Dump { inputs } => each_input(rt, Each::Dump, how, &inputs),
         Task::Canonicalise { input, output } => {
             let doing = if lines {
                 Doing::Lines(LineJob::Canonicalise)
             } else {
-                Doing::Messages(Work::new(Job::Canonicalise, hex))
+                how.doing(Work::new(Job::Canonicalise, hex))
             };
             end(rt, &canonicalise(rt, doing, input, output))
         }
+        Task::Collect { inputs, output } => match (lines, inputs.files.as_slice()) {
+            (true, [input]) => {
+                let doing = Doing::Lines(LineJob::Canonicalise);
+                end(rt, &canonicalise(rt, doing, input, output))
+            }
+            _ => collect(rt, how, &inputs, output),
+        },
         Task::Compare { first, second } => end(rt, &compare(rt, hex, first, second)),
+    }
+}
+
+/// How the messages of inputs are read.
+#[derive(Clone, Copy)]
+pub(crate) struct How {
+    pub hex: bool,
+    pub keep_going: bool,
+}
+
+impl How {
+    /// What is done with the messages of an input.
+    pub(crate) fn doing(self, work: Work<'_>) -> Doing<'_> {
+        if self.keep_going {
+            Doing::Going(work)
+        } else {
+            Doing::Messages(work)
+        }
     }
 }
 
 /// What is done with the messages of an input.
 #[derive(Clone, Copy)]
 pub(crate) enum Doing<'a> {
-    /// A job with one message after another.
+    /// A job with one message after another, up to one that is refused.
     Messages(Work<'a>),
+    /// A job with each message that isn't refused. A line is printed for each of the others.
+    Going(Work<'a>),
     /// The elements of one message after another.
     Dump(Dump<'a>),
     /// A result for each line.
@@ -78,13 +111,16 @@ fn line_job(job: Job) -> Option<LineJob>
 }
 
 /// Writes the result of each line of an input to standard output.
-fn each_line<R: Print + Input + Files + AllocGlobal>(
+fn each_line<R: Print + Eprint + Input + Files + AllocGlobal>(
     rt: &R,
     job: LineJob,
     input: &str,
 ) -> Result<Verdict, Fault> {
-    let mut source = open(rt, input)?;
-    to_standard_output(rt, Doing::Lines(job), &mut source)
+    let output = Output::new();
+    let mut source = open(rt, input, &output)?;
+    begin_standard(rt, &output)?;
+    let done = put_all(rt, Doing::Lines(job), &mut source, &output);
+    output.finish(done)
 }
 
 /// Prints the line of a fault, and returns the exit status.
@@ -106,145 +142,15 @@ fn compare<R: Print + Input + Files + AllocGlobal>(
     second: &str,
 ) -> Result<Verdict, Fault> {
     let alloc = rt.alloc();
-    let mut first = open(rt, first)?;
-    let mut second = open(rt, second)?;
+    let (mut first, _) = open_alone(rt, first)?;
+    let (mut second, _) = open_alone(rt, second)?;
     let mut writer = BufWriter::new(alloc, io::writer(rt)).map_err(|_| Fault::out_of_memory())?;
     let mut sink = ToWrite::new(&mut writer);
     let done = run_same(alloc, hex, &mut first, &mut second, &mut sink);
     flushed(done, &mut writer)
 }
 
-/// Writes normal forms. The output is opened only once the input is, and only if it isn't the same file.
-fn canonicalise<R: Print + Input + Files + AllocGlobal>(
-    rt: &R,
-    doing: Doing<'_>,
-    input: &str,
-    name: &str,
-) -> Result<Verdict, Fault> {
-    // If standard output is closed, the input may be opened in its place: so this is asked first.
-    let output = FileId::of_standard_output(rt);
-    let (mut source, input) = open_and_identify(rt, input)?;
-    if name == "-" {
-        refuse_same_file(input, output)?;
-        return to_standard_output(rt, doing, &mut source);
-    }
-    refuse_same_file(input, FileId::of_name(rt, name))?;
-    match replacement::begin(rt, name)? {
-        Some(new) => to_replacement(rt, doing, &mut source, new, name),
-        None => to_file(rt, doing, &mut source, name),
-    }
-}
-
-/// Refuses to write to the regular file that is read.
-fn refuse_same_file(input: Option<FileId>, output: Option<FileId>) -> Result<(), Fault> {
-    if input.is_some() && input == output {
-        return Err(Fault::SameFile);
-    }
-    Ok(())
-}
-
-/// Does a job with an input, and writes to standard output.
-pub(crate) fn to_standard_output<R: Print + Input + Files + AllocGlobal>(
-    rt: &R,
-    doing: Doing<'_>,
-    source: &mut InputSource<R>,
-) -> Result<Verdict, Fault> {
-    let alloc = rt.alloc();
-    let mut writer = BufWriter::new(alloc, io::writer(rt)).map_err(|_| Fault::out_of_memory())?;
-    to_writer(alloc, doing, source, &mut writer)
-}
-
-/// Writes straight to the file of this name.
-fn to_file<R: Input + Files + AllocGlobal>(
-    rt: &R,
-    doing: Doing<'_>,
-    source: &mut InputSource<R>,
-    name: &str,
-) -> Result<Verdict, Fault> {
-    let alloc = rt.alloc();
-    let file = fs::create(rt, name).map_err(|_| Fault::cannot_open(alloc, name))?;
-    let mut writer = BufWriter::new(alloc, file).map_err(|_| Fault::out_of_memory())?;
-    to_writer(alloc, doing, source, &mut writer)
-}
-
-/// Writes to a new file, and gives it this name at the end. Where not all of the output reached the disk, the
-/// new file is removed, and the old one stays as it was.
-fn to_replacement<R: Input + Files + AllocGlobal>(
-    rt: &R,
-    doing: Doing<'_>,
-    source: &mut InputSource<R>,
-    new: Replacement<R::File>,
-    name: &str,
-) -> Result<Verdict, Fault> {
-    let alloc = rt.alloc();
-    let Replacement { name: part, file } = new;
-    let Ok(mut writer) = BufWriter::new(alloc, file) else {
-        let _ = fs::remove_file(rt, part.as_str());
-        return Err(Fault::out_of_memory());
-    };
-    let done = to_writer(alloc, doing, source, &mut writer);
-    let done = synced(done, writer.get_ref());
-    if is_output_lost(&done) {
-        let _ = fs::remove_file(rt, part.as_str());
-        return done;
-    }
-    if fs::rename(rt, part.as_str(), name).is_err() {
-        let _ = fs::remove_file(rt, part.as_str());
-        return Err(Fault::cannot_replace(alloc, name));
-    }
-    done
-}
-
-fn to_writer<S: Ahead, W: Write + Drop>(
-    alloc: Global,
-    doing: Doing<'_>,
-    source: &mut S,
-    writer: &mut BufWriter<W>,
-) -> Result<Verdict, Fault> {
-    if let Doing::Lines(job) = doing {
-        return lines_to(alloc, job, source, writer.get_mut());
-    }
-    let mut sink = ToWrite::new(&mut *writer);
-    let done = messages_to::<S, ToWrite<&mut BufWriter<W>>>(alloc, doing, source, &mut sink);
-    flushed(done, writer)
-}
-
-/// Writes what is made of one message after another.
-fn messages_to<S: Ahead, W: Sink>(
-    alloc: Global,
-    doing: Doing<'_>,
-    source: &mut S,
-    sink: &mut W,
-) -> Result<Verdict, RunFault> {
-    match doing {
-        Doing::Messages(work) => run_by::<S, AtHand, W>(alloc, work, source, sink),
-        Doing::Dump(dump) => {
-            run_dump::<S, AtHand, W>(alloc, dump, source, sink)?;
-            Ok(Verdict::Good)
-        }
-        Doing::Lines(_) => Ok(Verdict::Good),
-    }
-}
-
-/// Writes the results of lines, without a buffer, so that they are there before more input is waited for.
-fn lines_to<S: Source, W: Write>(
-    alloc: Global,
-    job: LineJob,
-    source: &mut S,
-    writer: &mut W,
-) -> Result<Verdict, Fault> {
-    let mut sink = ToWrite::new(&mut *writer);
-    match run_lines(alloc, job, source, &mut sink) {
-        Ok(true) => Ok(Verdict::Good),
-        Ok(false) => Ok(Verdict::NotGood),
-        Err(LinesFault::OutOfMemory) => Err(Fault::out_of_memory()),
-        Err(LinesFault::ReadFault) => Err(Fault::from(RunFault::ReadFault)),
-        Err(LinesFault::WriteFault) => Err(Fault::Flush),
-    }
-}
-
-/// Writes what is still in the buffer, so that the output of the messages before a fault isn't lost. A write fault counts
-/// the octets that left the buffer.
+/// Writes what is still in the buffer. A write fault counts the octets that left the buffer.
 fn flushed<W: Write + Drop>(
     done: Result<Verdict, RunFault>,
     writer: &mut BufWriter<W>,
@@ -261,10 +167,74 @@ fn flushed<W: Write + Drop>(
     }
 }
 
-/// Waits until the disk has the output.
-fn synced<F: OpenFile>(done: Result<Verdict, Fault>, file: &F) -> Result<Verdict, Fault> {
-    if !is_output_lost(&done) && file.sync_all().is_err() {
-        return Err(Fault::Flush);
+/// Writes normal forms. The output is opened only once the input is, and only if it isn't the same file.
+pub(crate) fn canonicalise<R: Print + Eprint + Input + Files + AllocGlobal>(
+    rt: &R,
+    doing: Doing<'_>,
+    input: &str,
+    name: &str,
+) -> Result<Verdict, Fault> {
+    // If standard output is closed, the input may be opened in its place: so this is asked first.
+    let written = FileId::of_output(rt, name);
+    let output = Output::new();
+    let (mut source, read) = open_and_identify(rt, input, &output)?;
+    if read.is_some() && read == written {
+        return Err(Fault::SameFile);
     }
-    done
+    let part = begin(rt, &output, name)?;
+    let done = put_all(rt, doing, &mut source, &output);
+    output::end(rt, &output, part, name, done)
+}
+
+/// Does a job with an input.
+pub(crate) fn put_all<'o, R, I: Read, J: Read, S: Write + Drop, F: Write + Drop>(
+    rt: &R,
+    doing: Doing<'_>,
+    source: &mut Shared<'o, I, J, S, F>,
+    output: &'o Output<S, F>,
+) -> Result<Verdict, Fault>
+where
+    R: Eprint + AllocGlobal,
+{
+    let alloc = rt.alloc();
+    let mut sink = ToWrite::new(ToOutput {
+        output,
+        // The results of lines are there before more input is waited for.
+        is_direct: matches!(doing, Doing::Lines(_)),
+    });
+    match doing {
+        Doing::Messages(work) => match run_by::<Shared<'o, I, J, S, F>, AtHand, _>(
+            alloc, work, source, &mut sink,
+        ) {
+            Ok(verdict) => Ok(verdict),
+            Err(fault) => Err(Fault::from(fault)),
+        },
+        Doing::Going(work) => {
+            let name = work.is_named.then_some(work.name);
+            let mut reports = Printed { rt, name };
+            match run_on_by::<Shared<'o, I, J, S, F>, AtHand, _, _>(
+                alloc,
+                work,
+                source,
+                &mut sink,
+                &mut reports,
+            ) {
+                Ok(gone) => Ok(verdict_of(gone)),
+                Err(fault) => Err(Fault::from(fault)),
+            }
+        }
+        Doing::Dump(dump) => match run_dump::<Shared<'o, I, J, S, F>, AtHand, _>(
+            alloc, dump, source, &mut sink,
+        ) {
+            Ok(()) => Ok(Verdict::Good),
+            Err(fault) => Err(Fault::from(fault)),
+        },
+        Doing::Lines(job) => match run_lines(alloc, job, source, &mut sink) {
+            Ok(true) => Ok(Verdict::Good),
+            Ok(false) => Ok(Verdict::NotGood),
+            Err(LinesFault::OutOfMemory) => Err(Fault::out_of_memory()),
+            Err(LinesFault::ReadFault) => Err(Fault::from(RunFault::ReadFault)),
+            Err(LinesFault::WriteFault) => Err(Fault::Flush),
+        },
+    }
 }

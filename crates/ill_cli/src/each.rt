@@ -3,11 +3,13 @@ ghost use Rattle.std.specs.Prelude.{◌≡◌, ◌<◌, ◌++◌, [], ◌∷◌,
 ghost use Rattle.ill_cli.specs.code.Listed.{names_in};
 ghost use Rattle.ill_cli.specs.Status.{IsStatusOfEach, worst};
 
-use crate::commands::{Doing, end, to_standard_output};
+use crate::commands::{Doing, How, end, put_all};
 use crate::fault::{Fault, LineFault, is_output_lost, print_of, status_of};
 use crate::input::{open, read_whole};
 use crate::names::{Name, printed};
 use crate::orders::Inputs;
+use crate::output::{Output, begin_standard};
+use crate::same_file::FileId;
 use ill_dump::Dump;
 use ill_jobs::{Job, Verdict, Work};
 use std::alloc::{AllocError, Global};
@@ -24,9 +26,10 @@ pub(crate) enum Each {
 
 impl Each {
     /// What is done with the messages of the file of this name.
-    fn doing(self, hex: bool, name: &str, is_named: bool) -> Doing<'_> {
+    fn doing(self, how: How, name: &str, is_named: bool) -> Doing<'_> {
+        let hex = how.hex;
         match self {
-            Each::Job(job) => Doing::Messages(Work {
+            Each::Job(job) => how.doing(Work {
                 job,
                 hex,
                 name,
@@ -45,12 +48,12 @@ impl Each {
 pub fn each_input<R: Print + Eprint + Input + Files + AllocGlobal>(
     rt: &R,
     each: Each,
-    hex: bool,
+    how: How,
     inputs: &Inputs<'_>,
 ) -> u8 {
     let alloc = rt.alloc();
     let list = match list_of(rt, inputs.list) {
-        Ok(list) => list,
+        Ok((list, _)) => list,
         Err(fault) => return end(rt, &Err(fault)),
     };
     let Ok(names) = names_of(alloc, &inputs.files, &list) else {
@@ -60,21 +63,24 @@ pub fn each_input<R: Print + Eprint + Input + Files + AllocGlobal>(
         return end(rt, &Err(Fault::from(LineFault::SameWord)));
     }
     match names.as_slice() {
-        [name] => end(rt, &one_file(rt, each, hex, name, false)),
-        names => each_file(rt, each, hex, names),
+        [name] => end(rt, &one_file(rt, each, how, name, false)),
+        names => each_file(rt, each, how, names),
     }
 }
 
-/// The octets of a list of names; none where there is no list.
-fn list_of<R: Input + Files + AllocGlobal>(rt: &R, list: Option<&str>) -> Result<Vec<u8>, Fault> {
+/// The octets of a list of names, none where there is no list, and which regular file it is.
+pub fn list_of<R: Input + Files + AllocGlobal>(
+    rt: &R,
+    list: Option<&str>,
+) -> Result<(Vec<u8>, Option<FileId>), Fault> {
     match list {
         Some(name) => read_whole(rt, name),
-        None => Ok(Vec::new(rt.alloc())),
+        None => Ok((Vec::new(rt.alloc()), None)),
     }
 }
 
 /// The words FILE, and then the names of the list.
-fn names_of<'a>(
+pub fn names_of<'a>(
     alloc: Global,
     files: &[&'a str],
     list: &'a [u8],
@@ -111,7 +117,7 @@ fn split_name(list: &[u8]) -> Option<(&[u8], &[u8])>
 }
 
 /// Whether standard input is to be read more than once.
-fn is_dash_twice(names: &[&[u8]], list: Option<&str>) -> bool {
+pub fn is_dash_twice(names: &[&[u8]], list: Option<&str>) -> bool {
     let mut found = list == Some("-");
     for name in names {
         if *name == b"-".as_slice() {
@@ -129,14 +135,14 @@ fn is_dash_twice(names: &[&[u8]], list: Option<&str>) -> bool {
 fn each_file<R: Print + Eprint + Input + Files + AllocGlobal>(
     rt: &R,
     each: Each,
-    hex: bool,
+    how: How,
     names: &[&[u8]],
 ) -> u8
     ensures { IsStatusOfEach (length names.now) result }
 {
     let mut status = 0;
     for name in names {
-        let done = one_file(rt, each, hex, name, true);
+        let done = one_file(rt, each, how, name, true);
         if let Err(fault) = &done {
             // Where standard error is closed, only the status is left to tell.
             let _ = print_of(rt, name, fault);
@@ -150,7 +156,7 @@ fn each_file<R: Print + Eprint + Input + Files + AllocGlobal>(
 }
 
 /// The status of files of which those before have one, and the next has the other.
-fn worse(before: u8, next: u8) -> u8
+pub fn worse(before: u8, next: u8) -> u8
     ensures { result ≡ worst (before ∷ next ∷ []) }
 {
     if before == 3 || next == 3 {
@@ -163,21 +169,31 @@ fn worse(before: u8, next: u8) -> u8
 }
 
 /// Does a job with the file of this name, and writes to standard output.
-fn one_file<R: Print + Input + Files + AllocGlobal>(
+fn one_file<R: Print + Eprint + Input + Files + AllocGlobal>(
     rt: &R,
     each: Each,
-    hex: bool,
+    how: How,
     name: &[u8],
     is_named: bool,
 ) -> Result<Verdict, Fault> {
     let alloc = rt.alloc();
-    let Ok(file) = str::from_utf8(name) else {
-        return Err(match name.to_vec(alloc) {
-            Ok(octets) => Fault::CannotOpen(Name(octets)),
-            Err(AllocError) => Fault::out_of_memory(),
-        });
-    };
-    let mut source = open(rt, file)?;
+    let file = text_of(alloc, name)?;
+    let output = Output::new();
+    let mut source = open(rt, file, &output)?;
     let name = printed(alloc, file).map_err(|_| Fault::out_of_memory())?;
-    to_standard_output(rt, each.doing(hex, &name, is_named), &mut source)
+    begin_standard(rt, &output)?;
+    let doing = each.doing(how, &name, is_named);
+    let done = put_all(rt, doing, &mut source, &output);
+    output.finish(done)
+}
+
+/// The name of a file as text. Other octets name no file that can be opened.
+pub fn text_of(alloc: Global, name: &[u8]) -> Result<&str, Fault> {
+    match str::from_utf8(name) {
+        Ok(text) => Ok(text),
+        Err(_) => match name.to_vec(alloc) {
+            Ok(octets) => Err(Fault::CannotOpen(Name(octets))),
+            Err(AllocError) => Err(Fault::out_of_memory()),
+        },
+    }
 }

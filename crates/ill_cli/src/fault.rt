@@ -20,12 +20,18 @@ pub enum LineFault {
     /// Two files are named by the same word.
     #[error("the same word twice")]
     SameWord,
-    /// No file is named.
-    #[error("FILE or --files-from is missing")]
-    NoFile,
+    /// A file is missing. The text is that of clap for an argument that is required.
+    #[error("{0}")]
+    Missing(LineError),
+    /// `canonicalise` has more words than IN and OUT. The text is that of clap for an argument that is unknown.
+    #[error("{0}")]
+    Unexpected(LineError),
     /// Lines are texts of their own.
     #[error("--lines excludes --hex")]
     LinesAndHex,
+    /// Each line has its result, and none is passed over.
+    #[error("--lines excludes --keep-going")]
+    LinesAndKeepGoing,
     /// The lines of none or of several files.
     #[error("--lines reads one FILE")]
     NotOneFile,
@@ -164,8 +170,10 @@ pub fn status_of(done: &Result<Verdict, Fault>) -> u8
         Ok(Verdict::Good) => 0,
         Ok(Verdict::NotGood) => 1,
         Err(Fault::Line(LineFault::Line(error))) => line_status(error),
-        Err(Fault::Line(LineFault::SameWord | LineFault::NoFile)) => 2,
-        Err(Fault::Line(LineFault::LinesAndHex | LineFault::NotOneFile) | Fault::SameFile) => 2,
+        Err(Fault::Line(LineFault::SameWord | LineFault::Missing(_) | LineFault::Unexpected(_))) =>
+            2,
+        Err(Fault::Line(LineFault::LinesAndHex | LineFault::LinesAndKeepGoing)) => 2,
+        Err(Fault::Line(LineFault::NotOneFile) | Fault::SameFile) => 2,
         Err(Fault::Run(RunLine(fault))) => run_status(fault),
         Err(Fault::CannotOpen(_) | Fault::CannotReplace(_) | Fault::Flush) => 3,
     }
@@ -215,7 +223,9 @@ pub(crate) fn print_of<R: Print + Eprint>(rt: &R, name: &[u8], fault: &Fault) ->
 /// Prints clap's text as it is, and any other fault as one line on standard error.
 pub fn print<R: Print + Eprint>(rt: &R, fault: &Fault) -> io::Result<()> {
     match fault {
-        Fault::Line(LineFault::Line(error)) => error.print(rt),
+        Fault::Line(
+            LineFault::Line(error) | LineFault::Missing(error) | LineFault::Unexpected(error),
+        ) => error.print(rt),
         _ => eprintln!(rt; "illcanon: {fault}"),
     }
 }

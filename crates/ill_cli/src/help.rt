@@ -16,7 +16,11 @@ Each message is a line `message 1 Expired` and then a line for each leaf, as
 `service-date-time.date-time-of-this-service.date = 20240229`. Of several files, the
 first line of each message begins with the name of its file and `: `.
 
+With --keep-going each message that is refused has its line on standard error, and the
+next one is read, where the end of the refused one is known.
+
 Example: illcanon show messages.ber
+         illcanon show --keep-going messages.ber 2> refused.txt
 
 Status: 0 done; 1 a message is refused, or the hexadecimal text is invalid; 2 usage;
 3 memory, files or pipes. Of several files: 3 if one gave 3, else 1 if one gave 1.";
@@ -26,7 +30,11 @@ Each message has a line, as `message 1: Expired, 33 octets, normal` or
 `message 2: Expired, 47 octets, not normal, normal form 33 octets`. Of several files,
 each line begins with the name of its file and `: `.
 
+With --keep-going each message that is refused has its line on standard error, and the
+next one is read, where the end of the refused one is known.
+
 Example: illcanon check messages.ber | grep 'not normal'
+         illcanon check --keep-going archive/*.ber > lines.txt 2> refused.txt
          find archive -name '*.ber' -print0 | illcanon check --files-from -
          illcanon check --lines messages.txt | grep -n refused
 
@@ -39,7 +47,11 @@ Each message has a line: its digest, which is SHA-256 of its normal form, in hex
 digits, two blanks, the name of the file, `:` and the number of the message. Messages
 that say the same have the same digest, however they are spelled.
 
+With --keep-going each message that is refused has its line on standard error, and the
+next one is read, where the end of the refused one is known.
+
 Example: illcanon digest *.ber | sort | uniq -w 64 -D    # copies
+         illcanon digest --keep-going archive/*.ber > digests.txt 2> refused.txt
          illcanon digest --lines messages.txt | paste - messages.txt
 
 Status: 0 done; 1 a message is refused, or the hexadecimal text is invalid; 2 usage;
@@ -82,11 +94,34 @@ file beside it, OUT.part, which takes the name OUT at the end. So OUT is as it w
 the output can't be written, or if the command is killed. All other files (devices,
 pipes, links) are written directly, and so is OUT where no new file can be made.
 
+With -o OUT the normal forms of the messages of each FILE go to OUT, one file after the
+other. A file that can't be opened doesn't stop the others. OUT is as it was if none can
+be opened, and it must be none of them.
+
+With --keep-going each message that is refused has its line on standard error, and the
+next one is read, where the end of the refused one is known.
+
 With --lines each line of OUT is the normal form of the message in this line of IN, or
 why there is none, as `refused at 0: Truncated` or `hex: odd number of digits`.
 
 Example: illcanon canonicalise messages.ber messages.der
+         illcanon canonicalise --keep-going -o all.der archive/*.ber
          illcanon canonicalise --lines messages.txt - | sort -u
 
 Status: 0 done; 1 a message is refused, or the hexadecimal text is invalid; 2 usage,
-or IN and OUT are the same file; 3 memory, files or pipes.";
+or IN and OUT are the same file; 3 memory, files or pipes. Of several files: 3 if one
+gave 3, else 1 if one gave 1.";
+
+/// The two forms of `canonicalise`.
+pub const CANONICALISE_USAGE: &str = "\
+illcanon canonicalise [OPTIONS] <IN> <OUT>
+       illcanon canonicalise [OPTIONS] -o <OUT> <FILE>...";
+
+/// What is missing, as clap says it.
+pub const NO_FILE: &str = "the following required arguments were not provided:\n  <FILE>...";
+
+pub const NO_IN: &str = "the following required arguments were not provided:\n  <IN>\n  <OUT>";
+
+pub const NO_OUT: &str = "the following required arguments were not provided:\n  <OUT>";
+
+pub const NO_OUTPUT: &str = "the following required arguments were not provided:\n  -o <OUT>";

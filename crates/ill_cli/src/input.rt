@@ -3,11 +3,13 @@ ghost use Rattle.std.specs.Prelude.{◌≡◌};
 ghost use Rattle.ill_cli.specs.Opened.{left_of, is_broken_of};
 
 use crate::fault::Fault;
+use crate::output::{Flushing, Output, OutputOf};
 use crate::same_file::FileId;
 use ber_core::{Ahead, Broken, FromBuffer, Source};
 use ill_jobs::{RunFault, read_most};
 use std::alloc::Global;
 use std::fs::{self, OpenFile};
+use std::io::{Printer, Read, Write};
 use std::rt::Files;
 
 /// A source that was opened: standard input or a file.
@@ -57,37 +59,59 @@ impl<S: Ahead, F: Ahead> Ahead for Opened<S, F> {
     }
 }
 
-/// The source of an input under the runtime `R`.
-pub type InputSource<R> = Opened<FromBuffer<<R as Input>::Reader>, FromBuffer<<R as Files>::File>>;
+/// The source of an input, from readers that have the output written before they read.
+pub type Shared<'o, I, J, S, F> = Opened<
+    FromBuffer<Flushing<'o, I, S, F>>,
+    FromBuffer<Flushing<'o, J, S, F>>,
+>;
+
+/// The source of an input under the runtime `R`, which shares the output.
+pub type InputSource<'o, 'r, R> = Shared<
+    'o,
+    <R as Input>::Reader,
+    <R as Files>::File,
+    Printer<'r, R>,
+    <R as Files>::File,
+>;
 
 /// Opens the input of this name, standard input for `-`.
 ///
 /// # Errors
 ///
 /// There is no file of this name that can be read, or memory ran out.
-pub fn open<R: Input + Files + AllocGlobal>(rt: &R, name: &str) -> Result<InputSource<R>, Fault> {
-    let (source, _) = open_and_identify(rt, name)?;
+pub fn open<'o, 'r: 'o, R: Print + Input + Files + AllocGlobal>(
+    rt: &'r R,
+    name: &str,
+    output: &'o OutputOf<'r, R>,
+) -> Result<InputSource<'o, 'r, R>, Fault> {
+    let (source, _) = open_and_identify(rt, name, output)?;
     Ok(source)
 }
 
-/// Reads an input to its end.
+/// Reads an input to its end, and returns which regular file it is, None where it is not one.
 ///
 /// # Errors
 ///
 /// There is no file of this name that can be read, reading it fails, or memory ran out.
-pub fn read_whole<R: Input + Files + AllocGlobal>(rt: &R, name: &str) -> Result<Vec<u8>, Fault> {
-    let mut source = open(rt, name)?;
+pub fn read_whole<R: Input + Files + AllocGlobal>(
+    rt: &R,
+    name: &str,
+) -> Result<(Vec<u8>, Option<FileId>), Fault> {
+    let (mut source, file) = open_alone(rt, name)?;
     match read_most(rt.alloc(), &mut source, usize::MAX) {
-        Ok(octets) => Ok(octets),
+        Ok(octets) => Ok((octets, file)),
         Err(why) => Err(Fault::from(RunFault::from(why))),
     }
 }
 
-/// Opens an input as [`open`] does, and returns which regular file it is, None where it is not one.
-pub fn open_and_identify<R: Input + Files + AllocGlobal>(
+/// The source of an input that has no output to share.
+pub type AloneSource<R> = Opened<FromBuffer<<R as Input>::Reader>, FromBuffer<<R as Files>::File>>;
+
+/// Opens an input as [`open_and_identify`] does, whose reads wait for nothing.
+pub fn open_alone<R: Input + Files + AllocGlobal>(
     rt: &R,
     name: &str,
-) -> Result<(InputSource<R>, Option<FileId>), Fault> {
+) -> Result<(AloneSource<R>, Option<FileId>), Fault> {
     let alloc = rt.alloc();
     if name == "-" {
         let file = FileId::of_standard_input(rt);
@@ -98,4 +122,30 @@ pub fn open_and_identify<R: Input + Files + AllocGlobal>(
     let file = FileId::of(opened.metadata());
     let source = FromBuffer::new(alloc, opened).map_err(|_| Fault::out_of_memory())?;
     Ok((Opened::File(source), file))
+}
+
+/// Opens an input as [`open`] does, and returns which regular file it is, None where it is not one.
+pub fn open_and_identify<'o, 'r: 'o, R: Print + Input + Files + AllocGlobal>(
+    rt: &'r R,
+    name: &str,
+    output: &'o OutputOf<'r, R>,
+) -> Result<(InputSource<'o, 'r, R>, Option<FileId>), Fault> {
+    let alloc = rt.alloc();
+    if name == "-" {
+        let file = FileId::of_standard_input(rt);
+        let source = buffered(alloc, rt.reader(), output)?;
+        return Ok((Opened::Standard(source), file));
+    }
+    let opened = fs::open(rt, name).map_err(|_| Fault::cannot_open(alloc, name))?;
+    let file = FileId::of(opened.metadata());
+    Ok((Opened::File(buffered(alloc, opened, output)?), file))
+}
+
+/// A reader as a source, which has the output written before it reads.
+fn buffered<'o, I: Read + Drop, S: Write + Drop, F: Write + Drop>(
+    alloc: Global,
+    inner: I,
+    output: &'o Output<S, F>,
+) -> Result<FromBuffer<Flushing<'o, I, S, F>>, Fault> {
+    FromBuffer::new(alloc, Flushing { inner, output }).map_err(|_| Fault::out_of_memory())
 }

@@ -10,14 +10,17 @@
 //! ```
 #![tactic(auto)]
 
+mod collect;
 mod commands;
 mod each;
 mod fault;
+mod going;
 mod help;
 mod input;
 mod line;
 mod names;
 mod orders;
+mod output;
 mod replacement;
 mod same_file;
 mod topics;
@@ -25,6 +28,7 @@ mod words;
 
 pub use commands::{obey, run_program};
 pub use fault::{CauseName, Fault, LineFault, RunLine, print, status_of};
+pub use going::ReportLine;
 pub use input::Opened;
 pub use line::order;
 pub use names::Name;

@@ -20,6 +20,8 @@ pub struct Order<'a> {
     pub hex: bool,
     /// Whether each line of the input is a message in hexadecimal, and each line of the output its result.
     pub lines: bool,
+    /// Whether a message that is refused is reported, and the next one read.
+    pub keep_going: bool,
     pub task: Task<'a>,
 }
 
@@ -32,6 +34,8 @@ pub enum Task<'a> {
     Dump { inputs: Inputs<'a> },
     /// The normal forms of the messages of one file, into another.
     Canonicalise { input: &'a str, output: &'a str },
+    /// The normal forms of the messages of each file, in turn, into one file.
+    Collect { inputs: Inputs<'a>, output: &'a str },
     /// A comparison of two files.
     Compare { first: &'a str, second: &'a str },
 }

@@ -39,6 +39,22 @@ impl FileId {
         FileId::of_name(rt, STANDARD_OUTPUT)
     }
 
+    /// The regular file that an input of this name comes from, standard input for `-`.
+    pub fn of_input<R: Files>(rt: &R, name: &str) -> Option<FileId> {
+        if name == "-" {
+            return FileId::of_standard_input(rt);
+        }
+        FileId::of_name(rt, name)
+    }
+
+    /// The regular file that an output of this name goes to, standard output for `-`.
+    pub fn of_output<R: Files>(rt: &R, name: &str) -> Option<FileId> {
+        if name == "-" {
+            return FileId::of_standard_output(rt);
+        }
+        FileId::of_name(rt, name)
+    }
+
     /// The regular file of this name.
     pub fn of_name<R: Files>(rt: &R, name: &str) -> Option<FileId> {
         FileId::of(fs::metadata(rt, name))

@@ -2,6 +2,7 @@
 mod contracts;
 mod fake;
 mod files;
+mod going;
 mod lines;
 mod lists;
 mod names;

@@ -23,6 +23,7 @@ fn words_give_one_order<'a>(
 fn orders_have_files_of_their_own(words: &[String], alloc: Global) {
     if let Ok(order) = order(alloc, words) {
         prove!(!order.lines || !order.hex);
+        prove!(!order.lines || !order.keep_going);
         match order.task {
             Task::Canonicalise { input, output } => {
                 prove!(input == "-" || input != output);
@@ -30,7 +31,7 @@ fn orders_have_files_of_their_own(words: &[String], alloc: Global) {
             Task::Compare { first, second } => {
                 prove!(first != "-" || second != "-");
             }
-            Task::Each { inputs, .. } | Task::Dump { inputs } => {
+            Task::Each { inputs, .. } | Task::Collect { inputs, .. } | Task::Dump { inputs } => {
                 prove!(!inputs.files.is_empty() || inputs.list.is_some());
             }
         }

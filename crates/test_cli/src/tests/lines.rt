@@ -31,12 +31,18 @@ fn are_same(words: &[&str], wanted: &[&str]) -> bool {
 fn gives_each(
     alloc: Global,
     line: &str,
-    (wanted_job, wanted_hex, wanted_lines): (Job, bool, bool),
+    (wanted_job, wanted_hex, wanted_lines, wanted_keep_going): (Job, bool, bool, bool),
     wanted_files: &[&str],
     wanted_list: Option<&str>,
 ) -> Result<bool, AllocError> {
     let words = words_of(alloc, line)?;
-    let Ok(Order { hex, lines, task }) = order(alloc, &words) else {
+    let Ok(Order {
+        hex,
+        lines,
+        keep_going,
+        task,
+    }) = order(alloc, &words)
+    else {
         return Ok(false);
     };
     let Task::Each { job, inputs } = task else {
@@ -46,6 +52,7 @@ fn gives_each(
         job == wanted_job
             && hex == wanted_hex
             && lines == wanted_lines
+            && keep_going == wanted_keep_going
             && are_same(&inputs.files, wanted_files)
             && inputs.list == wanted_list,
     )
@@ -61,28 +68,33 @@ fn jobs_have_their_files(rt: HostRuntime) -> Result<(), AllocError> {
     ] {
         let one = format!(in alloc; "illcanon {name} a")?;
         assert!(rt;
-            gives_each(alloc, &one, (job, false, false), &["a"], None)?,
+            gives_each(alloc, &one, (job, false, false, false), &["a"], None)?,
             "{name}"
         );
         let several = format!(in alloc; "illcanon {name} b --hex - a b")?;
         let files = ["b", "-", "a", "b"];
         assert!(rt;
-            gives_each(alloc, &several, (job, true, false), &files, None)?,
+            gives_each(alloc, &several, (job, true, false, false), &files, None)?,
             "{name}"
         );
         let listed = format!(in alloc; "illcanon {name} --files-from - a")?;
         assert!(rt;
-            gives_each(alloc, &listed, (job, false, false), &["a"], Some("-"))?,
+            gives_each(alloc, &listed, (job, false, false, false), &["a"], Some("-"))?,
             "{name}"
         );
         let only = format!(in alloc; "illcanon {name} --files-from=list")?;
         assert!(rt;
-            gives_each(alloc, &only, (job, false, false), &[], Some("list"))?,
+            gives_each(alloc, &only, (job, false, false, false), &[], Some("list"))?,
+            "{name}"
+        );
+        let going = format!(in alloc; "illcanon {name} a --keep-going")?;
+        assert!(rt;
+            gives_each(alloc, &going, (job, false, false, true), &["a"], None)?,
             "{name}"
         );
         let option = format!(in alloc; "illcanon {name} -- --hex")?;
         assert!(rt;
-            gives_each(alloc, &option, (job, false, false), &["--hex"], None)?,
+            gives_each(alloc, &option, (job, false, false, false), &["--hex"], None)?,
             "{name}"
         );
     }
@@ -117,7 +129,7 @@ fn other_commands_have_two_files(rt: HostRuntime) -> Result<(), AllocError> {
         let words = words_of(alloc, line)?;
         let found = order(alloc, &words);
         assert!(rt;
-            matches!(&found, Ok(Order { hex, lines, task: Task::Canonicalise { input, output } })
+            matches!(&found, Ok(Order { hex, lines, keep_going: false, task: Task::Canonicalise { input, output } })
             if *hex == wanted_hex && *lines == wanted_lines && *input == one && *output == other),
             "{line}"
         );
@@ -129,7 +141,7 @@ fn other_commands_have_two_files(rt: HostRuntime) -> Result<(), AllocError> {
         let words = words_of(alloc, line)?;
         let found = order(alloc, &words);
         assert!(rt;
-            matches!(&found, Ok(Order { hex, lines: false, task: Task::Compare { first, second } })
+            matches!(&found, Ok(Order { hex, lines: false, keep_going: false, task: Task::Compare { first, second } })
             if *hex == wanted_hex && *first == one && *second == other),
             "{line}"
         );
@@ -146,6 +158,9 @@ fn the_same_word_twice_is_refused(rt: HostRuntime) -> Result<(), AllocError> {
         "illcanon check - a -",
         "illcanon digest --files-from - -",
         "illcanon dump - -",
+        "illcanon canonicalise -o - a - -",
+        "illcanon canonicalise -o a b a",
+        "illcanon canonicalise -o a --files-from a",
     ] {
         let words = words_of(alloc, line)?;
         let found = order(alloc, &words);
@@ -162,7 +177,7 @@ fn lines_are_those_of_one_file(rt: HostRuntime) -> Result<(), AllocError> {
         ("illcanon digest a --lines", Job::Digest),
     ] {
         assert!(rt;
-            gives_each(alloc, line, (job, false, true), &["a"], None)?,
+            gives_each(alloc, line, (job, false, true, false), &["a"], None)?,
             "{line}"
         );
     }
@@ -170,6 +185,7 @@ fn lines_are_those_of_one_file(rt: HostRuntime) -> Result<(), AllocError> {
         "illcanon check --lines a b",
         "illcanon check --lines --files-from a",
         "illcanon digest --lines a --files-from -",
+        "illcanon canonicalise --lines -o a b c",
     ] {
         let words = words_of(alloc, line)?;
         let found = order(alloc, &words);
@@ -183,16 +199,107 @@ fn lines_are_those_of_one_file(rt: HostRuntime) -> Result<(), AllocError> {
         let found = order(alloc, &words);
         assert!(rt; matches!(&found, Err(LineFault::LinesAndHex)), "{line}");
     }
+    for line in [
+        "illcanon check --lines --keep-going a",
+        "illcanon canonicalise --keep-going --lines - -",
+    ] {
+        let words = words_of(alloc, line)?;
+        let found = order(alloc, &words);
+        assert!(rt; matches!(&found, Err(LineFault::LinesAndKeepGoing)), "{line}");
+    }
     Ok(())
 }
 
 #[test]
-fn a_job_without_a_file_is_refused(rt: HostRuntime) -> Result<(), AllocError> {
+fn one_output_has_any_number_of_files(rt: HostRuntime) -> Result<(), AllocError> {
     let alloc = rt.alloc();
-    for line in ["illcanon show", "illcanon check --hex", "illcanon digest"] {
+    let several: (&[&str], Option<&str>) = (&["a", "b", "-"], None);
+    let listed: (&[&str], Option<&str>) = (&[], Some("-"));
+    for (line, wanted_keep_going, (files, list), wanted_output) in [
+        ("illcanon canonicalise -o c a b -", false, several, "c"),
+        (
+            "illcanon canonicalise --keep-going a --output=- b -",
+            true,
+            several,
+            "-",
+        ),
+        (
+            "illcanon canonicalise -oc --files-from -",
+            false,
+            listed,
+            "c",
+        ),
+    ] {
         let words = words_of(alloc, line)?;
         let found = order(alloc, &words);
-        assert!(rt; matches!(&found, Err(LineFault::NoFile)), "{line}");
+        assert!(rt;
+            matches!(&found, Ok(Order { hex: false, lines: false, keep_going, task: Task::Collect { inputs, output } })
+            if *keep_going == wanted_keep_going && *output == wanted_output
+                && are_same(&inputs.files, files) && inputs.list == list),
+            "{line}"
+        );
+    }
+    Ok(())
+}
+
+#[test]
+fn a_file_that_is_missing_is_refused(rt: HostRuntime) -> Result<(), AllocError> {
+    let alloc = rt.alloc();
+    for (line, missing, usage) in [
+        (
+            "illcanon show",
+            "<FILE>...",
+            "illcanon show [OPTIONS] [FILE]...",
+        ),
+        (
+            "illcanon check --hex",
+            "<FILE>...",
+            "illcanon check [OPTIONS] [FILE]...",
+        ),
+        (
+            "illcanon digest",
+            "<FILE>...",
+            "illcanon digest [OPTIONS] [FILE]...",
+        ),
+        ("illcanon canonicalise", "<IN>\n  <OUT>", CANONICALISE),
+        ("illcanon canonicalise a", "<OUT>", CANONICALISE),
+        ("illcanon canonicalise -o a", "<FILE>...", CANONICALISE),
+        (
+            "illcanon canonicalise --files-from a b c",
+            "-o <OUT>",
+            CANONICALISE,
+        ),
+    ] {
+        let want = format!(in alloc; "error: the following required arguments were not provided:\n  {missing}\n\nUsage: {usage}\n\nFor more information, try '--help'.\n")?;
+        let words = words_of(alloc, line)?;
+        let found = order(alloc, &words);
+        assert!(rt;
+            matches!(&found, Err(LineFault::Missing(error)) if error.kind() == ErrorKind::MissingRequiredArgument),
+            "{line}"
+        );
+        if let Err(fault) = found {
+            let text = format!(in alloc; "{fault}")?;
+            assert!(rt; text.as_str() == want.as_str(), "{text}");
+        }
+    }
+    Ok(())
+}
+
+const CANONICALISE: &str = "illcanon canonicalise [OPTIONS] <IN> <OUT>\n       illcanon canonicalise [OPTIONS] -o <OUT> <FILE>...";
+
+#[test]
+fn a_word_too_many_is_refused(rt: HostRuntime) -> Result<(), AllocError> {
+    let alloc = rt.alloc();
+    let words = words_of(alloc, "illcanon canonicalise a b c d")?;
+    let want = format!(in alloc; "error: unexpected argument 'c' found\n\nUsage: {CANONICALISE}\n\nFor more information, try '--help'.\n")?;
+    let found = order(alloc, &words);
+    assert!(rt;
+        matches!(&found, Err(LineFault::Unexpected(error)) if error.kind() == ErrorKind::UnknownArgument)
+    );
+    if let Err(fault) = found {
+        let text = format!(in alloc; "{fault}")?;
+        assert!(rt; text.as_str() == want.as_str(), "{text}");
+        assert!(rt; status_of(&Err(Fault::from(fault))) == 2);
     }
     Ok(())
 }
@@ -208,6 +315,9 @@ fn other_words_are_refused(rt: HostRuntime) -> Result<(), AllocError> {
         ("illcanon shwo a", ErrorKind::InvalidSubcommand),
         ("illcanon same a", ErrorKind::MissingRequiredArgument),
         ("illcanon same a b c", ErrorKind::UnknownArgument),
+        ("illcanon same --keep-going a b", ErrorKind::UnknownArgument),
+        ("illcanon check -o a b", ErrorKind::UnknownArgument),
+        ("illcanon canonicalise a b -o", ErrorKind::InvalidValue),
         ("illcanon check --files-from", ErrorKind::InvalidValue),
         ("illcanon same --files-from a b", ErrorKind::UnknownArgument),
         ("illcanon check --hexx a", ErrorKind::UnknownArgument),
@@ -306,8 +416,8 @@ fn each_fault_is_one_line(rt: HostRuntime) -> Result<(), AllocError> {
             2,
         ),
         (
-            Fault::from(LineFault::NoFile),
-            "FILE or --files-from is missing",
+            Fault::from(LineFault::LinesAndKeepGoing),
+            "--lines excludes --keep-going",
             2,
         ),
         (Fault::from(RunFault::OutOfMemory), "out of memory", 3),

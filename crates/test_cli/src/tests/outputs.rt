@@ -161,7 +161,7 @@ const ROWS: [Row; 24] = [
         words: "digest --hex",
         status: 2,
         output: "",
-        errors: "illcanon: FILE or --files-from is missing\n",
+        errors: "error: the following required arguments were not provided:\n  <FILE>...\n\nUsage: illcanon digest [OPTIONS] [FILE]...\n\nFor more information, try '--help'.\n",
     },
     Row {
         words: "digest --files-from O A",

@@ -22,5 +22,8 @@ returns-clause-some c =
       lines = λ h. c.get_flag-2.ensures.value (one_text-rows found (codes "lines") ∙ h);
       no_lines = λ h. c.get_flag-2.ensures.other (one_text-rows found (codes "lines") ∙ h);
       never_lines = λ h. c.get_flag-2.ensures.none (one_text-rows found (codes "lines") ∙ h);
+      going = λ h. c.get_flag-3.ensures.value (one_text-rows found (codes "keep-going") ∙ h);
+      no_going = λ h. c.get_flag-3.ensures.other (one_text-rows found (codes "keep-going") ∙ h);
+      never_going = λ h. c.get_flag-3.ensures.none (one_text-rows found (codes "keep-going") ∙ h);
       files = task.1;
     }

@@ -1,6 +1,6 @@
 use Rattle.std.proofs.Common.{◌≡◌, ℕ, IfOk, List, [], ◌∷◌, Option, Some, None, Result, Ok, unwrap_or, option_map, codes, length, slice_index, arith, refl, sym, ap, ap₂, subst, ◌∙◌}
-use Rattle.clap.specs.Walk.{Row, Text, all_of, first_of}
-use Rattle.ill_cli.specs.Orders.{HasFiles, IsOrderOf, verb, verb_name}
+use Rattle.clap.specs.Walk.{Row, Text, first_of}
+use Rattle.ill_cli.specs.Orders.{files_in, HasFiles, IsOrderOf, verb, verb_name}
 use Rattle.ill_cli.specs.declared.fault.LineFault.{LineFault}
 use Rattle.ill_cli.specs.declared.orders.Order.{Order}
 use Rattle.ill_cli.specs.declared.orders.Task.{Task}
@@ -47,32 +47,39 @@ verb_is Verb.Canonicalise Verb.Dump e = absurd (let q : 12 ≡ 4 = ap length e i
 verb_is Verb.Canonicalise Verb.Same e = absurd (let q : 12 ≡ 4 = ap length e in omega (arith, q))
 verb_is Verb.Canonicalise Verb.Canonicalise e = refl
 
-abbrev each_of : List Row → List Text × Option Text
-each_of rows = (unwrap_or (all_of (codes "file") rows) [], first_of (codes "files-from") rows)
+abbrev Named : Type 0
+Named = List Text × (Option Text × Option Text)
 
-abbrev two_of : List Row → List Text × Option Text
-two_of rows = (unwrap_or (first_of (codes "first") rows) [] ∷ unwrap_or (first_of (codes "second") rows) [] ∷ [], None)
+abbrev each_of : List Row → Named
+each_of rows = (files_in rows, (first_of (codes "files-from") rows, None))
 
-abbrev named_by : Verb → List Row → List Text × Option Text
+abbrev two_of : List Row → Named
+two_of rows = (unwrap_or (first_of (codes "first") rows) [] ∷ unwrap_or (first_of (codes "second") rows) [] ∷ [], (None, None))
+
+abbrev named_by : Verb → List Row → Named
 named_by Verb.Show rows = each_of rows
 named_by Verb.Check rows = each_of rows
 named_by Verb.Digest rows = each_of rows
 named_by Verb.Dump rows = each_of rows
 named_by Verb.Same rows = two_of rows
-named_by Verb.Canonicalise rows = two_of rows
+named_by Verb.Canonicalise rows = (files_in rows, (first_of (codes "files-from") rows, first_of (codes "output") rows))
 
 two : (rows : List Row) (first second : Text) → first_of (codes "first") rows ≡ Some first → first_of (codes "second") rows ≡ Some second
     → unwrap_or (first_of (codes "first") rows) [] ∷ unwrap_or (first_of (codes "second") rows) [] ∷ [] ≡ first ∷ second ∷ []
 two rows first second e f = ap₂ (λ (x y : Option Text). unwrap_or x [] ∷ unwrap_or y [] ∷ []) e f
 
+three : (a b : List Text) (c d e f : Option Text) → a ≡ b → c ≡ d → e ≡ f → (a, (c, e)) ≡ (b, (d, f))
+three a b c d e f p q r = ap₂ (λ (x : List Text) (y : Option Text × Option Text). (x, y)) p (ap₂ (λ (x y : Option Text). (x, y)) q r)
+
 named_is : (rows : List Row) (t : Task) → HasFiles rows t → named_by (verb t) rows ≡ named t
-named_is rows (Task.Each Job.Show inputs) h = ap₂ (λ (x : List Text) (y : Option Text). (x, y)) h.0 h.1
-named_is rows (Task.Each Job.Check inputs) h = ap₂ (λ (x : List Text) (y : Option Text). (x, y)) h.0 h.1
-named_is rows (Task.Each Job.Digest inputs) h = ap₂ (λ (x : List Text) (y : Option Text). (x, y)) h.0 h.1
+named_is rows (Task.Each Job.Show inputs) h = three _ _ _ _ _ _ h.0 h.1 refl
+named_is rows (Task.Each Job.Check inputs) h = three _ _ _ _ _ _ h.0 h.1 refl
+named_is rows (Task.Each Job.Digest inputs) h = three _ _ _ _ _ _ h.0 h.1 refl
 named_is rows (Task.Each Job.Canonicalise inputs) h = absurd h
-named_is rows (Task.Dump inputs) h = ap₂ (λ (x : List Text) (y : Option Text). (x, y)) h.0 h.1
-named_is rows (Task.Canonicalise input output) h = ap (λ (x : List Text). (x, None)) (two rows input.now output.now h.0 h.1)
-named_is rows (Task.Compare first second) h = ap (λ (x : List Text). (x, None)) (two rows first.now second.now h.0 h.1)
+named_is rows (Task.Dump inputs) h = three _ _ _ _ _ _ h.0 h.1 refl
+named_is rows (Task.Canonicalise input output) h = three _ _ _ _ _ _ h.0 h.1 h.2
+named_is rows (Task.Collect inputs output) h = three _ _ _ _ _ _ h.0.0 h.0.1 h.1
+named_is rows (Task.Compare first second) h = ap (λ (x : List Text). (x, (None, None))) (two rows first.now second.now h.0 h.1)
 
 -- what was found is of one command, with one list of rows
 one_found : (found : Option (Text × List Row)) (name other : Text) (rows more : List Row) → found ≡ Some (name, rows) → found ≡ Some (other, more) → (name ≡ other) × (rows ≡ more)

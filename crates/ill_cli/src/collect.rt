@@ -1,0 +1,149 @@
+//! The normal forms of the messages of several files, in one file.
+use crate::commands::{How, canonicalise, end, put_all};
+use crate::each::{is_dash_twice, list_of, names_of, text_of, worse};
+use crate::fault::{Fault, LineFault, RunLine, print, print_of, status_of};
+use crate::input::open;
+use crate::names::printed;
+use crate::orders::Inputs;
+use crate::output::{self, Output, OutputOf, begin};
+use crate::same_file::FileId;
+use ill_jobs::{Job, RunFault, Verdict, Work};
+use std::rt::Files;
+use std::str;
+
+/// Writes the normal forms of the messages of each file to one output, prints the line of each fault, and returns the exit status. The
+/// output is opened only once one of the files is, and only if it is none of them.
+pub fn collect<R: Print + Eprint + Input + Files + AllocGlobal>(
+    rt: &R,
+    how: How,
+    inputs: &Inputs<'_>,
+    output: &str,
+) -> u8 {
+    let alloc = rt.alloc();
+    // If standard output is closed, an input may be opened in its place: so this is asked first.
+    let written = FileId::of_output(rt, output);
+    let (list, read) = match list_of(rt, inputs.list) {
+        Ok(found) => found,
+        Err(fault) => return end(rt, &Err(fault)),
+    };
+    let Ok(names) = names_of(alloc, &inputs.files, &list) else {
+        return end(rt, &Err(Fault::out_of_memory()));
+    };
+    if is_dash_twice(&names, inputs.list) {
+        return end(rt, &Err(Fault::from(LineFault::SameWord)));
+    }
+    if written.is_some() && (read == written || is_one_of(rt, &names, written)) {
+        return end(rt, &Err(Fault::SameFile));
+    }
+    match names.as_slice() {
+        [name] => end(rt, &one_into(rt, how, name, output)),
+        names => each_into(rt, how, names, output),
+    }
+}
+
+/// Whether one of the files is this one.
+fn is_one_of<R: Files>(rt: &R, names: &[&[u8]], file: Option<FileId>) -> bool {
+    for name in names {
+        if let Ok(name) = str::from_utf8(name) {
+            if FileId::of_input(rt, name) == file {
+                return true;
+            }
+        }
+    }
+    false
+}
+
+/// Writes the normal forms of the messages of one file.
+fn one_into<R: Print + Eprint + Input + Files + AllocGlobal>(
+    rt: &R,
+    how: How,
+    name: &[u8],
+    output: &str,
+) -> Result<Verdict, Fault> {
+    let name = text_of(rt.alloc(), name)?;
+    let work = Work::new(Job::Canonicalise, how.hex);
+    canonicalise(rt, how.doing(work), name, output)
+}
+
+/// An output that was opened: the name of the new file that is written in its place, if there is one.
+#[derive(Drop)]
+struct Begun {
+    part: Option<String>,
+}
+
+/// Writes the normal forms of the messages of several files.
+fn each_into<R: Print + Eprint + Input + Files + AllocGlobal>(
+    rt: &R,
+    how: How,
+    names: &[&[u8]],
+    name_of_output: &str,
+) -> u8 {
+    let output = Output::new();
+    let mut begun = None;
+    let mut status = 0;
+    let mut lost = Ok(Verdict::Good);
+    for name in names {
+        match next_into(rt, how, name, &output, name_of_output, &mut begun) {
+            Ok(done) => {
+                if let Err(fault) = &done {
+                    // Where standard error is closed, only the status is left to tell.
+                    let _ = print_of(rt, name, fault);
+                }
+                status = worse(status, status_of(&done));
+            }
+            Err(fault) => {
+                lost = Err(fault);
+                break;
+            }
+        }
+    }
+    let ended = match begun {
+        Some(Begun { part }) => output::end(rt, &output, part, name_of_output, lost),
+        None => lost,
+    };
+    worse(status, end(rt, &ended))
+}
+
+/// Writes the normal forms of the messages of the next file.
+///
+/// # Errors
+///
+/// The output can't be opened or written.
+fn next_into<'r, R: Print + Eprint + Input + Files + AllocGlobal>(
+    rt: &'r R,
+    how: How,
+    name: &[u8],
+    output: &OutputOf<'r, R>,
+    name_of_output: &str,
+    begun: &mut Option<Begun>,
+) -> Result<Result<Verdict, Fault>, Fault> {
+    let alloc = rt.alloc();
+    let file = match text_of(alloc, name) {
+        Ok(file) => file,
+        Err(fault) => return Ok(Err(fault)),
+    };
+    let mut source = match open(rt, file, output) {
+        Ok(source) => source,
+        Err(fault) => return Ok(Err(fault)),
+    };
+    let Ok(name) = printed(alloc, file) else {
+        return Ok(Err(Fault::out_of_memory()));
+    };
+    if begun.is_none() {
+        *begun = Some(Begun {
+            part: begin(rt, output, name_of_output)?,
+        });
+    }
+    let work = Work {
+        job: Job::Canonicalise,
+        hex: how.hex,
+        name: &name,
+        is_named: true,
+    };
+    match put_all(rt, how.doing(work), &mut source, output) {
+        Err(Fault::Run(RunLine(RunFault::WriteFault(count)))) => {
+            Err(Fault::from(RunFault::WriteFault(count)))
+        }
+        done => Ok(done),
+    }
+}

@@ -1,0 +1,62 @@
+//! The lines of messages that are refused, where the work goes on after them.
+ghost use Rattle.std.specs.Prelude.{◌≡◌, ◌&&◌, ◌==◌};
+ghost use Rattle.ill_jobs.specs.Output.{verdict_if};
+
+use crate::fault::RunLine;
+use ill_jobs::{Gone, Report, Reports, RunFault, Verdict};
+use std::fmt;
+
+/// A message that is refused, as one line.
+#[derive(Clone, Copy, Debug, PartialEq, Eq)]
+pub struct ReportLine(pub Report);
+
+impl fmt::Display for ReportLine {
+    fn fmt<W: fmt::Write>(&self, f: &mut fmt::Formatter<W>) -> fmt::Result {
+        let ReportLine(
+            Report {
+                message,
+                refusal,
+                ends,
+            },
+        ) = *self;
+        let line = RunLine(RunFault::Refused { message, refusal });
+        if ends {
+            write!(f, "{line}")
+        } else {
+            write!(f, "{line}; its end is unknown")
+        }
+    }
+}
+
+/// Prints the line of each message that is refused, with the name of its file where there are several.
+#[derive(Drop)]
+pub struct Printed<'a, R> {
+    pub rt: &'a R,
+    pub name: Option<&'a str>,
+}
+
+impl<R: Eprint> Reports for Printed<'_, R> {
+    ghost use Rattle.std.specs.Prelude.{None};
+
+    ghost reported = { λ _. None };
+
+    fn report(&mut self, report: Report) {
+        let line = ReportLine(report);
+        // Where standard error is closed, only the status is left to tell.
+        let _ = match self.name {
+            Some(name) => eprintln!(self.rt; "illcanon: {name}: {line}"),
+            None => eprintln!(self.rt; "illcanon: {line}"),
+        };
+    }
+}
+
+/// What came of an input that was gone through: all is well if no message is refused, and each is as it should be.
+pub fn verdict_of(gone: Gone) -> Verdict
+    ensures { result ≡ verdict_if (gone.all_good && gone.refused == 0) }
+{
+    if gone.all_good && gone.refused == 0 {
+        Verdict::Good
+    } else {
+        Verdict::NotGood
+    }
+}
