@@ -1,5 +1,5 @@
 -- What the words of `canonicalise` are where they have no output of their own.
-use Rattle.std.proofs.Common.{◌≡◌, ◌∙◌, ℕ, List, [], ◌∷◌, Option, Some, None, length, map, sym, ap, inl, inr, codes}
+use Rattle.std.proofs.Common.{◌≡◌, ◌∙◌, List, Option, Some, None, length, sym, ap, inr, codes}
 use Rattle.clap.specs.Walk.{Row, Text, first_of}
 use Rattle.ill_cli.specs.Orders.{files_in, verb, HasFiles}
 use Rattle.ill_cli.specs.Refused.{IsFaultOf, IsNotTwo}

@@ -52,7 +52,12 @@ const ROWS: [(&str, u8, &str, &str); 12] = [
         "illcanon: refused at 7 in message 2: Missing Expired.transaction-id; its end is unknown\n",
     ),
     ("check --keep-going none", 0, "", ""),
-    ("check --keep-going A", 0, "message 1: Expired, 33 octets, normal\n", ""),
+    (
+        "check --keep-going A",
+        0,
+        "message 1: Expired, 33 octets, normal\n",
+        "",
+    ),
     (
         "digest --keep-going endless O middle D A",
         3,
@@ -219,7 +224,10 @@ fn an_output_is_not_lost(rt: HostRuntime) -> Result<(), Fail> {
         let ended = run_line(&rt, &line, Start::default())?;
         assert!(rt; ended.status == status, "{words}");
         assert!(rt; ended.has_reported(errors), "{words}");
-        assert!(rt; fs::read(&rt, "OUT")?.as_slice() == b"as it was".as_slice(), "{words}");
+        assert!(rt;
+            fs::read(&rt, "OUT")?.as_slice() == b"as it was".as_slice(),
+            "{words}"
+        );
     }
     for (faults, errors) in [
         (
@@ -244,7 +252,10 @@ fn an_output_is_not_lost(rt: HostRuntime) -> Result<(), Fail> {
         let ended = run_line(&rt, "canonicalise -o OUT A B A", broken)?;
         assert!(rt; ended.status == 3, "{errors}");
         assert!(rt; ended.has_reported(errors), "{errors}");
-        assert!(rt; fs::read(&rt, "OUT")?.as_slice() == b"as it was".as_slice(), "{errors}");
+        assert!(rt;
+            fs::read(&rt, "OUT")?.as_slice() == b"as it was".as_slice(),
+            "{errors}"
+        );
         assert!(rt; !fs::exists(&rt, "OUT.part")?, "{errors}");
     }
     Ok(fs::remove_dir_all(&rt, folder.as_str())?)

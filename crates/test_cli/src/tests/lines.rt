@@ -5,6 +5,7 @@ use ill_cli::{Fault, LineFault, Order, Task, order, status_of};
 use ill_jobs::{Job, RunFault, Verdict};
 use ill_normal::{Cause, NodeId, PartId, Refusal, Side};
 use std::alloc::{AllocError, Global};
+use std::test::Fail;
 
 /// The words as the system gives them, the program's name first.
 fn words_of(alloc: Global, line: &str) -> Result<Vec<String>, AllocError> {
@@ -36,12 +37,14 @@ fn gives_each(
     wanted_list: Option<&str>,
 ) -> Result<bool, AllocError> {
     let words = words_of(alloc, line)?;
-    let Ok(Order {
-        hex,
-        lines,
-        keep_going,
-        task,
-    }) = order(alloc, &words)
+    let Ok(
+        Order {
+            hex,
+            lines,
+            keep_going,
+            task,
+        },
+    ) = order(alloc, &words)
     else {
         return Ok(false);
     };
@@ -79,7 +82,13 @@ fn jobs_have_their_files(rt: HostRuntime) -> Result<(), AllocError> {
         );
         let listed = format!(in alloc; "illcanon {name} --files-from - a")?;
         assert!(rt;
-            gives_each(alloc, &listed, (job, false, false, false), &["a"], Some("-"))?,
+            gives_each(
+                alloc,
+                &listed,
+                (job, false, false, false),
+                &["a"],
+                Some("-")
+            )?,
             "{name}"
         );
         let only = format!(in alloc; "illcanon {name} --files-from=list")?;
@@ -205,7 +214,10 @@ fn lines_are_those_of_one_file(rt: HostRuntime) -> Result<(), AllocError> {
     ] {
         let words = words_of(alloc, line)?;
         let found = order(alloc, &words);
-        assert!(rt; matches!(&found, Err(LineFault::LinesAndKeepGoing)), "{line}");
+        assert!(rt;
+            matches!(&found, Err(LineFault::LinesAndKeepGoing)),
+            "{line}"
+        );
     }
     Ok(())
 }
@@ -242,8 +254,16 @@ fn one_output_has_any_number_of_files(rt: HostRuntime) -> Result<(), AllocError>
     Ok(())
 }
 
+/// What clap would say of words that are too few or too many.
+fn error_of(found: Result<Order<'_>, LineFault>) -> Option<LineError> {
+    match found {
+        Err(LineFault::Missing(error) | LineFault::Unexpected(error)) => Some(error),
+        _ => None,
+    }
+}
+
 #[test]
-fn a_file_that_is_missing_is_refused(rt: HostRuntime) -> Result<(), AllocError> {
+fn a_file_that_is_missing_is_refused(rt: HostRuntime) -> Result<(), Fail> {
     let alloc = rt.alloc();
     for (line, missing, usage) in [
         (
@@ -270,37 +290,41 @@ fn a_file_that_is_missing_is_refused(rt: HostRuntime) -> Result<(), AllocError> 
             CANONICALISE,
         ),
     ] {
-        let want = format!(in alloc; "error: the following required arguments were not provided:\n  {missing}\n\nUsage: {usage}\n\nFor more information, try '--help'.\n")?;
+        let want = format!(in alloc;
+            "error: the following required arguments were not provided:\n  {missing}\n\nUsage: {usage}\n\nFor more information, try '--help'.\n"
+        )?;
         let words = words_of(alloc, line)?;
-        let found = order(alloc, &words);
+        let Some(error) = error_of(order(alloc, &words)) else {
+            return Err(Fail::from("no fault"));
+        };
         assert!(rt;
-            matches!(&found, Err(LineFault::Missing(error)) if error.kind() == ErrorKind::MissingRequiredArgument),
+            error.kind() == ErrorKind::MissingRequiredArgument,
             "{line}"
         );
-        if let Err(fault) = found {
-            let text = format!(in alloc; "{fault}")?;
-            assert!(rt; text.as_str() == want.as_str(), "{text}");
-        }
+        let text = format!(in alloc; "{error}")?;
+        assert!(rt; text.as_str() == want.as_str(), "{text}");
     }
     Ok(())
 }
 
-const CANONICALISE: &str = "illcanon canonicalise [OPTIONS] <IN> <OUT>\n       illcanon canonicalise [OPTIONS] -o <OUT> <FILE>...";
+const CANONICALISE: &str =
+    "illcanon canonicalise [OPTIONS] <IN> <OUT>\n       illcanon canonicalise [OPTIONS] -o <OUT> <FILE>...";
 
 #[test]
-fn a_word_too_many_is_refused(rt: HostRuntime) -> Result<(), AllocError> {
+fn a_word_too_many_is_refused(rt: HostRuntime) -> Result<(), Fail> {
     let alloc = rt.alloc();
     let words = words_of(alloc, "illcanon canonicalise a b c d")?;
-    let want = format!(in alloc; "error: unexpected argument 'c' found\n\nUsage: {CANONICALISE}\n\nFor more information, try '--help'.\n")?;
-    let found = order(alloc, &words);
-    assert!(rt;
-        matches!(&found, Err(LineFault::Unexpected(error)) if error.kind() == ErrorKind::UnknownArgument)
-    );
-    if let Err(fault) = found {
-        let text = format!(in alloc; "{fault}")?;
-        assert!(rt; text.as_str() == want.as_str(), "{text}");
-        assert!(rt; status_of(&Err(Fault::from(fault))) == 2);
-    }
+    let want = format!(in alloc;
+        "error: unexpected argument 'c' found\n\nUsage: {CANONICALISE}\n\nFor more information, try '--help'.\n"
+    )?;
+    let Some(error) = error_of(order(alloc, &words)) else {
+        return Err(Fail::from("no fault"));
+    };
+    assert!(rt; error.kind() == ErrorKind::UnknownArgument);
+    let text = format!(in alloc; "{error}")?;
+    assert!(rt; text.as_str() == want.as_str(), "{text}");
+    let fault = Fault::from(LineFault::Unexpected(error));
+    assert!(rt; status_of(&Err(fault)) == 2);
     Ok(())
 }
 

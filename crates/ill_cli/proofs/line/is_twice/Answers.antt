@@ -1,5 +1,3 @@
-use Rattle.std.proofs.Common.{sym, subst}
-use Rattle.ill_cli.specs.Orders.{IsTwice}
 use Rattle.ill_cli.proofs.line.is_twice.Goals as goal
 
 pub returns-in-Collect : goal.returns-in-Collect

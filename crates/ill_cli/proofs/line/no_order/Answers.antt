@@ -1,4 +1,4 @@
-use Rattle.std.proofs.Common.{◌≡◌, ◌∙◌, List, Option, Some, option_map, rules, sym, ap, codes}
+use Rattle.std.proofs.Common.{◌≡◌, ◌∙◌, Some, option_map, rules, sym, ap, codes}
 use Rattle.clap.specs.Walk.{Text}
 use Rattle.clap.specs.Words.{found_of, rows_of}
 use Rattle.clap.proofs.WalkLemmas.{first_value-rows}

@@ -1,4 +1,4 @@
-use Rattle.std.proofs.Common.{◌≡◌, ◌∙◌, Option, Some, None, length, map, option_map, refl, sym, ap, codes}
+use Rattle.std.proofs.Common.{◌≡◌, ◌∙◌, Option, Some, None, length, option_map, refl, sym, ap, codes}
 use Rattle.std.proofs.lemmas.List.{length-map}
 use Rattle.clap.specs.Words.{found_of, rows_of}
 use Rattle.clap.proofs.WalkLemmas.{first_value-rows}

@@ -68,8 +68,8 @@ two : (rows : List Row) (first second : Text) → first_of (codes "first") rows 
     → unwrap_or (first_of (codes "first") rows) [] ∷ unwrap_or (first_of (codes "second") rows) [] ∷ [] ≡ first ∷ second ∷ []
 two rows first second e f = ap₂ (λ (x y : Option Text). unwrap_or x [] ∷ unwrap_or y [] ∷ []) e f
 
-three : (a b : List Text) (c d e f : Option Text) → a ≡ b → c ≡ d → e ≡ f → (a, (c, e)) ≡ (b, (d, f))
-three a b c d e f p q r = ap₂ (λ (x : List Text) (y : Option Text × Option Text). (x, y)) p (ap₂ (λ (x y : Option Text). (x, y)) q r)
+three : (a b : List Text) (c d e f : Option Text) → a ≡ b → c ≡ d → e ≡ f → ◌≡◌ {A = Named} (a, (c, e)) (b, (d, f))
+three a b c d e f p q r = rw (p, q, r) refl
 
 named_is : (rows : List Row) (t : Task) → HasFiles rows t → named_by (verb t) rows ≡ named t
 named_is rows (Task.Each Job.Show inputs) h = three _ _ _ _ _ _ h.0 h.1 refl
@@ -79,7 +79,7 @@ named_is rows (Task.Each Job.Canonicalise inputs) h = absurd h
 named_is rows (Task.Dump inputs) h = three _ _ _ _ _ _ h.0 h.1 refl
 named_is rows (Task.Canonicalise input output) h = three _ _ _ _ _ _ h.0 h.1 h.2
 named_is rows (Task.Collect inputs output) h = three _ _ _ _ _ _ h.0.0 h.0.1 h.1
-named_is rows (Task.Compare first second) h = ap (λ (x : List Text). (x, (None, None))) (two rows first.now second.now h.0 h.1)
+named_is rows (Task.Compare first second) h = three _ _ _ _ _ _ (two rows first.now second.now h.0 h.1) refl refl
 
 -- what was found is of one command, with one list of rows
 one_found : (found : Option (Text × List Row)) (name other : Text) (rows more : List Row) → found ≡ Some (name, rows) → found ≡ Some (other, more) → (name ≡ other) × (rows ≡ more)
