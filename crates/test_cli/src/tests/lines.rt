@@ -93,7 +93,14 @@ fn jobs_have_their_files(rt: HostRuntime) -> Result<(), AllocError> {
 fn dump_has_its_files(rt: HostRuntime) -> Result<(), AllocError> {
     let alloc = rt.alloc();
     let words = words_of(alloc, "illcanon dump --hex a - --files-from list")?;
-    let Ok(Order { hex, lines, task: Task::Dump { inputs } }) = order(alloc, &words) else {
+    let Ok(
+        Order {
+            hex,
+            lines,
+            task: Task::Dump { inputs },
+        },
+    ) = order(alloc, &words)
+    else {
         assert!(rt; false, "an order");
         return Ok(());
     };
