@@ -1,5 +1,5 @@
 //! The types of leaves, and the values of their contents.
-ghost use Rattle.std.specs.Prelude.{◌≡◌, ◌↔◌, IsNone};
+ghost use Rattle.std.specs.Prelude.{◌≡◌, ◌↔◌, true, IsNone, MatchOption};
 ghost use Rattle.ber_leaf.specs.Content.{IsContent};
 ghost use Rattle.ber_leaf.specs.Leaf.{content_fault, is_string, value};
 ghost use Rattle.ber_leaf.specs.Profile.{profile_two};
@@ -52,6 +52,19 @@ impl LeafType {
             LeafType::Printable => PrintableText::check(octets),
             LeafType::Date => DateText::check(octets),
             LeafType::Time => TimeText::check(octets),
+        }
+    }
+
+    /// The value that the octets hold, where it takes no memory. None for a string.
+    pub fn plain_value(self, octets: &[u8]) -> Option<Value>
+        requires { IsContent (leaf_is self) octets.now }
+        ensures { MatchOption result (is_string (leaf_is self) ≡ true) (λ v. content_of v ≡ simple (value (leaf_is self) octets.now)) }
+    {
+        match self {
+            LeafType::Boolean => Some(Value::Flag(Flag::read(octets))),
+            LeafType::Integer => Some(Value::Whole(Whole::read(octets))),
+            LeafType::Enumerated => Some(Value::Whole(Whole::read(octets))),
+            _ => None,
         }
     }
 

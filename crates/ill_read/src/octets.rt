@@ -28,17 +28,15 @@ use std::alloc::{AllocError, Global};
 /// The normal form of a message, as far as it has been read. A string that is open has its octets at the end.
 #[derive(Drop)]
 pub struct Octets {
-    alloc: Global,
     octets: DerBuffer,
 }
 
 impl Octets {
     /// Holds nothing, in the memory of `room`, whose octets are forgotten.
-    pub fn new(alloc: Global, room: Vec<u8>) -> Octets
+    pub fn new(room: Vec<u8>) -> Octets
         ensures { AreOctets result (top_level ∷ []) [] }
     {
         Octets {
-            alloc,
             octets: DerBuffer::reusing(room),
         }
     }
@@ -47,7 +45,7 @@ impl Octets {
     pub fn into_octets(self) -> Vec<u8>
         ensures { result.items ≡ self.octets }
     {
-        let Octets { alloc: _, octets } = self;
+        let Octets { octets } = self;
         octets.into_octets()
     }
 
@@ -80,49 +78,6 @@ impl Octets {
         self.octets.enclose(base, sequence)?;
         Ok(())
     }
-
-    /// Whether a leaf at this place is its row's default. Strings and the values of choices never are.
-    #[inline(always)]
-    fn is_left_away(
-        &self,
-        place: At,
-        reading: Reading,
-        leaf: LeafType,
-        content: &[u8],
-    ) -> Result<bool, AllocError>
-        requires { IsContent (leaf_is leaf) content.now }
-        ensures { IfOk result (λ left. left ≡ left_away (shape place) (slot_in reading.found) (with_alternative (alternative_of reading.found) (simple (value (leaf_is leaf) content.now)))) }
-    {
-        if leaf.is_string() {
-            return Ok(false);
-        }
-        if reading.found.alternative().is_some() {
-            return Ok(false);
-        }
-        self.is_default(place, Slot::of(reading.found), leaf, content)
-    }
-
-    /// Whether a leaf is the default of its row, where it stands at this place in the slot.
-    #[inline(never)]
-    fn is_default(
-        &self,
-        place: At,
-        slot: Slot,
-        leaf: LeafType,
-        content: &[u8],
-    ) -> Result<bool, AllocError>
-        requires { IsContent (leaf_is leaf) content.now }
-        ensures { IfOk result (λ left. left ≡ left_away (shape place) slot (simple (value (leaf_is leaf) content.now))) }
-    {
-        let Some(row) = row_at(Next::at(place), slot) else {
-            return Ok(false);
-        };
-        if !matches!(row.presence, Presence::Default(_)) {
-            return Ok(false);
-        }
-        let value = leaf.value(Vec::from_slice(self.alloc, content)?);
-        Ok(is_default(row, &value))
-    }
 }
 
 impl Draft for Octets {
@@ -152,7 +107,7 @@ impl Draft for Octets {
         leaf: LeafType,
         content: &[u8],
     ) -> Result<(), AllocError> {
-        if self.is_left_away(place, reading, leaf, content)? {
+        if is_left_away(place, reading, leaf, content) {
             return Ok(());
         }
         self.octets
@@ -206,6 +161,39 @@ fn normal_content(leaf: LeafType, content: &[u8]) -> &[u8]
         }
     }
     content
+}
+
+/// Whether a leaf at this place is its row's default. Strings and the values of choices never are.
+#[inline(always)]
+fn is_left_away(place: At, reading: Reading, leaf: LeafType, content: &[u8]) -> bool
+    requires { IsContent (leaf_is leaf) content.now }
+    ensures { result ≡ left_away (shape place) (slot_in reading.found) (with_alternative (alternative_of reading.found) (simple (value (leaf_is leaf) content.now))) }
+{
+    if leaf.is_string() {
+        return false;
+    }
+    if reading.found.alternative().is_some() {
+        return false;
+    }
+    is_default_at(place, Slot::of(reading.found), leaf, content)
+}
+
+/// Whether a leaf is the default of its row, where it stands at this place in the slot.
+#[inline(never)]
+fn is_default_at(place: At, slot: Slot, leaf: LeafType, content: &[u8]) -> bool
+    requires { IsContent (leaf_is leaf) content.now }
+    ensures { result ≡ left_away (shape place) slot (simple (value (leaf_is leaf) content.now)) }
+{
+    let Some(row) = row_at(Next::at(place), slot) else {
+        return false;
+    };
+    if !matches!(row.presence, Presence::Default(_)) {
+        return false;
+    }
+    match leaf.plain_value(content) {
+        Some(value) => is_default(row, &value),
+        None => false,
+    }
 }
 
 /// The row of an element at the slot, where this may come next.

@@ -9,13 +9,13 @@ use Rattle.ill_read.specs.LeafTypes.{leaf_is}
 use Rattle.ill_read.proofs.OctetDrafts.{leaf_added}
 use Rattle.ill_read.proofs.octets.OctetsDraft.leaf.Goals as goal
 
-pub returns-then-branch : goal.returns-then-branch
-returns-then-branch c l below h due =
+pub returns-then-is_left_away : goal.returns-then-is_left_away
+returns-then-is_left_away c l below h due =
     let leaf = c.args.leaf in
     let octets = c.args.content.now in
     let right = content_holds (leaf_is leaf) octets c.requires in
     let x = encoding (primitive (tag_of_id c.args.reading.id) (normal_content (value (leaf_is leaf) octets))) in
-    let left = sym c.in_ok-is_left_away.ensures ∙ c.if-branch.true in
+    let left = sym c.is_left_away.ensures ∙ c.if-is_left_away.true in
     leaf_added c.args.self.now c.args.self.now l below (shape c.args.place) c.args.reading leaf octets h due right.0 right.1
     (sym (append-nil c.args.self.now.octets) ∙ ap (λ (b : Bool). c.args.self.now.octets ++ elim b as (λ _. List ℕ) [ true ↦ [] | false ↦ x ]) (sym left))
 
@@ -25,7 +25,7 @@ returns c l below h due =
     let octets = c.args.content.now in
     let right = content_holds (leaf_is leaf) octets c.requires in
     let x = encoding (primitive (tag_of_id c.args.reading.id) (normal_content (value (leaf_is leaf) octets))) in
-    let kept = sym c.in_ok-is_left_away.ensures ∙ c.if-branch.false in
+    let kept = sym c.is_left_away.ensures ∙ c.if-is_left_away.false in
     leaf_added c.args.self.now (record c.args.self.now { octets = c.primitive.new.self }) l below (shape c.args.place) c.args.reading leaf octets h due right.0 right.1
     (c.in_ok-primitive.ensures.encoding c.args.reading.form ∙ ap (λ o. c.args.self.now.octets ++ encoding (primitive (tag_of_id c.args.reading.id) o)) c.normal_content.ensures
     ∙ ap (λ (b : Bool). c.args.self.now.octets ++ elim b as (λ _. List ℕ) [ true ↦ [] | false ↦ x ]) (sym kept))
