@@ -57,10 +57,13 @@ impl Element {
     pub fn allows(self, constructed: bool) -> bool
         ensures { result ≡ allows (element_is self) constructed }
     {
-        match self {
-            Element::Leaf(leaf) => !constructed || leaf.is_string(),
-            Element::Segment => true,
-            _ => constructed,
+        if constructed {
+            match self {
+                Element::Leaf(leaf) => leaf.is_string(),
+                _ => true,
+            }
+        } else {
+            matches!(self, Element::Leaf(_) | Element::Segment)
         }
     }
 }

@@ -107,7 +107,7 @@ fn length_in_four(octets: &[u8]) -> Option<LengthRead>
 }
 
 /// The length in any number of octets after the first two.
-#[inline(never)]
+#[inline(always)]
 fn length_in(octets: &[u8], count: usize) -> Option<LengthRead>
     requires some { 0 < count }
     requires few { count < 127 }
@@ -134,6 +134,7 @@ fn first_identifier(octets: &[u8]) -> Option<Id>
 }
 
 /// The number that these digits in base 256 spell, or 4,294,967,295 where it is larger.
+#[inline(never)]
 fn number(digits: &[u8]) -> u32
     ensures { result ≡ min (number_from_digits 256 digits.now) 4_294_967_295 }
 {
