@@ -186,7 +186,10 @@ impl At {
             let cell = cell_at(cells, position);
             if let Some(begun) = start(cell, id) {
                 return Some(Found {
-                    at: At { round: self.round, position },
+                    at: At {
+                        round: self.round,
+                        position,
+                    },
                     cell,
                     begun,
                 });

@@ -1,5 +1,5 @@
 -- What headers, parts of them and faults of them say of octets that begin with them.
-use Rattle.std.proofs.Common.{◌≡◌, ◌⊎◌, ℕ, ◌<◌, ◌≤◌, ◌+◌, ◌*◌, Bool, true, false, List, [], ◌∷◌, ◌++◌, length, drop, slice_get, slice_index_or, Some, nat_le, nat_lt, IsTrue, refl, sym, ap, subst, ◌∙◌, arith, inl, inr, append_assoc, append-nil}
+use Rattle.std.proofs.Common.{◌≡◌, ◌⊎◌, ℕ, ◌<◌, ◌≤◌, ◌+◌, ◌*◌, Bool, true, List, [], ◌∷◌, ◌++◌, length, drop, slice_get, slice_index_or, Some, nat_le, nat_lt, IsTrue, refl, sym, ap, subst, ◌∙◌, arith, inl, inr, append_assoc, append-nil}
 use Rattle.ber_core.specs.declared.id.Id.{Id}
 use Rattle.ber_core.specs.declared.header.Header.{Header}
 use Rattle.ber_core.specs.declared.header.HeaderFault.TheVariants.{BadTag, BadLength}

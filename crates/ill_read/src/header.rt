@@ -27,20 +27,22 @@ pub enum LengthRead {
 }
 
 /// Reads as much of a header as is there.
-#[inline(always)]
 pub fn read_header(octets: &[u8]) -> HeaderRead
     requires { length octets.now ≤ 1_048_576 }
     ensures { IsHeaderRead result octets.now }
 {
-    match read_common(octets) {
-        Some(read) => read,
+    let Some(id) = first_identifier(octets) else {
+        return read_any(octets);
+    };
+    match length_after(octets, id.constructed()) {
+        Some(length) => HeaderRead::Identified(id, length),
         None => read_any(octets),
     }
 }
 
 /// Reads a header octet by octet.
 #[inline(never)]
-fn read_any(octets: &[u8]) -> HeaderRead
+pub fn read_any(octets: &[u8]) -> HeaderRead
     requires { length octets.now ≤ 1_048_576 }
     ensures { IsHeaderRead result octets.now }
 {
@@ -69,19 +71,9 @@ fn read_any(octets: &[u8]) -> HeaderRead
     }
 }
 
-/// A header as most elements have: its identifier is of one octet, and its length is whole. None where the octets begin with no such.
-#[inline(always)]
-fn read_common(octets: &[u8]) -> Option<HeaderRead>
-    ensures { IfSome result (λ read. IsHeaderRead read octets.now) }
-{
-    let id = first_identifier(octets)?;
-    let length = length_after(octets, id.constructed())?;
-    Some(HeaderRead::Identified(id, length))
-}
-
 /// The length after an identifier of one octet (X.690, 8.1.3.3 to 8.1.3.6). None where it isn't whole.
 #[inline(always)]
-fn length_after(octets: &[u8], constructed: bool) -> Option<LengthRead>
+pub fn length_after(octets: &[u8], constructed: bool) -> Option<LengthRead>
     ensures { IfSome result (λ read. IsLengthRead read (read_length constructed (drop 1 octets.now)) octets.now) }
 {
     match *octets.get(1)? {
@@ -123,7 +115,7 @@ fn length_in(octets: &[u8], count: usize) -> Option<LengthRead>
 
 /// The identifier at the front, where it is of one octet (X.690, 8.1.2.2 to 8.1.2.5). None where there is no such.
 #[inline(always)]
-fn first_identifier(octets: &[u8]) -> Option<Id>
+pub fn first_identifier(octets: &[u8]) -> Option<Id>
     ensures { IfSome result (λ id. read_identifier octets.now ≡ identified (tag_of_id id) (form_of_id id) (drop 1 octets.now)) }
 {
     let first = *octets.first()?;

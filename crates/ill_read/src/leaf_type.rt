@@ -1,5 +1,5 @@
 //! The types of leaves, and the values of their contents.
-ghost use Rattle.std.specs.Prelude.{◌≡◌, ◌↔◌, true, IsNone, MatchOption};
+ghost use Rattle.std.specs.Prelude.{◌≡◌, ◌↔◌, IsNone};
 ghost use Rattle.ber_leaf.specs.Content.{IsContent};
 ghost use Rattle.ber_leaf.specs.Leaf.{content_fault, is_string, value};
 ghost use Rattle.ber_leaf.specs.Profile.{profile_two};
@@ -27,6 +27,7 @@ impl LeafType {
     ghost use Rattle.ill_schema.specs.Content.{simple};
     ghost use Rattle.ill_schema.specs.Value.{content_of};
     ghost use Rattle.ill_read.specs.LeafTypes.{leaf_is};
+    ghost use Rattle.ill_read.specs.code.OctetDrafts.{is_number};
 
     /// Whether it is a string, which may stand in segments (X.690, 8.23).
     pub fn is_string(self) -> bool
@@ -55,16 +56,17 @@ impl LeafType {
         }
     }
 
-    /// The value that the octets hold, where it takes no memory. None for a string.
-    pub fn plain_value(self, octets: &[u8]) -> Option<Value>
+    /// Whether the octets hold the value that the number of a default stands for: of a BOOLEAN, 1 is TRUE. A string never does.
+    #[inline(always)]
+    pub fn is_number(self, number: i64, octets: &[u8]) -> bool
         requires { IsContent (leaf_is self) octets.now }
-        ensures { MatchOption result (is_string (leaf_is self) ≡ true) (λ v. content_of v ≡ simple (value (leaf_is self) octets.now)) }
+        ensures { result ≡ is_number (leaf_is self) number octets.now }
     {
         match self {
-            LeafType::Boolean => Some(Value::Flag(Flag::read(octets))),
-            LeafType::Integer => Some(Value::Whole(Whole::read(octets))),
-            LeafType::Enumerated => Some(Value::Whole(Whole::read(octets))),
-            _ => None,
+            LeafType::Boolean => Flag::read(octets) == (number == 1),
+            LeafType::Integer => Whole::read(octets) == number,
+            LeafType::Enumerated => Whole::read(octets) == number,
+            _ => false,
         }
     }
 

@@ -8,12 +8,15 @@ ghost use Rattle.ill_schema.specs.Content.{simple};
 ghost use Rattle.ill_read.specs.LeafTypes.{leaf_is};
 ghost use Rattle.ill_read.specs.declared.element.Wrapped.{Wrapped};
 ghost use Rattle.ill_cells.specs.Places.{alternative_of};
-ghost use Rattle.ill_read.specs.DueCode.{read_as, shape, slot_in};
+ghost use Rattle.ill_read.specs.DueCode.{IsDueIn, behind, next_place, read_as, shape_at, slot_in};
+ghost use Rattle.ill_read.specs.code.Drafts.{due_with};
+ghost use Rattle.ill_read.specs.declared.element.Element.TheVariants.{Leaf as LeafElement};
+ghost use Rattle.ber_core.specs.Identifier.{Tag};
 ghost use Rattle.ill_read.specs.Standing.{top_level, with_alternative};
-ghost use Rattle.ill_read.specs.code.OctetDrafts.{AreNormal, AreOctets, IsApartAs, enclosed, form_of, left_away, row_slot};
+ghost use Rattle.ill_read.specs.code.OctetDrafts.{AreNormal, AreOctets, IsApartAs, enclosed, form_of, left_away};
 
 use crate::draft::Draft;
-use crate::due::{Next, Slot};
+use crate::due::Next;
 use crate::element::Element;
 use crate::failure::Failure;
 use crate::frame::Frame;
@@ -21,9 +24,9 @@ use crate::judge::{Opening, Reading};
 use crate::leaf_type::LeafType;
 use ber_buffer::DerBuffer;
 use ber_core::{Class, Id, universal};
-use ill_cells::At;
-use ill_schema::{Cause, LIMIT, PartId, Presence, Row, is_default, row};
-use std::alloc::{AllocError, Global};
+use ill_cells::{At, Slot};
+use ill_schema::{Cause, LIMIT};
+use std::alloc::AllocError;
 
 /// The normal form of a message, as far as it has been read. A string that is open has its octets at the end.
 #[derive(Drop)]
@@ -102,12 +105,12 @@ impl Draft for Octets {
     #[inline(always)]
     fn leaf(
         &mut self,
-        place: At,
+        _place: At,
         reading: Reading,
         leaf: LeafType,
         content: &[u8],
     ) -> Result<(), AllocError> {
-        if is_left_away(place, reading, leaf, content) {
+        if is_left_away(reading, leaf, content) {
             return Ok(());
         }
         self.octets
@@ -163,50 +166,23 @@ fn normal_content(leaf: LeafType, content: &[u8]) -> &[u8]
     content
 }
 
-/// Whether a leaf at this place is its row's default. Strings and the values of choices never are.
+/// Whether a leaf is the default of its row, by the default of what was found. Strings and the values of choices never are.
 #[inline(always)]
-fn is_left_away(place: At, reading: Reading, leaf: LeafType, content: &[u8]) -> bool
+fn is_left_away(reading: Reading, leaf: LeafType, content: &[u8]) -> bool
     requires { IsContent (leaf_is leaf) content.now }
-    ensures { result ≡ left_away (shape place) (slot_in reading.found) (with_alternative (alternative_of reading.found) (simple (value (leaf_is leaf) content.now))) }
+    ensures { (t : Tag) (n : Next) → IsDueIn t n (due_with (slot_in reading.found) (alternative_of reading.found) (LeafElement leaf))
+        → shape_at (next_place reading.found) ≡ behind n (slot_in reading.found)
+        → result ≡ left_away n (slot_in reading.found) (with_alternative (alternative_of reading.found) (simple (value (leaf_is leaf) content.now))) }
 {
-    if leaf.is_string() {
-        return false;
-    }
-    if reading.found.alternative().is_some() {
-        return false;
-    }
-    is_default_at(place, Slot::of(reading.found), leaf, content)
-}
-
-/// Whether a leaf is the default of its row, where it stands at this place in the slot.
-#[inline(never)]
-fn is_default_at(place: At, slot: Slot, leaf: LeafType, content: &[u8]) -> bool
-    requires { IsContent (leaf_is leaf) content.now }
-    ensures { result ≡ left_away (shape place) slot (simple (value (leaf_is leaf) content.now)) }
-{
-    let Some(row) = row_at(Next::at(place), slot) else {
+    let found = reading.found;
+    let Some(number) = found.default_value() else {
         return false;
     };
-    if !matches!(row.presence, Presence::Default(_)) {
+    if found.alternative().is_some() {
         return false;
     }
-    match leaf.plain_value(content) {
-        Some(value) => is_default(row, &value),
-        None => false,
-    }
-}
-
-/// The row of an element at the slot, where this may come next.
-#[inline(always)]
-fn row_at(next: Next, slot: Slot) -> Option<Row>
-    ensures { result ≡ row_slot next slot }
-{
-    match (next, slot) {
-        (Next::Rows(node, _), Slot::Row(number)) => row(PartId { node, row: number }),
-        (Next::Either(wrapped), Slot::Row(number)) => row(PartId {
-            node: wrapped.node,
-            row: number,
-        }),
-        _ => None,
+    match found.slot() {
+        Slot::Row => leaf.is_number(number, content),
+        _ => false,
     }
 }

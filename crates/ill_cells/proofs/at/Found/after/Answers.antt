@@ -1,8 +1,8 @@
-use Rattle.std.proofs.Common.{◌≡◌, ◌+◌, sym, ap, subst, ◌∙◌, refl, rules, IsTrue}
+use Rattle.std.proofs.Common.{◌≡◌, sym, ap, subst, ◌∙◌, refl, rules, IsTrue}
 use Rattle.ill_schema.specs.Table.{kind_of}
 use Rattle.ill_refusals.specs.Next.{next_of}
 use Rattle.ill_cells.specs.Cells.{due_at, is_placed, next_from}
-use Rattle.ill_cells.specs.Places.{Where, due_of, element_found, part_in, node_in, place_after, slot_of}
+use Rattle.ill_cells.specs.Places.{Where, due_of, element_found, place_after, slot_of}
 use Rattle.ill_cells.specs.declared.at.Found.{Found}
 use Rattle.ill_cells.specs.declared.cell.Slot.{Slot}
 use Rattle.ill_cells.proofs.Going.{after-item, after-row, after-segment}
