@@ -51,6 +51,7 @@ fn has_tag(cell: &Cell, id: Id) -> bool
 }
 
 /// The cell of what a node with alternatives, or of two types, is by the tag.
+#[inline(always)]
 fn nested_start(node: NodeId, id: Id) -> Option<&'static Cell>
     requires { is_nested (kind_of node) ≡ true }
     ensures { MatchOption result (element_with (tag_of_id id) (node_starts node) ≡ None)

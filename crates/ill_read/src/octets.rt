@@ -1,19 +1,19 @@
 //! The draft that is the message's normal form: each element is written as it is read.
-ghost use Rattle.std.specs.Prelude.{◌≡◌, ◌++◌, ℕ, List, [], ◌∷◌, length, drop, true, IfOk, OnOk};
+ghost use Rattle.std.specs.Prelude.{◌≡◌, ◌++◌, ℕ, List, [], ◌∷◌, length, drop, false, true, IfOk, OnOk};
 ghost use Rattle.ber_leaf.specs.Content.{IsContent};
 ghost use Rattle.ber_core.specs.Id.{id_octets, tag_of_id};
-ghost use Rattle.ber_core.specs.Identifier.{identifier};
+ghost use Rattle.ber_core.specs.Identifier.{HasIdentifier, identifier};
 ghost use Rattle.ber_leaf.specs.Leaf.{normal_content, value};
 ghost use Rattle.ill_schema.specs.Content.{simple};
 ghost use Rattle.ill_read.specs.LeafTypes.{leaf_is};
 ghost use Rattle.ill_read.specs.declared.element.Wrapped.{Wrapped};
 ghost use Rattle.ill_cells.specs.Places.{alternative_of};
-ghost use Rattle.ill_read.specs.DueCode.{IsDueIn, behind, next_place, read_as, shape_at, slot_in};
+ghost use Rattle.ill_read.specs.DueCode.{IsDueIn, behind, next_place, shape_at, slot_in};
 ghost use Rattle.ill_read.specs.code.Drafts.{due_with};
 ghost use Rattle.ill_read.specs.declared.element.Element.TheVariants.{Leaf as LeafElement};
 ghost use Rattle.ber_core.specs.Identifier.{Tag};
 ghost use Rattle.ill_read.specs.Standing.{top_level, with_alternative};
-ghost use Rattle.ill_read.specs.code.OctetDrafts.{AreNormal, AreOctets, IsApartAs, enclosed, form_of, left_away};
+ghost use Rattle.ill_read.specs.code.OctetDrafts.{AreNormal, AreOctets, enclosed, left_away};
 
 use crate::draft::Draft;
 use crate::due::Next;
@@ -90,10 +90,11 @@ impl Draft for Octets {
 
     #[inline(always)]
     fn open(&mut self, opening: Opening) -> Result<usize, AllocError> {
-        if let Element::Segment = Element::of(opening.found) {
-            return Ok(self.octets.len());
-        }
-        let base = self.octets.open(opening_id(opening))?;
+        let base = match Element::of(opening.found) {
+            Element::Segment => self.octets.len(),
+            Element::Leaf(_) => self.octets.open(string_id(opening.id))?,
+            _ => self.octets.open(opening.id)?,
+        };
         Ok(base)
     }
 
@@ -140,16 +141,12 @@ impl Draft for Octets {
     }
 }
 
-/// The identifier of an element that opens, as DER has it: a string is primitive (X.690, 10.2).
+/// The identifier of a string as DER has it: it is primitive (X.690, 10.2).
 #[inline(always)]
-fn opening_id(opening: Opening) -> Id
-    ensures { IsApartAs opening → id_octets result ≡ identifier (tag_of_id opening.id) (form_of (read_as opening.found)) }
+fn string_id(id: Id) -> Id
+    ensures { HasIdentifier (tag_of_id id) false → id_octets result ≡ identifier (tag_of_id id) false }
 {
-    let id = opening.id;
-    match Element::of(opening.found) {
-        Element::Leaf(_) => Id::new(id.class(), false, id.number()).unwrap_or(id),
-        _ => id,
-    }
+    Id::new(id.class(), false, id.number()).unwrap_or(id)
 }
 
 /// The content of a leaf as DER has it: TRUE is FF (X.690, 11.1).
