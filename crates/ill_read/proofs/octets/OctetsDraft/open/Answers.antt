@@ -23,8 +23,8 @@ returns-in_ok-base-in-Leaf c =
     let is : read_as o.found ≡ Leaf c.in-Leaf.field-0 = sym c.of.ensures ∙ c.in-Leaf.is in
     octets_opened c.args.self.now (record c.args.self.now { octets = c.open.new.self }) o c.in_ok-base-in-Leaf.base (id_octets c.string_id.result) (λ s. let q : Leaf c.in-Leaf.field-0 ≡ Segment = sym is ∙ s in cc)
     (λ apart.
-        let valid : HasIdentifier (tag_of_id o.id) false = record { number = o.id.valid.number; not_end = λ k n. subst (λ e. form_of e ≡ true) is (apart k n) } in
-        c.string_id.ensures valid ∙ ap (λ e. identifier (tag_of_id o.id) (form_of e)) (sym is))
+    let valid : HasIdentifier (tag_of_id o.id) false = record { number = o.id.valid.number; not_end = λ k n. subst (λ e. form_of e ≡ true) is (apart k n) } in
+    c.string_id.ensures valid ∙ ap (λ e. identifier (tag_of_id o.id) (form_of e)) (sym is))
     c.in_ok-base-in-Leaf.ensures.octets c.in_ok-base-in-Leaf.ensures.base
 
 pub returns-in_ok-base-in_default : goal.returns-in_ok-base-in_default
