@@ -35,6 +35,12 @@ pub content_holds : (l : Leaf) (o : List ℕ) → IsContent l o → Holds profil
 unfolding IsContent
 content_holds l o h = (h.1.0, h.1.1, refl)
 
+-- a boolean has one octet
+pub one_octet : (o : List ℕ) → content_fault profile_two boolean o ≡ None → length o ≡ 1
+one_octet [] e = absurd cc
+one_octet (a ∷ []) e = refl
+one_octet (a ∷ b ∷ o) e = grind arith
+
 -- octets hold at most one value
 pub held_same : (p : Profile) (l : Leaf) (v w : Simple) (o : List ℕ) → Holds p l v o → Holds p l w o → v ≡ w
 held_same p l v w o h k = h.2 ∙ sym k.2

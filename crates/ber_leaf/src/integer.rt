@@ -26,7 +26,7 @@ impl Leaf for Whole {
     }
 
     fn of(octets: Vec<u8>) -> i64 {
-        integer_of(&octets)
+        Whole::read(&octets)
     }
 
     fn normal_size(value: &i64) -> usize {
@@ -36,6 +36,23 @@ impl Leaf for Whole {
     fn put_normal(value: &i64, room: &mut [u8]) {
         let bytes = value.to_be_bytes();
         room.copy_from_slice(&bytes[8 - room.len()..]);
+    }
+}
+
+impl Whole {
+    /// The number that these octets are in two's complement, most significant octet first (X.690, 8.3.3). It takes no memory.
+    ///
+    /// # Examples
+    ///
+    /// ```
+    /// assert!(Whole::read(&[0xFF, 0x7F]) == -129);
+    /// ```
+    pub fn read(octets: &[u8]) -> i64
+        requires some { 0 < length octets.now }
+        requires few { length octets.now ≤ 8 }
+        ensures { result ≡ integer_of octets.now }
+    {
+        i64::from_be_bytes(extended(octets))
     }
 }
 
@@ -54,16 +71,7 @@ fn is_padded(octets: &[u8]) -> bool
     }
 }
 
-/// The number that the octets are in two's complement.
-fn integer_of(octets: &[u8]) -> i64
-    requires some { 0 < length octets.now }
-    requires few { length octets.now ≤ 8 }
-    ensures { result ≡ integer_of octets.now }
-{
-    i64::from_be_bytes(extended(octets))
-}
-
-/// The octets behind as many copies of their sign as make eight of them.
+/// The octets after as many copies of their sign as make eight of them.
 fn extended(octets: &[u8]) -> [u8; 8]
     requires some { 0 < length octets.now }
     requires few { length octets.now ≤ 8 }

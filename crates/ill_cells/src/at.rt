@@ -20,7 +20,9 @@ use ill_schema::{NodeId, PartId};
 pub struct At {
     /// The cell of the node, or of the wrapper round it.
     round: &'static Cell,
-    position: u8,
+    // As wide as the reference: so nothing is left unused in what holds a place, and it is copied by whole words.
+    position: usize,
+    ghost few: { position < 28 },
 }
 
 /// An element that is due.
@@ -49,13 +51,14 @@ fn has_tag(cell: &Cell, id: Id) -> bool
 }
 
 /// The cell of what a node with alternatives, or of two types, is by the tag.
+#[inline(always)]
 fn nested_start(node: NodeId, id: Id) -> Option<&'static Cell>
     requires { is_nested (kind_of node) ≡ true }
     ensures { MatchOption result (element_with (tag_of_id id) (node_starts node) ≡ None)
         (λ begun. IsBegunBy (tag_of_id id) (node_starts node) (node_choice node) (option_map (λ _. begun.now.part.row) (node_choice node)) begun.now) }
 {
     let cells = alternatives_of(node);
-    for row in 0..cells.len() as u8 {
+    for row in 0..cells.len() {
         let cell = cell_at(cells, row);
         if has_tag(cell, id) {
             return Some(cell);
@@ -78,7 +81,7 @@ fn alternative_number(node: NodeId, number: u8) -> Option<u8>
 
 /// Where an element begins inside.
 #[inline(always)]
-fn first_position(what: What) -> u8
+fn first_position(what: What) -> usize
     ensures { result ≡ first_position what }
 {
     match what {
@@ -89,21 +92,22 @@ fn first_position(what: What) -> u8
 
 /// The cell at a position.
 #[inline(always)]
-fn cell_at(cells: &'static [Cell], position: u8) -> &'static Cell
+fn cell_at(cells: &'static [Cell], position: usize) -> &'static Cell
     requires { position < length cells.now }
     ensures { slice_get cells.now position ≡ Some result.now }
 {
-    &cells[position as usize]
+    &cells[position]
 }
 
 /// The part that is due at a position.
-fn part_at(at: At, position: u8, slot: Slot) -> PartId
+fn part_at(at: At, position: usize, slot: Slot) -> PartId
+    requires { position < 28 }
     ensures { result ≡ part_at at.round.now.part at.round.now.node position slot }
 {
     match slot {
         Slot::Row => PartId {
             node: at.round.node,
-            row: position.saturating_sub(1),
+            row: position.saturating_sub(1) as u8,
         },
         _ => at.round.part,
     }
@@ -159,7 +163,7 @@ impl At {
     pub fn position(self) -> u8
         ensures { result ≡ position_in self }
     {
-        self.position
+        self.position as u8
     }
 
     /// Where nothing may come.
@@ -173,18 +177,20 @@ impl At {
     }
 
     /// What is due with the identifier's tag, None where nothing is.
-    // Not in line: each part of what it returns is loaded from memory where it is used.
-    #[inline(never)]
+    #[inline(always)]
     pub fn find(self, id: Id) -> Option<Found>
         ensures { MatchOption result (due profile_two (tag_of_id id) (next_at self) ≡ None)
             (λ found. IsDue (tag_of_id id) self found) }
     {
         let cells = cells_of(self.round.node);
-        for position in self.position..cells.len() as u8 {
+        for position in self.position..cells.len() {
             let cell = cell_at(cells, position);
             if let Some(begun) = start(cell, id) {
                 return Some(Found {
-                    at: At { position, ..self },
+                    at: At {
+                        round: self.round,
+                        position,
+                    },
                     cell,
                     begun,
                 });
@@ -202,7 +208,7 @@ impl At {
         ensures { result ≡ missing profile_two (next_at self) }
     {
         let cells = cells_of(self.round.node);
-        for position in self.position..cells.len() as u8 {
+        for position in self.position..cells.len() {
             let cell = cell_at(cells, position);
             if cell.stops {
                 return Some(part_at(self, position, cell.slot));
@@ -217,7 +223,7 @@ impl At {
         ensures { result ≡ is_some (missing profile_two (next_at self)) }
     {
         let cells = cells_of(self.round.node);
-        if cells.len() <= self.position as usize {
+        if cells.len() <= self.position {
             return false;
         }
         cell_at(cells, self.position).lacks
@@ -249,8 +255,8 @@ impl Found {
     {
         match self.cell.slot {
             Slot::Row => At {
+                round: self.at.round,
                 position: self.at.position + 1,
-                ..self.at
             },
             Slot::Inner => At::nowhere(),
             Slot::Item | Slot::Segment => self.at,
@@ -292,7 +298,7 @@ impl Found {
         ensures row { result ≡ row_of self }
         ensures component { IsAtRow (node_round self) result (due_of self) }
     {
-        self.at.position - 1
+        (self.at.position - 1) as u8
     }
 
     /// The alternative of the choice without a tag that it is.

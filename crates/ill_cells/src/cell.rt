@@ -47,9 +47,9 @@ pub struct Cell {
     pub slot: Slot,
     /// The tags are those of the node's alternatives.
     pub nested: bool,
-    /// Where the tag differs, nothing behind this cell is due.
+    /// Where the tag differs, nothing after this cell is due.
     pub stops: bool,
-    /// This row or one behind it is mandatory.
+    /// This row or one after it is mandatory.
     pub lacks: bool,
     pub default: Option<u8>,
 }

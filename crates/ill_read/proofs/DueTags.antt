@@ -4,7 +4,7 @@ use Rattle.std.specs.List.{list_all}
 use Rattle.ber_core.specs.Identifier.{Tag}
 use Rattle.ber_core.specs.declared.id.Class.{Class}
 use Rattle.ber_core.specs.declared.id.Class.TheVariants.{Universal}
-use Rattle.ber_leaf.specs.Leaf.{is_string}
+use Rattle.ber_leaf.specs.Leaf.{boolean, enumerated, integer, is_string}
 use Rattle.ber_leaf.specs.Profile.{profile_two}
 use Rattle.ill_schema.specs.Content.{Content, alternative}
 use Rattle.ill_schema.specs.Presence.{is_default, is_default_of}
@@ -153,14 +153,17 @@ abbrev pub MayOpen : Element → Type 0
 MayOpen (leaf l) = IsTrue (is_string l)
 MayOpen _ = Unit {0}
 
--- is no leaf of the kinds that have defaults
-abbrev PlainLeaf : Tag → Element → Type 0
-PlainLeaf t e = MayOpen e → ⊥
+-- is the leaf of the kind, which is one of those that have defaults
+abbrev pub PlainLeaf : Kind → Tag → Element → Type 0
+PlainLeaf (Kind.Leaf LeafKind.Boolean) t e = e ≡ leaf boolean
+PlainLeaf (Kind.Leaf LeafKind.Integer) t e = e ≡ leaf integer
+PlainLeaf (Kind.Leaf LeafKind.Enumerated) t e = e ≡ leaf enumerated
+PlainLeaf _ t e = ⊥
 
-plain_own : (d : _) (k : Kind) (node : NodeId) → IsTrue (is_plain (Presence.Default d) Mode.Implicit k) → AllStarts PlainLeaf (own_starts k node)
-plain_own d (Kind.Leaf LeafKind.Boolean) node h = (λ m. cc, tt)
-plain_own d (Kind.Leaf LeafKind.Integer) node h = (λ m. cc, tt)
-plain_own d (Kind.Leaf LeafKind.Enumerated) node h = (λ m. cc, tt)
+plain_own : (d : _) (k : Kind) (node : NodeId) → IsTrue (is_plain (Presence.Default d) Mode.Implicit k) → AllStarts (PlainLeaf k) (own_starts k node)
+plain_own d (Kind.Leaf LeafKind.Boolean) node h = (refl, tt)
+plain_own d (Kind.Leaf LeafKind.Integer) node h = (refl, tt)
+plain_own d (Kind.Leaf LeafKind.Enumerated) node h = (refl, tt)
 plain_own d Kind.Seq node h = absurd cc
 plain_own d Kind.SeqOf node h = absurd cc
 plain_own d Kind.Choice node h = absurd cc
@@ -169,14 +172,27 @@ plain_own d (Kind.Leaf LeafKind.Date) node h = absurd cc
 plain_own d (Kind.Leaf LeafKind.Time) node h = absurd cc
 plain_own d (Kind.Leaf LeafKind.Printable) node h = absurd cc
 
-plain_retag : (t : Tag) (ss : List Start) → AllStarts PlainLeaf ss → AllStarts PlainLeaf (retag t ss)
-plain_retag t [] h = tt
-plain_retag t (s ∷ ss) h = (h.0, plain_retag t ss h.1)
+plain_other : (k : Kind) (t u : Tag) (e : Element) → PlainLeaf k t e → PlainLeaf k u e
+plain_other (Kind.Leaf LeafKind.Boolean) t u e h = h
+plain_other (Kind.Leaf LeafKind.Integer) t u e h = h
+plain_other (Kind.Leaf LeafKind.Enumerated) t u e h = h
+plain_other _ t u e h = absurd h
+
+plain_retag : (k : Kind) (t : Tag) (ss : List Start) → AllStarts (PlainLeaf k) ss → AllStarts (PlainLeaf k) (retag t ss)
+plain_retag k t [] h = tt
+plain_retag k t (s ∷ ss) h = (plain_other k s.tag t s.element h.0, plain_retag k t ss h.1)
+
+-- it may not be constructed
+plain_stays : (k : Kind) (t : Tag) (e : Element) → PlainLeaf k t e → MayOpen e → ⊥
+plain_stays (Kind.Leaf LeafKind.Boolean) t e h m = (let n : IsTrue (is_string boolean) = subst MayOpen h m in cc)
+plain_stays (Kind.Leaf LeafKind.Integer) t e h m = (let n : IsTrue (is_string integer) = subst MayOpen h m in cc)
+plain_stays (Kind.Leaf LeafKind.Enumerated) t e h m = (let n : IsTrue (is_string enumerated) = subst MayOpen h m in cc)
+plain_stays _ t e h m = absurd h
 
 plain_row : (tag : Option (Class × ℕ)) (m : Mode) (d : _) (node : NodeId) (part : PartId) → IsTrue (has_plain_default (record { tag = tag; mode = m; presence = Presence.Default d; node = node }))
-    → AllStarts PlainLeaf (component_starts (component_at part (record { tag = tag; mode = m; presence = Presence.Default d; node = node })))
+    → AllStarts (PlainLeaf (kind_of node)) (component_starts (component_at part (record { tag = tag; mode = m; presence = Presence.Default d; node = node })))
 plain_row None m d node part h = absurd cc
-plain_row (Some t) Mode.Implicit d node part h = plain_retag _ _ (plain_own d (kind_of node) node h)
+plain_row (Some t) Mode.Implicit d node part h = plain_retag (kind_of node) _ _ (plain_own d (kind_of node) node h)
 plain_row (Some t) Mode.Explicit d node part h = absurd (never (kind_of node) h)
   where
     never : (k : Kind) → IsTrue (is_plain (Presence.Default d) Mode.Explicit k) → ⊥
@@ -193,6 +209,17 @@ plain_row (Some t) Mode.Untagged d node part h = absurd (never (kind_of node) h)
     never Kind.Seq h = cc
     never _ h = cc
 
+-- what begins a row with a default is the leaf of its kind
+pub default_leaf : (node : NodeId) (r : ℕ) (row : Row) (t : Tag) (d : _) (e : Element) → slice_get (rows_of node) r ≡ Some row → row.presence ≡ Presence.Default d
+    → element_with t (component_starts (component_at (record { node = node; row = r }) row)) ≡ Some e → PlainLeaf (kind_of row.node) t e
+default_leaf node r row t d e is q b =
+    let same : row ≡ record { tag = row.tag; mode = row.mode; presence = Presence.Default d; node = row.node } =
+    ap (λ x. let y : Row = record { tag = row.tag; mode = row.mode; presence = x; node = row.node } in y) q in
+    let plain = subst (λ x. IsTrue (has_plain_default x)) same (at_row has_plain_default (rows_of node) r row (all_plain node) is) in
+    let starts = plain_row row.tag row.mode d row.node (record { node = node; row = r }) plain in
+    let here = subst (λ x. element_with t (component_starts (component_at (record { node = node; row = r }) x)) ≡ Some e) same b in
+    found_start (PlainLeaf (kind_of row.node)) t _ e starts here
+
 -- what may be constructed is no default
 row_kept : (node : NodeId) (r : ℕ) (row : Row) (t : Tag) (alt : Option ℕ) (e : Element) (c : Content) → slice_get (rows_of node) r ≡ Some row → Begins t (component_at (record { node = node; row = r }) row) alt e → MayOpen e
     → is_default row (with_alternative alt c) ≡ false
@@ -205,19 +232,11 @@ row_kept node r row t (Some n) e c is b m = go row.presence
     go (Presence.Default d) = refl
 row_kept node r row t None e c is b m = go row.presence refl
   where
-    as_row : (pr : Presence) → row.presence ≡ pr → row ≡ record { tag = row.tag; mode = row.mode; presence = pr; node = row.node }
-    as_row pr q = ap (λ x. let y : Row = record { tag = row.tag; mode = row.mode; presence = x; node = row.node } in y) q
-
     go : (pr : Presence) → row.presence ≡ pr → is_default_of row.presence (kind_of row.node) c ≡ false
     go Presence.Must q = ap (λ x. is_default_of x (kind_of row.node) c) q
     go Presence.May q = ap (λ x. is_default_of x (kind_of row.node) c) q
     go Presence.LeftOut q = ap (λ x. is_default_of x (kind_of row.node) c) q
-    go (Presence.Default d) q =
-        let same = as_row (Presence.Default d) q in
-        let plain = subst (λ x. IsTrue (has_plain_default x)) same (at_row has_plain_default (rows_of node) r row (all_plain node) is) in
-        let starts = plain_row row.tag row.mode d row.node (record { node = node; row = r }) plain in
-        let here = subst (λ x. element_with t (component_starts (component_at (record { node = node; row = r }) x)) ≡ Some e) same b in
-        absurd (found_start PlainLeaf t _ e starts here m)
+    go (Presence.Default d) q = absurd (plain_stays (kind_of row.node) t e (default_leaf node r row t d e is q b) m)
 
 -- what may be constructed has octets
 pub kept : (t : Tag) (n : Next) (slot : Slot) (alt : Option ℕ) (el : CodeElement) (c : Content) → IsDueIn t n (due_with slot alt el) → MayOpen (element_is el) → left_away n slot (with_alternative alt c) ≡ false

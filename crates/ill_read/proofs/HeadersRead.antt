@@ -1,5 +1,5 @@
 -- What headers, parts of them and faults of them say of octets that begin with them.
-use Rattle.std.proofs.Common.{◌≡◌, ◌⊎◌, ℕ, ◌<◌, ◌≤◌, Bool, true, List, [], ◌∷◌, ◌++◌, length, drop, slice_index_or, nat_lt, IsTrue, refl, sym, ap, subst, ◌∙◌, arith, inl, inr, append_assoc, append-nil}
+use Rattle.std.proofs.Common.{◌≡◌, ◌⊎◌, ℕ, ◌<◌, ◌≤◌, ◌+◌, ◌*◌, Bool, true, List, [], ◌∷◌, ◌++◌, length, drop, slice_get, slice_index_or, Some, nat_le, nat_lt, IsTrue, refl, sym, ap, subst, ◌∙◌, arith, inl, inr, append_assoc, append-nil}
 use Rattle.ber_core.specs.declared.id.Id.{Id}
 use Rattle.ber_core.specs.declared.header.Header.{Header}
 use Rattle.ber_core.specs.declared.header.HeaderFault.TheVariants.{BadTag, BadLength}
@@ -116,3 +116,18 @@ pub short_length : (f : Bool) (w : List ℕ) → 2 ≤ length w → slice_index_
 short_length f [] h short = absurd (omega (arith, h))
 short_length f (a ∷ []) h short = absurd (omega (arith, h))
 short_length f (a ∷ (n ∷ w)) h short = let e : nat_lt n 128 ≡ true = grind (arith, short) in rw e refl
+
+-- a length in four octets
+pub four_length : (f : Bool) (w : List ℕ) → 6 ≤ length w → slice_get w 1 ≡ Some 132
+    → read_length f (drop 1 w) ≡ definite (((slice_index_or w 2 0 * 256 + slice_index_or w 3 0) * 256 + slice_index_or w 4 0) * 256 + slice_index_or w 5 0) (drop 6 w)
+four_length f (i ∷ k ∷ a ∷ b ∷ c ∷ d ∷ w) h e =
+    let first : k ≡ 132 = cc in
+    let there : nat_le 4 (length (a ∷ b ∷ c ∷ d ∷ w)) ≡ true = grind arith in
+    let front : 0 + a ≡ a = omega arith in
+    rw first (rw there (ap (λ n. definite (((n * 256 + b) * 256 + c) * 256 + d) w) front))
+four_length f [] h e = absurd (omega (arith, h))
+four_length f (i ∷ []) h e = absurd (omega (arith, h))
+four_length f (i ∷ k ∷ []) h e = absurd (omega (arith, h))
+four_length f (i ∷ k ∷ a ∷ []) h e = absurd (omega (arith, h))
+four_length f (i ∷ k ∷ a ∷ b ∷ []) h e = absurd (omega (arith, h))
+four_length f (i ∷ k ∷ a ∷ b ∷ c ∷ []) h e = absurd (omega (arith, h))

@@ -27,6 +27,7 @@ pub mod LookedOctets
 pub mod ValueDrafts
 pub mod WrittenElements
 pub mod DueTags
+pub mod Defaults
 pub mod OctetDrafts
 pub mod NormalLeaves
 pub mod NormalElements

@@ -234,14 +234,14 @@ outline_text old new octets has e bases levels text h = record {
 pub outline_leaf : (old new : Outlining) (next : Next) (r : Reading) (leaf : LeafType) (octets : List ℕ) (passed : List Mark) → IsContent (leaf_is leaf) octets → HasLeaf AreOctets old.octets next r leaf octets new.octets
     → HasPassed (rows_before next (slot_in r.found)) old.marks.items passed → new.marks.items ≡ passed ++ (alternative_marks (alternative_of r.found) ++ leaf_marks leaf octets) → new.bases.items ≡ old.bases.items
     → HasLeaf AreOutlined old next r leaf octets new
-outline_leaf old new next r leaf octets passed right has p e bases l below h due =
+outline_leaf old new next r leaf octets passed right has p e bases after l below h due =
     let c = with_alternative (alternative_of r.found) (simple (value (leaf_is leaf) octets)) in
     let x = alternative_marks (alternative_of r.found) ++ leaf_marks leaf octets in
     let front = h.joined ∙ append-nil h.front in
     let all : new.marks.items ≡ h.front ++ (p.marks ++ x) = e ∙ ap (λ ms. ms ++ x) (p.added ∙ ap (λ ms. ms ++ p.marks) front) ∙ append_assoc h.front p.marks x in
     let rows = subst (λ n. ArePassed (rows_before n (slot_in r.found)) p.marks) (sym due.next) p.are in
     record {
-      octets = has l below h.octets due;
+      octets = has after l below h.octets due;
       front = h.front ++ (p.marks ++ x);
       joined = all ∙ sym (append-nil (h.front ++ (p.marks ++ x)));
       are = subst (λ bs. AreFronts (with_entry l (slot_in r.found) c ∷ below) bs (h.front ++ (p.marks ++ x))) (sym bases)

@@ -52,7 +52,7 @@ leaf_read holds old new place r l start octets result header at rest stands begi
     let no : text_so_far place ≡ [] = no_text place old.frames.open.items stands.0 stands.1 (λ s. apart (due_segment tag (next_at old.frames.open.items) (due_with (slot_in r.found) (alternative_of r.found) (Leaf l)) due s)) in
     let added = entry_added holds old.frames.open.items stands.0 new place (slot_in r.found) (alternative_of r.found) (Leaf l) (simple (value (leaf_is l) octets)) (primitive tag octets)
     (at + header + length octets) (drop (header + length octets) rest) result stands.1 due apart after (ap shape_at there ∙ begin.goes_on) goes
-    (λ level below e d. ((tt, ok, right, refl), has level below (subst (λ t. holds old.draft (level ∷ below) t) no (subst (λ ls. holds old.draft ls (text_so_far place)) e stands.2)) d)) in
+    (λ level below e d. ((tt, ok, right, refl), has begin.goes_on level below (subst (λ t. holds old.draft (level ∷ below) t) no (subst (λ ls. holds old.draft ls (text_so_far place)) e stands.2)) d)) in
     let none : element_fault profile_two (element_is (read_as r.found)) octets ≡ None = ap (λ x. element_fault profile_two (element_is x) octets) is ∙ right in
     subst (λ f. IsStep holds new (Ok result) (moved (or_faulty f start (reads tag header octets)) place at rest)) (sym none) added
 

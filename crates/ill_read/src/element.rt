@@ -1,7 +1,6 @@
 //! The elements that an encoding may hold.
 ghost use Rattle.std.specs.Prelude.{◌≡◌};
-ghost use Rattle.ill_read.specs.Elements.{element_is};
-ghost use Rattle.ill_read.specs.code.JudgeCode.{IsFormed};
+ghost use Rattle.ill_read.specs.code.JudgeCode.{IsFormed, has_form};
 
 use crate::leaf_type::LeafType;
 use ill_cells::{Found, What};
@@ -22,7 +21,6 @@ pub enum Element {
 }
 
 impl Element {
-    ghost use Rattle.ill_refusals.specs.Place.{allows};
     ghost use Rattle.ill_read.specs.DueCode.{read_as};
 
     /// As what that which was found is read. What is left out never is.
@@ -51,18 +49,6 @@ impl Element {
             What::Segment => Element::Segment,
         }
     }
-
-    /// Whether it may have the form (X.690, 8.2 to 8.10, 8.14 and 8.23).
-    #[inline(always)]
-    pub fn allows(self, constructed: bool) -> bool
-        ensures { result ≡ allows (element_is self) constructed }
-    {
-        match self {
-            Element::Leaf(leaf) => !constructed || leaf.is_string(),
-            Element::Segment => true,
-            _ => constructed,
-        }
-    }
 }
 
 /// What an explicit tag stands round.
@@ -77,12 +63,29 @@ pub struct Wrapped {
 pub fn form_fault(found: Found, constructed: bool) -> Option<Cause>
     ensures { IsFormed found constructed result }
 {
-    if let What::LeftOut = found.what() {
-        return Some(Cause::LeftOut(found.part()));
+    if has_form(found.what(), constructed) {
+        return None;
     }
-    if Element::of(found).allows(constructed) {
-        None
+    match found.what() {
+        What::LeftOut => Some(Cause::LeftOut(found.part())),
+        _ => Some(Cause::WrongForm),
+    }
+}
+
+/// Whether what is read so may have the form (X.690, 8.2 to 8.10, 8.14 and 8.23). What is left out has none.
+#[inline(always)]
+fn has_form(what: What, constructed: bool) -> bool
+    ensures { result ≡ has_form what constructed }
+{
+    if constructed {
+        !matches!(
+            what,
+            What::Boolean | What::Integer | What::Enumerated | What::LeftOut
+        )
     } else {
-        Some(Cause::WrongForm)
+        !matches!(
+            what,
+            What::Sequence | What::List | What::Wrapper | What::LooseWrapper | What::LeftOut
+        )
     }
 }

@@ -13,8 +13,8 @@ use std::alloc::{AllocError, Global};
 /// How many elements may be open.
 pub const DEPTH: usize = 32;
 
-/// For how many open elements memory is taken at first: more than a normal form has.
-const AT_FIRST: usize = 12;
+/// For how many more open elements memory is taken: at first, more than a normal form has.
+const MORE: usize = 12;
 
 /// The open elements, innermost last.
 #[derive(Drop)]
@@ -44,10 +44,10 @@ impl Frames {
         ensures items { IfOk result (λ _. self.new.open.items ≡ self.old.open.items ++ frame ∷ []) }
         ensures depth { depth_of self.new ≤ depth_of self.old + 1 }
     {
-        if self.open.is_empty() {
-            self.open.reserve(AT_FIRST)?;
+        if self.open.len() == self.open.capacity() {
+            self.open.reserve(MORE)?;
         }
-        self.open.push(frame)?;
+        self.open.push_reserved(frame);
         Ok(())
     }
 

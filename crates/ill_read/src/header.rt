@@ -1,9 +1,9 @@
 //! The header at the front of the octets that are there.
-ghost use Rattle.std.specs.Prelude.{◌≡◌, ◌≤◌, length, min, drop, IfSome};
+ghost use Rattle.std.specs.Prelude.{◌≡◌, ◌+◌, ◌<◌, ◌≤◌, Bool, Some, length, min, drop, slice_get, IfSome};
 ghost use Rattle.std.specs.Int.Digits.{number_from_digits};
 ghost use Rattle.ber_core.specs.Id.{form_of_id, tag_of_id};
-ghost use Rattle.ill_read.specs.HeaderCode.{IsHeaderRead};
-ghost use Rattle.ill_refusals.specs.Reading.{class_of, identified, read_identifier};
+ghost use Rattle.ill_read.specs.HeaderCode.{IsHeaderRead, IsLengthRead};
+ghost use Rattle.ill_refusals.specs.Reading.{class_of, identified, read_identifier, read_length};
 
 use ber_core::{Class, HeaderFault, HeaderState, Id, Len};
 
@@ -16,7 +16,7 @@ pub enum HeaderRead {
     Identified(Id, LengthRead),
 }
 
-/// What the octets behind an identifier show of a length.
+/// What the octets after an identifier show of a length.
 #[derive(Clone, Copy)]
 pub enum LengthRead {
     NoLength,
@@ -27,32 +27,22 @@ pub enum LengthRead {
 }
 
 /// Reads as much of a header as is there.
-#[inline(always)]
 pub fn read_header(octets: &[u8]) -> HeaderRead
     requires { length octets.now ≤ 1_048_576 }
     ensures { IsHeaderRead result octets.now }
 {
-    match read_short(octets) {
-        Some(read) => read,
-        None => read_other(octets),
-    }
-}
-
-/// The same where the header isn't of two octets, or not whole.
-#[inline(always)]
-pub fn read_other(octets: &[u8]) -> HeaderRead
-    requires { length octets.now ≤ 1_048_576 }
-    ensures { IsHeaderRead result octets.now }
-{
-    match read_long(octets) {
-        Some(read) => read,
+    let Some(id) = first_identifier(octets) else {
+        return read_any(octets);
+    };
+    match length_after(octets, id.constructed()) {
+        Some(length) => HeaderRead::Identified(id, length),
         None => read_any(octets),
     }
 }
 
 /// Reads a header octet by octet.
 #[inline(never)]
-fn read_any(octets: &[u8]) -> HeaderRead
+pub fn read_any(octets: &[u8]) -> HeaderRead
     requires { length octets.now ≤ 1_048_576 }
     ensures { IsHeaderRead result octets.now }
 {
@@ -81,44 +71,51 @@ fn read_any(octets: &[u8]) -> HeaderRead
     }
 }
 
-/// A header of two octets, as most elements have. None where the octets begin with no such.
+/// The length after an identifier of one octet (X.690, 8.1.3.3 to 8.1.3.6). None where it isn't whole.
 #[inline(always)]
-pub fn read_short(octets: &[u8]) -> Option<HeaderRead>
-    ensures { IfSome result (λ read. IsHeaderRead read octets.now) }
+pub fn length_after(octets: &[u8], constructed: bool) -> Option<LengthRead>
+    ensures { IfSome result (λ read. IsLengthRead read (read_length constructed (drop 1 octets.now)) octets.now) }
 {
-    let id = first_identifier(octets)?;
-    if octets.len() < 2 || octets[1] >= 128 {
-        return None;
+    match *octets.get(1)? {
+        size @ 0..=127 => Some(LengthRead::Whole(Len::Definite(size as u32), 2)),
+        128 => constructed.then_some(LengthRead::Whole(Len::Indefinite, 2)),
+        132 => length_in_four(octets),
+        255 => None,
+        first => length_in(octets, (first - 128) as usize),
     }
-    Some(HeaderRead::Identified(id, LengthRead::Whole(Len::Definite(octets[1] as u32), 2)))
 }
 
-/// A header whose identifier is of one octet, and whose length isn't in the short form (X.690, 8.1.3.5 and 8.1.3.6).
-#[inline(never)]
-fn read_long(octets: &[u8]) -> Option<HeaderRead>
-    ensures { IfSome result (λ read. IsHeaderRead read octets.now) }
+/// The length in the four octets after the first two.
+#[inline(always)]
+fn length_in_four(octets: &[u8]) -> Option<LengthRead>
+    requires { slice_get octets.now 1 ≡ Some 132 }
+    ensures { IfSome result (λ read. (constructed : Bool) → IsLengthRead read (read_length constructed (drop 1 octets.now)) octets.now) }
 {
-    let id = first_identifier(octets)?;
-    if octets.len() < 2 || octets[1] < 128 || octets[1] == 255 {
+    let [_, _, a, b, c, d, ..] = octets else {
         return None;
-    }
-    let count = (octets[1] - 128) as usize;
-    if count == 0 {
-        if !id.constructed() {
-            return None;
-        }
-        return Some(HeaderRead::Identified(id, LengthRead::Whole(Len::Indefinite, 2)));
-    }
+    };
+    let size = ((*a as u32 * 256 + *b as u32) * 256 + *c as u32) * 256 + *d as u32;
+    Some(LengthRead::Whole(Len::Definite(size), 6))
+}
+
+/// The length in any number of octets after the first two.
+#[inline(always)]
+fn length_in(octets: &[u8], count: usize) -> Option<LengthRead>
+    requires some { 0 < count }
+    requires few { count < 127 }
+    requires first { slice_get octets.now 1 ≡ Some (128 + count) }
+    ensures { IfSome result (λ read. (constructed : Bool) → IsLengthRead read (read_length constructed (drop 1 octets.now)) octets.now) }
+{
     if octets.len() < count + 2 {
         return None;
     }
     let size = number(&octets[2..count + 2]);
-    Some(HeaderRead::Identified(id, LengthRead::Whole(Len::Definite(size), count as u32 + 2)))
+    Some(LengthRead::Whole(Len::Definite(size), count as u32 + 2))
 }
 
 /// The identifier at the front, where it is of one octet (X.690, 8.1.2.2 to 8.1.2.5). None where there is no such.
 #[inline(always)]
-fn first_identifier(octets: &[u8]) -> Option<Id>
+pub fn first_identifier(octets: &[u8]) -> Option<Id>
     ensures { IfSome result (λ id. read_identifier octets.now ≡ identified (tag_of_id id) (form_of_id id) (drop 1 octets.now)) }
 {
     let first = *octets.first()?;
@@ -129,6 +126,7 @@ fn first_identifier(octets: &[u8]) -> Option<Id>
 }
 
 /// The number that these digits in base 256 spell, or 4,294,967,295 where it is larger.
+#[inline(never)]
 fn number(digits: &[u8]) -> u32
     ensures { result ≡ min (number_from_digits 256 digits.now) 4_294_967_295 }
 {

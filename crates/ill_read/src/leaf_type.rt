@@ -27,6 +27,7 @@ impl LeafType {
     ghost use Rattle.ill_schema.specs.Content.{simple};
     ghost use Rattle.ill_schema.specs.Value.{content_of};
     ghost use Rattle.ill_read.specs.LeafTypes.{leaf_is};
+    ghost use Rattle.ill_read.specs.code.OctetDrafts.{is_number};
 
     /// Whether it is a string, which may stand in segments (X.690, 8.23).
     pub fn is_string(self) -> bool
@@ -52,6 +53,20 @@ impl LeafType {
             LeafType::Printable => PrintableText::check(octets),
             LeafType::Date => DateText::check(octets),
             LeafType::Time => TimeText::check(octets),
+        }
+    }
+
+    /// Whether the octets hold the value that the number of a default stands for: of a BOOLEAN, 1 is TRUE. A string never does.
+    #[inline(always)]
+    pub fn is_number(self, number: i64, octets: &[u8]) -> bool
+        requires { IsContent (leaf_is self) octets.now }
+        ensures { result ≡ is_number (leaf_is self) number octets.now }
+    {
+        match self {
+            LeafType::Boolean => Flag::read(octets) == (number == 1),
+            LeafType::Integer => Whole::read(octets) == number,
+            LeafType::Enumerated => Whole::read(octets) == number,
+            _ => false,
         }
     }
 

@@ -95,7 +95,7 @@ fn normal_into<R: Source, L: Look<R>, K: Keep>(
     ensures { ReadsNext (R.left source.old) (R.left source.new) (R.is_broken source.old) (R.is_broken source.new)
         (λ n octets. IsNormalOf n octets × Appends (K.kept keep.old) (K.kept keep.new) octets) result }
 {
-    let mut reader = Reader::new(alloc, Octets::new(alloc, room));
+    let mut reader = Reader::new(alloc, Octets::new(room));
     match read_draft::<Octets, R, L, K>(&mut reader, source, keep) {
         Ok(Some(read)) => Ok(Some(Normal {
             octets: reader.into_draft().into_octets(),
@@ -119,7 +119,7 @@ fn normal_into<R: Source, L: Look<R>, K: Keep>(
 pub fn decode_normal(alloc: Global, octets: &[u8]) -> Result<Normal, Failure>
     ensures { NormalAnswers octets.now result }
 {
-    let mut reader = Reader::new(alloc, Octets::new(alloc, Vec::new(alloc)));
+    let mut reader = Reader::new(alloc, Octets::new(Vec::new(alloc)));
     let _ = reader.run(octets);
     if !reader.outcome()? {
         return Err(Failure::refused(octets.len() as u32, Cause::Truncated));

@@ -1,19 +1,22 @@
 //! The draft that is the message's normal form: each element is written as it is read.
-ghost use Rattle.std.specs.Prelude.{◌≡◌, ◌++◌, ℕ, List, [], ◌∷◌, length, drop, true, IfOk, OnOk};
+ghost use Rattle.std.specs.Prelude.{◌≡◌, ◌++◌, ℕ, List, [], ◌∷◌, length, drop, false, true, IfOk, OnOk};
 ghost use Rattle.ber_leaf.specs.Content.{IsContent};
 ghost use Rattle.ber_core.specs.Id.{id_octets, tag_of_id};
-ghost use Rattle.ber_core.specs.Identifier.{identifier};
+ghost use Rattle.ber_core.specs.Identifier.{HasIdentifier, identifier};
 ghost use Rattle.ber_leaf.specs.Leaf.{normal_content, value};
 ghost use Rattle.ill_schema.specs.Content.{simple};
 ghost use Rattle.ill_read.specs.LeafTypes.{leaf_is};
 ghost use Rattle.ill_read.specs.declared.element.Wrapped.{Wrapped};
 ghost use Rattle.ill_cells.specs.Places.{alternative_of};
-ghost use Rattle.ill_read.specs.DueCode.{read_as, shape, slot_in};
+ghost use Rattle.ill_read.specs.DueCode.{IsDueIn, behind, next_place, shape_at, slot_in};
+ghost use Rattle.ill_read.specs.code.Drafts.{due_with};
+ghost use Rattle.ill_read.specs.declared.element.Element.TheVariants.{Leaf as LeafElement};
+ghost use Rattle.ber_core.specs.Identifier.{Tag};
 ghost use Rattle.ill_read.specs.Standing.{top_level, with_alternative};
-ghost use Rattle.ill_read.specs.code.OctetDrafts.{AreNormal, AreOctets, IsApartAs, enclosed, form_of, left_away, row_slot};
+ghost use Rattle.ill_read.specs.code.OctetDrafts.{AreNormal, AreOctets, enclosed, left_away};
 
 use crate::draft::Draft;
-use crate::due::{Next, Slot};
+use crate::due::Next;
 use crate::element::Element;
 use crate::failure::Failure;
 use crate::frame::Frame;
@@ -21,24 +24,22 @@ use crate::judge::{Opening, Reading};
 use crate::leaf_type::LeafType;
 use ber_buffer::DerBuffer;
 use ber_core::{Class, Id, universal};
-use ill_cells::At;
-use ill_schema::{Cause, LIMIT, PartId, Presence, Row, is_default, row};
-use std::alloc::{AllocError, Global};
+use ill_cells::{At, Slot};
+use ill_schema::{Cause, LIMIT};
+use std::alloc::AllocError;
 
 /// The normal form of a message, as far as it has been read. A string that is open has its octets at the end.
 #[derive(Drop)]
 pub struct Octets {
-    alloc: Global,
     octets: DerBuffer,
 }
 
 impl Octets {
     /// Holds nothing, in the memory of `room`, whose octets are forgotten.
-    pub fn new(alloc: Global, room: Vec<u8>) -> Octets
+    pub fn new(room: Vec<u8>) -> Octets
         ensures { AreOctets result (top_level ∷ []) [] }
     {
         Octets {
-            alloc,
             octets: DerBuffer::reusing(room),
         }
     }
@@ -47,7 +48,7 @@ impl Octets {
     pub fn into_octets(self) -> Vec<u8>
         ensures { result.items ≡ self.octets }
     {
-        let Octets { alloc: _, octets } = self;
+        let Octets { octets } = self;
         octets.into_octets()
     }
 
@@ -80,49 +81,6 @@ impl Octets {
         self.octets.enclose(base, sequence)?;
         Ok(())
     }
-
-    /// Whether a leaf at this place is its row's default. Strings and the values of choices never are.
-    #[inline(always)]
-    fn is_left_away(
-        &self,
-        place: At,
-        reading: Reading,
-        leaf: LeafType,
-        content: &[u8],
-    ) -> Result<bool, AllocError>
-        requires { IsContent (leaf_is leaf) content.now }
-        ensures { IfOk result (λ left. left ≡ left_away (shape place) (slot_in reading.found) (with_alternative (alternative_of reading.found) (simple (value (leaf_is leaf) content.now)))) }
-    {
-        if leaf.is_string() {
-            return Ok(false);
-        }
-        if reading.found.alternative().is_some() {
-            return Ok(false);
-        }
-        self.is_default(place, Slot::of(reading.found), leaf, content)
-    }
-
-    /// Whether a leaf is the default of its row, where it stands at this place in the slot.
-    #[inline(never)]
-    fn is_default(
-        &self,
-        place: At,
-        slot: Slot,
-        leaf: LeafType,
-        content: &[u8],
-    ) -> Result<bool, AllocError>
-        requires { IsContent (leaf_is leaf) content.now }
-        ensures { IfOk result (λ left. left ≡ left_away (shape place) slot (simple (value (leaf_is leaf) content.now))) }
-    {
-        let Some(row) = row_at(Next::at(place), slot) else {
-            return Ok(false);
-        };
-        if !matches!(row.presence, Presence::Default(_)) {
-            return Ok(false);
-        }
-        let value = leaf.value(Vec::from_slice(self.alloc, content)?);
-        Ok(is_default(row, &value))
-    }
 }
 
 impl Draft for Octets {
@@ -132,10 +90,11 @@ impl Draft for Octets {
 
     #[inline(always)]
     fn open(&mut self, opening: Opening) -> Result<usize, AllocError> {
-        if let Element::Segment = Element::of(opening.found) {
-            return Ok(self.octets.len());
-        }
-        let base = self.octets.open(opening_id(opening))?;
+        let base = match Element::of(opening.found) {
+            Element::Segment => self.octets.len(),
+            Element::Leaf(_) => self.octets.open(string_id(opening.id))?,
+            _ => self.octets.open(opening.id)?,
+        };
         Ok(base)
     }
 
@@ -147,12 +106,12 @@ impl Draft for Octets {
     #[inline(always)]
     fn leaf(
         &mut self,
-        place: At,
+        _place: At,
         reading: Reading,
         leaf: LeafType,
         content: &[u8],
     ) -> Result<(), AllocError> {
-        if self.is_left_away(place, reading, leaf, content)? {
+        if is_left_away(reading, leaf, content) {
             return Ok(());
         }
         self.octets
@@ -182,16 +141,12 @@ impl Draft for Octets {
     }
 }
 
-/// The identifier of an element that opens, as DER has it: a string is primitive (X.690, 10.2).
+/// The identifier of a string as DER has it: it is primitive (X.690, 10.2).
 #[inline(always)]
-fn opening_id(opening: Opening) -> Id
-    ensures { IsApartAs opening → id_octets result ≡ identifier (tag_of_id opening.id) (form_of (read_as opening.found)) }
+fn string_id(id: Id) -> Id
+    ensures { HasIdentifier (tag_of_id id) false → id_octets result ≡ identifier (tag_of_id id) false }
 {
-    let id = opening.id;
-    match Element::of(opening.found) {
-        Element::Leaf(_) => Id::new(id.class(), false, id.number()).unwrap_or(id),
-        _ => id,
-    }
+    Id::new(id.class(), false, id.number()).unwrap_or(id)
 }
 
 /// The content of a leaf as DER has it: TRUE is FF (X.690, 11.1).
@@ -208,17 +163,23 @@ fn normal_content(leaf: LeafType, content: &[u8]) -> &[u8]
     content
 }
 
-/// The row of an element at the slot, where this may come next.
+/// Whether a leaf is the default of its row, by the default of what was found. Strings and the values of choices never are.
 #[inline(always)]
-fn row_at(next: Next, slot: Slot) -> Option<Row>
-    ensures { result ≡ row_slot next slot }
+fn is_left_away(reading: Reading, leaf: LeafType, content: &[u8]) -> bool
+    requires { IsContent (leaf_is leaf) content.now }
+    ensures { (t : Tag) (n : Next) → IsDueIn t n (due_with (slot_in reading.found) (alternative_of reading.found) (LeafElement leaf))
+        → shape_at (next_place reading.found) ≡ behind n (slot_in reading.found)
+        → result ≡ left_away n (slot_in reading.found) (with_alternative (alternative_of reading.found) (simple (value (leaf_is leaf) content.now))) }
 {
-    match (next, slot) {
-        (Next::Rows(node, _), Slot::Row(number)) => row(PartId { node, row: number }),
-        (Next::Either(wrapped), Slot::Row(number)) => row(PartId {
-            node: wrapped.node,
-            row: number,
-        }),
-        _ => None,
+    let found = reading.found;
+    let Some(number) = found.default_value() else {
+        return false;
+    };
+    if found.alternative().is_some() {
+        return false;
+    }
+    match found.slot() {
+        Slot::Row => leaf.is_number(number, content),
+        _ => false,
     }
 }

@@ -75,7 +75,7 @@ impl Outlining {
         marks.clear();
         bases.clear();
         Outlining {
-            octets: Octets::new(alloc, octets),
+            octets: Octets::new(octets),
             marks,
             bases,
             front,

@@ -3,7 +3,7 @@ ghost use Rattle.std.specs.Prelude.{◌≤◌};
 
 use crate::draft::Draft;
 use crate::failure::Failure;
-use crate::header::{HeaderRead, LengthRead, read_header};
+use crate::header::{HeaderRead, LengthRead, first_identifier, length_after, read_any};
 use crate::judge::{Extent, Opening, Reading};
 use crate::need::need_at;
 use crate::path::Path;
@@ -307,7 +307,26 @@ impl<D: Draft> Reader<D> {
         ensures progress { Progresses (length window.now) self.old.path.frames self.new.path.frames result }
         ensures goes { LeadsOn D.holds D.has self.old window.now room came self.new result (λ place want. judge_element profile_two place self.old.at want window.now) }
     {
-        match read_header(window) {
+        let Some(id) = first_identifier(window) else {
+            return self.rare_element(window, room, came);
+        };
+        match length_after(window, id.constructed()) {
+            Some(length) => self.identified(id, length, window, room, came),
+            None => self.rare_element(window, room, came),
+        }
+    }
+
+    /// The same where the identifier isn't of one octet, or the length isn't whole.
+    // Apart, so that what most elements have is not put together with what few have.
+    #[inline(never)]
+    fn rare_element(&mut self, window: &[u8], room: u32, came: usize) -> Option<usize>
+        requires open { self.old.state ≡ State.Open }
+        requires fits { IsRoom self.old.at room window.now }
+        ensures pending { self.new.pending ≡ self.old.pending }
+        ensures progress { Progresses (length window.now) self.old.path.frames self.new.path.frames result }
+        ensures goes { LeadsOn D.holds D.has self.old window.now room came self.new result (λ place want. judge_element profile_two place self.old.at want window.now) }
+    {
+        match read_any(window) {
             HeaderRead::PartIdentifier => self.want(came),
             HeaderRead::NoIdentifier => self.refuse(Refusal {
                 at: self.at,

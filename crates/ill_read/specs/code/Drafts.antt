@@ -16,7 +16,7 @@ use Rattle.ill_schema.specs.Value.{entries_of, items_of}
 use Rattle.ill_schema.specs.declared.part.Row.{Row}
 use Rattle.ill_refusals.specs.Fault.{fault, element_fault, fault_of}
 use Rattle.ill_cells.specs.Places.{alternative_of}
-use Rattle.ill_read.specs.DueCode.{Due, IsDueIn, behind, first_of, shape, read_as, slot_in}
+use Rattle.ill_read.specs.DueCode.{Due, IsDueIn, behind, first_of, next_place, shape, shape_at, read_as, slot_in}
 use Rattle.ill_read.specs.Elements.{element_is}
 use Rattle.ill_read.specs.LeafTypes.{leaf_is}
 use Rattle.ill_read.specs.Standing.{Level, IsHeld, IsValueOf, absent_content, level_of, pushed, whole_level, with_alternative}
@@ -93,9 +93,9 @@ HasOpened holds old o base new = (levels : List Level) (text : List ℕ) → hol
 abbrev pub HasText : {D : Type 0} → (D → List Level → List ℕ → Type 0) → D → List ℕ → D → Type 0
 HasText holds old octets new = (levels : List Level) (text : List ℕ) → holds old levels text → holds new levels (text ++ octets)
 
--- a leaf was added
+-- a leaf was added, after which comes what comes at the place after what was found
 abbrev pub HasLeaf : {D : Type 0} → (D → List Level → List ℕ → Type 0) → D → Next → Reading → LeafType → List ℕ → D → Type 0
-HasLeaf holds old next r leaf octets new = (l : Level) (below : List Level) → holds old (l ∷ below) [] → IsDueAt l next (tag_of_id r.id) (slot_in r.found) (alternative_of r.found) (Leaf leaf)
+HasLeaf holds old next r leaf octets new = shape_at (next_place r.found) ≡ behind next (slot_in r.found) → (l : Level) (below : List Level) → holds old (l ∷ below) [] → IsDueAt l next (tag_of_id r.id) (slot_in r.found) (alternative_of r.found) (Leaf leaf)
     → holds new (with_entry l (slot_in r.found) (with_alternative (alternative_of r.found) (simple (value (leaf_is leaf) octets))) ∷ below) []
 
 -- the text of the innermost element was checked

@@ -1,6 +1,6 @@
 -- What the decoder's functions answer of the place that the path stands at, in the words of the definitions.
 use Rattle.std.specs.Option.{ForSome}
-use Rattle.std.specs.Prelude.{◌≡◌, ℕ, ◌+◌, ◌-◌, ◌<◌, ◌≤◌, Bool, true, false, nat_eq, nat_le, List, [], ◌∷◌, length, Option, Some, None, Result, Ok, Err, if◌then◌else◌}
+use Rattle.std.specs.Prelude.{◌≡◌, ℕ, ◌+◌, ◌-◌, ◌<◌, ◌≤◌, Bool, true, false, not, nat_eq, nat_le, List, [], ◌∷◌, length, Option, Some, None, Result, Ok, Err, if◌then◌else◌}
 use Rattle.ber_core.specs.Id.{tag_of_id, form_of_id}
 use Rattle.ber_core.specs.Identifier.{Tag}
 use Rattle.ber_core.specs.declared.id.Id.{Id}
@@ -11,6 +11,8 @@ use Rattle.ill_read.specs.Elements.{element_is, found_is}
 use Rattle.ill_refusals.specs.Fault.{Fault, element_fault, fault, fault_of}
 use Rattle.ill_refusals.specs.code.Judge.{Judgement, faulty, opens, or_faulty, reads, judge_end, judge_form, judge_tag}
 use Rattle.ill_cells.specs.declared.at.Found.{Found}
+use Rattle.ill_cells.specs.declared.cell.What.{What}
+use Rattle.ill_cells.specs.declared.cell.What.TheVariants as what
 use Rattle.ill_read.specs.DueCode.{found_in, read_as}
 use Rattle.ill_read.specs.code.Judged.{IsBegin, IsEnd, content_in}
 use Rattle.ill_refusals.specs.Place.{Open, bound, allows}
@@ -42,6 +44,20 @@ EndsAs place at (Some refusal) = (marks : ℕ) → judge_end profile_two place a
 -- the octets lie before the bound, up to which there is this room
 abbrev pub IsRoom : ℕ → ℕ → List ℕ → Type 0
 IsRoom at room octets = (at + room ≤ 1_048_576) × (length octets ≤ room)
+
+-- what is read so may have the form; what is left out has none
+abbrev pub has_form : What → Bool → Bool
+has_form what.Boolean constructed = not constructed
+has_form what.Integer constructed = not constructed
+has_form what.Enumerated constructed = not constructed
+has_form what.General constructed = true
+has_form what.Visible constructed = true
+has_form what.Printable constructed = true
+has_form what.Date constructed = true
+has_form what.Time constructed = true
+has_form what.Segment constructed = true
+has_form what.LeftOut constructed = false
+has_form _ constructed = constructed
 
 -- what is found may have the form, or is at fault
 abbrev pub IsFormed : Found → Bool → Option Cause → Type 0

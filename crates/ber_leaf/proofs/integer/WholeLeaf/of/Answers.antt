@@ -10,11 +10,11 @@ use Rattle.ber_leaf.proofs.integer.WholeLeaf.of.Goals as goal
 pub returns : goal.returns
 returns c =
     let held = content_holds integer _ c.requires in
-    let fits : FitsSigned w64 c.integer_of.result = search rules in
-    (held.0, held.1, ap whole (to_z-of_z w64 c.integer_of.result fits ∙ c.integer_of.ensures ∙ ap integer_of c.deref.ensures.value))
+    let fits : FitsSigned w64 c.read.result = search rules in
+    (held.0, held.1, ap whole (to_z-of_z w64 c.read.result fits ∙ c.read.ensures ∙ ap integer_of c.deref.ensures.value))
 
-pub integer_of-requires : goal.integer_of-requires
-integer_of-requires c =
+pub read-requires : goal.read-requires
+read-requires c =
     let size = integer_size profile_two c.args.octets.items (no_fault integer _ c.requires) in
     let here : length c.deref.result.now ≡ length c.args.octets.items = ap length c.deref.ensures.value in
     record { some = omega (arith, size.0, here); few = omega (arith, size.1, here) }

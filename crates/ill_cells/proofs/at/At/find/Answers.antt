@@ -7,8 +7,8 @@ use Rattle.ill_cells.proofs.at.At.find.Goals as goal
 pub start-requires : goal.start-requires
 start-requires c = (cell-said c.args.self.round.now.node c.loop-position.position c.cells_of-cells.result.now c.cell_at-cell.result.now c.cells_of-cells.ensures.meant c.cell_at-cell.ensures).opens
 
-pub invariant_of-result : goal.invariant_of-result
-invariant_of-result c = record {
+pub invariant_of-result-in-Some : goal.invariant_of-result-in-Some
+invariant_of-result-in-Some c = record {
   opens = c.in-Some.ensures.opens;
   placed = (cell-said c.args.self.round.now.node c.loop-position.position c.cells_of-cells.result.now c.cell_at-cell.result.now c.cells_of-cells.ensures.meant c.cell_at-cell.ensures).placed;
   there = (cell-said c.args.self.round.now.node c.loop-position.position c.cells_of-cells.result.now c.cell_at-cell.result.now c.cells_of-cells.ensures.meant c.cell_at-cell.ensures).there;

@@ -11,7 +11,7 @@ use Rattle.ill_read.proofs.ValueDrafts.{values_added}
 use Rattle.ill_read.proofs.values.ValuesDraft.leaf.Goals as goal
 
 pub returns : goal.returns
-returns c l below h due =
+returns c after l below h due =
     let f = c.args.reading.found in
     let old = c.args.self.now.held.entries.items in
     let new = c.add.new.self.entries.items in

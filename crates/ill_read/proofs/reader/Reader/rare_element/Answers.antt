@@ -2,7 +2,7 @@ use Rattle.std.proofs.Common.{◌∙◌}
 use Rattle.ber_leaf.specs.Profile.{profile_two}
 use Rattle.ill_refusals.specs.Fault.{wanting}
 use Rattle.ill_read.proofs.Judgements.{no_identifier_judged, part_judged}
-use Rattle.ill_read.proofs.reader.Reader.element.Goals as goal
+use Rattle.ill_read.proofs.reader.Reader.rare_element.Goals as goal
 
 pub returns-in-PartIdentifier-clause-goes : goal.returns-in-PartIdentifier-clause-goes
 returns-in-PartIdentifier-clause-goes g c s rest more b came joined bounded judged =

@@ -3,7 +3,7 @@ use Rattle.std.specs.Int.{from_be_bytes, cast_signed}
 use Rattle.std.proofs.lemmas.Int.{to_z-of_z}
 use Rattle.ber_leaf.proofs.Integers.{extended_value}
 use Rattle.ber_leaf.proofs.Leaves.{octets_fit}
-use Rattle.ber_leaf.proofs.integer.integer_of.Goals as goal
+use Rattle.ber_leaf.proofs.integer.Whole.read.Goals as goal
 
 pub returns : goal.returns
 returns c =
