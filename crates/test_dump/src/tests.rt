@@ -71,8 +71,8 @@ fn dumped(
     run_dump::<Pieces<'_>, Unseen, Room<2048>>(alloc, dump, source, sink)
 }
 
-fn is_refused(result: &Result<(), RunFault>) -> bool {
-    match result {
+fn is_refused(done: &Result<(), RunFault>) -> bool {
+    match done {
         Err(RunFault::Refused { message, refusal }) => *message == 2 && refusal.at == 7,
         _ => false,
     }
