@@ -118,6 +118,7 @@ fn dump_has_its_files(rt: HostRuntime) -> Result<(), AllocError> {
         Order {
             hex,
             lines,
+            keep_going,
             task: Task::Dump { inputs },
         },
     ) = order(alloc, &words)
@@ -125,7 +126,7 @@ fn dump_has_its_files(rt: HostRuntime) -> Result<(), AllocError> {
         assert!(rt; false, "an order");
         return Ok(());
     };
-    assert!(rt; hex && !lines);
+    assert!(rt; hex && !lines && !keep_going);
     assert!(rt; are_same(&inputs.files, &["a", "-"]) && inputs.list == Some("list"));
     Ok(())
 }
