@@ -9,7 +9,7 @@ use Rattle.ill_c.proofs.front.read_front.Goals as goal
 pub returns-in-Ok-None : goal.returns-in-Ok-None
 returns-in-Ok-None c =
     let h = rw c.in-Ok-None.field-0-is at c.in-Ok-None.ensures in
-    let part = none_part c.new-source.result c.read_normal_by.new.source h.none.0 h.none.1 in
+    let part = none_part c.new-source.result c.read_normal_in.new.source h.none.0 h.none.1 in
     subst IsPart c.new-source.ensures part
 
 pub returns-in-Truncated : goal.returns-in-Truncated
