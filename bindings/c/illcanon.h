@@ -7,8 +7,8 @@
  *   - No pointer is NULL, even where its number is 0.
  *   - Each pointer is to that many octets of the caller's memory, or to one value of its type, aligned as C aligns it. No number is
  *     greater than PTRDIFF_MAX.
- *   - What a call writes (buffer, size, answer, refusal) overlaps nothing else that it is given. Octets that are only read may overlap.
- *     What is written need not be set before.
+ *   - What a call writes (buffer, size, read, answer, refusal) overlaps nothing else that it is given. Octets that are only read may
+ *     overlap. What is written need not be set before.
  *   - No other thread writes what a call reads, or reads or writes what it writes, while it runs.
  *
  * Any number of threads may make calls at the same time. Calls take memory by malloc and realloc, and free all of it before they return.
@@ -134,6 +134,22 @@ uint32_t illcanon_digest(const uint8_t *octets, size_t octets_size, uint8_t *buf
  *   OUT_OF_MEMORY
  */
 uint32_t illcanon_next(const uint8_t *octets, size_t octets_size, size_t *size, struct illcanon_refusal *refusal);
+
+/* Writes the normal form of the message that the octets begin with, whatever follows it. So a stream is normalised, and each message is
+ * read once. As with illcanon_next, each call reads from the first octet on.
+ *
+ *   DONE           the message is the first *read octets, and its normal form is the first *size octets of the buffer. No octet after
+ *                  it is touched.
+ *   NO_ROOM        the message is the first *read octets. Its normal form has *size octets, more than buffer_size. The buffer is as it
+ *                  was.
+ *   NEEDS_MORE     the octets, which may be none, may be the beginning of a message, and none ends among them.
+ *   REFUSED        no message begins so, whatever follows the octets, and *refusal says why.
+ *   OUT_OF_MEMORY
+ *
+ * A buffer of ILLCANON_LIMIT octets has room for any normal form.
+ */
+uint32_t illcanon_normalise_next(const uint8_t *octets, size_t octets_size, size_t *read, uint8_t *buffer, size_t buffer_size, size_t *size,
+                                 struct illcanon_refusal *refusal);
 
 #ifdef __cplusplus
 }

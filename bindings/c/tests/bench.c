@@ -10,8 +10,10 @@ static uint8_t octets[1 << 23], buffer[ILLCANON_LIMIT];
 
 static uint32_t make(const char *call, const uint8_t *message, size_t count) {
     struct illcanon_refusal refusal;
-    size_t size;
+    size_t size, read;
     uint32_t answer;
+    if (strcmp(call, "normalise_next") == 0)
+        return illcanon_normalise_next(message, count, &read, buffer, sizeof buffer, &size, &refusal);
     switch (call[0]) {
     case 'n':
         return call[1] == 'e' ? illcanon_next(message, count, &size, &refusal)

@@ -14,7 +14,7 @@ for file in "$folder"/one/*.ber; do
     messages=${MESSAGES:-2000}
     case $name in large*) messages=$((messages / 10)) ;; esac
     line=$name
-    for call in normalise check next show digest; do
+    for call in normalise check next normalise_next show digest; do
         line="$line $call $((($(count $call "$folder/two/$name") - $(count $call "$file")) / messages))"
     done
     echo "$line"

@@ -10,6 +10,16 @@ static uint32_t show_first(const uint8_t *octets, size_t count, uint8_t *buffer,
     return illcanon_show(octets, count, 1, buffer, room, size, refusal);
 }
 
+/* How many octets the message has that the next call normalises. */
+static size_t first_size;
+
+static uint32_t normalise_first(const uint8_t *octets, size_t count, uint8_t *buffer, size_t room, size_t *size, struct illcanon_refusal *refusal) {
+    size_t read = 77;
+    uint32_t status = illcanon_normalise_next(octets, count, &read, buffer, room, size, refusal);
+    EXPECT(read == (status == ILLCANON_DONE || status == ILLCANON_NO_ROOM ? first_size : 77));
+    return status;
+}
+
 /* A call that writes: into a buffer that is just large enough, too small by each number up to 40, and larger; returns what it wrote. */
 static struct octets written(writing *call, struct octets message) {
     struct illcanon_refusal refusal = untouched();
@@ -66,11 +76,32 @@ static void next_is(struct octets octets, uint32_t status, size_t wanted) {
     EXPECT(size == wanted && is_untouched(&refusal));
 }
 
+/* What illcanon_normalise_next returns for octets that don't begin with a message, with nothing written. */
+static struct illcanon_refusal next_is_not(struct octets octets, uint32_t status) {
+    struct illcanon_refusal refusal = untouched();
+    uint8_t buffer[100];
+    size_t size = 77;
+    memset(buffer, UNTOUCHED, sizeof buffer);
+    EXPECT(normalise_first(octets.at, octets.count, buffer, sizeof buffer, &size, &refusal) == status);
+    EXPECT(size == 77 && all_are(buffer, sizeof buffer, UNTOUCHED));
+    return refusal;
+}
+
+/* The normal form of the message that the octets begin with. */
+static void next_form_is(struct octets octets, size_t count, struct octets form) {
+    first_size = count;
+    struct octets found = written(normalise_first, octets);
+    EXPECT(found.count == form.count && memcmp(found.at, form.at, form.count) == 0);
+    unfence(found.at, found.count);
+}
+
 /* Every proper prefix is cut off, and an octet more is one too many. */
-static void cut_and_trailed(struct octets message) {
+static void cut_and_trailed(struct octets message, struct octets form) {
     for (size_t count = 0; count < message.count; count++) {
         struct octets part = fenced_copy(message.at, count);
         next_is(part, ILLCANON_NEEDS_MORE, 77);
+        struct illcanon_refusal refusal = next_is_not(part, ILLCANON_NEEDS_MORE);
+        EXPECT(is_untouched(&refusal));
         refused(part, (uint32_t)count, ILLCANON_TRUNCATED, "", message);
         unfence(part.at, count);
     }
@@ -78,6 +109,8 @@ static void cut_and_trailed(struct octets message) {
     memcpy(more.at, message.at, message.count);
     more.at[message.count] = 0;
     next_is(more, ILLCANON_DONE, message.count);
+    next_form_is(message, message.count, form);
+    next_form_is(more, message.count, form);
     refused(more, (uint32_t)message.count, ILLCANON_TRAILING_BYTES, "", message);
     unfence(more.at, more.count);
 }
@@ -113,7 +146,7 @@ static void file_is(const char *name, const char *forms_name) {
         written(show_first, messages[i]);
         struct octets digest = written(illcanon_digest, messages[i]), again = written(illcanon_digest, form);
         EXPECT(digest.count == ILLCANON_DIGEST_SIZE && memcmp(digest.at, again.at, ILLCANON_DIGEST_SIZE) == 0);
-        cut_and_trailed(messages[i]);
+        cut_and_trailed(messages[i], form);
         unfence(form.at, form.count);
     }
     printf("%s: %lu messages\n", name, (unsigned long)count);
@@ -132,6 +165,8 @@ static void refusals_are(struct octets good) {
     size_t size = 77;
     EXPECT(illcanon_next(octets.at, octets.count, &size, &refusal) == ILLCANON_REFUSED);
     EXPECT(size == 77 && refuses(&refusal, 7, ILLCANON_MISSING, "Expired.transaction-id"));
+    refusal = next_is_not(octets, ILLCANON_REFUSED);
+    EXPECT(refuses(&refusal, 7, ILLCANON_MISSING, "Expired.transaction-id"));
     octets = fenced_copy(left_out, sizeof left_out);
     refused(octets, 0, ILLCANON_LEFT_OUT, "ILL-APDU.Forward-Notification", good);
 }

@@ -1,5 +1,6 @@
 /* `mutants PROGRAM COUNT FILE..`: messages of the files, changed at random, are taken apart and normalised by the calls as by the
- * program's `canonicalise`: the same octets, the same refusal. Those that are accepted have the same text as by its `show`. */
+ * program's `canonicalise`, in two steps and in one: the same octets, the same refusal. Those that are accepted have the same text as by
+ * its `show`. */
 #include "support.h"
 
 #include <spawn.h>
@@ -68,8 +69,24 @@ static void run_program(const char *program, const char *const *words, const uin
     output->status = WIFEXITED(status) ? WEXITSTATUS(status) : -1;
 }
 
+enum calls { NEXT_AND_NORMALISE, NORMALISE_NEXT, NEXT_AND_SHOW };
+
+/* The calls that make the output of the message at the front. */
+static uint32_t call_on_front(enum calls calls, const uint8_t *octets, size_t count, uint32_t number, size_t *size, uint8_t *to, size_t room,
+                              size_t *written, struct illcanon_refusal *refusal) {
+    if (calls == NORMALISE_NEXT)
+        return illcanon_normalise_next(octets, count, size, to, room, written, refusal);
+    uint32_t status = illcanon_next(octets, count, size, refusal);
+    if (status != ILLCANON_DONE)
+        return status;
+    status = calls == NEXT_AND_SHOW ? illcanon_show(octets, *size, number, to, room, written, refusal)
+                                    : illcanon_normalise(octets, *size, to, room, written, refusal);
+    EXPECT(status == ILLCANON_DONE);
+    return status;
+}
+
 /* The same by the calls: the normal forms, or the texts, of the messages up to the first that is refused. */
-static void make_calls(int is_text, const uint8_t *octets, size_t count, struct output *output) {
+static void make_calls(enum calls calls, const uint8_t *octets, size_t count, struct output *output) {
     struct illcanon_refusal refusal;
     size_t size, written;
     uint32_t number = 1, status;
@@ -77,27 +94,22 @@ static void make_calls(int is_text, const uint8_t *octets, size_t count, struct 
     output->status = 0;
     output->line[0] = 0;
     for (size_t at = 0; at < count; at += size, number++) {
-        status = illcanon_next(octets + at, count - at, &size, &refusal);
+        status = call_on_front(calls, octets + at, count - at, number, &size, output->out + output->out_size, ROOM - output->out_size,
+                               &written, &refusal);
         if (status == ILLCANON_NEEDS_MORE) {
             refusal.at = (uint32_t)(count - at);
             refusal.cause = ILLCANON_TRUNCATED;
             refusal.part[0] = 0;
         }
         if (status == ILLCANON_DONE) {
-            uint8_t *to = output->out + output->out_size;
-            size_t room = ROOM - output->out_size;
-            status = is_text ? illcanon_show(octets + at, size, number, to, room, &written, &refusal)
-                             : illcanon_normalise(octets + at, size, to, room, &written, &refusal);
-            EXPECT(status == ILLCANON_DONE);
-            if (status != ILLCANON_DONE)
-                return;
             output->out_size += written;
-        } else {
-            output->status = status == ILLCANON_OUT_OF_MEMORY ? 3 : 1;
+            continue;
+        }
+        output->status = status == ILLCANON_REFUSED || status == ILLCANON_NEEDS_MORE ? 1 : 3;
+        if (output->status == 1)
             snprintf(output->line, sizeof output->line, "illcanon: refused at %u in message %u: %s%s%s\n", refusal.at, number,
                      CAUSES[refusal.cause], refusal.part[0] ? " " : "", refusal.part);
-            return;
-        }
+        return;
     }
 }
 
@@ -162,12 +174,14 @@ int main(int words, char **names) {
             memcpy(octets + size, messages[k].at, messages[k].count);
             size += messages[k].count;
         }
-        make_calls(0, octets, size, &found);
         run_program(names[1], canonicalise, octets, size, &wanted);
+        make_calls(NORMALISE_NEXT, octets, size, &found);
+        EXPECT(are_equal(&found, &wanted));
+        make_calls(NEXT_AND_NORMALISE, octets, size, &found);
         EXPECT(are_equal(&found, &wanted));
         if (found.status == 0) {
             accepted++;
-            make_calls(1, octets, size, &found);
+            make_calls(NEXT_AND_SHOW, octets, size, &found);
             run_program(names[1], show, octets, size, &wanted);
             EXPECT(are_equal(&found, &wanted));
         }

@@ -33,7 +33,7 @@ void __wrap_free(void *block) {
 
 static struct octets message;
 static uint8_t *buffer;
-static size_t size;
+static size_t size, taken;
 static uint32_t answer;
 static struct illcanon_refusal refusal;
 
@@ -63,20 +63,24 @@ static uint32_t next(void) {
     return illcanon_next(message.at, message.count, &size, &refusal);
 }
 
+static uint32_t normalise_next(void) {
+    return illcanon_normalise_next(message.at, message.count, &taken, buffer, ROOM, &size, &refusal);
+}
+
 static void refuse_each(const char *name, uint32_t (*call)(void)) {
     uint32_t status = ILLCANON_OUT_OF_MEMORY;
     long k = 0;
     for (; status == ILLCANON_OUT_OF_MEMORY && k < 100000; k++) {
         memset(buffer, UNTOUCHED, ROOM);
         refusal = untouched();
-        size = answer = 77;
+        size = taken = answer = 77;
         left = k;
         refusals = blocks = 0;
         status = call();
         left = -1;
         EXPECT(blocks == 0 && is_untouched(&refusal));
         if (refusals > 0)
-            EXPECT(status == ILLCANON_OUT_OF_MEMORY && size == 77 && answer == 77 && all_are(buffer, ROOM, UNTOUCHED));
+            EXPECT(status == ILLCANON_OUT_OF_MEMORY && size == 77 && taken == 77 && answer == 77 && all_are(buffer, ROOM, UNTOUCHED));
     }
     EXPECT(status == ILLCANON_DONE && refusals == 0 && k > 1);
     printf("%s: %ld refused\n", name, k - 1);
@@ -95,5 +99,6 @@ int main(int count, char **words) {
     refuse_each("illcanon_check", check);
     refuse_each("illcanon_same", same);
     refuse_each("illcanon_next", next);
+    refuse_each("illcanon_normalise_next", normalise_next);
     return failures != 0;
 }

@@ -30,7 +30,7 @@ build() {
 }
 
 names_are() {
-    [ "$("$@" | grep -v " A ILLCANON_" | sed 's/.* //; s/@@.*//' | sort | tr '\n' ' ')" = "illcanon_check illcanon_digest illcanon_next illcanon_normalise illcanon_same illcanon_show " ]
+    [ "$("$@" | grep -v " A ILLCANON_" | sed 's/.* //; s/@@.*//' | sort | tr '\n' ' ')" = "illcanon_check illcanon_digest illcanon_next illcanon_normalise illcanon_normalise_next illcanon_same illcanon_show " ]
 }
 
 printf '#include "illcanon.h"\nint main(void) { return sizeof(struct illcanon_refusal) != 72; }\n' >header.c

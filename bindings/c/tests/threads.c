@@ -10,10 +10,10 @@
 #define ROUNDS 200
 
 struct results {
-    uint8_t form[ROOM], text[ROOM], digest[ILLCANON_DIGEST_SIZE];
-    size_t form_size, text_size, digest_size, size;
+    uint8_t form[ROOM], next_form[ROOM], text[ROOM], digest[ILLCANON_DIGEST_SIZE];
+    size_t form_size, next_form_size, text_size, digest_size, size, read;
     uint32_t normal, same;
-    uint32_t statuses[6];
+    uint32_t statuses[7];
 };
 
 static struct octets messages[MESSAGES];
@@ -30,6 +30,7 @@ static void call_all(size_t i, struct results *results) {
     results->statuses[3] = illcanon_check(m.at, m.count, &results->normal, &refusal);
     results->statuses[4] = illcanon_same(m.at, m.count, other.at, other.count, &results->same, &refusal);
     results->statuses[5] = illcanon_next(m.at, m.count, &results->size, &refusal);
+    results->statuses[6] = illcanon_normalise_next(m.at, m.count, &results->read, results->next_form, ROOM, &results->next_form_size, &refusal);
 }
 
 static void *run(void *start) {

@@ -10,7 +10,7 @@ this package does between them and Python is tested.
 """
 from __future__ import annotations
 
-from ._calls import Refused, check, digest, messages, normalise, same, show
+from ._calls import Refused, check, digest, messages, normal_forms, normalise, same, show
 
-__all__ = ["Refused", "check", "digest", "messages", "normalise", "same", "show"]
+__all__ = ["Refused", "check", "digest", "messages", "normal_forms", "normalise", "same", "show"]
 __version__ = "0.1.0"

@@ -16,6 +16,10 @@ CAUSES = (
 ).split()
 
 
+# The greatest number of octets of a normal form.
+LIMIT = 1048576
+
+
 class Status(enum.IntEnum):
     """How a call ends."""
 
@@ -136,19 +140,39 @@ def messages(octets: Octets) -> Iterator[bytes]:
     Raises `Refused` at the first octets that begin with none, after the messages before them. `message` is its number.
     """
     octets = _bytes(octets)
+    size = ctypes.c_size_t()
     at, number = 0, 1
     while at < len(octets):
-        size = _front(octets, at, number)
-        yield octets[at : at + size]
-        at, number = at + size, number + 1
+        _call_at(library.illcanon_next, octets, at, number, ctypes.byref(size))
+        yield octets[at : at + size.value]
+        at, number = at + size.value, number + 1
 
 
-def _front(octets: bytes, at: int, number: int) -> int:
-    """How many octets the message has that begins there."""
-    refusal, size = Refusal(), ctypes.c_size_t()
+def normal_forms(octets: Octets) -> Iterator[bytes]:
+    """The normal forms of the messages that the octets are, one after another. Each message is read once.
+
+    Raises `Refused` at the first octets that begin with none, after the normal forms of the messages before them. `message` is its
+    number.
+    """
+    octets = _bytes(octets)
+    read, size = ctypes.c_size_t(), ctypes.c_size_t()
+    buffer = ctypes.create_string_buffer(max(min(len(octets), LIMIT), 1))
+    at, number = 0, 1
+    while at < len(octets):
+        memory = ctypes.byref(read), buffer, len(buffer), ctypes.byref(size)
+        if _call_at(library.illcanon_normalise_next, octets, at, number, *memory) == Status.NO_ROOM:
+            buffer = ctypes.create_string_buffer(size.value)
+            continue
+        yield ctypes.string_at(buffer, size.value)
+        at, number = at + read.value, number + 1
+
+
+def _call_at(call: Callable[..., int], octets: bytes, at: int, number: int, *memory: object) -> int:
+    """Makes a call on the octets from an offset on, where the message of this number begins. Returns DONE or NO_ROOM."""
+    refusal = Refusal()
     start = (ctypes.cast(octets, ctypes.c_void_p).value or 0) + at
-    status = library.illcanon_next(start, len(octets) - at, ctypes.byref(size), ctypes.byref(refusal))
+    status = call(start, len(octets) - at, *memory, ctypes.byref(refusal))
     if status == Status.NEEDS_MORE:
         raise Refused(len(octets) - at, "Truncated", None, number)
     _raise(status, refusal, number)
-    return size.value
+    return status

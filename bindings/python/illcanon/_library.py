@@ -24,6 +24,7 @@ def _load() -> ctypes.CDLL:
         "illcanon_check": [*octets, *answer],
         "illcanon_same": [*octets, *octets, *answer],
         "illcanon_next": [ctypes.c_void_p, ctypes.c_size_t, ctypes.POINTER(ctypes.c_size_t), ctypes.POINTER(Refusal)],
+        "illcanon_normalise_next": [ctypes.c_void_p, ctypes.c_size_t, ctypes.POINTER(ctypes.c_size_t), *written],
     }
     for name, arguments in types.items():
         call = getattr(found, name)

@@ -37,6 +37,13 @@ class Messages(unittest.TestCase):
             self.assertEqual(b"".join(illcanon.normalise(message) for message in found), forms)
         self.assertEqual(list(illcanon.messages(b"")), [])
 
+    def test_streams_are_normalised(self):
+        for name, forms in FILES:
+            found = list(illcanon.normal_forms(octets_of(name)))
+            self.assertEqual(found, list(illcanon.messages(forms)))
+        self.assertEqual(list(illcanon.normal_forms(memoryview(b"x" + EXPIRED + REQUEST)[1:])), [EXPIRED, REQUEST])
+        self.assertEqual(list(illcanon.normal_forms(b"")), [])
+
     def test_normal_forms_are_normal(self):
         for name, _ in FILES:
             for message in illcanon.messages(octets_of(name)):
@@ -71,6 +78,8 @@ class Messages(unittest.TestCase):
     def test_a_normal_form_may_be_longer(self):
         bare = bytes.fromhex("741d800102a10aa1031b0147a2031b0151a20ca00a80083230323430323239")
         self.assertEqual(illcanon.normalise(bare), EXPIRED)
+        self.assertEqual(list(illcanon.normal_forms(bare)), [EXPIRED])
+        self.assertEqual(list(illcanon.normal_forms(bare + bare)), [EXPIRED, EXPIRED])
 
     def test_threads_run_at_once(self):
         messages = list(illcanon.messages(octets_of("every-part.ber")))
@@ -115,6 +124,10 @@ class Refusals(unittest.TestCase):
         self.assertEqual([next(stream), next(stream)], [EXPIRED, REQUEST])
         self.assertEqual(self.refused(next, stream), (7, "Missing", "Expired.transaction-id", 3))
         self.assertEqual(self.refused(list, illcanon.messages(EXPIRED + EXPIRED[:20])), (20, "Truncated", None, 2))
+        forms = illcanon.normal_forms(EXPIRED + REQUEST + bytes.fromhex("748030808001020000"))
+        self.assertEqual([next(forms), next(forms)], [EXPIRED, REQUEST])
+        self.assertEqual(self.refused(next, forms), (7, "Missing", "Expired.transaction-id", 3))
+        self.assertEqual(self.refused(list, illcanon.normal_forms(EXPIRED + EXPIRED[:20])), (20, "Truncated", None, 2))
 
     def test_a_refusal_is_a_line(self):
         with self.assertRaises(ValueError) as caught:
@@ -166,16 +179,18 @@ class Vectors(unittest.TestCase):
         for vector in self.vectors("streams"):
             if vector["messages"] > 1000:
                 continue
-            forms, fault = [], None
-            try:
-                for message in illcanon.messages(octets_in(vector)):
-                    forms.append(illcanon.normalise(message))
-            except Refused as it:
-                fault = it.cause, it.offset, it.part
-            with self.subTest(vector["id"]):
-                self.assertEqual(b"".join(forms), octets_in(vector, "normal", "normal_runs"))
-                wanted = None if vector["result"] == "valid" else (vector["cause"], vector["offset"], vector.get("part"))
-                self.assertEqual(fault, wanted)
+            octets = octets_in(vector)
+            for found in (map(illcanon.normalise, illcanon.messages(octets)), illcanon.normal_forms(octets)):
+                forms, fault = [], None
+                try:
+                    for form in found:
+                        forms.append(form)
+                except Refused as it:
+                    fault = it.cause, it.offset, it.part
+                with self.subTest(vector["id"]):
+                    self.assertEqual(b"".join(forms), octets_in(vector, "normal", "normal_runs"))
+                    wanted = None if vector["result"] == "valid" else (vector["cause"], vector["offset"], vector.get("part"))
+                    self.assertEqual(fault, wanted)
 
 
 if __name__ == "__main__":

@@ -1,16 +1,16 @@
 -- What calls leave is one result.
 use Rattle.std.proofs.Common.{◌≡◌, ◌∙◌, ℕ, List, length, refl, sym, ap, subst, arith}
 use Rattle.ber_leaf.specs.Profile.{profile_two}
-use Rattle.ill_schema.specs.Apdu.{Apdu, SpellsApdu, normal_form}
+use Rattle.ill_schema.specs.Apdu.{Apdu, SpellsApdu, Accepts, normal_form}
 use Rattle.ill_schema.proofs.Streams.{accepts_once}
 use Rattle.ill_refusals.specs.Fault.{Fault}
 use Rattle.ill_read.specs.Answers.{RefusesWhole}
 use Rattle.ill_normal.proofs.Canonical.{refuses_once, refuses_whole, spells_once}
 use Rattle.ill_c.specs.declared.refusal.IllcanonRefusal.{IllcanonRefusal}
 use Rattle.ill_c.specs.declared.status.Status.{Status}
-use Rattle.ill_c.specs.Calls.{IsMade, Writes, Checks, Compares, Finds}
+use Rattle.ill_c.specs.Calls.{IsMade, Writes, Checks, Compares, Finds, WritesFront}
 use Rattle.ill_c.specs.Memory.{Change, Fills, Lacks, Tells, IsFlag}
-use Rattle.ill_c.specs.OneResult.{WritesOnce, ChecksOnce, ComparesOnce, FindsOnce}
+use Rattle.ill_c.specs.OneResult.{WritesOnce, ChecksOnce, ComparesOnce, FindsOnce, WritesFrontOnce}
 use Rattle.ill_c.specs.Refusals.{told}
 use Rattle.ill_c.specs.Status.{EndsWith, status_number}
 
@@ -164,3 +164,66 @@ module _ (s : List ℕ) (size : Change ℕ) (refusal : Change IllcanonRefusal) w
 
   pub finds_once : (n : ℕ) → EndsWith n (Finds s size refusal) → FindsOnce s size refusal n
   finds_once n (status, e, h) = subst (FindsOnce s size refusal) (sym e) (found status h)
+
+module _ (s : List ℕ) (read : Change ℕ) (buffer : Change (List ℕ)) (size : Change ℕ) (refusal : Change IllcanonRefusal) where
+  -- the message at the front is of one APDU, and of one size
+  one_front : (a b : Apdu) (m n : ℕ) → Accepts profile_two s a m → Accepts profile_two s b n → (normal_form a ≡ normal_form b) × (m ≡ n)
+  one_front a b m n h k = let same = accepts_once profile_two s a b m n h k in (ap normal_form same.0, same.1)
+
+  wrote_front : (status : Status) → WritesFront s read buffer size refusal status → WritesFrontOnce s read buffer size refusal (status_number status)
+  wrote_front Status.Done ((b, accepts, fills), stays) = record {
+    room = λ a m h le ne. let one = one_front b a read.after m accepts h in (refl, one.1, subst (λ o. Fills o buffer size) one.0 fills);
+    no_room = λ a m h lt ne.
+        let e = ap length (one_front b a read.after m accepts h).0 in absurd (let fits = fills.fits in omega (arith, e, lt, fits));
+    part = λ h ne. absurd (h.2 b read.after accepts);
+    refused = λ f h ends ne. absurd (h.2 b read.after accepts);
+    buffer_stays = λ ne. absurd (ne refl);
+    read_stays = λ ne ne'. absurd (ne refl);
+    size_stays = λ ne ne'. absurd (ne refl);
+    refusal_stays = λ ne. stays;
+  }
+  wrote_front Status.NoRoom ((b, accepts, lacks), stays) = record {
+    room = λ a m h le ne.
+        let e = ap length (one_front b a read.after m accepts h).0 in absurd (let short = lacks.short in omega (arith, e, le, short));
+    no_room = λ a m h lt ne. let one = one_front b a read.after m accepts h in (refl, one.1, subst (λ o. Lacks o buffer size) one.0 lacks);
+    part = λ h ne. absurd (h.2 b read.after accepts);
+    refused = λ f h ends ne. absurd (h.2 b read.after accepts);
+    buffer_stays = λ ne. lacks.kept;
+    read_stays = λ ne ne'. absurd (ne' refl);
+    size_stays = λ ne ne'. absurd (ne' refl);
+    refusal_stays = λ ne. stays;
+  }
+  wrote_front Status.NeedsMore (part, read_stays, stays, size_stays, refusal_stays) = record {
+    room = λ a m h le ne. absurd (part.2 a m h);
+    no_room = λ a m h lt ne. absurd (part.2 a m h);
+    part = λ h ne. refl;
+    refused = λ f h ends ne. absurd (ends (ap (λ (g : Fault). g.cause) (part.1 f h.0)));
+    buffer_stays = λ ne. stays;
+    read_stays = λ ne ne'. read_stays;
+    size_stays = λ ne ne'. size_stays;
+    refusal_stays = λ ne. refusal_stays;
+  }
+  wrote_front Status.Refused ((g, (refuses, goes_on), e), read_stays, stays, size_stays) = record {
+    room = λ a m h le ne. absurd (refuses.2 a m h);
+    no_room = λ a m h lt ne. absurd (refuses.2 a m h);
+    part = λ h ne. absurd (goes_on (ap (λ (x : Fault). x.cause) (h.1 g refuses.0)));
+    refused = λ f h ends ne. (refl, e ∙ ap told (h.1 g refuses.0));
+    buffer_stays = λ ne. stays;
+    read_stays = λ ne ne'. read_stays;
+    size_stays = λ ne ne'. size_stays;
+    refusal_stays = λ ne. absurd (ne refl);
+  }
+  wrote_front Status.OutOfMemory (read_stays, stays, size_stays, refusal_stays) = record {
+    room = λ a m h le ne. absurd (ne refl);
+    no_room = λ a m h lt ne. absurd (ne refl);
+    part = λ h ne. absurd (ne refl);
+    refused = λ f h ends ne. absurd (ne refl);
+    buffer_stays = λ ne. stays;
+    read_stays = λ ne ne'. read_stays;
+    size_stays = λ ne ne'. size_stays;
+    refusal_stays = λ ne. refusal_stays;
+  }
+  wrote_front Status.SecondRefused h = absurd h
+
+  pub writes_front_once : (n : ℕ) → EndsWith n (WritesFront s read buffer size refusal) → WritesFrontOnce s read buffer size refusal n
+  writes_front_once n (status, e, h) = subst (WritesFrontOnce s read buffer size refusal) (sym e) (wrote_front status h)

@@ -50,3 +50,14 @@ Finds s size refusal Status.NeedsMore = IsPart s × Stays size × Stays refusal
 Finds s size refusal Status.Refused = Tells (λ f. OnlyRefuses profile_two s f × (f.cause ≢ Cause.Truncated)) refusal × Stays size
 Finds s size refusal Status.OutOfMemory = Stays size × Stays refusal
 Finds s size refusal _ = ⊥
+
+-- the normal form of the message at the front of s stands in the buffer, or the buffer is too short, and where the message ends is told; or s may go on to be one, or is refused
+-- whatever follows it
+abbrev pub WritesFront : List ℕ → Change ℕ → Change (List ℕ) → Change ℕ → Change IllcanonRefusal → Status → Type 0
+WritesFront s read buffer size refusal Status.Done = ((a : Apdu) × Accepts profile_two s a read.after × Fills (normal_form a) buffer size) × Stays refusal
+WritesFront s read buffer size refusal Status.NoRoom = ((a : Apdu) × Accepts profile_two s a read.after × Lacks (normal_form a) buffer size) × Stays refusal
+WritesFront s read buffer size refusal Status.NeedsMore = IsPart s × Stays read × Stays buffer × Stays size × Stays refusal
+WritesFront s read buffer size refusal Status.Refused =
+    Tells (λ f. OnlyRefuses profile_two s f × (f.cause ≢ Cause.Truncated)) refusal × Stays read × Stays buffer × Stays size
+WritesFront s read buffer size refusal Status.OutOfMemory = Stays read × Stays buffer × Stays size × Stays refusal
+WritesFront s read buffer size refusal _ = ⊥

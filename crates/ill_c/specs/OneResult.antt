@@ -45,3 +45,16 @@ pub record FindsOnce (s : List ℕ) (size : Change ℕ) (refusal : Change Illcan
   pub refused : (f : Fault) → OnlyRefuses profile_two s f → f.cause ≢ Cause.Truncated → IsRefusal 1 f refusal n
   pub size_stays : n ≢ 0 → Stays size
   pub refusal_stays : n ≢ 1 → Stays refusal
+
+-- of the call that writes the normal form of the message at the front
+pub record WritesFrontOnce (s : List ℕ) (read : Change ℕ) (buffer : Change (List ℕ)) (size : Change ℕ) (refusal : Change IllcanonRefusal) (n : ℕ) : Type 0 where
+  pub room : (a : Apdu) (m : ℕ) → Accepts profile_two s a m → length (normal_form a) ≤ length buffer.before → n ≢ 5
+      → (n ≡ 0) × (read.after ≡ m) × Fills (normal_form a) buffer size
+  pub no_room : (a : Apdu) (m : ℕ) → Accepts profile_two s a m → length buffer.before < length (normal_form a) → n ≢ 5
+      → (n ≡ 4) × (read.after ≡ m) × Lacks (normal_form a) buffer size
+  pub part : IsPart s → n ≢ 5 → n ≡ 3
+  pub refused : (f : Fault) → OnlyRefuses profile_two s f → f.cause ≢ Cause.Truncated → IsRefusal 1 f refusal n
+  pub buffer_stays : n ≢ 0 → Stays buffer
+  pub read_stays : n ≢ 0 → n ≢ 4 → Stays read
+  pub size_stays : n ≢ 0 → n ≢ 4 → Stays size
+  pub refusal_stays : n ≢ 1 → Stays refusal

@@ -2,9 +2,9 @@
 ghost use Rattle.std.specs.Prelude.{ℕ, ◌≤◌, List, length};
 ghost use Rattle.ill_schema.specs.Apdu.{Apdu};
 ghost use Rattle.ill_schema.specs.declared.refusal.Cause.{Cause};
-ghost use Rattle.ill_c.specs.Calls.{Writes, Checks, Compares, Finds};
+ghost use Rattle.ill_c.specs.Calls.{Writes, Checks, Compares, Finds, WritesFront};
 ghost use Rattle.ill_c.specs.Memory.{Change};
-ghost use Rattle.ill_c.specs.OneResult.{WritesOnce, ChecksOnce, ComparesOnce, FindsOnce};
+ghost use Rattle.ill_c.specs.OneResult.{WritesOnce, ChecksOnce, ComparesOnce, FindsOnce, WritesFrontOnce};
 ghost use Rattle.ill_c.specs.Refusals.{part_text};
 ghost use Rattle.ill_c.specs.Status.{EndsWith};
 
@@ -20,6 +20,8 @@ pub fn calls_have_one_result()
         → EndsWith n (Compares s t same refusal) → ComparesOnce s t same refusal n }
     ensures finds { (s : List ℕ) (size : Change ℕ) (refusal : Change IllcanonRefusal) (n : ℕ)
         → EndsWith n (Finds s size refusal) → FindsOnce s size refusal n }
+    ensures writes_front { (s : List ℕ) (read : Change ℕ) (buffer : Change (List ℕ)) (size : Change ℕ) (refusal : Change IllcanonRefusal) (n : ℕ)
+        → EndsWith n (WritesFront s read buffer size refusal) → WritesFrontOnce s read buffer size refusal n }
 {}
 
 /// The name of a part has at most 63 octets, so a zero follows it in the 64 of a refusal.

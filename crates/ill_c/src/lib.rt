@@ -4,6 +4,7 @@
 //! exactly what its contract says: a buffer is written only where the call is done, and nothing after the octets.
 #![tactic(auto)]
 
+mod front;
 mod laws;
 mod next;
 mod octets;
@@ -16,7 +17,7 @@ mod verdict;
 mod whole;
 
 pub use laws::{calls_have_one_result, parts_are_short};
-pub use next::illcanon_next;
+pub use next::{illcanon_next, illcanon_normalise_next};
 pub use octets::{illcanon_digest, illcanon_normalise, illcanon_show};
 pub use refusal::IllcanonRefusal;
 pub use status::Status;

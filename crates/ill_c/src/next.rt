@@ -1,11 +1,12 @@
-//! Where the message at the front of a buffer ends.
-ghost use Rattle.ill_c.specs.Calls.{Finds};
+//! The message at the front of a buffer, whatever follows it.
+ghost use Rattle.ill_c.specs.Calls.{Finds, WritesFront};
 ghost use Rattle.ill_c.specs.Memory.{change};
 ghost use Rattle.ill_c.specs.Status.{EndsWith};
 
-use crate::refusal::{IllcanonRefusal, told};
+use crate::front::read_front;
+use crate::put::put;
+use crate::refusal::{IllcanonRefusal, tell};
 use crate::status::Status;
-use ill_normal::{AtHand, Cause, FromSlice, ReadFailure, Refusal, read_normal_by};
 use std::alloc::Global;
 
 /// Finds how many octets the message has that the octets begin with.
@@ -24,21 +25,49 @@ pub extern "C" fn illcanon_next(
 fn next(alloc: Global, octets: &[u8], size: &mut usize, refusal: &mut IllcanonRefusal) -> Status
     ensures { Finds octets.now (change size.old size.new) (change refusal.old refusal.new) result }
 {
-    let mut source = FromSlice::new(octets);
-    match read_normal_by::<FromSlice, AtHand>(alloc, &mut source) {
+    match read_front(alloc, octets) {
         Ok(Some(normal)) => {
             *size = normal.read as usize;
             Status::Done
         }
         Ok(None) => Status::NeedsMore,
-        Err(ReadFailure::Refused(it)) => match it.cause {
-            Cause::Truncated => Status::NeedsMore,
-            _ => {
-                *refusal = told(it);
-                Status::Refused
-            }
-        },
-        // A slice doesn't break.
-        Err(ReadFailure::OutOfMemory | ReadFailure::ReadFault) => Status::OutOfMemory,
+        Err(failure) => tell(failure, refusal),
+    }
+}
+
+/// Writes the normal form of the message that the octets begin with, and says how many octets the message has.
+#[unsafe(no_mangle)]
+pub extern "C" fn illcanon_normalise_next(
+    alloc: Global,
+    octets: &[u8],
+    read: &mut usize,
+    buffer: &mut [u8],
+    size: &mut usize,
+    refusal: &mut IllcanonRefusal,
+) -> u32
+    ensures { EndsWith result (WritesFront octets.now (change read.old read.new) (change buffer.old buffer.new) (change size.old size.new)
+        (change refusal.old refusal.new)) }
+{
+    normalise_next(alloc, octets, read, buffer, size, refusal).number()
+}
+
+fn normalise_next(
+    alloc: Global,
+    octets: &[u8],
+    read: &mut usize,
+    buffer: &mut [u8],
+    size: &mut usize,
+    refusal: &mut IllcanonRefusal,
+) -> Status
+    ensures { WritesFront octets.now (change read.old read.new) (change buffer.old buffer.new) (change size.old size.new)
+        (change refusal.old refusal.new) result }
+{
+    match read_front(alloc, octets) {
+        Ok(Some(normal)) => {
+            *read = normal.read as usize;
+            put(&normal.octets, buffer, size)
+        }
+        Ok(None) => Status::NeedsMore,
+        Err(failure) => tell(failure, refusal),
     }
 }

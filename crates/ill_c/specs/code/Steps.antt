@@ -1,7 +1,11 @@
 -- What the steps of a call do.
-use Rattle.std.specs.Prelude.{◌≡◌, ℕ, List}
+use Rattle.std.specs.Prelude.{◌≡◌, ℕ, List, Option, Some, None, Result, Ok, Err}
+use Rattle.ber_leaf.specs.Profile.{profile_two}
+use Rattle.ill_schema.specs.Apdu.{Apdu, Accepts, normal_form}
 use Rattle.ill_refusals.specs.Fault.{fault_of}
+use Rattle.ill_read.specs.Answers.{IsPart, IsRefused}
 use Rattle.ill_read.specs.declared.failure.Failure.{Failure}
+use Rattle.ill_read.specs.declared.normal.Normal.{Normal}
 use Rattle.ill_c.specs.declared.refusal.IllcanonRefusal.{IllcanonRefusal}
 use Rattle.ill_c.specs.declared.status.Status.{Status}
 use Rattle.ill_c.specs.Memory.{Change, Stays, Fills, Lacks}
@@ -17,3 +21,9 @@ Puts octets buffer size _ = ⊥
 abbrev pub IsTold : Failure → Change IllcanonRefusal → Status → Type 0
 IsTold (Failure.Refused it) refusal status = (status ≡ Status.Refused) × (refusal.after ≡ told (fault_of it))
 IsTold Failure.OutOfMemory refusal status = (status ≡ Status.OutOfMemory) × Stays refusal
+
+-- of octets, at whose front a message may be
+abbrev pub FrontAnswers : List ℕ → Result (Option Normal) Failure → Type 0
+FrontAnswers s (Ok (Some normal)) = (a : Apdu) × Accepts profile_two s a normal.read × (normal.octets.items ≡ normal_form a)
+FrontAnswers s (Ok None) = IsPart s
+FrontAnswers s (Err failure) = IsRefused s failure

@@ -1,7 +1,7 @@
 //! Each call once, on an EXPIRED in indefinite form and on what isn't one.
 use crate::{
     IllcanonRefusal, Status, illcanon_check, illcanon_digest, illcanon_next, illcanon_normalise,
-    illcanon_same, illcanon_show, parts_are_short,
+    illcanon_normalise_next, illcanon_same, illcanon_show, parts_are_short,
 };
 
 const EXPIRED: &[u8] =
@@ -48,6 +48,19 @@ fn octets_are_written(rt: HostRuntime) {
     assert!(rt;
         status == Status::Done.number() && begins(&buffer, size, EXPIRED),
         "normalise"
+    );
+    let mut read = 77;
+    let status = illcanon_normalise_next(
+        alloc,
+        INDEFINITE,
+        &mut read,
+        &mut buffer,
+        &mut size,
+        &mut refusal,
+    );
+    assert!(rt;
+        status == Status::Done.number() && read == 47 && begins(&buffer, size, EXPIRED),
+        "normalise_next"
     );
     let status = illcanon_digest(alloc, INDEFINITE, &mut buffer, &mut size, &mut refusal);
     assert!(rt;

@@ -1,0 +1,26 @@
+//! The normal form of the message at the front of octets.
+ghost use Rattle.ill_c.specs.code.Steps.{FrontAnswers};
+
+use ill_normal::{AtHand, Cause, Failure, FromSlice, Normal, ReadFailure, read_normal_in};
+use std::alloc::Global;
+
+/// How many octets of a normal form memory is taken for at first. Most messages have fewer.
+const ROOM: usize = 4096;
+
+/// The normal form of the message at the front of octets, or none where they may be the beginning of a message.
+pub(crate) fn read_front(alloc: Global, octets: &[u8]) -> Result<Option<Normal>, Failure>
+    ensures { FrontAnswers octets.now result }
+{
+    let room = Vec::with_capacity(alloc, octets.len().min(ROOM))?;
+    let mut source = FromSlice::new(octets);
+    match read_normal_in::<FromSlice, AtHand>(alloc, &mut source, room) {
+        Ok(Some(normal)) => Ok(Some(normal)),
+        Ok(None) => Ok(None),
+        Err(ReadFailure::Refused(it)) => match it.cause {
+            Cause::Truncated => Ok(None),
+            _ => Err(Failure::Refused(it)),
+        },
+        // A slice doesn't break.
+        Err(ReadFailure::OutOfMemory | ReadFailure::ReadFault) => Err(Failure::OutOfMemory),
+    }
+}
