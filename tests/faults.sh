@@ -53,7 +53,7 @@ status=$?
 expect file-size-of-out 3 'illcanon: write fault after [0-9]* octets'
 ls OUT OUT.part 2>/dev/null && failed=$((failed + 1)) && echo 'failed: file-size-of-out: a file is left'
 
-# Memory that suffices for small messages, and not for a large one behind them.
+# Memory that suffices for small messages, and not for a large one after them.
 cat ONE ONE LARGE >THREE
 (ulimit -v 4500 && exec "$program" canonicalise THREE OUT 2>err)
 status=$?
@@ -77,7 +77,7 @@ wait $!
 status=$?
 expect stopped 0 ''
 
-# A read that a signal interrupts, the first or a later one: a wrapper round read answers so, and tells how many octets were given before.
+# A read that a signal interrupts, the first or a later one: a wrapper around read returns this, and reports how many octets were given before.
 # What is written is exactly the messages that are whole in these.
 if command -v cc >/dev/null; then
     cc -shared -fPIC -O1 -o interrupt.so -x c - -ldl <<'C' || exit 1
@@ -93,9 +93,9 @@ ssize_t read(int file, void *octets, size_t size) {
     if (!inner)
         inner = dlsym(RTLD_NEXT, "read");
     if (++calls == atol(getenv("INTERRUPT"))) {
-        FILE *told = fopen("GIVEN", "w");
-        fprintf(told, "%ld\n", given);
-        fclose(told);
+        FILE *given_file = fopen("GIVEN", "w");
+        fprintf(given_file, "%ld\n", given);
+        fclose(given_file);
         errno = EINTR;
         return -1;
     }

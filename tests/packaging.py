@@ -173,7 +173,7 @@ def check_fish(commands):
         skipped.append("fish is not installed: its completion was not run")
         return
     with tempfile.TemporaryDirectory() as folder:
-        # An option alone can't be told from `-` in the first place: fish offers the options after it.
+        # An option alone can't be distinguished from `-` in the first place: fish offers the options after it.
         for words, wanted in questions(commands):
             if words[-1] == "" and words[0] not in ("", "help") or "--" in words:
                 continue

@@ -34,7 +34,7 @@ class Schema:
         return None if value == said else f"{at} isn't {said}"
 
     def check_enum(self, value, said, schema, at):
-        return None if value in said else f"{at} is none of {said}"
+        return None if value in said else f"{at} is not one of {said}"
 
     def check_pattern(self, value, said, schema, at):
         return None if re.search(said, value) else f"{at} isn't {said}"

@@ -95,7 +95,7 @@ def shown(octets):
 
 
 def repeated(name, pieces):
-    """Pieces of octets, each so many times."""
+    """Pieces of octets, each repeated by its count."""
     if any(count > 1000 for _, count in pieces):
         return {runs_name(name): [[bytes(octets).hex(), count] for octets, count in pieces]}
     return written(name, b"".join(bytes(octets) * count for octets, count in pieces))

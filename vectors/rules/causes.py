@@ -77,7 +77,7 @@ def spelled_indefinite(octets):
 
 
 def large(*tail, apdu="74", service=SERVICE, total=LIMIT):
-    """A message of so many octets, in which this stands at the end of its SEQUENCE, and a long text near the front."""
+    """A message of this size, with these octets at the end of its SEQUENCE and a long text near the front."""
 
     def make(octets):
         return element(apdu, element("30", VERSION, element("A1", element("A1", element("1B", octets)), QUALIFIER), service, *tail))

@@ -76,8 +76,8 @@ def dates(group):
         ("with-spaces", "2024 229", "a space for a zero"),
         ("with-sign", "+2024229", "a sign"),
         ("with-letter", "2024O229", "a letter for a zero"),
-        ("with-time", "20240229120000", "a time behind the date"),
-        ("with-zero-octet", "20240229\0", "an octet 00 behind the date"),
+        ("with-time", "20240229120000", "a time after the date"),
+        ("with-zero-octet", "20240229\0", "an octet 00 after the date"),
         ("of-week", "2024W095", "a week and a day"),
         ("of-ordinal", "2024060", "the day of the year"),
         ("with-high-octets", "2024022\xb9", "an octet above 7F"),
@@ -98,7 +98,7 @@ def bad_date(group, date, what, name=None):
 
 
 def timed(*pieces):
-    """An EXPIRED with this for the time behind its date."""
+    """An EXPIRED with this for the time after its date."""
     return expired(date=joined("80 08", text("20240229"), *pieces))
 
 
@@ -128,7 +128,7 @@ def times(group):
         ("with-zone", "120000Z", "a zone"),
         ("with-space", "12000 ", "a space for a zero"),
         ("with-letter", "12000O", "a letter for a zero"),
-        ("with-zero-octet", "120000\0", "an octet 00 behind the time"),
+        ("with-zero-octet", "120000\0", "an octet 00 after the time"),
     ]:
         group.refused(f"iso-time-{name}", what, timed(MARK, element("81", text(time))), "BadTime")
     for name, octets in [

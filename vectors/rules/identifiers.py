@@ -87,7 +87,7 @@ def high_numbers(book):
         whose = "private" if octets.startswith("DF") else "context"
         bad = message("Lost", MARK, octets, "00")
         group.refused(
-            f"identifier-number-{number}-not-due", f"tag {number} of class {whose}, of {parts} number octets, is none of a row", bad, "UnexpectedTag"
+            f"identifier-number-{number}-not-due", f"tag {number} of class {whose}, of {parts} number octets, is not that of a row", bad, "UnexpectedTag"
         )
     group = book.group("numbers of four octets", "A number has at most four octets after the first, here.", limit="octets of a tag number: 4")
     group.refused(
@@ -119,7 +119,7 @@ def bad_numbers(book):
         "identifier-high-form-of-sequence", "universal 16 in the form for numbers from 31 on", element("74", MARK, "3F 10 1D", HEAD), "BadTag"
     )
     group.refused("identifier-leading-80", "46 with a leading octet of zero bits", message("Lost", MARK, "BF 80 2E 03 1B 01 41"), "BadTag")
-    group.refused("identifier-leading-80-of-20", "number 20 behind a leading octet of zero bits", joined(MARK, "7F 80 14 1F 30 1D", HEAD), "BadTag")
+    group.refused("identifier-leading-80-of-20", "number 20 after a leading octet of zero bits", joined(MARK, "7F 80 14 1F 30 1D", HEAD), "BadTag")
     group.refused(
         "identifier-leading-80-twice", "46 with two leading octets of zero bits", message("Lost", MARK, "BF 80 80 2E 03 1B 01 41"), "BadTag"
     )

@@ -68,7 +68,7 @@ def least(book):
 
 
 def expired_of(count):
-    """The contents of an EXPIRED with a group qualifier of so many octets, and those of its SEQUENCE."""
+    """The contents of an EXPIRED with a group qualifier of this many octets, and those of its SEQUENCE."""
     inner = joined("80 01 02", element("A1", element("A1", element("1B", bytes(count))), "A2 03 1B 01 51"), "A2 0C A0 0A 80 08", text("20240229"))
     return element("30", inner), inner
 

@@ -18,7 +18,7 @@ def books():
 
 
 def filled(make, total):
-    """The octets that are made of a text, which is so long that they are so many."""
+    """The octets that a text makes, where the text is long enough to make this many."""
     size = total - 64
     while True:
         octets = make(text("A" * size))
@@ -28,7 +28,7 @@ def filled(make, total):
 
 
 def noted(size):
-    """The value of a MESSAGE with a note of so many octets."""
+    """The value of a MESSAGE with a note of this many octets."""
     return with_head(note={"general": "A" * size})
 
 

@@ -29,7 +29,7 @@ short_length_set old base n p w e h =
 pub some_length : (n : ℕ) → 1 ≤ length (shortest_length n)
 some_length n = grind arith
 
--- behind an identifier of one octet: the first octet of the length takes the place before the contents, and the others are put behind it
+-- after an identifier of one octet: the first octet of the length takes the place before the contents, and the others are put after it
 pub length_set : (old out len rest : List ℕ) (base end id : ℕ) → 0 < base → base ≤ length old → out ≡ (id ∷ len) ++ rest → end ≡ length (id ∷ len) → 1 ≤ length len
     → take base (set old (base - 1) (get_or out 1 0)) ++ (take (end - 2) (drop 2 out) ++ drop base (set old (base - 1) (get_or out 1 0)))
     ≡ take (base - 1) old ++ (len ++ drop base old)

@@ -118,7 +118,7 @@ impl DerBuffer {
     }
 
     /// Begins an element: writes its identifier (X.690, 8.1.2), and one octet for the length, which [`DerBuffer::close`] sets. Returns
-    /// how many octets stand before its contents.
+    /// how many octets come before its contents.
     #[inline(always)]
     pub fn open(&mut self, id: Id) -> Result<usize, AllocError>
         ensures octets { OnOk result (self.new ≡ self.old ++ (id_octets id ++ 0 ∷ [])) }

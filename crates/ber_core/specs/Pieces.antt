@@ -20,7 +20,7 @@ abbrev up_to : Option ℕ → ℕ → ℕ
 up_to None n = n
 up_to (Some most) n = min n most
 
--- how many of so many octets a call moves
+-- how many of n octets a call moves
 abbrev pub moved : Moving → ℕ → ℕ
 moved m n = up_to m.breaks_after (min m.per_call n)
 

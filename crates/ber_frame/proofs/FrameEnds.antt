@@ -7,10 +7,10 @@ use Rattle.std.proofs.Math.Nat.{pow-succ'}
 use Rattle.ber_core.specs.Length.{IsLength, short, long}
 use Rattle.ber_frame.specs.declared.framer.Framer.{Framer}
 use Rattle.ber_frame.specs.declared.framer.Stage.{Stage}
-use Rattle.ber_frame.specs.declared.framer.Stage.TheVariants.{Element, Between, Number, Length, Mark, Untold}
+use Rattle.ber_frame.specs.declared.framer.Stage.TheVariants.{Element, Between, Number, Length, Mark, Unframed}
 use Rattle.ber_frame.specs.declared.framer.Stage.TheVariants as stage
 use Rattle.ber_frame.specs.declared.framer.Contents.{Contents}
-use Rattle.ber_frame.specs.Framed.{last, low, IsFramed, AreFramed, none, IsFrame, IsPart, IsUntold}
+use Rattle.ber_frame.specs.Framed.{last, low, IsFramed, AreFramed, none, IsFrame, IsPart, IsUnframed}
 use Rattle.ber_frame.specs.Framed as framed
 use Rattle.ber_frame.proofs.FrameSteps.{contents_more}
 use Rattle.ber_frame.specs.Framer.{Closes, IsElementThen, IsContentsThen, IsLongThen, IsLengthThen, definite, indefinite, FinishesAt, Finishes, IsFed}
@@ -83,18 +83,18 @@ between_finish zero deep some = absurd (omega arith)
 between_finish (suc marks) deep some = let m = marks_close marks (suc deep) in (0 ∷ 0 ∷ m.0, omega arith, ([], m.0, none, m.1, refl))
 
 -- something more finishes an element at each stage but the last ones
-pub can_finish : (s : Stage) (marks deep : ℕ) → ((left : ℕ) → s ≡ Untold left → ⊥) → (s ≡ Between → 0 < marks) → CanFinish s marks deep
-can_finish Element marks deep told some = element_finish marks deep
-can_finish Between marks deep told some = between_finish marks deep (some refl)
-can_finish (Number f) marks deep told some =
+pub can_finish : (s : Stage) (marks deep : ℕ) → ((left : ℕ) → s ≡ Unframed left → ⊥) → (s ≡ Between → 0 < marks) → CanFinish s marks deep
+can_finish Element marks deep known some = element_finish marks deep
+can_finish Between marks deep known some = between_finish marks deep (some refl)
+can_finish (Number f) marks deep known some =
     let l = length_finish f marks deep in
     (0 ∷ 0 ∷ l.0, omega arith, record { number = 0 ∷ []; rest = 0 ∷ l.0; is_number = last (lit< tt); length_then = l.1; joined = refl })
-can_finish (Length f) marks deep told some = let l = length_finish f marks deep in (0 ∷ l.0, omega arith, l.1)
-can_finish (stage.LongLength l) marks deep told some = long_finish l.left l.value marks deep l.some l.fits
-can_finish (stage.Contents c) marks deep told some =
+can_finish (Length f) marks deep known some = let l = length_finish f marks deep in (0 ∷ l.0, omega arith, l.1)
+can_finish (stage.LongLength l) marks deep known some = long_finish l.left l.value marks deep l.some l.fits
+can_finish (stage.Contents c) marks deep known some =
     let k = contents_finish c.left marks deep in (k.0, omega (arith, k.1, c.some), k.2)
-can_finish Mark marks deep told some = let m = marks_close marks deep in (0 ∷ m.0, omega arith, record { rest = m.0; closes = m.1; joined = refl })
-can_finish (Untold left) marks deep told some = absurd (told left refl)
+can_finish Mark marks deep known some = let m = marks_close marks deep in (0 ∷ m.0, omega arith, record { rest = m.0; closes = m.1; joined = refl })
+can_finish (Unframed left) marks deep known some = absurd (known left refl)
 
 -- what each stage needs
 abbrev pub Needs : Stage → ℕ → ℕ → Type 0
@@ -105,7 +105,7 @@ Needs (Length f) marks n = n ≤ 1
 Needs (stage.LongLength l) marks n = n ≤ l.left
 Needs (stage.Contents c) marks n = n ≤ c.left
 Needs Mark marks n = n ≤ 1
-Needs (Untold left) marks n = Unit {0}
+Needs (Unframed left) marks n = Unit {0}
 
 longer : (a x y : List ℕ) → x ≡ a ++ y → length a ≤ length x
 longer a x y e = omega (arith, ap length e, length-append a y)
@@ -142,7 +142,7 @@ needs (Length f) marks deep n x le h = omega (arith, le, length_needs f marks de
 needs (stage.LongLength l) marks deep n x le h = omega (arith, le, h.size, longer h.octets x h.rest h.joined)
 needs (stage.Contents c) marks deep n x le h = omega (arith, le, h.size, longer h.contents x h.rest h.joined)
 needs Mark marks deep n x le h = omega (arith, le, ap length h.joined)
-needs (Untold left) marks deep n x le h = absurd h
+needs (Unframed left) marks deep n x le h = absurd h
 
 -- ---- the framer that was fed some octets
 
@@ -172,15 +172,15 @@ first_element deep x = (
   (λ h. subst (IsFramed deep) (sym (h.joined ∙ ap (λ z. h.element ++ z) h.closes ∙ append-nil h.element)) h.framed),
 )
 
-pub is_part : (f : Framer) (b : List ℕ) → IsFed f b → ((left : ℕ) → f.stage ≡ Untold left → ⊥) → (f.stage ≡ Between → 0 < f.marks) → IsPart b
+pub is_part : (f : Framer) (b : List ℕ) → IsFed f b → ((left : ℕ) → f.stage ≡ Unframed left → ⊥) → (f.stage ≡ Between → 0 < f.marks) → IsPart b
 unfolding IsFed
-is_part f b h told some =
-    let c = can_finish f.stage f.marks (18_446_744_073_709_551_615 - f.marks) told some in
+is_part f b h known some =
+    let c = can_finish f.stage f.marks (18_446_744_073_709_551_615 - f.marks) known some in
     (c.0, (λ e. omega (arith, c.1, ap length e)), (h c.0).1 c.2)
 
-pub is_untold : (f : Framer) (b : List ℕ) (left : ℕ) → IsFed f b → f.stage ≡ Untold left → IsUntold b
+pub is_unframed : (f : Framer) (b : List ℕ) (left : ℕ) → IsFed f b → f.stage ≡ Unframed left → IsUnframed b
 unfolding IsFed
-is_untold f b left h e rest k = subst (λ s. FinishesAt s f.marks (18_446_744_073_709_551_615 - f.marks) rest) e ((h rest).0 k)
+is_unframed f b left h e rest k = subst (λ s. FinishesAt s f.marks (18_446_744_073_709_551_615 - f.marks) rest) e ((h rest).0 k)
 
 ended : (f : Framer) (x : List ℕ) → f.stage ≡ Between → f.marks ≡ 0 → Finishes f x ↔ (x ≡ [])
 ended f x e z =
@@ -208,11 +208,11 @@ needs_one (Length f) marks b c = lit≤ tt
 needs_one (stage.LongLength l) marks b c = omega (arith, l.some)
 needs_one (stage.Contents k) marks b c = absurd (c k refl)
 needs_one Mark marks b c = lit≤ tt
-needs_one (Untold left) marks b c = tt
+needs_one (Unframed left) marks b c = tt
 
--- no octet more is part of what can't be told
-pub no_more : (f : Framer) (b : List ℕ) (left : ℕ) → IsFed f b → f.stage ≡ Untold left → IsPart b → ⊥
-no_more f b left h e p = is_untold f b left h e p.0 p.2
+-- no octet more is part of an element whose end can't be known
+pub no_more : (f : Framer) (b : List ℕ) (left : ℕ) → IsFed f b → f.stage ≡ Unframed left → IsPart b → ⊥
+no_more f b left h e p = is_unframed f b left h e p.0 p.2
 
 -- some first octets, and then the first ones of the rest
 two_parts : (xs : List ℕ) (m n : ℕ) → take m xs ++ take n (take (length xs - m) (drop m xs)) ≡ take (m + n) xs

@@ -11,8 +11,8 @@ use Rattle.ber_core.proofs.Lengths.{length_unique}
 use Rattle.ber_core.proofs.Lists.{cells, fronts}
 use Rattle.ber_core.proofs.Trees.{no_length_128}
 use Rattle.ber_frame.specs.declared.framer.Frame.{Frame}
-use Rattle.ber_frame.specs.declared.framer.Frame.TheVariants.{Part, Whole, Untold}
-use Rattle.ber_frame.specs.Framed.{is_constructed, IsNumber, last, IsIdentifier, low, high, IsFramed, definite, indefinite, AreFramed, next, IsFrame, IsPart, IsUntold}
+use Rattle.ber_frame.specs.declared.framer.Frame.TheVariants.{Part, Whole, Unframed}
+use Rattle.ber_frame.specs.Framed.{is_constructed, IsNumber, last, IsIdentifier, low, high, IsFramed, definite, indefinite, AreFramed, next, IsFrame, IsPart, IsUnframed}
 use Rattle.ber_frame.specs.Framed as framed
 use Rattle.ber_frame.specs.Framer.{Judged}
 use Rattle.ber_frame.proofs.FrameSteps.{begins}
@@ -68,22 +68,22 @@ pub part_and_whole : {A : Type 0} (b : List ℕ) → IsPart b → IsFrame b → 
 part_and_whole b p h =
     let e : p.0 ≡ [] = unique _ _ b (b ++ p.0) p.0 [] h p.2 (sym (append-nil (b ++ p.0))) in absurd (p.1 e)
 
-part_and_untold : {A : Type 0} (b : List ℕ) → IsPart b → IsUntold b → A
-part_and_untold b p h = absurd (h p.0 p.2)
+part_and_unframed : {A : Type 0} (b : List ℕ) → IsPart b → IsUnframed b → A
+part_and_unframed b p h = absurd (h p.0 p.2)
 
-whole_and_untold : {A : Type 0} (b : List ℕ) → IsFrame b → IsUntold b → A
-whole_and_untold b p h = absurd (h [] (subst IsFrame (sym (append-nil b)) p))
+whole_and_unframed : {A : Type 0} (b : List ℕ) → IsFrame b → IsUnframed b → A
+whole_and_unframed b p h = absurd (h [] (subst IsFrame (sym (append-nil b)) p))
 
 pub one_judgment : (b : List ℕ) (r s : Frame) → Judged b r → Judged b s → r ≡ s
 one_judgment b Part Part h k = refl
 one_judgment b Part Whole h k = part_and_whole b h k
-one_judgment b Part Untold h k = part_and_untold b h k
+one_judgment b Part Unframed h k = part_and_unframed b h k
 one_judgment b Whole Part h k = part_and_whole b k h
 one_judgment b Whole Whole h k = refl
-one_judgment b Whole Untold h k = whole_and_untold b h k
-one_judgment b Untold Part h k = part_and_untold b k h
-one_judgment b Untold Whole h k = whole_and_untold b k h
-one_judgment b Untold Untold h k = refl
+one_judgment b Whole Unframed h k = whole_and_unframed b h k
+one_judgment b Unframed Part h k = part_and_unframed b k h
+one_judgment b Unframed Whole h k = whole_and_unframed b k h
+one_judgment b Unframed Unframed h k = refl
 
 -- ---- encodings
 

@@ -40,5 +40,5 @@ abbrev pub IsPart : List ℕ → Type 0
 IsPart b = (rest : List ℕ) × (rest ≢ []) × IsFrame (b ++ rest)
 
 -- the first octets of no framed element
-abbrev pub IsUntold : List ℕ → Type 0
-IsUntold b = (rest : List ℕ) → IsFrame (b ++ rest) → ⊥
+abbrev pub IsUnframed : List ℕ → Type 0
+IsUnframed b = (rest : List ℕ) → IsFrame (b ++ rest) → ⊥

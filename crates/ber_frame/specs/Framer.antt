@@ -7,14 +7,14 @@ use Rattle.ber_frame.specs.declared.framer.Frame.TheVariants.{Part, Whole}
 use Rattle.ber_frame.specs.declared.framer.Frame.TheVariants as frame
 use Rattle.ber_frame.specs.declared.framer.Framer.{Framer}
 use Rattle.ber_frame.specs.declared.framer.Stage.{Stage}
-use Rattle.ber_frame.specs.declared.framer.Stage.TheVariants.{Element, Between, Number, Length, LongLength, Contents, Mark, Untold}
-use Rattle.ber_frame.specs.Framed.{IsNumber, IsFramed, AreFramed, IsFrame, IsPart, IsUntold}
+use Rattle.ber_frame.specs.declared.framer.Stage.TheVariants.{Element, Between, Number, Length, LongLength, Contents, Mark, Unframed}
+use Rattle.ber_frame.specs.Framed.{IsNumber, IsFramed, AreFramed, IsFrame, IsPart, IsUnframed}
 
 -- what the octets are: the first ones of a framed element, one, or the first ones of none
 abbrev pub Judged : List ℕ → Frame → Type 0
 Judged b Part = IsPart b
 Judged b Whole = IsFrame b
-Judged b frame.Untold = IsUntold b
+Judged b frame.Unframed = IsUnframed b
 
 -- what closes `marks` elements of the indefinite form: for each the elements that are still to come, and its end mark
 abbrev pub Closes : ℕ → ℕ → List ℕ → Type 0
@@ -77,7 +77,7 @@ FinishesAt (Length constructed) marks deep x = IsLengthThen constructed marks de
 FinishesAt (LongLength long) marks deep x = IsLongThen long.left long.value marks deep x
 FinishesAt (Contents contents) marks deep x = IsContentsThen contents.left marks deep x
 FinishesAt Mark marks deep x = IsMarkThen marks deep x
-FinishesAt (Untold left) marks deep x = ⊥
+FinishesAt (Unframed left) marks deep x = ⊥
 
 abbrev pub Finishes : Framer → List ℕ → Type 0
 Finishes framer x = FinishesAt framer.stage framer.marks (18_446_744_073_709_551_615 - framer.marks) x

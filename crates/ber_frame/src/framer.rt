@@ -10,15 +10,15 @@ pub enum Frame {
     Part,
     /// One framed element.
     Whole,
-    /// The first octets of no framed element: where an element ends that begins with them can't be told.
-    Untold,
+    /// The first octets of no framed element: where an element ends that begins with them can't be known.
+    Unframed,
 }
 
 /// Finds the end of the element that octets begin with, by its identifiers and lengths alone (X.690, 8.1.2 and 8.1.3). It is fed an octet
 /// or a slice at a time, and holds a few numbers, however long and deep the element is.
 ///
 /// An element of definite length ends where its length says, whatever its contents are. One of the indefinite form ends with its end mark,
-/// and the elements in it are framed in the same way, however deep. A tag number may have any number of octets. The end can't be told where
+/// and the elements in it are framed in the same way, however deep. A tag number may have any number of octets. The end can't be known where
 /// the first octet of an identifier is 00, where a length octet is FF, or 80 in a primitive element, where only one octet of an end mark is
 /// 00, and of lengths from 4,294,967,295 octets on; nor where more than 18,446,744,073,709,551,615 elements of the indefinite form are open.
 ///
@@ -51,8 +51,8 @@ enum Stage {
     Contents(Contents),
     /// The second octet of an end mark.
     Mark,
-    /// Nothing: the end can't be told. Where it was a length that is too great, so many of its octets are still to come.
-    Untold(u8),
+    /// Nothing: the end can't be known. After a length that is too great, the number of its octets that are still to come.
+    Unframed(u8),
 }
 
 /// Further octets of a length, and what those before say.
@@ -73,7 +73,7 @@ struct Contents {
 
 impl Framer {
     ghost use Rattle.std.specs.Prelude.{◌≡◌, ℕ, ◌-◌, List, [], ◌∷◌, ◌++◌, length, take};
-    ghost use Rattle.ber_frame.specs.Framed.{IsFrame, IsPart, IsUntold};
+    ghost use Rattle.ber_frame.specs.Framed.{IsFrame, IsPart, IsUnframed};
     ghost use Rattle.ber_frame.specs.Framer.{IsFed, Judged, Finishes, Closes, IsElementThen, IsContentsThen, IsLongThen, IsLengthThen, IsNumberThen, IsMarkThen};
 
     /// A framer that was fed nothing.
@@ -91,7 +91,7 @@ impl Framer {
         ensures { (b : List ℕ) → IsFed self.now b → Judged b result }
     {
         match self.stage {
-            Stage::Untold(_) => Frame::Untold,
+            Stage::Unframed(_) => Frame::Unframed,
             Stage::Between => {
                 if self.marks == 0 {
                     Frame::Whole
@@ -103,7 +103,7 @@ impl Framer {
         }
     }
 
-    /// How many octets at least still belong to the element, whatever they are: 0 where it is whole or its end can't be told.
+    /// How many octets at least still belong to the element, whatever they are: 0 where it is whole or its end can't be known.
     pub fn need(&self) -> u32
         ensures at_least { (b rest : List ℕ) → IsFed self.now b → IsFrame (b ++ rest) → result ≤ length rest }
         ensures some { (b : List ℕ) → IsFed self.now b → IsPart b → 0 < result }
@@ -111,7 +111,7 @@ impl Framer {
         ensures any { (b octets : List ℕ) → IsFed self.now b → length octets < result → IsPart (b ++ octets) }
     {
         match self.stage {
-            Stage::Untold(_) => 0,
+            Stage::Unframed(_) => 0,
             Stage::Between => { if self.marks == 0 { 0 } else { 1 } }
             Stage::Contents(contents) => contents.left,
             _ => 1,
@@ -121,10 +121,10 @@ impl Framer {
     /// How many octets a length still has that is too great to be framed; 0 in every other case. No octet after them says more of
     /// that length.
     pub fn lacks(&self) -> u8
-        ensures { (b : List ℕ) → IsFed self.now b → (IsUntold b → ⊥) → result ≡ 0 }
+        ensures { (b : List ℕ) → IsFed self.now b → (IsUnframed b → ⊥) → result ≡ 0 }
     {
         match self.stage {
-            Stage::Untold(left) => left,
+            Stage::Unframed(left) => left,
             _ => 0,
         }
     }
@@ -136,7 +136,7 @@ impl Framer {
         *self = self.after(octet);
     }
 
-    /// Takes octets up to the end of the element, or up to where it can't be told, and returns how many they are.
+    /// Takes octets up to the end of the element, or up to where it can't be known, and returns how many they are.
     pub fn feed(&mut self, octets: &[u8]) -> usize
         ensures count { result ≤ length octets.now }
         ensures fed { (b : List ℕ) → IsFed self.old b → IsFed self.new (b ++ take result octets.now) }
@@ -180,7 +180,7 @@ impl Framer {
             Stage::LongLength(long) => self.after_long(long, octet),
             Stage::Contents(contents) => self.contents(contents.left - 1),
             Stage::Mark => self.after_mark(octet),
-            Stage::Untold(_) => self,
+            Stage::Unframed(_) => self,
         }
     }
 
@@ -194,7 +194,7 @@ impl Framer {
         }
     }
 
-    /// Before so many octets of contents.
+    /// Before contents of `left` octets.
     fn contents(self, left: u32) -> Framer
         ensures { (x : List ℕ) → IsContentsThen left self.marks (18_446_744_073_709_551_615 - self.marks) x ↔ Finishes result x }
     {
@@ -211,7 +211,7 @@ impl Framer {
     {
         let constructed = octet / 32 % 2 == 1;
         if octet == 0 {
-            self.at(Stage::Untold(0))
+            self.at(Stage::Unframed(0))
         } else if octet % 32 == 31 {
             self.at(Stage::Number(constructed))
         } else {
@@ -224,7 +224,7 @@ impl Framer {
         ensures { (x : List ℕ) → Closes self.marks (18_446_744_073_709_551_615 - self.marks) (octet ∷ x) ↔ Finishes result x }
     {
         if self.marks == 0 {
-            self.at(Stage::Untold(0))
+            self.at(Stage::Unframed(0))
         } else if octet == 0 {
             Framer {
                 stage: Stage::Mark,
@@ -255,7 +255,7 @@ impl Framer {
                 stage: Stage::Between,
                 marks: self.marks + 1,
             },
-            128 | 255 => self.at(Stage::Untold(0)),
+            128 | 255 => self.at(Stage::Unframed(0)),
             _ => self.at(Stage::LongLength(LongLength {
                 left: octet - 128,
                 value: 0,
@@ -270,7 +270,7 @@ impl Framer {
         let left = long.left - 1;
         let value = long.value * 256 + u32::from(octet);
         if !fits(value, left) {
-            self.at(Stage::Untold(left))
+            self.at(Stage::Unframed(left))
         } else if left == 0 {
             self.contents(value)
         } else {
@@ -285,12 +285,12 @@ impl Framer {
         if octet == 0 {
             self.at(Stage::Between)
         } else {
-            self.at(Stage::Untold(0))
+            self.at(Stage::Unframed(0))
         }
     }
 }
 
-/// Whether a length is framed whose first octets say `value`, where so many octets are left, and all are 00.
+/// Whether an element is framed by a length whose first octets say `value`, if each of the `left` octets after them is 00.
 fn fits(value: u32, left: u8) -> bool
     ensures { IsTrue result ↔ (value * 256 ^ left ≤ 4_294_967_294) }
 {

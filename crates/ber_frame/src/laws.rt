@@ -1,7 +1,7 @@
 //! What holds of the definitions alone.
 ghost use Rattle.std.specs.Prelude.{◌≡◌, ℕ, ◌≤◌, List, ◌++◌, length};
 ghost use Rattle.ber_core.specs.Tree.{Tree, Spells, depth};
-ghost use Rattle.ber_frame.specs.Framed.{IsFrame, IsPart, IsUntold};
+ghost use Rattle.ber_frame.specs.Framed.{IsFrame, IsPart, IsUnframed};
 ghost use Rattle.ber_frame.specs.Framer.{Judged};
 
 use crate::framer::Frame;

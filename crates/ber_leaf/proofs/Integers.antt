@@ -117,7 +117,7 @@ number-after n (d ∷ ds) =
 number-cons : (a : ℕ) (r : List ℕ) → number_from_digits 256 (a ∷ r) ≡ a * 256 ^ length r + number_from_digits 256 r
 number-cons a r = omega (arith, number-after (0 * 256 + a) r)
 
--- the first bit of octets tells the half in which their number lies
+-- the first bit of octets says in which half their number lies
 low_half : (a : ℕ) (r : List ℕ) → IsTrue (are_octets (a ∷ r)) → a < 128 → number_from_digits 256 (a ∷ r) < 128 * 256 ^ length r
 low_half a r h lt =
     let s = small a r h in
@@ -306,7 +306,7 @@ high_value a r h le ge =
     ∙ to_z_negsuc m (omega (arith, worth, below, weight, pow-succ' 256 (length r), high_half a r ge))
     ∙ ap negsuc (let rest : 2 ^ 64 - suc m ≡ 256 ^ suc (length r) - 1 - number_from_digits 256 (a ∷ r) = omega (arith, worth, below) in rest)
 
--- eight octets hold what the octets behind their sign do
+-- eight octets hold what the octets after their sign do
 pub extended_value : (o : List ℕ) → IsTrue (are_octets o) → 0 < length o → length o ≤ 8
     → cast_signed w64 (from_be_bytes w64 (replicate (8 - length o) (sign_octet o) ++ o)) ≡ integer_of o
 extended_value [] h lt le = absurd (omega (arith, lt))

@@ -40,6 +40,6 @@ pub trait Leaf {
         requires { length room.old ≡ length (normal_content (simple value.now)) }
         ensures { room.new ≡ normal_content (simple value.now) };
 
-    // the definitions tell two values apart
+    // the definitions distinguish two values
     ghost apart: { (v w : Self.Out) → simple v ≡ simple w → v ≡ w };
 }

@@ -56,7 +56,7 @@ impl Whole {
     }
 }
 
-/// Whether the octets are none, or the first nine bits of two or more are equal.
+/// Whether there are no octets, or at least two whose first nine bits are equal.
 fn is_padded(octets: &[u8]) -> bool
     ensures { result ≡ is_padded octets.now }
 {
@@ -83,7 +83,7 @@ fn extended(octets: &[u8]) -> [u8; 8]
     bytes
 }
 
-/// The least `n` such that the value stands from `-n - 1` to `n`.
+/// The least `n` such that the value is from `-n - 1` to `n`.
 fn reach(value: i64) -> u64
     ensures { result ≡ reach value }
 {

@@ -150,7 +150,7 @@ impl Apdu {
     {
         match Message::new(self.number(), body) {
             Ok(message) => {
-                // This tells the proof that the normal form is within the limit.
+                // This shows the proof that the normal form is within the limit.
                 message.body();
                 Ok(message)
             }

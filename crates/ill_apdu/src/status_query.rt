@@ -4,7 +4,7 @@ use ill_parts::{Head, Node, Part, Typed, entries, headed, optional, optional_val
 use ill_schema::{NodeId, Value};
 use std::alloc::{AllocError, Global};
 
-/// STATUS-QUERY: a party asks how the transaction stands (APDU 18).
+/// STATUS-QUERY: a party asks for the state of the transaction (APDU 18).
 ///
 /// `status-query-extensions` (row 6) is left out.
 #[derive(Debug, Drop, PartialEq, Eq)]

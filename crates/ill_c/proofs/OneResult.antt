@@ -9,14 +9,14 @@ use Rattle.ill_normal.proofs.Canonical.{refuses_once, refuses_whole, spells_once
 use Rattle.ill_c.specs.declared.refusal.IllcanonRefusal.{IllcanonRefusal}
 use Rattle.ill_c.specs.declared.status.Status.{Status}
 use Rattle.ill_c.specs.Calls.{IsMade, Writes, Checks, Compares, Finds, WritesFront}
-use Rattle.ill_c.specs.Memory.{Change, Fills, Lacks, Tells, IsFlag}
+use Rattle.ill_c.specs.Memory.{Change, Fills, Lacks, Reports, IsFlag}
 use Rattle.ill_c.specs.OneResult.{WritesOnce, ChecksOnce, ComparesOnce, FindsOnce, WritesFrontOnce}
-use Rattle.ill_c.specs.Refusals.{told}
+use Rattle.ill_c.specs.Refusals.{reported}
 use Rattle.ill_c.specs.Status.{EndsWith, status_number}
 
--- a call whose octets are refused in one way tells that refusal
-tells_once : (s : List ℕ) (refusal : Change IllcanonRefusal) (f : Fault) → Tells (RefusesWhole s) refusal → RefusesWhole s f → refusal.after ≡ told f
-tells_once s refusal f (g, refuses, e) h = e ∙ ap told (refuses_once s g f refuses h)
+-- a call whose octets are refused in one way reports that refusal
+tells_once : (s : List ℕ) (refusal : Change IllcanonRefusal) (f : Fault) → Reports (RefusesWhole s) refusal → RefusesWhole s f → refusal.after ≡ reported f
+tells_once s refusal f (g, refuses, e) h = e ∙ ap reported (refuses_once s g f refuses h)
 
 module _ (make : Apdu → List ℕ) (s : List ℕ) (buffer : Change (List ℕ)) (size : Change ℕ) (refusal : Change IllcanonRefusal) where
   -- what was made is what this APDU makes
@@ -40,10 +40,10 @@ module _ (make : Apdu → List ℕ) (s : List ℕ) (buffer : Change (List ℕ)) 
     size_stays = λ ne ne'. absurd (ne' refl);
     refusal_stays = λ ne. stays;
   }
-  wrote Status.Refused (tells, stays, size_stays) = record {
-    room = λ a h le ne. absurd (refuses_whole s tells.0 a tells.1 h);
-    no_room = λ a h lt ne. absurd (refuses_whole s tells.0 a tells.1 h);
-    refused = λ f h ne. (refl, tells_once s refusal f tells h);
+  wrote Status.Refused (reports, stays, size_stays) = record {
+    room = λ a h le ne. absurd (refuses_whole s reports.0 a reports.1 h);
+    no_room = λ a h lt ne. absurd (refuses_whole s reports.0 a reports.1 h);
+    refused = λ f h ne. (refl, tells_once s refusal f reports h);
     buffer_stays = λ ne. stays;
     size_stays = λ ne ne'. size_stays;
     refusal_stays = λ ne. absurd (ne refl);
@@ -70,9 +70,9 @@ module _ (s : List ℕ) (normal : Change ℕ) (refusal : Change IllcanonRefusal)
     answer_stays = λ ne. absurd (ne refl);
     refusal_stays = λ ne. stays;
   }
-  checked Status.Refused (tells, stays) = record {
-    checked = λ a h ne. absurd (refuses_whole s tells.0 a tells.1 h);
-    refused = λ f h ne. (refl, tells_once s refusal f tells h);
+  checked Status.Refused (reports, stays) = record {
+    checked = λ a h ne. absurd (refuses_whole s reports.0 a reports.1 h);
+    refused = λ f h ne. (refl, tells_once s refusal f reports h);
     answer_stays = λ ne. stays;
     refusal_stays = λ ne. absurd (ne refl);
   }
@@ -104,7 +104,7 @@ module _ (s t : List ℕ) (same : Change ℕ) (refusal : Change IllcanonRefusal)
   }
   compared Status.Refused ((g, refuses, e), stays) = record {
     compared = λ a b h k ne. absurd (refuses_whole s g a refuses h);
-    first = λ f h ne. (refl, e ∙ ap told (refuses_once s g f refuses h));
+    first = λ f h ne. (refl, e ∙ ap reported (refuses_once s g f refuses h));
     second = λ a f h k ne. absurd (refuses_whole s g a refuses h);
     answer_stays = λ ne. stays;
     refusal_stays = λ ne ne'. absurd (ne refl);
@@ -112,7 +112,7 @@ module _ (s t : List ℕ) (same : Change ℕ) (refusal : Change IllcanonRefusal)
   compared Status.SecondRefused ((g, (spelled, refuses), e), stays) = record {
     compared = λ a b h k ne. absurd (refuses_whole t g b refuses k);
     first = λ f h ne. absurd (refuses_whole s f spelled.0 h spelled.1);
-    second = λ a f h k ne. (refl, e ∙ ap told (refuses_once t g f refuses k));
+    second = λ a f h k ne. (refl, e ∙ ap reported (refuses_once t g f refuses k));
     answer_stays = λ ne. stays;
     refusal_stays = λ ne ne'. absurd (ne' refl);
   }
@@ -148,7 +148,7 @@ module _ (s : List ℕ) (size : Change ℕ) (refusal : Change IllcanonRefusal) w
   found Status.Refused ((g, (refuses, goes_on), e), stays) = record {
     found = λ a m h ne. absurd (refuses.2 a m h);
     part = λ h ne. absurd (goes_on (ap (λ (x : Fault). x.cause) (h.1 g refuses.0)));
-    refused = λ f h ends ne. (refl, e ∙ ap told (h.1 g refuses.0));
+    refused = λ f h ends ne. (refl, e ∙ ap reported (h.1 g refuses.0));
     size_stays = λ ne. stays;
     refusal_stays = λ ne. absurd (ne refl);
   }
@@ -207,7 +207,7 @@ module _ (s : List ℕ) (read : Change ℕ) (buffer : Change (List ℕ)) (size :
     room = λ a m h le ne. absurd (refuses.2 a m h);
     no_room = λ a m h lt ne. absurd (refuses.2 a m h);
     part = λ h ne. absurd (goes_on (ap (λ (x : Fault). x.cause) (h.1 g refuses.0)));
-    refused = λ f h ends ne. (refl, e ∙ ap told (h.1 g refuses.0));
+    refused = λ f h ends ne. (refl, e ∙ ap reported (h.1 g refuses.0));
     buffer_stays = λ ne. stays;
     read_stays = λ ne ne'. read_stays;
     size_stays = λ ne ne'. size_stays;

@@ -10,7 +10,7 @@ use Rattle.ill_normal.specs.Compared.{RefusesSide}
 use Rattle.ill_normal.specs.declared.compare.Side.{Side}
 use Rattle.ill_c.specs.declared.refusal.IllcanonRefusal.{IllcanonRefusal}
 use Rattle.ill_c.specs.declared.status.Status.{Status}
-use Rattle.ill_c.specs.Memory.{Change, Stays, Fills, Lacks, Tells, IsFlag}
+use Rattle.ill_c.specs.Memory.{Change, Stays, Fills, Lacks, Reports, IsFlag}
 
 -- of the APDU that the octets spell, this is made
 abbrev pub IsMade : (Apdu → List ℕ) → List ℕ → List ℕ → Type 0
@@ -23,14 +23,14 @@ digest a = sha256 (normal_form a)
 abbrev pub Writes : (Apdu → List ℕ) → List ℕ → Change (List ℕ) → Change ℕ → Change IllcanonRefusal → Status → Type 0
 Writes make s buffer size refusal Status.Done = ((octets : List ℕ) × IsMade make s octets × Fills octets buffer size) × Stays refusal
 Writes make s buffer size refusal Status.NoRoom = ((octets : List ℕ) × IsMade make s octets × Lacks octets buffer size) × Stays refusal
-Writes make s buffer size refusal Status.Refused = Tells (RefusesWhole s) refusal × Stays buffer × Stays size
+Writes make s buffer size refusal Status.Refused = Reports (RefusesWhole s) refusal × Stays buffer × Stays size
 Writes make s buffer size refusal Status.OutOfMemory = Stays buffer × Stays size × Stays refusal
 Writes make s buffer size refusal _ = ⊥
 
 -- the number says whether the message that s is is its normal form, or s is refused
 abbrev pub Checks : List ℕ → Change ℕ → Change IllcanonRefusal → Status → Type 0
 Checks s normal refusal Status.Done = ((a : Apdu) × SpellsApdu profile_two a s × IsFlag normal.after (s ≡ normal_form a)) × Stays refusal
-Checks s normal refusal Status.Refused = Tells (RefusesWhole s) refusal × Stays normal
+Checks s normal refusal Status.Refused = Reports (RefusesWhole s) refusal × Stays normal
 Checks s normal refusal Status.OutOfMemory = Stays normal × Stays refusal
 Checks s normal refusal _ = ⊥
 
@@ -38,8 +38,8 @@ Checks s normal refusal _ = ⊥
 abbrev pub Compares : List ℕ → List ℕ → Change ℕ → Change IllcanonRefusal → Status → Type 0
 Compares s t same refusal Status.Done =
     ((a : Apdu) × (b : Apdu) × SpellsApdu profile_two a s × SpellsApdu profile_two b t × IsFlag same.after (a ≡ b)) × Stays refusal
-Compares s t same refusal Status.Refused = Tells (RefusesSide s t Side.First) refusal × Stays same
-Compares s t same refusal Status.SecondRefused = Tells (RefusesSide s t Side.Second) refusal × Stays same
+Compares s t same refusal Status.Refused = Reports (RefusesSide s t Side.First) refusal × Stays same
+Compares s t same refusal Status.SecondRefused = Reports (RefusesSide s t Side.Second) refusal × Stays same
 Compares s t same refusal Status.OutOfMemory = Stays same × Stays refusal
 Compares s t same refusal _ = ⊥
 
@@ -47,17 +47,17 @@ Compares s t same refusal _ = ⊥
 abbrev pub Finds : List ℕ → Change ℕ → Change IllcanonRefusal → Status → Type 0
 Finds s size refusal Status.Done = ((a : Apdu) × Accepts profile_two s a size.after) × Stays refusal
 Finds s size refusal Status.NeedsMore = IsPart s × Stays size × Stays refusal
-Finds s size refusal Status.Refused = Tells (λ f. OnlyRefuses profile_two s f × (f.cause ≢ Cause.Truncated)) refusal × Stays size
+Finds s size refusal Status.Refused = Reports (λ f. OnlyRefuses profile_two s f × (f.cause ≢ Cause.Truncated)) refusal × Stays size
 Finds s size refusal Status.OutOfMemory = Stays size × Stays refusal
 Finds s size refusal _ = ⊥
 
--- the normal form of the message at the front of s stands in the buffer, or the buffer is too short, and where the message ends is told; or s may go on to be one, or is refused
+-- the normal form of the message at the front of s stands in the buffer, or the buffer is too short, and where the message ends is reported; or s may go on to be one, or is refused
 -- whatever follows it
 abbrev pub WritesFront : List ℕ → Change ℕ → Change (List ℕ) → Change ℕ → Change IllcanonRefusal → Status → Type 0
 WritesFront s read buffer size refusal Status.Done = ((a : Apdu) × Accepts profile_two s a read.after × Fills (normal_form a) buffer size) × Stays refusal
 WritesFront s read buffer size refusal Status.NoRoom = ((a : Apdu) × Accepts profile_two s a read.after × Lacks (normal_form a) buffer size) × Stays refusal
 WritesFront s read buffer size refusal Status.NeedsMore = IsPart s × Stays read × Stays buffer × Stays size × Stays refusal
 WritesFront s read buffer size refusal Status.Refused =
-    Tells (λ f. OnlyRefuses profile_two s f × (f.cause ≢ Cause.Truncated)) refusal × Stays read × Stays buffer × Stays size
+    Reports (λ f. OnlyRefuses profile_two s f × (f.cause ≢ Cause.Truncated)) refusal × Stays read × Stays buffer × Stays size
 WritesFront s read buffer size refusal Status.OutOfMemory = Stays read × Stays buffer × Stays size × Stays refusal
 WritesFront s read buffer size refusal _ = ⊥

@@ -2,7 +2,7 @@
 use Rattle.std.specs.Prelude.{◌≡◌, ◌↔◌, ℕ, ◌≤◌, ◌<◌, List, ◌++◌, length, drop}
 use Rattle.ill_refusals.specs.Fault.{Fault}
 use Rattle.ill_c.specs.declared.refusal.IllcanonRefusal.{IllcanonRefusal}
-use Rattle.ill_c.specs.Refusals.{told}
+use Rattle.ill_c.specs.Refusals.{reported}
 
 -- what stands somewhere before and after the call
 pub record Change (T : Type 0) : Type 0 where
@@ -15,21 +15,21 @@ change before after = record { before = before; after = after }
 abbrev pub Stays : {T : Type 0} → Change T → Type 0
 Stays x = x.after ≡ x.before
 
--- the octets stand at the front of the buffer, what follows them is as it was, and their number is told
+-- the octets stand at the front of the buffer, what follows them is as it was, and their number is reported
 pub record Fills (octets : List ℕ) (buffer : Change (List ℕ)) (size : Change ℕ) : Type 0 where
   pub fits : length octets ≤ length buffer.before
   pub written : buffer.after ≡ octets ++ drop (length octets) buffer.before
   pub counted : size.after ≡ length octets
 
--- the buffer is too short for the octets, and is as it was, and their number is told
+-- the buffer is too short for the octets, and is as it was, and their number is reported
 pub record Lacks (octets : List ℕ) (buffer : Change (List ℕ)) (size : Change ℕ) : Type 0 where
   pub short : length buffer.before < length octets
   pub kept : Stays buffer
   pub counted : size.after ≡ length octets
 
--- a fault of which this holds is told
-abbrev pub Tells : (Fault → Type 0) → Change IllcanonRefusal → Type 0
-Tells Refuses refusal = (f : Fault) × Refuses f × (refusal.after ≡ told f)
+-- a fault of which this holds is reported
+abbrev pub Reports : (Fault → Type 0) → Change IllcanonRefusal → Type 0
+Reports Refuses refusal = (f : Fault) × Refuses f × (refusal.after ≡ reported f)
 
 -- the number is 1 where the fact holds, and 0 where it doesn't
 abbrev pub IsFlag : ℕ → Type 0 → Type 0

@@ -8,11 +8,11 @@ use Rattle.ill_refusals.specs.Outcome.{OnlyRefuses}
 use Rattle.ill_read.specs.Answers.{IsPart, RefusesWhole}
 use Rattle.ill_c.specs.declared.refusal.IllcanonRefusal.{IllcanonRefusal}
 use Rattle.ill_c.specs.Memory.{Change, Stays, Fills, Lacks, IsFlag}
-use Rattle.ill_c.specs.Refusals.{told}
+use Rattle.ill_c.specs.Refusals.{reported}
 
--- a refusal was told, by this status
+-- a refusal was reported, by this status
 abbrev pub IsRefusal : ℕ → Fault → Change IllcanonRefusal → ℕ → Type 0
-IsRefusal status f refusal n = n ≢ 5 → (n ≡ status) × (refusal.after ≡ told f)
+IsRefusal status f refusal n = n ≢ 5 → (n ≡ status) × (refusal.after ≡ reported f)
 
 -- of a call that writes what is made of a message
 pub record WritesOnce (make : Apdu → List ℕ) (s : List ℕ) (buffer : Change (List ℕ)) (size : Change ℕ) (refusal : Change IllcanonRefusal) (n : ℕ) : Type 0 where

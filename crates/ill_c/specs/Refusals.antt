@@ -1,4 +1,4 @@
--- A refusal, as it is told to C.
+-- A refusal, as it is reported to C.
 use Rattle.std.specs.Prelude.{ℕ, ◌-◌, List, [], ◌++◌, codes, length, replicate, Option, Some, None}
 use Rattle.ill_schema.specs.Names.{part_name_of}
 use Rattle.ill_schema.specs.declared.refusal.Cause.{Cause}
@@ -42,6 +42,6 @@ part_text _ = []
 abbrev pub c_text : List ℕ → List ℕ
 c_text text = text ++ replicate (64 - length text) 0
 
--- a fault, as it is told
-abbrev pub told : Fault → IllcanonRefusal
-told f = record { at = f.at; cause = cause_number f.cause; part = c_text (part_text f.cause) }
+-- a fault, as it is reported
+abbrev pub reported : Fault → IllcanonRefusal
+reported f = record { at = f.at; cause = cause_number f.cause; part = c_text (part_text f.cause) }

@@ -5,7 +5,7 @@ ghost use Rattle.ill_c.specs.Status.{EndsWith};
 
 use crate::front::read_front;
 use crate::put::put;
-use crate::refusal::{IllcanonRefusal, tell};
+use crate::refusal::{IllcanonRefusal, report};
 use crate::status::Status;
 use std::alloc::Global;
 
@@ -31,7 +31,7 @@ fn next(alloc: Global, octets: &[u8], size: &mut usize, refusal: &mut IllcanonRe
             Status::Done
         }
         Ok(None) => Status::NeedsMore,
-        Err(failure) => tell(failure, refusal),
+        Err(failure) => report(failure, refusal),
     }
 }
 
@@ -68,6 +68,6 @@ fn normalise_next(
             put(&normal.octets, buffer, size)
         }
         Ok(None) => Status::NeedsMore,
-        Err(failure) => tell(failure, refusal),
+        Err(failure) => report(failure, refusal),
     }
 }

@@ -6,7 +6,7 @@ ghost use Rattle.ill_c.specs.Memory.{change};
 ghost use Rattle.ill_c.specs.Status.{EndsWith};
 
 use crate::put::put;
-use crate::refusal::{IllcanonRefusal, tell};
+use crate::refusal::{IllcanonRefusal, report};
 use crate::status::Status;
 use crate::whole::read_whole;
 use ill_digest::message_digest;
@@ -39,7 +39,7 @@ fn normalise(
 {
     match read_whole(alloc, octets) {
         Ok(normal) => put(&normal.octets, buffer, size),
-        Err(failure) => tell(failure, refusal),
+        Err(failure) => report(failure, refusal),
     }
 }
 
@@ -70,7 +70,7 @@ fn show(
 {
     let message = match decode(alloc, octets) {
         Ok(message) => message,
-        Err(failure) => return tell(failure, refusal),
+        Err(failure) => return report(failure, refusal),
     };
     match show_text(alloc, number, &message) {
         Ok(text) => put(&text, buffer, size),
@@ -103,6 +103,6 @@ fn digest(
 {
     match message_digest(alloc, octets) {
         Ok(digest) => put(&digest, buffer, size),
-        Err(failure) => tell(failure, refusal),
+        Err(failure) => report(failure, refusal),
     }
 }

@@ -1,10 +1,10 @@
-//! Refusals that are told to C.
+//! Refusals that are reported to C.
 ghost use Rattle.std.specs.Prelude.{◌≡◌, ◌+◌};
 ghost use Rattle.ill_schema.specs.Names.{part_name_of};
 ghost use Rattle.ill_refusals.specs.Fault.{fault_of};
 ghost use Rattle.ill_c.specs.Memory.{change};
-ghost use Rattle.ill_c.specs.Refusals.{c_text, cause_number, dotted, part_text, told};
-ghost use Rattle.ill_c.specs.code.Steps.{IsTold};
+ghost use Rattle.ill_c.specs.Refusals.{c_text, cause_number, dotted, part_text, reported};
+ghost use Rattle.ill_c.specs.code.Steps.{IsReported};
 
 use crate::put::copy_at;
 use crate::status::Status;
@@ -22,22 +22,22 @@ pub struct IllcanonRefusal {
     pub part: [u8; 64],
 }
 
-/// Tells a refusal, and returns how the call ends.
-pub(crate) fn tell(failure: Failure, refusal: &mut IllcanonRefusal) -> Status
-    ensures { IsTold failure (change refusal.old refusal.new) result }
+/// Reports a refusal, and returns how the call ends.
+pub(crate) fn report(failure: Failure, refusal: &mut IllcanonRefusal) -> Status
+    ensures { IsReported failure (change refusal.old refusal.new) result }
 {
     match failure {
         Failure::Refused(it) => {
-            *refusal = told(it);
+            *refusal = reported(it);
             Status::Refused
         }
         Failure::OutOfMemory => Status::OutOfMemory,
     }
 }
 
-/// A refusal as it is told.
-pub(crate) fn told(refusal: Refusal) -> IllcanonRefusal
-    ensures { result ≡ told (fault_of refusal) }
+/// A refusal as it is reported.
+pub(crate) fn reported(refusal: Refusal) -> IllcanonRefusal
+    ensures { result ≡ reported (fault_of refusal) }
 {
     IllcanonRefusal {
         at: refusal.at,

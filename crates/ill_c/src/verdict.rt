@@ -3,7 +3,7 @@ ghost use Rattle.ill_c.specs.Calls.{Checks, Compares};
 ghost use Rattle.ill_c.specs.Memory.{change};
 ghost use Rattle.ill_c.specs.Status.{EndsWith};
 
-use crate::refusal::{IllcanonRefusal, tell, told};
+use crate::refusal::{IllcanonRefusal, report, reported};
 use crate::status::Status;
 use ill_normal::{Failure, Side, is_normal, same_message};
 use std::alloc::Global;
@@ -29,7 +29,7 @@ fn check(alloc: Global, octets: &[u8], normal: &mut u32, refusal: &mut IllcanonR
             *normal = u32::from(yes);
             Status::Done
         }
-        Err(failure) => tell(failure, refusal),
+        Err(failure) => report(failure, refusal),
     }
 }
 
@@ -61,9 +61,9 @@ fn compare(
             *same = u32::from(yes);
             Status::Done
         }
-        Err((Side::First, failure)) => tell(failure, refusal),
+        Err((Side::First, failure)) => report(failure, refusal),
         Err((Side::Second, Failure::Refused(it))) => {
-            *refusal = told(it);
+            *refusal = reported(it);
             Status::SecondRefused
         }
         Err((Side::Second, Failure::OutOfMemory)) => Status::OutOfMemory,

@@ -1,4 +1,4 @@
--- Where an element begins inside, and what comes behind it.
+-- Where an element begins inside, and what comes after it.
 use Rattle.std.proofs.Common.{◌≡◌, ℕ, zero, suc, ◌+◌, true, IsTrue, List, [], ◌∷◌, drop, None, refl, sym, ap, ◌∙◌, arith}
 use Rattle.ber_leaf.specs.Profile.{profile_two}
 use Rattle.ill_schema.specs.declared.node.Kind.{Kind}
@@ -157,7 +157,7 @@ after-kind p node (suc row) e Kind.Choice h = absurd cc
 after-kind p node (suc row) e (Kind.Leaf l) h = absurd cc
 after-kind p node (suc row) e Kind.IllString h = absurd cc
 
--- behind a row comes the next
+-- after a row comes the next
 pub after-row : (p : PartId) (node : NodeId) (position : ℕ) (e : Element) → IsTrue (is_placed (kind_of node) position slot.Row)
     → next_from p node (position + 1) ≡ next_of (due_at p node position slot.Row e)
 after-row p node position e h =
@@ -168,7 +168,7 @@ item-next : (other : Component) (e : Element) (cs : List Component)
 item-next other e [] = refl
 item-next other e (c ∷ cs) = refl
 
--- behind an item come more
+-- after an item come more
 pub after-item : (p : PartId) (node : NodeId) (position : ℕ) (e : Element) (k : Kind) → kind_of node ≡ k → is_placed k position slot.Item ≡ true
     → next_from p node position ≡ next_of (due_at p node position slot.Item e)
 after-item p node (suc zero) e Kind.SeqOf f h = ap (λ (k : Kind). next_of_kind k p node 1) f ∙ item-next (wrapped p node) e (components profile_two node)
@@ -179,7 +179,7 @@ after-item p node (suc zero) e Kind.IllString f h = absurd cc
 after-item p node zero e k f h = absurd cc
 after-item p node (suc (suc n)) e k f h = absurd cc
 
--- behind a segment come more
+-- after a segment come more
 pub after-segment : (p : PartId) (node : NodeId) (position : ℕ) (e : Element) (k : Kind) → kind_of node ≡ k → is_placed k position slot.Segment ≡ true
     → next_from p node position ≡ next_of (due_at p node position slot.Segment e)
 after-segment p node (suc zero) e k f h = ap (λ (x : Kind). next_of_kind x p node 1) f ∙ leaf-first p node k h ∙ sym (segment-next (wrapped p node) e)

@@ -19,14 +19,14 @@ use Rattle.ill_cells.specs.declared.cell.Cell.{Cell}
 use Rattle.ill_cells.specs.declared.cell.Slot.TheVariants as slot
 use Rattle.ill_cells.proofs.Scanning.{drop-item, drop-none, drop-rows}
 
--- what the cell at a position says, before those behind it
+-- what the cell at a position says, before those after it
 pub cells-at : (i : ℕ) (cs : List Cell) (c : Cell) → slice_get cs i ≡ Some c → drop i (cells_meant cs) ≡ cell_meant c ∷ drop (suc i) (cells_meant cs)
 cells-at zero [] c e = absurd cc
 cells-at (suc i) [] c e = absurd cc
 cells-at zero (d ∷ cs) c e = let g : d ≡ c = cc in ap (λ (x : Cell). cell_meant x ∷ cells_meant cs) g
 cells-at (suc i) (d ∷ cs) c e = cells-at i cs c e
 
--- behind the last cell there are none
+-- after the last cell there are none
 pub cells-end : (i : ℕ) (cs : List Cell) → length cs ≤ i → drop i (cells_meant cs) ≡ []
 cells-end zero [] h = refl
 cells-end (suc i) [] h = refl

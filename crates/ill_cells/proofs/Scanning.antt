@@ -17,7 +17,7 @@ use Rattle.ill_cells.specs.Cells.{due_at, element_with, next_from, next_of_kind,
 use Rattle.ill_cells.specs.code.Meant.{Meant, meant, is_must, item_meant, kind_meant, node_meant, node_starts, rows_meant, segment_meant}
 use Rattle.ill_cells.specs.declared.cell.Slot.TheVariants as slot
 
--- what is due by the tag, where these say what may come at a position of a node and behind it
+-- what is due by the tag, where these say what may come at a position of a node and after it
 abbrev pub scan : Tag → PartId → NodeId → ℕ → List Meant → Option Due
 scan t p node position [] = None
 scan t p node position (m ∷ ms) = elim (element_with t m.starts) as (λ _. Option Due) [

@@ -285,7 +285,7 @@ impl Found {
         self.begun.part
     }
 
-    /// Where it stands in the element round it.
+    /// Where it is in the element around it.
     pub fn slot(self) -> Slot
         ensures { result ≡ slot_of self }
     {

@@ -17,7 +17,7 @@ pub enum What {
     List,
     /// An explicit tag.
     Wrapper,
-    /// An explicit tag, which may also stand round the components of what it wraps.
+    /// An explicit tag, whose contents may also be the components of what it wraps.
     LooseWrapper,
     /// An OCTET STRING in a string.
     Segment,
@@ -25,7 +25,7 @@ pub enum What {
     LeftOut,
 }
 
-/// Where an element stands in the element round it.
+/// Where an element is in the element around it.
 #[derive(Clone, Copy, Debug, PartialEq, Eq)]
 pub enum Slot {
     Inner,

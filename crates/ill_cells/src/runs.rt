@@ -1,4 +1,4 @@
-//! The cells of each node: by what it may begin in a wrapper, and then what may stand in it.
+//! The cells of each node: by what it may begin in a wrapper, and then what it may contain.
 ghost use Rattle.std.specs.Prelude.{◌≡◌, ◌≤◌, length, true};
 ghost use Rattle.ill_schema.specs.Table.{kind_of};
 ghost use Rattle.ill_cells.specs.code.Meant.{all_open, cells_meant, nested_starts, node_meant, starts_of_cells};
@@ -43,7 +43,7 @@ macro_rules! what {
     ($presence:ident, Implicit, $node:ident) => { own_what!($node) };
 }
 
-/// Whether the node is a choice that stands in a sequence without a tag.
+/// Whether the node is a choice that is in a sequence without a tag.
 macro_rules! is_nested {
     (DeliveryService) => { true };
     (ShippedVia) => { true };
@@ -368,7 +368,7 @@ const STRINGS: [Cell; 2] = [
     },
 ];
 
-/// The cells of a node: those by which it begins, and those of what may stand in it.
+/// The cells of a node: those by which it begins, and those of what it may contain.
 #[inline(always)]
 pub fn cells_of(node: NodeId) -> &'static [Cell]
     ensures meant { cells_meant result.now ≡ node_meant node }

@@ -12,7 +12,7 @@ use std::rt::Files;
 use std::str;
 
 /// Writes the normal forms of the messages of each file to one output, prints the line of each fault, and returns the exit status. The
-/// output is opened only once one of the files is, and only if it is none of them.
+/// output is opened after the first of the files, and only if it is not one of the files.
 pub fn collect<R: Print + Eprint + Input + Files + AllocGlobal>(
     rt: &R,
     how: How,
@@ -86,7 +86,7 @@ fn each_into<R: Print + Eprint + Input + Files + AllocGlobal>(
         match next_into(rt, how, name, &output, name_of_output, &mut begun) {
             Ok(done) => {
                 if let Err(fault) = &done {
-                    // Where standard error is closed, only the status is left to tell.
+                    // Where standard error is closed, the status alone reports it.
                     let _ = print_of(rt, name, fault);
                 }
                 status = worse(status, status_of(&done));

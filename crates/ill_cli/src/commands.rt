@@ -128,7 +128,7 @@ pub(crate) fn end<R: Print + Eprint>(rt: &R, done: &Result<Verdict, Fault>) -> u
     ensures { result ≡ status_is done.now }
 {
     if let Err(fault) = done {
-        // Where standard error is closed, only the status is left to tell.
+        // Where standard error is closed, the status alone reports it.
         let _ = print(rt, fault);
     }
     status_of(done)

@@ -144,7 +144,7 @@ fn each_file<R: Print + Eprint + Input + Files + AllocGlobal>(
     for name in names {
         let done = one_file(rt, each, how, name, true);
         if let Err(fault) = &done {
-            // Where standard error is closed, only the status is left to tell.
+            // Where standard error is closed, the status alone reports it.
             let _ = print_of(rt, name, fault);
         }
         status = worse(status, status_of(&done));

@@ -42,7 +42,7 @@ impl<R: Eprint> Reports for Printed<'_, R> {
 
     fn report(&mut self, report: Report) {
         let line = ReportLine(report);
-        // Where standard error is closed, only the status is left to tell.
+        // Where standard error is closed, the status alone reports it.
         let _ = match self.name {
             Some(name) => eprintln!(self.rt; "illcanon: {name}: {line}"),
             None => eprintln!(self.rt; "illcanon: {line}"),

@@ -222,7 +222,7 @@ fn program<'a>(alloc: Global) -> Result<Command<'a>, AllocError>
 ///
 /// What `clap` reports of words that are no command line, or that ask for help. Or a file is missing, or `canonicalise` has a word more
 /// than IN and OUT. Or two files are named by the same word: `-` for a file that is read, any but `-` for `canonicalise`. Or `--lines`
-/// has not one file, or stands with `--hex` or `--keep-going`.
+/// has no file, several, or a list, or is given with `--hex` or `--keep-going`.
 pub fn order<'a>(alloc: Global, words: &'a [String]) -> Result<Order<'a>, LineFault>
     // The words have the order's command, flags and files; standard input is not read twice, no file is written that is read by the same
     // word, and there are files. Lines are those of one file, are no hexadecimal text, and have no messages to pass over.

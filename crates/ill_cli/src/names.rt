@@ -16,7 +16,7 @@ impl fmt::Display for Name {
     }
 }
 
-/// A name that stands elsewhere, shown as [`Name`] shows it.
+/// A name that is kept elsewhere, shown as [`Name`] shows it.
 #[derive(Clone, Copy, Debug, PartialEq, Eq)]
 pub struct NameOf<'a>(pub &'a [u8]);
 
@@ -73,7 +73,7 @@ fn write_octets<W: fmt::Write>(f: &mut fmt::Formatter<W>, octets: &[u8]) -> fmt:
     f.write_str("'")
 }
 
-/// Writes an octet as it stands between `$'` and `'`: by its letter, or by three octal digits.
+/// Writes an octet as it is written between `$'` and `'`: by its letter, or by three octal digits.
 fn write_octet<W: fmt::Write>(f: &mut fmt::Formatter<W>, octet: u8) -> fmt::Result {
     match octet {
         b'\n' => f.write_str("\\n"),

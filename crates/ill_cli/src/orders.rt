@@ -12,7 +12,7 @@ pub enum Verb {
     Canonicalise,
 }
 
-/// What a command line tells the program to do. The word `-` is standard input, or standard output for the output of
+/// What a command line asks for. The word `-` is standard input, or standard output for the output of
 /// `canonicalise`.
 #[derive(Debug, Drop)]
 pub struct Order<'a> {

@@ -177,7 +177,7 @@ module _ (text : ℕ → Spelling → List ℕ) (is_good : Spelling → Bool) (l
       all = r.all_are;
     }
 
-    -- a message was refused whose end can't be told
+    -- a message was refused whose end can't be known
     pub through_lost : (b : List ℕ) (refusal : Refusal) → before < 1_000_000 → Consumes left' left'' b → IsRefusedFor b refusal → HasNoEnd b left'' → held' ≡ held''
         → Adds new next (report (before + 1) refusal false ∷ [])
         → GoesThrough text is_good (taking left left'' x) (putting held held'' y) (reporting old next) (record { messages = before + 1; refused = refused + 1; all_good = all })

@@ -69,10 +69,10 @@ one_way s rest over (bad o r ∷ xs) (bad p q ∷ ys) h n k m =
     let next = one_way h.0 rest over xs ys h.4 n (subst (λ z. AreItems z ys over) (sym e.1) k.4) m in
     (ap₂ (λ (a : Item) (b : List Item). a ∷ b) (ap₂ (λ (a : List ℕ) (b : Refusal). bad a b) e.0 (refused_once r q o p e.0 h.3 k.3)) next.0, next.1)
 
--- where no end can be told no message ends
+-- where no end can be known no message ends
 pub no_end_no_more : (octets rest : List ℕ) → HasNoEnd octets (Some rest) → length octets < 18_446_744_073_709_551_615 → HasNoMore (octets ++ rest)
 no_end_no_more octets rest (inl h) lt x y frame e =
-    none_begins h.front (h.more ++ rest) h.untold h.within x y frame (sym (append_assoc h.front h.more rest) ∙ ap (λ z. z ++ rest) (sym h.joined) ∙ e)
+    none_begins h.front (h.more ++ rest) h.unframed h.within x y frame (sym (append_assoc h.front h.more rest) ∙ ap (λ z. z ++ rest) (sym h.joined) ∙ e)
 no_end_no_more octets rest (inr (p, inl end)) lt x y frame e =
     let all : octets ≡ x ++ y = sym (append-nil octets) ∙ ap (λ z. octets ++ z) (sym end) ∙ e in
     let whole : x ≡ octets ++ p.0 =

@@ -12,7 +12,7 @@ use Rattle.ber_leaf.specs.Profile.{profile_two}
 use Rattle.ber_frame.specs.declared.framer.Frame.{Frame}
 use Rattle.ber_frame.specs.declared.framer.Frame.TheVariants as framed
 use Rattle.ber_frame.specs.declared.framer.Framer.{Framer}
-use Rattle.ber_frame.specs.Framed.{IsFrame, IsPart, IsUntold, definite, low}
+use Rattle.ber_frame.specs.Framed.{IsFrame, IsPart, IsUnframed, definite, low}
 use Rattle.ber_frame.specs.Framer.{IsFed, Judged}
 use Rattle.ber_frame.proofs.FrameSteps.{front_of}
 use Rattle.ber_frame.proofs.Frames.{part_and_whole, tree_framed}
@@ -26,7 +26,7 @@ use Rattle.ill_normal.specs.Messages.{Spelling, Makes}
 use Rattle.ill_normal.specs.declared.messages.Piece.{Piece}
 use Rattle.ill_going.specs.declared.next.Next.{Next}
 use Rattle.ill_going.specs.Gone.{HasNoEnd}
-use Rattle.ill_going.specs.code.Taking.{Framing, Takes, TakesElement, TakesPart, TakesRest, TakesUntold, Took, IsNext, is_whole}
+use Rattle.ill_going.specs.code.Taking.{Framing, Takes, TakesElement, TakesPart, TakesRest, TakesUnframed, Took, IsNext, is_whole}
 
 -- all octets of a slice of which no fewer leave more to be needed
 pub feeds_all : (f : Framer) (b xs : List ℕ) (m need : ℕ) → m ≤ length xs → length xs ≤ need → ((w : List ℕ) → length w < need → IsPart (b ++ w))
@@ -221,7 +221,7 @@ module _ (left left' : Option (List ℕ)) (kept : List ℕ) (frame : Frame) (t :
 
   end_is : (f : Frame) → Judged t.octets f → MatchBool (is_whole f) (IsFrame t.octets) (HasNoEnd t.octets left')
   end_is framed.Whole j = j
-  end_is framed.Untold j = inl (record { front = t.octets; more = []; joined = sym (append-nil t.octets); untold = j; within = t.within })
+  end_is framed.Unframed j = inl (record { front = t.octets; more = []; joined = sym (append-nil t.octets); unframed = j; within = t.within })
   end_is framed.Part j = inr (j, t.part j)
 
   pub refused_next : {T : Type 0} (is : T → List ℕ → Type 0) (text : Spelling → List ℕ) (is_good : Spelling → Bool) (refusal : Refusal) (ends : Bool) → ends ≡ is_whole frame
@@ -248,34 +248,34 @@ rest_more left left' left'' kept kept' kept'' x r c k = record {
       ∙ ap (λ z. take 1_048_576 z) (append_assoc octets r.more x);
 }
 
-pub took_untold : (left left' left'' : Option (List ℕ)) (kept kept' : List ℕ) → TakesElement left left' kept framed.Untold → TakesRest left' left'' kept kept' → TakesUntold left left'' kept'
-took_untold left left' left'' kept kept' t r = record {
+pub took_unframed : (left left' left'' : Option (List ℕ)) (kept kept' : List ℕ) → TakesElement left left' kept framed.Unframed → TakesRest left' left'' kept kept' → TakesUnframed left left'' kept'
+took_unframed left left' left'' kept kept' t r = record {
   octets = t.octets;
   more = r.more;
   taken = Consumes-trans left left' left'' t.octets r.more t.taken r.taken;
-  untold = t.judged;
+  unframed = t.judged;
   within = t.within;
   keeps = r.keeps t.octets t.keeps;
 }
 
 -- no message is at the front of octets with which no element begins
-pub none_begins : (octets more : List ℕ) → IsUntold octets → ((n : ℕ) → n < length octets → IsPart (take n octets)) → (m rest : List ℕ) → IsFrame m → octets ++ more ≡ m ++ rest → ⊥
-none_begins octets more untold within m rest frame e = elim (cases_lt (length m) (length octets)) [
+pub none_begins : (octets more : List ℕ) → IsUnframed octets → ((n : ℕ) → n < length octets → IsPart (take n octets)) → (m rest : List ℕ) → IsFrame m → octets ++ more ≡ m ++ rest → ⊥
+none_begins octets more unframed within m rest frame e = elim (cases_lt (length m) (length octets)) [
   | inl less ↦
       let t = front_of m octets rest more (omega (arith, less)) (sym e) in
       part_and_whole m (subst IsPart (ap (λ z. take (length m) z) t.1 ∙ take_front m t.0) (within (length m) less)) frame
-  | inr ge ↦ let t = front_of octets m more rest ge e in untold t.0 (subst IsFrame t.1 frame)
+  | inr ge ↦ let t = front_of octets m more rest ge e in unframed t.0 (subst IsFrame t.1 frame)
 ]
 
-untold_unfinished : (octets more : List ℕ) → IsUntold octets → ((n : ℕ) → n < length octets → IsPart (take n octets)) → IsUnfinished (octets ++ more)
-untold_unfinished octets more untold within a n h =
-    none_begins octets more untold within (take n (octets ++ more)) (drop n (octets ++ more)) (spelling_framed a (take n (octets ++ more)) h.1) (sym (take-append-drop n (octets ++ more)))
+unframed_unfinished : (octets more : List ℕ) → IsUnframed octets → ((n : ℕ) → n < length octets → IsPart (take n octets)) → IsUnfinished (octets ++ more)
+unframed_unfinished octets more unframed within a n h =
+    none_begins octets more unframed within (take n (octets ++ more)) (drop n (octets ++ more)) (spelling_framed a (take n (octets ++ more)) h.1) (sym (take-append-drop n (octets ++ more)))
 
-pub untold_broken : (left left' left'' : Option (List ℕ)) (kept kept' : List ℕ) → TakesElement left left' kept framed.Untold → TakesRest left' left'' kept kept' → TakesPart left left''
-untold_broken left left' left'' kept kept' t r = record {
+pub unframed_broken : (left left' left'' : Option (List ℕ)) (kept kept' : List ℕ) → TakesElement left left' kept framed.Unframed → TakesRest left' left'' kept kept' → TakesPart left left''
+unframed_broken left left' left'' kept kept' t r = record {
   octets = t.octets ++ r.more;
   taken = Consumes-trans left left' left'' t.octets r.more t.taken r.taken;
-  unfinished = untold_unfinished t.octets r.more t.judged t.within;
+  unfinished = unframed_unfinished t.octets r.more t.judged t.within;
 }
 
 module _ (left left' : Option (List ℕ)) (kept : List ℕ) where
@@ -284,10 +284,10 @@ module _ (left left' : Option (List ℕ)) (kept : List ℕ) where
       → Consumes (Some kept) (Some rest) m → Makes is text is_good piece m → IsNext is text is_good left left' (Next.Read piece)
   read_took is text is_good framed.Whole t piece rest m c h = read_next left left' kept framed.Whole t is text is_good piece rest m c h
   read_took is text is_good framed.Part t piece rest m c h = read_next left left' kept framed.Part t is text is_good piece rest m c h
-  read_took is text is_good framed.Untold t piece rest m c h =
+  read_took is text is_good framed.Unframed t piece rest m c h =
       let all : t.octets ++ t.more ≡ m ++ (rest ++ drop 1_048_576 (t.octets ++ t.more)) =
       sym (take-append-drop 1_048_576 (t.octets ++ t.more)) ∙ ap (λ z. z ++ drop 1_048_576 (t.octets ++ t.more)) (sym t.keeps ∙ c) ∙ append_assoc m rest (drop 1_048_576 (t.octets ++ t.more)) in
-      absurd (none_begins t.octets t.more t.untold t.within m _ (spelling_framed h.apdu m h.spells) all)
+      absurd (none_begins t.octets t.more t.unframed t.within m _ (spelling_framed h.apdu m h.spells) all)
 
   nothing_first : (a b : List ℕ) → a ++ b ≡ [] → a ≡ []
   nothing_first [] b e = refl
@@ -296,18 +296,18 @@ module _ (left left' : Option (List ℕ)) (kept : List ℕ) where
   pub none_took : (frame : Frame) → Took left left' kept frame → (rest : List ℕ) → Consumes (Some kept) (Some rest) [] → IsAtEnd (Some rest) → Consumes left left' [] × IsAtEnd left'
   none_took framed.Whole t rest c end = none_next left left' kept framed.Whole t rest c end
   none_took framed.Part t rest c end = none_next left left' kept framed.Part t rest c end
-  none_took framed.Untold t rest c end =
+  none_took framed.Unframed t rest c end =
       let none : t.octets ≡ [] = nothing_first t.octets t.more (nothing_kept 1_048_575 (t.octets ++ t.more) (sym t.keeps ∙ c ∙ end)) in
-      absurd (t.untold none_is_part.0 (subst (λ z. IsFrame (z ++ none_is_part.0)) (sym none) none_is_part.2))
+      absurd (t.unframed none_is_part.0 (subst (λ z. IsFrame (z ++ none_is_part.0)) (sym none) none_is_part.2))
 
   pub refused_took : {T : Type 0} (is : T → List ℕ → Type 0) (text : Spelling → List ℕ) (is_good : Spelling → Bool) (frame : Frame) → Took left left' kept frame → (refusal : Refusal) (ends : Bool)
       → ends ≡ is_whole frame → OnlyRefuses profile_two kept (fault_of refusal) → IsNext {T = T} is text is_good left left' (Next.Refused refusal ends)
   refused_took is text is_good framed.Whole t refusal ends e h = refused_next left left' kept framed.Whole t is text is_good refusal ends e h
   refused_took is text is_good framed.Part t refusal ends e h = refused_next left left' kept framed.Part t is text is_good refusal ends e h
-  refused_took is text is_good framed.Untold t refusal ends e h = (
+  refused_took is text is_good framed.Unframed t refusal ends e h = (
     t.octets ++ t.more,
     t.taken,
     subst (λ z. OnlyRefuses profile_two z (fault_of refusal)) t.keeps h,
     subst (λ b. MatchBool b (IsFrame (t.octets ++ t.more)) (HasNoEnd (t.octets ++ t.more) left')) (sym e)
-        (inl (record { front = t.octets; more = t.more; joined = refl; untold = t.untold; within = t.within })),
+        (inl (record { front = t.octets; more = t.more; joined = refl; unframed = t.unframed; within = t.within })),
   )

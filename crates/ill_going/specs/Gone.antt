@@ -1,7 +1,7 @@
 -- What a call that goes on after refusals does to its source, its sink and its reports.
 use Rattle.std.specs.Prelude.{◌≡◌, ◌⊎◌, ℕ, ◌+◌, ◌<◌, ◌≤◌, Bool, false, List, [], ◌∷◌, ◌++◌, length, take, Option, IsTrue}
 use Rattle.std.specs.Io.KnownBytes.{Consumes, Keeps, Appends, IsAtEnd}
-use Rattle.ber_frame.specs.Framed.{IsPart, IsUntold}
+use Rattle.ber_frame.specs.Framed.{IsPart, IsUnframed}
 use Rattle.ill_schema.specs.declared.refusal.Refusal.{Refusal}
 use Rattle.ill_read.specs.Answers.{TakesNoMessage}
 use Rattle.ill_normal.specs.Calls.{Taking, taking, Putting, putting}
@@ -33,15 +33,15 @@ pub record IsEndless (octets : List ℕ) : Type 0 where
   pub front : List ℕ
   pub more : List ℕ
   pub joined : octets ≡ front ++ more
-  pub untold : IsUntold front
+  pub unframed : IsUnframed front
   pub within : (n : ℕ) → n < length front → IsPart (take n front)
 
--- where an element ends that begins with these octets can't be told; or they are part of one, and the input ends in them, or they are too many
+-- where an element ends that begins with these octets can't be known; or they are part of one, and the input ends in them, or they are too many
 -- to count
 abbrev pub HasNoEnd : List ℕ → Option (List ℕ) → Type 0
 HasNoEnd octets left' = IsEndless octets ⊎ (IsPart octets × (IsAtEnd left' ⊎ (18_446_744_073_709_551_615 ≤ length octets)))
 
--- after this many messages one was refused whose end can't be told, which was reported
+-- after this many messages one was refused whose end can't be known, which was reported
 pub record LosesEnd (left left' : Option (List ℕ)) (reports : Reporting) (before : ℕ) : Type 0 where
   pub octets : List ℕ
   pub refusal : Refusal
@@ -56,13 +56,13 @@ pub record IsDone (left left' : Option (List ℕ)) (reports : Reporting) : Type 
   pub end : IsAtEnd left'
   pub reported : Adds reports.old reports.new []
 
--- what came after these messages: the end of the input, or one more that was refused, whose end can't be told
+-- what came after these messages: the end of the input, or one more that was refused, whose end can't be known
 abbrev pub EndsWith : Option (List ℕ) → Option (List ℕ) → Reporting → List Item → Gone → Type 0
 EndsWith left left' reports items gone =
     (IsDone left left' reports × (gone.messages ≡ length items) × (gone.refused ≡ length (reports_from 1 items)))
     ⊎ (LosesEnd left left' reports (length items) × (gone.messages ≡ length items + 1) × (gone.refused ≡ length (reports_from 1 items) + 1))
 
--- the input was gone through, as far as the ends of its messages can be told
+-- the input was gone through, as far as the ends of its messages can be known
 pub record GoesThrough (text : ℕ → Spelling → List ℕ) (is_good : Spelling → Bool) (source : Taking) (sink : Putting) (reports : Reporting) (gone : Gone) : Type 0 where
   pub items : List Item
   pub rest : Option (List ℕ)

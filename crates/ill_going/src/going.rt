@@ -51,8 +51,8 @@ pub struct Halted {
 }
 
 /// Goes through the messages of an input, one after another up to its end, by a way to look at the source, and writes what is made of each.
-/// A message that is refused is reported, and then the work goes on after its end, as its framing tells it: its outermost element ends
-/// where its length says, or with its end mark. Where the end can't be told, the report says so, and that was the last message.
+/// A message that is refused is reported, and then the work goes on after its end, as its framing gives it: its outermost element ends
+/// where its length says, or with its end mark. Where the end can't be known, the report says so, and that was the last message.
 ///
 /// All that is needed of a message is made before any of it is written. One message is held at a time, of at most 1,048,576 octets; its
 /// memory is used again for the next one.

@@ -15,13 +15,13 @@ pub fn good_ones_are_written()
         → written_from text i items ≡ output_from text 1 (good_ones items) }
 {}
 
-/// An input is messages in one way, as far as their ends can be told.
+/// An input is messages in one way, as far as their ends can be known.
 pub fn one_way()
     ensures { (s rest over : List ℕ) (items others : List Item) → AreItems s items rest → HasNoMore rest → AreItems s others over → HasNoMore over
         → (items ≡ others) × (rest ≡ over) }
 {}
 
-/// Where an end can't be told no message ends, so the work has come as far as it can.
+/// Where an end can't be known no message ends, so the work has come as far as it can.
 pub fn lost_ends_are_last()
     ensures { (octets rest : List ℕ) → HasNoEnd octets (Some rest) → length octets < 18_446_744_073_709_551_615 → HasNoMore (octets ++ rest) }
 {}

@@ -82,11 +82,11 @@ fn ends(frame: Frame) -> bool
 {
     match frame {
         Frame::Whole => true,
-        Frame::Part | Frame::Untold => false,
+        Frame::Part | Frame::Unframed => false,
     }
 }
 
-/// Takes the next element, up to where its end can't be told or the input ends, and keeps its first octets, as many as a message may have.
+/// Takes the next element, up to where its end can't be known or the input ends, and keeps its first 1,048,576 octets.
 /// Of a length that is too great it takes the rest, so that the reader sees it whole.
 fn take_element<R: Source, L: Look<R>>(source: &mut R, kept: &mut Vec<u8>) -> Result<Frame, Unread>
     ensures element { IfOk result (Took (R.left source.old) (R.left source.new) kept.new.items) }
@@ -98,8 +98,8 @@ fn take_element<R: Source, L: Look<R>>(source: &mut R, kept: &mut Vec<u8>) -> Re
         Err(unread) => return Err(unread),
     };
     match framer.frame() {
-        Frame::Untold => match take_rest(source, kept, framer.lacks()) {
-            Ok(()) => Ok(Frame::Untold),
+        Frame::Unframed => match take_rest(source, kept, framer.lacks()) {
+            Ok(()) => Ok(Frame::Unframed),
             Err(unread) => Err(unread),
         },
         Frame::Whole => Ok(Frame::Whole),
@@ -127,7 +127,7 @@ fn take_framed<R: Source, L: Look<R>>(source: &mut R, kept: &mut Vec<u8>) -> Res
     Ok(framer)
 }
 
-/// Takes so many octets more, or as many as there are, and keeps them.
+/// Takes `count` octets more, or fewer where the input ends, and keeps them.
 fn take_rest<R: Source>(source: &mut R, kept: &mut Vec<u8>, count: u8) -> Result<(), Unread>
     ensures rest { OnOk result (TakesRest (R.left source.old) (R.left source.new) kept.old.items kept.new.items) }
     ensures broken { IfErr result (λ e. e ≡ Unread.Broken → IsTrue (R.is_broken source.new)
@@ -149,7 +149,7 @@ fn take_rest<R: Source>(source: &mut R, kept: &mut Vec<u8>, count: u8) -> Result
 }
 
 /// Takes some octets of an element, feeds a framer with them, and returns how many they are; 0 where the element or the input ends, or
-/// where the element's end can't be told.
+/// where the element's end can't be known.
 fn take_some<R: Source, L: Look<R>>(
     source: &mut R,
     framer: &mut Framer,

@@ -31,7 +31,7 @@ side_is false s left' o h =
           ap (λ l. Ok (take 1_048_577 l)) t.1 ∙ ap (λ l. Ok l) (take_at o t.0 1_048_577 (omega (arith, ge, h.1)))
     ]
 
--- what was no text is none
+-- what was not a text is not one
 pub no_text : (s : List ℕ) (left' : Option (List ℕ)) (e : RunFault) → NoHex (Some s) left' e → hex_octets s ≡ Err e
 no_text s left' e h = same_octets s left' h.text h.taken ∙ h.stands
 

@@ -12,7 +12,7 @@ is_blank octet = nat_eq octet 0x20 || (nat_eq octet 0x09 || (nat_eq octet 0x0D |
 abbrev pub without_blanks : List ℕ → List ℕ
 without_blanks text = filter (λ octet. not (is_blank octet)) text
 
--- the digits are odd in number, or the first that is none stands at this place
+-- the digits are odd in number, or the first character that is not a digit is at this place
 abbrev pub hex_fault : FromHexError → RunFault
 hex_fault FromHexError.OddLength = RunFault.OddHex
 hex_fault (FromHexError.InvalidHexCharacter octet place) = RunFault.BadHex place

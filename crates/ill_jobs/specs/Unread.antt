@@ -1,4 +1,4 @@
--- What a failure to read an input is told as, and how much of a source was taken.
+-- How a failure to read an input is reported, and how much of a source was taken.
 use Rattle.std.specs.Prelude.{ℕ, ◌≤◌, List, length, Option}
 use Rattle.std.specs.Io.KnownBytes.{Consumes}
 use Rattle.ill_jobs.specs.declared.fault.RunFault.{RunFault}

@@ -13,7 +13,7 @@ use ill_going::{Gone, Halted, Reports, Why, keep_going};
 use std::alloc::Global;
 
 /// Does a job as [`run`](crate::run) does, and where a message is refused, reports it and goes on with the next one. It ends where its
-/// outermost element does, as its length or its end marks tell; where that can't be told, the report says so, and the input is read no
+/// outermost element does, as its length or its end marks say; where that can't be known, the report says so, and the input is read no
 /// further. Numbers count refused messages, too. What is written of the others is what would be written without the refused ones, but
 /// for their numbers.
 ///

@@ -20,7 +20,7 @@ use ill_text::Text;
 use itoa::Buffer;
 use std::alloc::{AllocError, Global};
 
-/// How many octets may stand before the text of a message.
+/// How many octets may come before the text of a message.
 const LONGEST: usize = 1 << 62;
 
 impl Maker for Work<'_> {

@@ -71,7 +71,7 @@ fn compare(alloc: Global, one: &[u8], other: &[u8]) -> Result<Verdict, RunFault>
     }
 }
 
-/// The octets of an input. One octet more than a message may have tells that it is too long; no
+/// The octets of an input. One octet more than a message may have shows that it is too long; no
 /// more is taken, whatever the result.
 fn read_side<R: Source>(alloc: Global, hex: bool, source: &mut R) -> Result<Vec<u8>, RunFault>
     ensures read { IfOk result (λ octets. ReadsSide hex (R.left source.old) (R.left source.new) octets.items) }

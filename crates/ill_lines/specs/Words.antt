@@ -1,4 +1,4 @@
--- The words that stand in a line for a message, or for why there is none.
+-- The words of a line: what a message is, or why the line is not a message.
 use Rattle.std.specs.Prelude.{ℕ, Bool, true, false, List, [], ◌++◌, codes, decimal, Option, Some, None}
 use Rattle.ill_schema.specs.Names.{apdu_name_of, part_name_of}
 use Rattle.ill_schema.specs.declared.refusal.Cause.{Cause}

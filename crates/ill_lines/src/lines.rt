@@ -12,7 +12,7 @@ const MOST: usize = 4_194_304;
 /// What was read of the line that has not ended, and the results that were not written.
 #[derive(Drop)]
 pub struct Lines {
-    /// The octets of the line, as far as one that tells that they are too many.
+    /// The octets of the line, up to the one that makes them too many.
     pub part: Vec<u8>,
     /// The results of the lines before, a line for each.
     pub ready: Vec<u8>,

@@ -1,4 +1,4 @@
-//! The words that stand in a line for a message, or for why there is none.
+//! The words of a line: what a message is, or why the line is not a message.
 ghost use Rattle.std.specs.Prelude.{◌≡◌, IfOk, OnOk, ◌++◌};
 ghost use Rattle.ill_schema.specs.Names.{part_name_of};
 ghost use Rattle.ill_refusals.specs.Fault.{fault_of};

@@ -6,7 +6,7 @@ use Rattle.ill_normal.specs.Streamed.{Passes}
 use Rattle.ill_normal.proofs.LongestStreams.{stream_front}
 use Rattle.ill_normal.proofs.InputAnswers.{front}
 
--- what passed is a stream of what was left, where the source tells it
+-- what passed is a stream of what was left, where the source reports it
 pub passes_stream : (s : List ℕ) (left' held held' : Option (List ℕ)) (whole before : ℕ) → (p : Passes (Some s) left' held held' whole before)
     → (r : List ℕ) × (left' ≡ Some r) × IsStream profile_two s p.apdus r
 passes_stream s left' held held' whole before p =

@@ -69,7 +69,7 @@ impl Part for DateText {
 
     #[tactic(auto, unfolding(crate::specs::Shape::Is))]
     fn to_value(&self, alloc: Global) -> Result<Value, AllocError> {
-        // This tells the proof that the octets are a content.
+        // This shows the proof that the octets are a content.
         self.octets();
         Ok(Value::Date(self.copy(alloc)?))
     }
@@ -93,7 +93,7 @@ impl Part for TimeText {
 
     #[tactic(auto, unfolding(crate::specs::Shape::Is))]
     fn to_value(&self, alloc: Global) -> Result<Value, AllocError> {
-        // This tells the proof that the octets are a content.
+        // This shows the proof that the octets are a content.
         self.octets();
         Ok(Value::Time(self.copy(alloc)?))
     }
@@ -117,7 +117,7 @@ impl Part for PrintableText {
 
     #[tactic(auto, unfolding(crate::specs::Shape::Is))]
     fn to_value(&self, alloc: Global) -> Result<Value, AllocError> {
-        // This tells the proof that the octets are a content.
+        // This shows the proof that the octets are a content.
         self.octets();
         Ok(Value::Print(self.copy(alloc)?))
     }
@@ -141,7 +141,7 @@ impl Part for IllString {
 
     #[tactic(auto, unfolding(crate::specs::Shape::Is))]
     fn to_value(&self, alloc: Global) -> Result<Value, AllocError> {
-        // This tells the proof that the octets are a content.
+        // This shows the proof that the octets are a content.
         self.octets();
         Ok(Value::Str(self.copy(alloc)?))
     }

@@ -32,7 +32,7 @@ here node k (suc i) (r ∷ rs) row e =
     here node (k + 1) i rs row e
     ∙ ap₂ (λ (m d : ℕ). component_at (record { node = node; row = m }) row ∷ drop d (components_from profile_two node k (r ∷ rs))) z n
 
--- the component of a row, and those behind it
+-- the component of a row, and those after it
 pub components-at : (node : NodeId) (i : ℕ) (row : Row) → slice_get (rows_of node) i ≡ Some row
     → drop i (components profile_two node) ≡ component_at (record { node = node; row = i }) row ∷ drop (i + 1) (components profile_two node)
 components-at node i row e =

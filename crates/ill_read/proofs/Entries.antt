@@ -56,7 +56,7 @@ absent_matches node from until h = lacking_matches (drop from (take until (rows_
     let q = between (rows_of node) from until k row e in
     h (from + k) row (omega arith) q.0 q.1 must)
 
--- entries behind entries
+-- entries after entries
 pub matches_joined : (xs ys : List (Option Content)) (rs ss : List Row) (ts us : Trees) → Matches profile_two (entries_of xs) rs ts → Matches profile_two (entries_of ys) ss us
     → Matches profile_two (entries_of (xs ++ ys)) (rs ++ ss) (joined ts us)
 matches_joined [] ys [] ss ts us h k = subst (λ z. Matches profile_two (entries_of ys) ss (joined z us)) (sym h) k

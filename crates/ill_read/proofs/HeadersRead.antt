@@ -72,7 +72,7 @@ nothing_after : (y r : List ℕ) → y ++ r ≡ [] → r ≡ []
 nothing_after [] r e = e
 nothing_after (a ∷ y) r e = absurd cc
 
--- no length begins behind an identifier
+-- no length begins after an identifier
 pub no_length_read : (u : List ℕ) (o : ℕ) (behind w : List ℕ) (id : Id) → IsTrue (are_octets (u ++ o ∷ [])) → w ≡ (u ++ o ∷ []) ++ behind → IsPartHeader u
     → IsFault BadLength (u ++ o ∷ []) → BeginsWithId id (u ++ o ∷ []) → (rest : List ℕ) × Reads id w rest × (read_length (form_of_id id) rest ≡ no_length)
 no_length_read u o behind w id ok e part h begins =
@@ -111,7 +111,7 @@ part_length_read w id ok part begins =
           (begins.0, is, ap (λ r. read_length (form_of_id id) r) (sym rest) ∙ ap (λ f. read_length f q.2) (sym form) ∙ q.4)
     ]
 
--- a length in the short form, behind an identifier of one octet
+-- a length in the short form, after an identifier of one octet
 pub short_length : (f : Bool) (w : List ℕ) → 2 ≤ length w → slice_index_or w 1 0 < 128 → read_length f (drop 1 w) ≡ definite (slice_index_or w 1 0) (drop 2 w)
 short_length f [] h short = absurd (omega (arith, h))
 short_length f (a ∷ []) h short = absurd (omega (arith, h))

@@ -60,7 +60,7 @@ passed-more rows from n row entry old mid new h is p e a =
           ∙ sym (rows-append absent_content (drop from (take n rows)) (row ∷ [])) ∙ ap (map absent_content) (sym more);
     }
 
--- behind the last row there is none to pass
+-- after the last row there is none to pass
 pub passed-past : (rows : List Row) (from n : ℕ) (old new : List (Option Value)) → slice_get rows n ≡ None → HasPassed (drop from (take n rows)) old new → HasPassed (drop from (take (n + 1) rows)) old new
 passed-past rows from n old new is p =
     let s : suc n ≡ n + 1 = omega arith in
@@ -74,7 +74,7 @@ drained_front s (e ∷ es) t y = y.1.0 ∙ ap (λ xs. e ∷ xs) (drained_front y
 pub drained_all : (s : Drain (Option Value) Global) (es : List (Option Value)) (t : Drain (Option Value) Global) → Yields drain_steps s es t → drain_items t ≡ [] → es ≡ drain_items s
 drained_all s es t y n = sym (append-nil es) ∙ ap (λ xs. es ++ xs) (sym n) ∙ sym (drained_front s es t y)
 
--- what is split off behind so many entries
+-- what is split off after n entries
 pub split_held : (below held : List (Option Value)) (old : List (Option Value)) (base m : ℕ) → old ≡ below ++ held → length below ≡ base → m ≡ min base (length old) → (take m old ≡ below) × (drop m old ≡ held)
 split_held below held old base m e n is =
     let len : length old ≡ length below + length held = ap length e ∙ length-append below held in

@@ -184,7 +184,7 @@ pub begun_judged : (frames : Frames) (place : List Open) (tag : Tag) (found : Ce
 begun_judged frames place tag found f at i want w h b =
     due_judged frames place tag f (read_due found) at i want w h b.shallow b.is_due ∙ form_judged profile_two place (element_is (read_as found)) tag f at i want w b.allowed
 
--- an element of definite length, whose header has so many octets
+-- an element of definite length, by the number of octets of its header
 pub definite_judged : (place : List Open) (e : Element) (tag : Tag) (f : Bool) (at : ℕ) (want : Fault) (w front behind : List ℕ) (header n : ℕ) → IsTrue (are_octets behind)
     → w ≡ front ++ behind → header ≤ length w → read_length f behind ≡ definite n (drop header w)
     → judge_length profile_two place e tag f at (length front) want behind ≡ judge_size profile_two place e tag f at header want n (drop header w)

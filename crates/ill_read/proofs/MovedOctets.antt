@@ -5,7 +5,7 @@ use Rattle.std.proofs.Math.Seq.{paste}
 use Rattle.std.proofs.lemmas.List.{length-drop, take_all}
 use Rattle.std.proofs.lemmas.List.Edits.{take-paste}
 
--- what stands behind n octets, once it was moved to the front
+-- what comes after n octets, once it was moved to the front
 pub moved_front : (all : List ℕ) (n len size : ℕ) → n ≤ length all → len ≡ length all → size ≡ len - n → take size (copy_within all n len 0) ≡ drop n all
 moved_front all n len size le e is =
     let put = drop n all in

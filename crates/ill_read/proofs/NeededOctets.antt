@@ -206,7 +206,7 @@ reaches_keeps p path k e rest (reads tag n content) r h = with_keeps e path _ (k
 no_end_here : (p : Profile) (o : Open) (outer : List Open) (k : ℕ) → k < bound p (o ∷ outer) → o.end ≡ Some k → ⊥
 no_end_here p o outer k lt h = let b = bound_some p o outer k h in omega arith
 
--- behind an end mark's first octet
+-- after an end mark's first octet
 mark_reaches : (p : Profile) (path : List Open) (k : ℕ) (w : List ℕ) (j : Judgement) → k < bound p path → Judged p path k (0 ∷ w) j → Reaches (k + 2) k j
 mark_reaches p path k w (faulty f) lt r = tt
 mark_reaches p path k w (closes m) lt r = elim r.how [
@@ -287,7 +287,7 @@ content_end p path k n size tag w r b more (reads t h content) lt m q l need j =
       length-append (identifier t false) (j.octets ++ (content ++ j.behind)),
     )
 
--- what octets and those behind them reach at a place, where no definite element is open
+-- what octets and those after them reach at a place, where no definite element is open
 abbrev ReachesNeed : List Open → ℕ → List ℕ → List ℕ → ℕ → Type 0
 ReachesNeed place k w more n = (j : Judgement) → Judged profile_two place k (w ++ more) j → Reaches (k + length w + n) k j
 
@@ -335,7 +335,7 @@ reaches_at_least Stands at s octets l n more reaches a m ok h =
     (subst (λ z. Keeps (length u + length octets + n) (step profile_two b.place (length u) z)) (sym rest) keeps) h.0 h.1.encodes in
     omega (arith, ap length b.joined, length-append u octets)
 
--- so many octets at least still belong to the message
+-- at least this many octets still belong to the message
 pub need_at_least : (Stands : List Open → Type 0) (at : ℕ) (s octets : List ℕ) (l : StandsLast Stands at s octets) (n : ℕ) → IsNeed l.0.place at octets n
     → (more : List ℕ) (a : Apdu) (m : ℕ) → IsTrue (are_octets (s ++ more)) → Accepts profile_two (s ++ more) a m → length s + n ≤ m
 need_at_least Stands at s octets l n need more a m ok h =
@@ -391,7 +391,7 @@ two_at_least Stands at s l more a m ok h =
     let size : length l.0.before + 2 ≡ length l.0.before + 0 + 2 = omega arith in
     reaches_at_least Stands at s [] l 2 more (λ j r. subst (λ z. Reaches z (length l.0.before) j) size (two_reach profile_two l.0.place (length l.0.before) more j lt r)) a m ok h
 
--- of a part of a length, or of a content, octets are wanting
+-- of a part of a length, or of a content, octets are missing
 length_open : (place : List Open) (octets r : List ℕ) (f : Bool) (n : ℕ) → LengthWants profile_two place f r → (tag : Tag) → read_identifier octets ≡ identified tag f r → NeedsOfLength (read_length f r) octets n → 0 < n
 length_open place octets r f n (inr w) tag q h =
     let size : w.0 ≡ length w.1 + n = subst (λ x. NeedsOfLength x octets n) w.3 h in

@@ -52,7 +52,7 @@ all_absent : (rows : List Row) → normal_trees (entries_of (map absent_content 
 all_absent [] = refl
 all_absent (row ∷ rows) = absent_first row (map absent_content rows) rows ∙ all_absent rows
 
--- nor do they add any behind other entries
+-- nor do they add any after other entries
 all_behind : (es : List (Option Content)) (rows : List Row) → normal_trees (entries_of (es ++ map absent_content (drop (length es) rows))) rows ≡ normal_trees (entries_of es) rows
 all_behind [] rows = all_absent rows
 all_behind (None ∷ es) [] = refl
@@ -80,7 +80,7 @@ no_rows no_entries = refl
 no_rows (absent es) = refl
 no_rows (present c es) = refl
 
--- the octets of entries behind others
+-- the octets of entries after others
 entries_behind : (xs ys : List (Option Content)) (rows : List Row)
     → encodings (normal_trees (entries_of (xs ++ ys)) rows) ≡ encodings (normal_trees (entries_of xs) rows) ++ encodings (normal_trees (entries_of ys) (drop (length xs) rows))
 entries_behind [] ys rows = refl
@@ -102,7 +102,7 @@ one_entry (x ∷ rows) zero row c e =
     let q : x ≡ row = cc in
     entry_first x c none ∙ append-nil (entry_octets x c) ∙ ap (λ y. entry_octets y c) q
 
--- an entry of a row adds its octets, behind rows that are passed; a default has none
+-- an entry of a row adds its octets, after rows that are passed; a default has none
 pub normal_added : (rows : List Row) (n r : ℕ) (row : Row) (es : List (Option Content)) (c : Content) → length es ≡ n → n ≤ r → slice_get rows r ≡ Some row
     → encodings (normal_trees (entries_of (es ++ (map absent_content (drop n (take r rows)) ++ Some c ∷ []))) rows)
     ≡ encodings (normal_trees (entries_of es) rows) ++ entry_octets row c

@@ -13,7 +13,7 @@ next_last [] f e = absurd cc
 next_last (g ∷ []) f e = let q : Some g ≡ Some f = e in let r : g ≡ f = cc in ap (λ (x : Frame). shape x.place) r
 next_last (g ∷ h ∷ fs) f e = next_last (h ∷ fs) f (let n : length (g ∷ h ∷ fs) - 1 ≡ suc (length (h ∷ fs) - 1) = omega arith in sym (ap (slice_get (g ∷ h ∷ fs)) n) ∙ e)
 
--- the frame behind others
+-- the frame after others
 pub next_behind : (outer : List Frame) (f : Frame) → next_at (outer ++ f ∷ []) ≡ (shape f.place)
 next_behind [] f = refl
 next_behind (g ∷ []) f = refl

@@ -11,7 +11,7 @@ use Rattle.ill_read.specs.declared.header.HeaderRead.TheVariants.{NoIdentifier, 
 use Rattle.ill_read.specs.declared.header.LengthRead.{LengthRead as Length}
 use Rattle.ill_read.specs.declared.header.LengthRead.TheVariants.{NoLength, PartLength, Whole}
 
--- a length's octets end behind so many of the octets
+-- where the octets of a length end
 abbrev pub IsWholeLength : LengthRead → Len → List ℕ → Type 0
 IsWholeLength read (Definite held) behind = (n : ℕ) × (read ≡ definite n behind) × (held ≡ min n 4_294_967_295)
 IsWholeLength read Indefinite behind = read ≡ indefinite behind
@@ -33,7 +33,7 @@ IsHeaderRead PartIdentifier octets = read_identifier octets ≡ part_identifier
 IsHeaderRead (Identified id length) octets =
     (rest : List ℕ) × (read_identifier octets ≡ identified (tag_of_id id) (form_of_id id) rest) × IsLengthRead length (read_length (form_of_id id) rest) octets
 
--- how many octets at least still belong to an element, where its header was read in so many
+-- how many octets at least still belong to an element, by the number of octets in which its header was read
 abbrev pub need_read : HeaderRead → ℕ → ℕ
 need_read PartIdentifier count = 1
 need_read (Identified id (PartLength due)) count = due

@@ -27,7 +27,7 @@ NeedsOfLength part_length octets n = Lacks octets n
 NeedsOfLength (indefinite rest) octets n = ⊥
 NeedsOfLength no_length octets n = ⊥
 
--- so many octets of an element, and one where its identifier isn't whole
+-- this many octets of an element, and one where its identifier isn't whole
 abbrev pub NeedsOfElement : IdentifierRead → List ℕ → ℕ → Type 0
 NeedsOfElement (identified tag constructed rest) octets n = NeedsOfLength (read_length constructed rest) octets n
 NeedsOfElement part_identifier octets n = n ≡ 1
@@ -47,7 +47,7 @@ NeedsBefore None place at octets n = NeedsAfterMark (in_mark place octets) octet
 abbrev pub IsNeed : List Open → ℕ → List ℕ → ℕ → Type 0
 IsNeed place at octets n = NeedsBefore (outermost place) place at octets n
 
--- what these octets need: some of them lead to a place, the rest of them end there too early, and so many are needed
+-- what these octets need: some of them lead to a place, the rest of them end there too early, and this many are needed
 pub record NeedsAfter (fed : List ℕ) (n : ℕ) : Type 0 where
   pub place : List Open
   pub before : List ℕ

@@ -120,7 +120,7 @@ level_of f tag entries = record { element = read_as f.found; tag = tag; next = s
 abbrev pub pushed : Level → List Level → List Level
 pushed l below = elim l.element as (λ _. List Level) [ Segment ↦ below | _ ↦ l ∷ below ]
 
--- each of the trees was due behind those before it
+-- each of the trees was due after those before it
 abbrev pub AreDue : following.Next → Trees → Type 0
 AreDue n none = Unit {0}
 AreDue n (more T ts) = (d : following.Due) × (due profile_two (tag_of T) n ≡ Some d) × AreDue (next_of d) ts

@@ -1,4 +1,4 @@
-//! What may come next in an open element, and where an element stands.
+//! What may come next in an open element, and where an element is in it.
 ghost use Rattle.std.specs.Prelude.{◌≡◌};
 ghost use Rattle.ill_read.specs.DueCode.{shape, slot_in};
 
@@ -22,7 +22,7 @@ pub enum Next {
     Nothing,
 }
 
-/// Where an element stands in the element round it.
+/// Where an element is in the element around it.
 #[derive(Clone, Copy)]
 pub enum Slot {
     Row(u8),
@@ -60,7 +60,7 @@ impl Next {
 }
 
 impl Slot {
-    /// Where what was found stands.
+    /// Where what was found is in the element around it.
     #[inline(always)]
     pub fn of(found: Found) -> Slot
         ensures { result ≡ slot_in found }

@@ -14,7 +14,7 @@ pub enum Element {
     List(NodeId),
     /// An explicit tag.
     Wrapper(Wrapped),
-    /// An explicit tag, which may also stand round the components of what it wraps.
+    /// An explicit tag, whose contents may also be the components of what it wraps.
     LooseWrapper(Wrapped),
     /// An OCTET STRING in a string.
     Segment,
@@ -51,7 +51,7 @@ impl Element {
     }
 }
 
-/// What an explicit tag stands round.
+/// What an explicit tag wraps.
 #[derive(Clone, Copy)]
 pub struct Wrapped {
     pub part: PartId,

@@ -29,7 +29,7 @@ impl LeafType {
     ghost use Rattle.ill_read.specs.LeafTypes.{leaf_is};
     ghost use Rattle.ill_read.specs.code.OctetDrafts.{is_number};
 
-    /// Whether it is a string, which may stand in segments (X.690, 8.23).
+    /// Whether it is a string, which may be spelled in segments (X.690, 8.23).
     pub fn is_string(self) -> bool
         ensures { result ≡ is_string (leaf_is self) }
     {

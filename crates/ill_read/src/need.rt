@@ -23,7 +23,7 @@ pub fn need_at(frames: &Frames, at: u32, octets: &[u8]) -> u32
     need_in_element(read_header(octets), count)
 }
 
-/// How many octets at least still belong to an element of which so many came.
+/// How many octets at least still belong to an element of which `came` octets came.
 fn need_in_element(read: HeaderRead, count: u32) -> u32
     ensures { result ≡ need_read read count }
 {

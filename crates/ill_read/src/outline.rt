@@ -55,7 +55,7 @@ impl Outline {
 pub struct Outlining {
     octets: Octets,
     marks: Vec<Mark>,
-    /// How many marks stand before those of each open element, outermost first.
+    /// How many marks come before those of each open element, outermost first.
     bases: Vec<usize>,
     /// What is put before the marks of an element when it ends.
     front: Vec<Mark>,
@@ -117,7 +117,7 @@ impl Outlining {
         }
     }
 
-    /// Makes what stands before the marks of an element that was due at this place, where `own` might still come in it.
+    /// Makes what comes before the marks of an element that was due at this place, where `own` might still come in it.
     fn make_front(
         &mut self,
         element: Element,

@@ -29,7 +29,7 @@ use Rattle.ill_refusals.proofs.Machine.{step, IsFinal, Runs, runs-none, runs-ste
 use Rattle.ill_refusals.proofs.TreeRuns.{whole-snoc}
 use Rattle.ill_refusals.proofs.PlaceRuns.{root, place_proper}
 
--- a tree behind trees
+-- a tree after trees
 spelled-snoc : (ts : Trees) (T : Tree) (a b : List ℕ) → SpellsAll ts a → Spells T b → SpellsAll (snoc ts T) (a ++ b)
 spelled-snoc none T a b h k = (b, [], k, refl, ap (λ z. z ++ b) h ∙ sym (append-nil b))
 spelled-snoc (more U ts) T a b h k =

@@ -154,7 +154,7 @@ pub length_size : (n : ℕ) (os : List ℕ) → IsLength n os → 1 ≤ length o
 length_size n os (short h) = omega arith
 length_size n os (long h k s e) = omega arith
 
--- an element's header, and what is judged behind its identifier
+-- an element's header, and what is judged after its identifier
 started_judged : (p : Profile) (path : List Open) (tag : Tag) (f : Bool) (d : Due) (k : ℕ) (os w : List ℕ) → IsStarted p path tag f d → k + length (identifier tag f) + length os ≤ bound p path
     → judge p path k (identifier tag f ++ (os ++ w))
     ≡ judge_length p path (element_of d) tag f k (length (identifier tag f)) (wanting p path k (identifier tag f ++ (os ++ w)))

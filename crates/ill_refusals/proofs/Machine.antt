@@ -14,7 +14,7 @@ next p (refused f) = refused f
 next p (whole T n) = whole T n
 next p stuck = stuck
 
--- so many steps further
+-- n steps further
 abbrev pub after : Profile → ℕ → Step → Step
 after p zero st = st
 after p (suc n) st = after p n (next p st)

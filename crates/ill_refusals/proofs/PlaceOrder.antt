@@ -110,7 +110,7 @@ one_place p s a b k ok h g e = elim (either_leads p (begin s) (goes a k (drop k 
     not_later m n (inl x) l = omega arith
     not_later m n (inr x) l = let y = x.1 in omega arith
 
--- no due place stands behind one with a fault
+-- no due place comes after one with a fault
 pub last_place : (p : Profile) (s : List ℕ) (a b : List Open) (k l : ℕ) (f : Fault) → IsTrue (are_octets s) → IsDue p s k a → fault_at p a k (drop k s) ≡ Some f → IsDue p s l b
     → (l < k) ⊎ ((l ≡ k) × (length a ≤ length b))
 last_place p s a b k l f ok h e g = elim (either_leads p (begin s) (goes a k (drop k s)) (goes b l (drop l s)) (due_run p s a k h) (due_run p s b l g)) [

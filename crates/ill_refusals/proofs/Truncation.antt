@@ -1,4 +1,4 @@
--- Only a wanting octet makes an input end too early.
+-- Only a missing octet makes an input end too early.
 use Rattle.std.proofs.Common.{◌≡◌, ◌⊎◌, ℕ, ◌+◌, ◌-◌, ◌<◌, ◌≤◌, Bool, true, false, ◌&&◌, List, [], ◌∷◌, length, take, Option, Some, None, refl, sym, ap, subst, ◌∙◌, inl, inr, arith, if◌then◌else◌, ltb-true, ltb-false, ap₂}
 use Rattle.std.specs.Prelude.{nat_eq, nat_lt, nat_le, is_some}
 use Rattle.std.proofs.lemmas.Bool.{and_parts}

@@ -52,6 +52,6 @@ abbrev pub IsSizeWithin : Option ℕ → ℕ → Type 0
 IsSizeWithin None size = profile_two.limit < size
 IsSizeWithin (Some n) size = (n ≡ size) × (n ≤ profile_two.limit)
 
--- the size of an element with contents of so many octets, where this tag stands in place of its own
+-- the size of an element with contents of n octets, where this tag replaces its own
 abbrev pub IsElementSize : Option (Class × ℕ) → ℕ → Option ℕ → Type 0
 IsElementSize replaced n result = (kind : Kind) (c : Content) (form : Bool) → IsSizeWithin result (header_size (element_tag replaced kind c) form n + n)

@@ -33,7 +33,7 @@ transaction = sequence (absent (present (letters (codes "G")) (present (letters 
 abbrev pub service_date : Content
 service_date = sequence (present (sequence (present (simple (date (codes "20240229"))) (absent no_entries))) (absent no_entries))
 
--- the entries that each begins with, and those behind them
+-- the entries that each begins with, and those after them
 abbrev pub head_entries : Entries → Entries
 head_entries es = present (number 2) (present transaction (present service_date (absents 2 es)))
 

@@ -9,7 +9,7 @@ use crate::part::{PartId, Presence};
 
 type Names<const N: usize> = [&'static str; N];
 
-/// The names of an APDU's rows, behind those that each begins with.
+/// The names of an APDU's rows, after those that each begins with.
 macro_rules! headed {
     ($($name:literal),*) => {
         [
@@ -327,7 +327,7 @@ const ILL_APDU: Names<20> = [
     "Expired",
 ];
 
-/// The name of a node, which is empty for a list that stands inside a row.
+/// The name of a node, which is empty for a list inside a row.
 fn node_name(node: NodeId) -> &'static str
     ensures { result.now ≡ (names_of node).0 }
 {
@@ -458,7 +458,7 @@ fn row_names(node: NodeId) -> &'static [&'static str]
     }
 }
 
-/// The names of a part: its node's, which is empty for a list that stands inside a row, and its
+/// The names of a part: its node's, which is empty for a list inside a row, and its
 /// row's. None where the node has no such row.
 pub fn part_name(part: PartId) -> Option<(&'static str, &'static str)>
     ensures names { MatchOption result (part_name_of part ≡ None) (λ names. part_name_of part ≡ Some (names.0.now, names.1.now)) }

@@ -14,7 +14,7 @@ pub enum Presence {
     LeftOut,
 }
 
-/// How a row's tag stands to the tag of its type.
+/// How a row's tag relates to the tag of its type.
 #[derive(Clone, Copy, Debug, PartialEq, Eq)]
 pub enum Mode {
     /// In place of the type's tag (X.690, 8.14.3).

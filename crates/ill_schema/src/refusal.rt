@@ -6,7 +6,7 @@ use ber_leaf::LeafFault;
 pub enum Cause {
     /// The input ends inside the message.
     Truncated,
-    /// The identifier octets are none (X.690, 8.1.2), or the tag number has more than four octets.
+    /// The octets are not identifier octets (X.690, 8.1.2), or the tag number has more than four octets.
     BadTag,
     /// The first length octet is FF, or 80 on a primitive element (X.690, 8.1.3).
     BadLength,
@@ -14,7 +14,7 @@ pub enum Cause {
     TooLong,
     /// The element would pass the end of an open definite element.
     Overrun,
-    /// The element would stand at depth 33.
+    /// The element would be at depth 33.
     TooDeep,
     /// Class and number aren't due here.
     UnexpectedTag,
@@ -38,7 +38,7 @@ pub enum Cause {
     BadDate,
     /// Not six digits of a time of day.
     BadTime,
-    /// Octets stand behind the message.
+    /// Octets follow the message.
     TrailingBytes,
     /// The message's normal form would pass the limit.
     NormalTooLong,

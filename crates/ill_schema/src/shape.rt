@@ -58,7 +58,7 @@ fn number_fits(number: i64, node: NodeId) -> bool
     is_numeric(node)
 }
 
-// In the next four the call tells the proof that the octets are a content.
+// In the next four the call shows the proof that the octets are a content.
 
 fn date_fits(text: &DateText, node: NodeId) -> bool
     ensures { IsTrue result ↔ FitsSimple profile_two (date text.now) node }

@@ -40,7 +40,7 @@ fn within_limit(size: usize) -> Option<usize>
     }
 }
 
-/// How many octets the identifier of an element takes, where this tag stands in place of its own:
+/// How many octets the identifier of an element takes, where this tag replaces its own:
 /// that is universal, of a number below 31.
 fn identifier_size(replaced: Option<(Class, u32)>) -> usize
     ensures value { (kind : Kind) (c : Content) (form : Bool) → length (identifier (element_tag replaced kind c) form) ≡ result }
@@ -106,7 +106,7 @@ fn row_size(row: Row, value: &Value) -> Option<usize>
     }
 }
 
-/// The size of a value's element, where this tag stands in place of its own.
+/// The size of a value's element, where this tag replaces its own.
 #[cycle(size)]
 fn value_size(value: &Value, node: NodeId, replaced: Option<(Class, u32)>) -> Option<usize>
     ensures { IsSizeWithin result (size (element_tree replaced node (content_of value.now))) }
@@ -247,7 +247,7 @@ fn node_size(value: &Value, node: NodeId) -> Option<usize>
 }
 
 /// The size of a value's normal form as a node, in octets, None exactly where that passes
-/// [`LIMIT`]. For an APDU's node the application element is counted, else the element stands
+/// [`LIMIT`]. For an APDU's node the application element is counted, else the element is
 /// without a row's tag.
 pub fn normal_size(value: &Value, node: NodeId) -> Option<u32>
     requires { Fits profile_two (content_of value.now) node }

@@ -6,7 +6,7 @@ use crate::node::NodeId;
 use crate::part::{Mode, Presence, Row};
 use ber_core::Class;
 
-/// The rows of an APDU, behind those that each begins with.
+/// The rows of an APDU, after those that each begins with.
 #[macro_export]
 macro_rules! headed {
     ($node:ident, $made:ident: $($row:tt),*) => {
@@ -23,7 +23,7 @@ macro_rules! headed {
 }
 
 /// The rows of a node: for each its presence, tag, mode and node, or presence, `untagged` and node. They are handed to the macro that is
-/// named, behind the node and the class of their tags: what is made of the tables is made from here.
+/// named, after the node and the class of their tags: what is made of the tables is made from here.
 #[macro_export]
 macro_rules! table {
     (Symbol, $made:ident) => {

@@ -1,4 +1,4 @@
-//! Where a row's tag stands in the normal form: round the element, or in place of its own.
+//! Where a row's tag is in the normal form: around the element, or in place of its own.
 ghost use Rattle.std.specs.Prelude.{◌≡◌};
 ghost use Rattle.ill_schema.specs.Elements.{wrapper, replacement};
 
@@ -15,7 +15,7 @@ pub fn wrapper(row: Row) -> Option<(Class, u32)>
     }
 }
 
-/// The class and number that stand in place of the tag of a row's type.
+/// The class and number that replace the tag of a row's type.
 pub fn replacement(row: Row) -> Option<(Class, u32)>
     ensures { result ≡ replacement row }
 {

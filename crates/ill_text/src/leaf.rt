@@ -238,7 +238,7 @@ fn put_mark<W: Sink>(mark: Mark, out: &mut Out, sink: &mut W)
     }
 }
 
-/// The number that octets are in two's complement; 0 where they are none or more than eight.
+/// The number that octets are in two's complement; 0 where there are no octets or more than eight.
 fn number_in(octets: &[Mark]) -> i64
     ensures { 0 < length (octets_in octets.now) → length (octets_in octets.now) ≤ 8 → result ≡ integer_of (octets_in octets.now) }
 {

@@ -24,7 +24,7 @@ impl Out {
 
     /// Nothing is put yet.
     pub fn new() -> Out
-        ensures { (told : Option (List _)) (b : _) → Stands told [] (sending told b result) }
+        ensures { (reported : Option (List _)) (b : _) → Stands reported [] (sending reported b result) }
     {
         Out {
             waiting: [0; ROOM],
@@ -119,7 +119,7 @@ impl Out {
     fn keep(&mut self, octets: &[u8])
         requires whole { self.old.broken ≡ false }
         requires room { self.old.len + length octets.now ≤ 512 }
-        ensures { (told : Option (List _)) (b : _) → Adds octets.now (sending told b self.old) (sending told b self.new) }
+        ensures { (reported : Option (List _)) (b : _) → Adds octets.now (sending reported b self.old) (sending reported b self.new) }
     {
         let end = self.len + octets.len();
         self.waiting[self.len..end].copy_from_slice(octets);

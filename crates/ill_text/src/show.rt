@@ -72,7 +72,7 @@ fn put_marked_leaf<'m, W: Sink>(
     &marks[(count + 1).min(marks.len())..]
 }
 
-/// How many marks of octets stand first.
+/// How many marks of octets come first.
 fn front_octets(marks: &[Mark]) -> usize
     ensures exact { result ≡ front_octets marks.now }
     ensures within { result ≤ length marks.now }
@@ -220,7 +220,7 @@ fn put_item<'m, W: Sink>(
     put_value(marks, &inside, name, row_node(node, 0), out, sink)
 }
 
-/// Whether no mark is left, or the end stands first.
+/// Whether no mark is left, or the end comes first.
 fn at_end(marks: &[Mark]) -> bool
     ensures { result ≡ is_at_end marks.now }
 {
@@ -230,7 +230,7 @@ fn at_end(marks: &[Mark]) -> bool
     }
 }
 
-/// The row that was passed, where its mark stands first.
+/// The row that was passed, where its mark comes first.
 fn passed(marks: &[Mark]) -> Option<PartId>
     ensures { result ≡ passed_in marks.now }
 {
@@ -240,7 +240,7 @@ fn passed(marks: &[Mark]) -> Option<PartId>
     }
 }
 
-/// The alternative, where its mark stands first.
+/// The alternative, where its mark comes first.
 pub fn alternative(marks: &[Mark]) -> Option<u8>
     ensures { result ≡ alternative_in marks.now }
 {

@@ -1,4 +1,4 @@
-//! Where a value stands.
+//! Where a value is.
 ghost use Rattle.std.specs.Prelude.{◌≡◌, not, IsTrue};
 ghost use Rattle.ill_text.specs.Shown.{line};
 ghost use Rattle.ill_text.specs.code.Sending.{Adds, sending};

@@ -95,7 +95,7 @@ sent_on (Err x) xs a b p q e s f = λ start given h.
       count = s.count ∙ counted_then (length h.sent) (length s.sent) p.written h.count ∙ ap counted (sym (length-append h.sent s.sent));
     }
 
--- the octets wait behind those that did
+-- the octets wait after those that did
 pub kept : (x : Unit {0}) (xs : List ℕ) (a : Option (List ℕ)) (p q : Progress) → take q.len q.waiting ≡ take p.len p.waiting ++ xs → q.written ≡ p.written → Puts (Ok x) xs a p a q
 unfolding Puts
 kept x xs a p q w e = λ start given h. record {
@@ -106,17 +106,17 @@ kept x xs a p q w e = λ start given h. record {
 }
 
 -- the next octets of a list are sent
-pub sends_more : (told now after : Option (List ℕ)) (xs : List ℕ) (at n : ℕ) → Appends told now (take at xs) → Appends now after (take n (drop at xs)) → Appends told after (take (at + n) xs)
-sends_more told now after xs at n h k = subst (λ z. Appends told after z) (sym (take-add at n xs)) (appends_then told now after (take at xs) (take n (drop at xs)) h k)
+pub sends_more : (reported now after : Option (List ℕ)) (xs : List ℕ) (at n : ℕ) → Appends reported now (take at xs) → Appends now after (take n (drop at xs)) → Appends reported after (take (at + n) xs)
+sends_more reported now after xs at n h k = subst (λ z. Appends reported after z) (sym (take-add at n xs)) (appends_then reported now after (take at xs) (take n (drop at xs)) h k)
 
--- at most so many octets are taken from those that are left
+-- at most n octets are taken from those that are left
 pub left_over : (xs : List ℕ) (at n : ℕ) → at ≤ length xs → n ≤ length (take (length xs - at) (drop at xs)) → at + n ≤ length xs
 left_over xs at n le h = omega (arith, length-take (length xs - at) (drop at xs))
 
-pub sends_step : (told now after : Option (List ℕ)) (xs : List ℕ) (at n : ℕ) → n ≤ length (take (length xs - at) (drop at xs)) → Appends told now (take at xs) → Appends now after (take n (take (length xs - at) (drop at xs))) → Appends told after (take (at + n) xs)
-sends_step told now after xs at n le h k = sends_more told now after xs at n h (subst (λ z. Appends now after z) (take-take n (length xs - at) (drop at xs) (omega (arith, le, length-take (length xs - at) (drop at xs)))) k)
+pub sends_step : (reported now after : Option (List ℕ)) (xs : List ℕ) (at n : ℕ) → n ≤ length (take (length xs - at) (drop at xs)) → Appends reported now (take at xs) → Appends now after (take n (take (length xs - at) (drop at xs))) → Appends reported after (take (at + n) xs)
+sends_step reported now after xs at n le h k = sends_more reported now after xs at n h (subst (λ z. Appends now after z) (take-take n (length xs - at) (drop at xs) (omega (arith, le, length-take (length xs - at) (drop at xs)))) k)
 
--- where the sink broke after so many octets
+-- where the sink broke after n octets
 pub takes_part : (before after : Option (List ℕ)) (xs : List ℕ) (at old new : ℕ) → at < length xs → Appends before after (take at xs) → new ≡ counted (old + at)
     → TakesPart xs before old after new
 takes_part before after xs at old new le h e =
@@ -137,7 +137,7 @@ as_failed (Ok y) x xs a b p q f h = absurd cc
 as_failed (Err y) x xs a b p q f h = h
 
 -- a step that puts nothing comes before
-pub puts_after : (r : Result (Unit {0}) Broken) (xs : List ℕ) (a b : Option (List ℕ)) (p o q : Progress) → ((told start : Option (List ℕ)) (given : List ℕ) → Stands start given told p → Stands start given told o)
+pub puts_after : (r : Result (Unit {0}) Broken) (xs : List ℕ) (a b : Option (List ℕ)) (p o q : Progress) → ((reported start : Option (List ℕ)) (given : List ℕ) → Stands start given reported p → Stands start given reported o)
     → Puts r xs a o b q → Puts r xs a p b q
 unfolding Puts
 puts_after r xs a b p o q f h = λ start given k. h start given (f a start given k)

@@ -47,7 +47,7 @@ fn own_number(value: &Value, kind: Kind) -> u32
     }
 }
 
-/// The class and number of a value's element, where these may stand in place of its own.
+/// The class and number of a value's element, where these may replace its own.
 pub fn element_tag(value: &Value, node: NodeId, replaced: Option<(Class, u32)>) -> (Class, u32)
     ensures { tag_at result ≡ element_tag replaced (kind_of node) (content_of value.now) }
 {

@@ -3,6 +3,6 @@
 pub enum WriteFailure {
     /// There was no memory to measure it, and nothing was written.
     OutOfMemory,
-    /// The sink broke. Exactly the first octets of the normal form were written, so many of them.
+    /// The sink broke. Exactly the first `written` octets of the normal form were written.
     WriteFault(u32),
 }

@@ -40,7 +40,7 @@ pub fn measure_row(row: Row, value: &Value, out: &mut Vec<u32>) -> Result<u32, A
     }
 }
 
-/// The size of a value's element, where this tag may stand in place of its own.
+/// The size of a value's element, where this tag may replace its own.
 #[cycle(measure)]
 fn measure_value(
     value: &Value,

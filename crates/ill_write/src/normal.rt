@@ -19,7 +19,7 @@ use ber_core::{Broken, Sink};
 use ill_schema::Message;
 use std::alloc::{AllocError, Global};
 
-/// Writes the normal form of a message, which is its DER encoding (X.690, 10 and 11), and answers its
+/// Writes the normal form of a message, which is its DER encoding (X.690, 10 and 11), and returns its
 /// size in octets. Memory is taken for the sizes alone, before the first octet is written.
 ///
 /// # Errors
@@ -67,7 +67,7 @@ pub fn normal_bytes(alloc: Global, message: &Message) -> Result<Vec<u8>, AllocEr
     }
 }
 
-/// Writes the normal form of the message that was measured, and answers its size; where the sink
+/// Writes the normal form of the message that was measured, and returns its size; where the sink
 /// broke, the error is how many octets were written.
 fn write_measured<W: Sink>(sizes: &Sizes, message: &Message, sink: &mut W) -> Result<u32, u32>
     requires contents { contents_of sizes.now ≡ content_sizes (tree_of message.now) }

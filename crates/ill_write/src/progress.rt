@@ -24,7 +24,7 @@ impl Progress {
 
     /// Nothing is given yet.
     pub fn new() -> Progress
-        ensures fresh { (told : Option (List _)) → Stands told [] told result }
+        ensures fresh { (reported : Option (List _)) → Stands reported [] reported result }
         ensures next { result.next ≡ 0 }
     {
         Progress {
@@ -49,11 +49,11 @@ impl Progress {
         self.next
     }
 
-    /// Goes on to the content size behind.
+    /// Goes on to the next content size.
     pub fn advance(&mut self)
         requires { self.old.next + 1 ≤ 2 ^ 64 - 1 }
         ensures next { self.new.next ≡ self.old.next + 1 }
-        ensures puts { (told : Option (List _)) (start : Option (List _)) (given : List _) → Stands start given told self.old → Stands start given told self.new }
+        ensures puts { (reported : Option (List _)) (start : Option (List _)) (given : List _) → Stands start given reported self.old → Stands start given reported self.new }
     {
         self.next += 1;
     }

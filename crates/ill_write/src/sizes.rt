@@ -18,7 +18,7 @@ impl Sizes {
     ghost use Rattle.ill_write.specs.ContentSizes.{content_sizes, tree_of};
     ghost use Rattle.ill_write.specs.Sizes.{contents_of, total_of};
 
-    /// Measures the normal form of a message: what stands in its headers as lengths of constructed
+    /// Measures the normal form of a message: what its headers say as lengths of constructed
     /// contents (X.690, 8.1.3), in the order of the headers, and the size of the whole.
     ///
     /// # Errors

@@ -47,7 +47,7 @@ pub fn write_row<W: Sink>(
     }
 }
 
-/// Writes a value's element, where this tag may stand in place of its own.
+/// Writes a value's element, where this tag may replace its own.
 #[cycle(write)]
 fn write_value<W: Sink>(
     value: &Value,

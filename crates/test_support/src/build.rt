@@ -139,7 +139,7 @@ fn time(octets: Vec<u8>) -> Result<Value, Fail> {
     }
 }
 
-/// A list of so many system ids with nothing in them.
+/// A list of `count` system ids with nothing in them.
 fn empties(alloc: Global, count: u32) -> Result<Value, Fail> {
     let mut items = Vec::new(alloc);
     for _ in 0..count {

@@ -3,7 +3,7 @@ ghost use Rattle.std.specs.Prelude.{◌≤◌};
 
 use std::alloc::{AllocError, Global};
 
-/// The octets of pieces as `1b0147` or `00*125`, a piece so many times.
+/// The octets of pieces as `1b0147` or `00*125`, which is the octet 00, 125 times.
 pub fn octets_of(alloc: Global, pieces: &str) -> Result<Vec<u8>, AllocError> {
     let mut octets = Vec::new(alloc);
     for piece in pieces.split(' ') {

@@ -62,7 +62,7 @@ fn octets(alloc: Global, text: &str) -> Result<Vec<u8>, Fail> {
     Ok(octets)
 }
 
-/// A sink that counts the octets, and takes so many in a call.
+/// A sink that counts the octets, and takes a fixed number of them in a call.
 #[derive(Drop)]
 struct Counter {
     octets: u64,

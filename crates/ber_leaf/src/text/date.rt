@@ -31,7 +31,7 @@ impl Model for DateText {
 }
 
 impl DateText {
-    /// The text of the octets, or why they are none.
+    /// The text that the octets are, or why they are not one.
     pub fn new(octets: Vec<u8>) -> Result<Self, LeafFault>
         ensures text { IfOk result (λ text. text ≡ octets.items) }
         ensures succeeds { IsOk result ↔ IsContent iso_date octets.items }

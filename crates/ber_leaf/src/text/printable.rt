@@ -30,7 +30,7 @@ impl Model for PrintableText {
 }
 
 impl PrintableText {
-    /// The text of the octets, or why they are none.
+    /// The text that the octets are, or why they are not one.
     pub fn new(octets: Vec<u8>) -> Result<Self, LeafFault>
         ensures text { IfOk result (λ text. text ≡ octets.items) }
         ensures succeeds { IsOk result ↔ IsContent printable_string octets.items }

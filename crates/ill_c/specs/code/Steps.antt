@@ -9,7 +9,7 @@ use Rattle.ill_read.specs.declared.normal.Normal.{Normal}
 use Rattle.ill_c.specs.declared.refusal.IllcanonRefusal.{IllcanonRefusal}
 use Rattle.ill_c.specs.declared.status.Status.{Status}
 use Rattle.ill_c.specs.Memory.{Change, Stays, Fills, Lacks}
-use Rattle.ill_c.specs.Refusals.{told}
+use Rattle.ill_c.specs.Refusals.{reported}
 
 -- the octets were put into the buffer, where it has room for them
 abbrev pub Puts : List ℕ → Change (List ℕ) → Change ℕ → Status → Type 0
@@ -17,10 +17,10 @@ Puts octets buffer size Status.Done = Fills octets buffer size
 Puts octets buffer size Status.NoRoom = Lacks octets buffer size
 Puts octets buffer size _ = ⊥
 
--- a failure was told
-abbrev pub IsTold : Failure → Change IllcanonRefusal → Status → Type 0
-IsTold (Failure.Refused it) refusal status = (status ≡ Status.Refused) × (refusal.after ≡ told (fault_of it))
-IsTold Failure.OutOfMemory refusal status = (status ≡ Status.OutOfMemory) × Stays refusal
+-- a failure was reported
+abbrev pub IsReported : Failure → Change IllcanonRefusal → Status → Type 0
+IsReported (Failure.Refused it) refusal status = (status ≡ Status.Refused) × (refusal.after ≡ reported (fault_of it))
+IsReported Failure.OutOfMemory refusal status = (status ≡ Status.OutOfMemory) × Stays refusal
 
 -- of octets, at whose front a message may be
 abbrev pub FrontAnswers : List ℕ → Result (Option Normal) Failure → Type 0

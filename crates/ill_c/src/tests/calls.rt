@@ -75,7 +75,7 @@ fn octets_are_written(rt: HostRuntime) {
 }
 
 #[test]
-fn messages_are_told_apart(rt: HostRuntime) {
+fn messages_are_distinguished(rt: HostRuntime) {
     let alloc = rt.alloc();
     let (mut answer, mut size, mut refusal) = (77, 77, UNSET);
     let status = illcanon_check(alloc, INDEFINITE, &mut answer, &mut refusal);

@@ -7,7 +7,7 @@ use Rattle.ill_normal.specs.Messages.{Spelling, Makes}
 use Rattle.ber_frame.specs.declared.framer.Frame.{Frame}
 use Rattle.ber_frame.specs.declared.framer.Frame.TheVariants as frame
 use Rattle.ber_frame.specs.declared.framer.Framer.{Framer}
-use Rattle.ber_frame.specs.Framed.{IsFrame, IsPart, IsUntold}
+use Rattle.ber_frame.specs.Framed.{IsFrame, IsPart, IsUnframed}
 use Rattle.ber_frame.specs.Framer.{Judged, IsFed}
 use Rattle.ill_going.specs.Items.{IsRefusedFor}
 use Rattle.ill_going.specs.Gone.{HasNoEnd}
@@ -33,7 +33,7 @@ pub record Takes (left left' : Option (List ℕ)) (framer framer' : Framer) (kep
   pub none : (b : List ℕ) → n ≡ 0 → IsFed framer b → IsPart b → IsAtEnd left'
   pub keeps : kept' ≡ kept ++ take (1_048_576 - length kept) octets
 
--- an element was taken, as far as its end can be told, and its first 1,048,576 octets were kept
+-- an element was taken, as far as its end can be known, and its first 1,048,576 octets were kept
 pub record TakesElement (left left' : Option (List ℕ)) (kept : List ℕ) (frame : Frame) : Type 0 where
   pub octets : List ℕ
   pub taken : Consumes left left' octets
@@ -43,17 +43,17 @@ pub record TakesElement (left left' : Option (List ℕ)) (kept : List ℕ) (fram
   pub part : IsPart octets → IsAtEnd left' ⊎ (18_446_744_073_709_551_615 ≤ length octets)
 
 -- octets with which no element begins were taken, and then some that say more of why
-pub record TakesUntold (left left' : Option (List ℕ)) (kept : List ℕ) : Type 0 where
+pub record TakesUnframed (left left' : Option (List ℕ)) (kept : List ℕ) : Type 0 where
   pub octets : List ℕ
   pub more : List ℕ
   pub taken : Consumes left left' (octets ++ more)
-  pub untold : IsUntold octets
+  pub unframed : IsUnframed octets
   pub within : (n : ℕ) → n < length octets → IsPart (take n octets)
   pub keeps : kept ≡ take 1_048_576 (octets ++ more)
 
 -- one of the two
 abbrev pub Took : Option (List ℕ) → Option (List ℕ) → List ℕ → Frame → Type 0
-Took left left' kept frame.Untold = TakesUntold left left' kept
+Took left left' kept frame.Unframed = TakesUnframed left left' kept
 Took left left' kept frame.Whole = TakesElement left left' kept frame.Whole
 Took left left' kept frame.Part = TakesElement left left' kept frame.Part
 

@@ -1,4 +1,4 @@
--- How the program tells why no further message was written.
+-- How the program reports why no further message was written.
 use Rattle.std.specs.Prelude.{ℕ, ◌+◌}
 use Rattle.ill_normal.specs.declared.messages.Stopped.{Stopped}
 use Rattle.ill_normal.specs.declared.messages.Why.{Why}

@@ -6,7 +6,7 @@ use Rattle.ill_lines.specs.Lines.{Answer, AreAnswers, IsResult, all_good, has_li
 use Rattle.ill_lines.specs.declared.job.LineJob.{LineJob}
 use Rattle.ill_lines.specs.declared.lines.Lines.{Lines}
 
--- the lines that ended in the octets were answered; of what follows them as much is kept as tells that a line is too long
+-- the lines that ended in the octets were answered; of what follows them as much is kept as shows that a line is too long
 pub record IsAfter (job : LineJob) (octets kept made : List ℕ) (good : Bool) : Type 0 where
   pub answers : List Answer
   pub rest : List ℕ

@@ -25,7 +25,7 @@ pub record HasPassed (rows : List Row) (old new : List (Option Value)) : Type 0 
   pub added : new ≡ old ++ entries
   pub are : ArePassed entries rows
 
--- a value was added, behind the entries of the rows before it
+-- a value was added, after the entries of the rows before it
 pub record HasAdded (rows : List Row) (v : Value) (old new : List (Option Value)) : Type 0 where
   pub entries : List (Option Value)
   pub added : new ≡ old ++ (entries ++ Some v ∷ [])

@@ -65,7 +65,7 @@ IsFormed f constructed None = (found_in f ≡ found.Element (read_as f)) × (all
 IsFormed f constructed (Some cause) =
     (p : Profile) (place : List Open) (tag : Tag) (at i : ℕ) (want : Fault) (w : List ℕ) → judge_form p place (found_is (found_in f)) tag constructed at i want w ≡ faulty (fault cause at)
 
--- what is judged behind an identifier of i octets
+-- what is judged after an identifier of i octets
 abbrev pub judge_identified : List Open → Tag → Bool → ℕ → ℕ → Fault → List ℕ → Judgement
 judge_identified place tag constructed at i want w =
     if nat_le 32 (length place) then faulty (fault Cause.TooDeep at) else judge_tag profile_two place tag constructed at i want w

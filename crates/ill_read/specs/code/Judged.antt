@@ -41,7 +41,7 @@ pub record IsBegin (frames : Frames) (place : List Open) (tag : Tag) (f : CellFo
   pub allowed : allows (element_is (read_as f)) constructed ≡ true
   pub shallow : length place < 32
 
--- the octets behind a header
+-- the octets after a header
 abbrev pub content_in : ℕ → ℕ → List ℕ → List ℕ
 content_in header size rest = take size (drop header rest)
 

@@ -11,7 +11,7 @@ pub data Step : Type 0 where
   refused : Fault → Step
   -- the message's tree, and where it ends
   whole : Tree → ℕ → Step
-  -- the next place, and the octets behind it
+  -- the next place, and the octets after it
   goes : List Open → ℕ → List ℕ → Step
   stuck : Step
 

@@ -9,12 +9,12 @@ counted n = min n (2 ^ 64 - 1)
 
 -- what a sink holds and whether it is broken, and what waits
 pub record Sending : Type 0 where
-  pub told : Option (List ℕ)
+  pub reported : Option (List ℕ)
   pub broken : Bool
   pub out : Out
 
 abbrev pub sending : Option (List ℕ) → Bool → Out → Sending
-sending told broken out = record { told = told; broken = broken; out = out }
+sending reported broken out = record { reported = reported; broken = broken; out = out }
 
 -- what isn't in the sink waits; or the sink is broken
 abbrev pub IsLeft : Out → Bool → List ℕ → Type 0
@@ -24,7 +24,7 @@ IsLeft out broken rest = elim out.broken as (λ _. Type 0) [ false ↦ rest ≡ 
 pub record Stands (start : Option (List ℕ)) (put : List ℕ) (s : Sending) : Type 0 where
   pub sent : List ℕ
   pub rest : List ℕ
-  pub in_sink : Appends start s.told sent
+  pub in_sink : Appends start s.reported sent
   pub all : put ≡ sent ++ rest
   pub count : s.out.written ≡ counted (length sent)
   pub left : IsLeft s.out s.broken rest

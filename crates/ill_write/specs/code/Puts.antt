@@ -25,17 +25,17 @@ Sends result octets before old after new =
     (λ _. TakesPart octets before old after new)
 
 -- of the octets given, all are in the sink but those that wait
-pub record Stands (start : Option (List ℕ)) (given : List ℕ) (told : Option (List ℕ)) (p : Progress) : Type 0 where
+pub record Stands (start : Option (List ℕ)) (given : List ℕ) (reported : Option (List ℕ)) (p : Progress) : Type 0 where
   pub sent : List ℕ
-  pub in_sink : Appends start told sent
+  pub in_sink : Appends start reported sent
   pub all : given ≡ sent ++ take p.len p.waiting
   pub count : p.written ≡ counted (length sent)
 
 -- of the octets given, the first are in the sink, as many as are counted, and not all
-pub record Stopped (start : Option (List ℕ)) (given : List ℕ) (told : Option (List ℕ)) (p : Progress) : Type 0 where
+pub record Stopped (start : Option (List ℕ)) (given : List ℕ) (reported : Option (List ℕ)) (p : Progress) : Type 0 where
   pub sent : List ℕ
   pub rest : List ℕ
-  pub in_sink : Appends start told sent
+  pub in_sink : Appends start reported sent
   pub begins : given ≡ sent ++ rest
   pub not_all : length sent < length given
   pub count : p.written ≡ counted (length sent)

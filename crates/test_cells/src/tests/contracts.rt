@@ -16,7 +16,7 @@ fn one_thing_is_due(at: At, id: Id) {
     }
 }
 
-/// What is due opens in one way, has one default, and lacks the same before and behind.
+/// What is due opens in one way, has one default, and lacks the same before and after.
 fn one_thing_goes_one_way(one: Found, other: Found)
     requires { due_of one ≡ due_of other }
 {

@@ -75,7 +75,7 @@ fn der_buffers_forget_what_their_room_held(room: Vec<u8>, octets: &[u8]) -> Resu
     Ok(())
 }
 
-/// An element begins in one way behind the same octets.
+/// An element begins in one way after the same octets.
 fn elements_begin_in_one_way(
     one: &mut DerBuffer,
     other: &mut DerBuffer,
@@ -180,8 +180,8 @@ fn pieces_move_in_one_way(
     (one.take(a), other.take(b))
 }
 
-/// Pieces break after as many octets as they are told, and a room too.
-fn slices_break_where_they_are_told(octets: &[u8], buffer: &mut [u8]) {
+/// Pieces break after as many octets as they have to, and a room too.
+fn slices_break_where_they_have_to(octets: &[u8], buffer: &mut [u8]) {
     let mut pieces = Pieces::new(octets, 1, Some(0));
     let taken = pieces.take(buffer);
     prove!(taken.is_err());

@@ -1,4 +1,4 @@
-//! DER that is written forward, and the lengths that are set behind it.
+//! DER that is written forward, and the lengths that are set afterwards.
 use ber_buffer::DerBuffer;
 use ber_core::{Class, Id};
 use std::alloc::{AllocError, Global};

@@ -71,7 +71,7 @@ fn nothing_after_an_element_is_taken(rt: HostRuntime) {
 }
 
 #[test]
-fn some_ends_are_not_told(rt: HostRuntime) {
+fn some_ends_are_not_known(rt: HostRuntime) {
     // Up to its last octet each is part of an element.
     let rows: [&[u8]; 9] = [
         &[0x00],
@@ -86,18 +86,18 @@ fn some_ends_are_not_told(rt: HostRuntime) {
         &[0x30, 0xFE, 0x00, 0x01],
     ];
     for row in rows {
-        assert_eq!(rt; pushed(row), Frame::Untold, "{row:?}");
+        assert_eq!(rt; pushed(row), Frame::Unframed, "{row:?}");
         for cut in 0..row.len() {
             assert_eq!(rt; pushed(&row[..cut]), Frame::Part, "{cut} of {row:?}");
             assert_eq!(rt;
                 fed(&row[..cut], &row[cut..]),
-                (row.len(), Frame::Untold),
+                (row.len(), Frame::Unframed),
                 "{row:?} at {cut}"
             );
         }
         assert_eq!(rt;
             fed(row, &[0x00, 0x00]),
-            (row.len(), Frame::Untold),
+            (row.len(), Frame::Unframed),
             "{row:?}"
         );
     }

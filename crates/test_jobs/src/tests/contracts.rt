@@ -139,7 +139,7 @@ fn pairs_are_refused_in_one_way(
     )
 }
 
-/// Of two texts the first that is invalid is told.
+/// Of two texts the first that is invalid is reported.
 fn texts_are_refused_in_order(
     first: &mut Pieces,
     second: &mut Pieces,

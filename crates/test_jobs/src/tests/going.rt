@@ -7,11 +7,11 @@ use test_support::octets_of;
 
 /// What was reported.
 #[derive(Drop)]
-struct Told {
+struct Reported {
     reports: Vec<Report>,
 }
 
-impl Reports for Told {
+impl Reports for Reported {
     ghost use Rattle.std.specs.Prelude.{None};
 
     ghost reported = { λ _. None };
@@ -114,7 +114,7 @@ fn refused_messages_are_reported_and_passed_over(rt: HostRuntime) -> Result<(), 
         };
         let mut source = Pieces::new(&octets, 64, None);
         let mut written = Vec::new(alloc);
-        let mut told = Told {
+        let mut reported = Reported {
             reports: Vec::new(alloc),
         };
         let answer = run_on(
@@ -122,7 +122,7 @@ fn refused_messages_are_reported_and_passed_over(rt: HostRuntime) -> Result<(), 
             Work::new(row.job, row.hex),
             &mut source,
             &mut ToWrite::new(&mut written),
-            &mut told,
+            &mut reported,
         );
         assert!(rt; answer == row.answer, "{}", row.name);
         assert!(rt; written.as_slice() == row.output.as_bytes(), "{}", row.name);
@@ -136,12 +136,12 @@ fn refused_messages_are_reported_and_passed_over(rt: HostRuntime) -> Result<(), 
         };
         if row.answer.is_ok() {
             assert!(rt;
-                told.reports.as_slice() == [null].as_slice(),
+                reported.reports.as_slice() == [null].as_slice(),
                 "{}",
                 row.name
             );
         } else {
-            assert!(rt; told.reports.is_empty(), "{}", row.name);
+            assert!(rt; reported.reports.is_empty(), "{}", row.name);
         }
     }
     Ok(())

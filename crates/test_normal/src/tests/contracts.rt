@@ -202,7 +202,7 @@ fn checks_have_nothing_of_the_room(
     check_one_in::<Pieces, Unseen>(alloc, source, room)
 }
 
-/// Nothing is written before the whole message was read, and then as many octets as are told.
+/// Nothing is written before the whole message was read, and then as many octets as are reported.
 fn nothing_is_written_for_what_is_no_message(
     octets: &[u8],
     breaks_at: Option<usize>,
@@ -242,7 +242,7 @@ fn spellings_are_normalised_alike(
     normalise(alloc, source, sink)
 }
 
-/// A stream ends only where nothing is left. Where it stops before, it tells how many messages there were and how many octets they
+/// A stream ends only where nothing is left. Where it stops before, it reports how many messages there were and how many octets they
 /// had, and at most 1,048,576 octets were taken after them.
 fn streams_are_taken_to_their_end(
     source: &mut Pieces,
@@ -257,7 +257,7 @@ fn streams_are_taken_to_their_end(
     normalise_stream(alloc, source, sink)
 }
 
-/// The messages of an input are gone through to its end. Where that stops before, it is told how many messages there were and how many
+/// The messages of an input are gone through to its end. Where that stops before, it is reported how many messages there were and how many
 /// octets they had, and at most 1,048,576 octets were taken after them.
 fn messages_are_gone_through_to_their_end(
     source: &mut Pieces,

@@ -12,11 +12,11 @@ use test_support::octets_of;
 
 /// What was reported.
 #[derive(Drop)]
-struct Told {
+struct Reported {
     reports: Vec<Report>,
 }
 
-impl Reports for Told {
+impl Reports for Reported {
     ghost use Rattle.std.specs.Prelude.{None};
 
     ghost reported = { λ _. None };
@@ -154,7 +154,7 @@ const ROWS: [Row; 12] = [
     },
 ];
 
-/// EXPIRED so many times.
+/// EXPIRED, `count` times.
 fn expireds(alloc: Global, count: usize) -> Result<Vec<u8>, AllocError> {
     let mut octets = Vec::new(alloc);
     for _ in 0..count {
@@ -221,35 +221,47 @@ fn refused_messages_are_passed_over(rt: HostRuntime) -> Result<(), Fail> {
         for per_call in [1, 5, 64] {
             let mut source = Pieces::new(&octets, per_call, None);
             let mut sink = Vec::new(alloc);
-            let mut told = Told {
+            let mut reported = Reported {
                 reports: Vec::new(alloc),
             };
-            let result = keep_going::<NormalForms, Pieces<'_>, Unseen, ToWrite<&mut Vec<u8>>, Told>(
+            let result = keep_going::<
+                NormalForms,
+                Pieces<'_>,
+                Unseen,
+                ToWrite<&mut Vec<u8>>,
+                Reported,
+            >(
                 alloc,
                 &NormalForms,
                 &mut source,
                 &mut ToWrite::new(&mut sink),
-                &mut told,
+                &mut reported,
             );
             assert!(rt; result == Ok(gone), "{name}, {per_call} a call");
             assert!(rt; sink.as_slice() == written.as_slice(), "{name}");
-            assert!(rt; told.reports.as_slice() == reports.as_slice(), "{name}");
+            assert!(rt; reported.reports.as_slice() == reports.as_slice(), "{name}");
         }
         let mut source = FromSlice::new(&octets);
         let mut sink = Vec::new(alloc);
-        let mut told = Told {
+        let mut reported = Reported {
             reports: Vec::new(alloc),
         };
-        let result = keep_going::<NormalForms, FromSlice<'_>, AtHand, ToWrite<&mut Vec<u8>>, Told>(
+        let result = keep_going::<
+            NormalForms,
+            FromSlice<'_>,
+            AtHand,
+            ToWrite<&mut Vec<u8>>,
+            Reported,
+        >(
             alloc,
             &NormalForms,
             &mut source,
             &mut ToWrite::new(&mut sink),
-            &mut told,
+            &mut reported,
         );
         assert!(rt; result == Ok(gone), "{name}");
         assert!(rt; sink.as_slice() == written.as_slice(), "{name}");
-        assert!(rt; told.reports.as_slice() == reports.as_slice(), "{name}");
+        assert!(rt; reported.reports.as_slice() == reports.as_slice(), "{name}");
     }
     Ok(())
 }
@@ -265,15 +277,15 @@ fn a_broken_sink_has_the_first_octets(rt: HostRuntime) -> Result<(), Fail> {
     for n in 0..66 {
         let mut source = FromSlice::new(&octets);
         let mut sink: Room<128> = Room::new(64, Some(n));
-        let mut told = Told {
+        let mut reported = Reported {
             reports: Vec::new(alloc),
         };
-        let result = keep_going::<NormalForms, FromSlice<'_>, AtHand, Room<128>, Told>(
+        let result = keep_going::<NormalForms, FromSlice<'_>, AtHand, Room<128>, Reported>(
             alloc,
             &NormalForms,
             &mut source,
             &mut sink,
-            &mut told,
+            &mut reported,
         );
         let halted = if n < 33 {
             Halted {
@@ -292,7 +304,7 @@ fn a_broken_sink_has_the_first_octets(rt: HostRuntime) -> Result<(), Fail> {
         };
         assert!(rt; result == Err(halted), "{n}");
         assert!(rt; written.get(..n) == Some(sink.octets()), "{n}");
-        assert_eq!(rt; told.reports.len(), halted.refused as usize, "{n}");
+        assert_eq!(rt; reported.reports.len(), halted.refused as usize, "{n}");
     }
     Ok(())
 }
@@ -304,15 +316,15 @@ fn a_broken_source_leaves_what_was_whole(rt: HostRuntime) -> Result<(), Fail> {
     for breaks_at in 0..69 {
         let mut source = Pieces::new(&octets, 64, Some(breaks_at));
         let mut sink = Vec::new(alloc);
-        let mut told = Told {
+        let mut reported = Reported {
             reports: Vec::new(alloc),
         };
-        let result = keep_going::<NormalForms, Pieces<'_>, Unseen, ToWrite<&mut Vec<u8>>, Told>(
+        let result = keep_going::<NormalForms, Pieces<'_>, Unseen, ToWrite<&mut Vec<u8>>, Reported>(
             alloc,
             &NormalForms,
             &mut source,
             &mut ToWrite::new(&mut sink),
-            &mut told,
+            &mut reported,
         );
         let (messages, refused, count) = match breaks_at {
             0..=32 => (0, 0, 0),
@@ -329,7 +341,7 @@ fn a_broken_source_leaves_what_was_whole(rt: HostRuntime) -> Result<(), Fail> {
         };
         assert!(rt; result == Err(halted), "{breaks_at}");
         assert!(rt; sink.as_slice() == written.as_slice(), "{breaks_at}");
-        assert_eq!(rt; told.reports.len(), refused as usize, "{breaks_at}");
+        assert_eq!(rt; reported.reports.len(), refused as usize, "{breaks_at}");
     }
     Ok(())
 }
@@ -345,19 +357,19 @@ fn a_message_past_the_limit_is_passed_over(rt: HostRuntime) -> Result<(), Fail> 
     octets.extend_from_slice(EXPIRED)?;
     let mut source = FromSlice::new(&octets);
     let mut sink = Vec::new(alloc);
-    let mut told = Told {
+    let mut reported = Reported {
         reports: Vec::new(alloc),
     };
-    let result = keep_going::<NormalForms, FromSlice<'_>, AtHand, ToWrite<&mut Vec<u8>>, Told>(
+    let result = keep_going::<NormalForms, FromSlice<'_>, AtHand, ToWrite<&mut Vec<u8>>, Reported>(
         alloc,
         &NormalForms,
         &mut source,
         &mut ToWrite::new(&mut sink),
-        &mut told,
+        &mut reported,
     );
     let reports = reports_of(alloc, &[(1, 0, Cause::TooLong, true)])?;
     assert!(rt; result.map(|gone| gone.messages) == Ok(2));
-    assert!(rt; told.reports.as_slice() == reports.as_slice());
+    assert!(rt; reported.reports.as_slice() == reports.as_slice());
     assert!(rt; sink.as_slice() == EXPIRED);
     Ok(())
 }

@@ -7,7 +7,7 @@ use ill_normal::{
 use std::test::Fail;
 use test_support::octets_of;
 
-/// An EXPIRED over and over: so many times and some octets more, or for ever.
+/// An EXPIRED over and over: a number of times and some octets more, or for ever.
 #[derive(Drop)]
 struct Expireds {
     /// How many octets are left; None is for ever.
@@ -124,7 +124,7 @@ fn a_stream_stops_at_a_refusal(rt: HostRuntime) -> Result<(), Fail> {
     Ok(())
 }
 
-/// The second message is the 33 octets behind 47; three of its normal form are written.
+/// The second message is the 33 octets after the first 47; three of its normal form are written.
 #[test]
 fn a_stream_stops_at_a_broken_sink(rt: HostRuntime) -> Result<(), Fail> {
     let octets = octets_of(

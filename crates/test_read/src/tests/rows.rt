@@ -1,4 +1,4 @@
-//! Worked inputs: a name, the octets in pieces (`hex*count` is a piece so many times), and the outcome.
+//! Worked inputs: a name, the octets in pieces (`hex*count` is a piece, `count` times), and the outcome.
 pub const ROWS: &str = "\
 expired-normal-form|741f301d800102a10aa1031b0147a2031b0151a20ca00a80083230323430323239|ok 33
 expired-all-indefinite|74803080800102a180a1801b01470000a2801b015100000000a280a080800832303234303232390000000000000000|ok 47

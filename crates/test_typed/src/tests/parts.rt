@@ -1,4 +1,4 @@
-//! Values that are parts, and values that are none.
+//! Values that are parts, and values that are not.
 use ber_leaf::{DateText, IllString, VisibleText};
 use ill_parts::{
     CostInfo, DateDue, Node, Part, SearchType, Symbol, SystemId, Typed, UnitsPerMedium,

@@ -37,7 +37,7 @@ const WHOLE_MESSAGES: &str = "\
 4 whole 21 date:20241123 23 visible:v24 alt:0 general:g25 alt:0 seq:2 general:g26 visible:v27 seq:2 general:g28 seq:3 list:1 seq:3 alt:5 - - general:g29 alt:0 visible:v30 alt:0 seq:2 general:g31 general:g32 visible:v33 seq:2 seq:3 list:1 general:g34 alt:0 general:g35 alt:0 seq:2 list:1 false true 38 39 seq:4 general:g40 - seq:14
 4 whole 21 general:g22 general:g23 alt:0 visible:v24 alt:0 seq:2 general:g25 general:g26 seq:2 visible:v27 seq:3 list:1 seq:2 alt:6 - - general:g28 alt:0 general:g29 alt:0 seq:2 visible:v30 general:g31 general:g32 seq:2 seq:3 list:1 visible:v33 alt:0 general:g34 alt:0 seq:2 list:1 true false 37 38 seq:4 visible:v39 - seq:14";
 
-/// The body of ILL-Request `request-normal-form`, behind its number.
+/// The body of ILL-Request `request-normal-form`, after its number.
 const REQUEST: &str =
     "head 1 none:3 1 list:1 - false false 1 1 seq:4 none:2 3 - none:23 seq:23 none:4 false false none:3 seq:26";
 
@@ -81,7 +81,7 @@ fn expired(alloc: Global) -> Result<Apdu, Fail> {
     Ok(Apdu::Expired(Expired { head: head(alloc)? }))
 }
 
-/// A message whose note has so many letters.
+/// A message whose note has `count` letters.
 fn note(alloc: Global, letters: usize) -> Result<Apdu, Fail> {
     let text = general_text(vec![in alloc; b'A'; letters]?)?;
     Ok(Apdu::MessageApdu(MessageApdu {

@@ -60,7 +60,7 @@ fn sinks_get_the_normal_form(
     Ok(())
 }
 
-/// A sink takes all the octets, or it breaks and the first ones are told.
+/// A sink takes all the octets, or it breaks and it is reported how many it took.
 fn sinks_take_all_or_tell_how_many(octets: &[u8], breaks_at: Option<usize>) {
     let mut sink: Room<64> = Room::new(1, breaks_at);
     match put_all(&mut sink, octets) {

@@ -1,9 +1,9 @@
 use Rattle.std.proofs.Common.{arith}
-use Rattle.ber_frame.proofs.FrameEnds.{is_part, is_untold, is_whole}
+use Rattle.ber_frame.proofs.FrameEnds.{is_part, is_unframed, is_whole}
 use Rattle.ber_frame.proofs.framer.Framer.frame.Goals as goal
 
-pub returns-in-Untold : goal.returns-in-Untold
-returns-in-Untold c b h = is_untold c.args.self.now b _ h c.in-Untold.is
+pub returns-in-Unframed : goal.returns-in-Unframed
+returns-in-Unframed c b h = is_unframed c.args.self.now b _ h c.in-Unframed.is
 
 pub returns-then-self-eq0 : goal.returns-then-self-eq0
 returns-then-self-eq0 c b h = is_whole c.args.self.now b h c.in-Between.is c.if-self-eq0.true
@@ -12,4 +12,4 @@ pub returns-else-self-eq0 : goal.returns-else-self-eq0
 returns-else-self-eq0 c b h = is_part c.args.self.now b h (λ _ e. let b = c.in-Between.is in cc) (λ _. omega arith)
 
 pub returns-in_default : goal.returns-in_default
-returns-in_default c b h = is_part c.args.self.now b h c.in_default.not-Untold (λ e. absurd (c.in_default.not-Between e))
+returns-in_default c b h = is_part c.args.self.now b h c.in_default.not-Unframed (λ e. absurd (c.in_default.not-Between e))

@@ -2,8 +2,8 @@ use Rattle.std.proofs.Common.{sym, subst, arith}
 use Rattle.ber_frame.proofs.FrameEnds.{Needs, needs_one, need_least, no_part, no_more, is_part, with_none, within_contents}
 use Rattle.ber_frame.proofs.framer.Framer.need.Goals as goal
 
-pub returns-in-Untold-clause-some : goal.returns-in-Untold-clause-some
-returns-in-Untold-clause-some c b h = λ p. absurd (no_more c.args.self.now b _ h c.in-Untold.is p)
+pub returns-in-Unframed-clause-some : goal.returns-in-Unframed-clause-some
+returns-in-Unframed-clause-some c b h = λ p. absurd (no_more c.args.self.now b _ h c.in-Unframed.is p)
 
 pub returns-then-self-eq0-clause-some : goal.returns-then-self-eq0-clause-some
 returns-then-self-eq0-clause-some c b h = λ p. absurd (no_part c.args.self.now b h c.in-Between.is c.if-self-eq0.true p)
@@ -32,4 +32,4 @@ returns-in-Contents-clause-any c b octets h lt = within_contents c.args.self.now
 
 pub returns-in_default-clause-any : goal.returns-in_default-clause-any
 returns-in_default-clause-any c b octets h lt =
-    with_none b octets lt (is_part c.args.self.now b h c.in_default.not-Untold (λ e. absurd (c.in_default.not-Between e)))
+    with_none b octets lt (is_part c.args.self.now b h c.in_default.not-Unframed (λ e. absurd (c.in_default.not-Between e)))

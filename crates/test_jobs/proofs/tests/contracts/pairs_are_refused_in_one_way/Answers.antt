@@ -32,8 +32,8 @@ once : (s s' t t' a b : List ℕ) (held held' : Option (List ℕ)) (u w z : Bool
 once s s' t t' a b held held' u w z q r side other x y e f p p' fails one =
     let h = subst (λ v. IfErr v (SameFails false (taking (Some s) (Some a) u) (taking (Some t) (Some b) w) (putting held held' z))) p fails in
     let k = subst (λ v. RefusesOne false v t r) (sym e) (subst (λ v. RefusesOne false s' v r) (sym f) one) in
-    let told = subst (λ v. AnswersSide v side (fault_of x)) p' (refused s t a b held held' u w z r side x h k) in
-    (sym told.0, sym (same_refusal y x told.1))
+    let reported = subst (λ v. AnswersSide v side (fault_of x)) p' (refused s t a b held held' u w z r side x h k) in
+    (sym reported.0, sym (same_refusal y x reported.1))
 
 failed : (s a : List ℕ) (t b held held' : Option (List ℕ)) (u w z : Bool) (e : RunFault) → SameFails false (taking (Some s) (Some a) u) (taking t b w) (putting held held' z) e → length s ≤ 1_048_577 + length a
 failed s a t b held held' u w z e (inl h) = unread_bound 1_048_577 s a u e h.0
