@@ -1,5 +1,5 @@
 -- Which words give an order.
-use Rattle.std.specs.Prelude.{◌≡◌, ◌≢◌, ◌⊎◌, ◌<◌, ◌+◌, ℕ, true, false, List, [], ◌∷◌, length, map, codes, count_by, Option, Some, None, option_map, unwrap_or}
+use Rattle.std.specs.Prelude.{◌≡◌, ◌≢◌, ◌⊎◌, ◌<◌, ◌+◌, ℕ, Bool, true, false, List, [], ◌∷◌, length, map, codes, count_by, Option, Some, None, option_map, unwrap_or}
 use Rattle.std.specs.Str.{bytes_eq}
 use Rattle.clap.specs.Walk.{Row, Text, all_of, first_of, one_of}
 use Rattle.ill_cli.specs.declared.orders.Inputs.{Inputs}
@@ -57,18 +57,20 @@ HasFiles rows (Task.Canonicalise input output) = HasTwo rows input.now output.no
 HasFiles rows (Task.Collect inputs output) = HasInputs rows inputs × (first_of (codes "output") rows ≡ Some output.now)
 HasFiles rows (Task.Compare first second) = HasPair rows first.now second.now
 
+-- the flag of this name is set or not; a command that has no such flag finds none
+pub record HasFlag (rows : List Row) (name : Text) (flag : Bool) : Type 0 where
+  pub given : one_of name rows ≡ Some (codes "true") → flag ≡ true
+  pub missing : one_of name rows ≡ Some (codes "false") → flag ≡ false
+  pub none : one_of name rows ≡ None → flag ≡ false
+
 -- what was found for a command is the order's command, flags and files
 pub record IsOrderOf (found : Option (Text × List Row)) (order : Order) : Type 0 where
   pub rows : List Row
   pub command : found ≡ Some (verb_name (verb order.task), rows)
-  pub hex : one_of (codes "hex") rows ≡ Some (codes "true") → order.hex ≡ true
-  pub no_hex : one_of (codes "hex") rows ≡ Some (codes "false") → order.hex ≡ false
-  pub lines : one_of (codes "lines") rows ≡ Some (codes "true") → order.lines ≡ true
-  pub no_lines : one_of (codes "lines") rows ≡ Some (codes "false") → order.lines ≡ false
-  pub never_lines : one_of (codes "lines") rows ≡ None → order.lines ≡ false
-  pub going : one_of (codes "keep-going") rows ≡ Some (codes "true") → order.keep_going ≡ true
-  pub no_going : one_of (codes "keep-going") rows ≡ Some (codes "false") → order.keep_going ≡ false
-  pub never_going : one_of (codes "keep-going") rows ≡ None → order.keep_going ≡ false
+  pub hex : HasFlag rows (codes "hex") order.hex
+  pub lines : HasFlag rows (codes "lines") order.lines
+  pub going : HasFlag rows (codes "keep-going") order.keep_going
+  pub summary : HasFlag rows (codes "summary") order.summary
   pub files : HasFiles rows order.task
 
 -- how many of the words are this name
@@ -121,6 +123,10 @@ IsBoth order = (order.hex ≡ true) × (order.lines ≡ true)
 -- each line has its result, and none is passed over
 abbrev pub LinesGoOn : Order → Type 0
 LinesGoOn order = (order.keep_going ≡ true) × (order.lines ≡ true)
+
+-- each line has its result, and messages are not counted
+abbrev pub LinesAreCounted : Order → Type 0
+LinesAreCounted order = (order.summary ≡ true) × (order.lines ≡ true)
 
 -- one file, and no list of files
 abbrev pub HasOne : Inputs → Type 0

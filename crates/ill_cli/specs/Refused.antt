@@ -5,8 +5,8 @@ use Rattle.clap.specs.Words.{HasKind, Kinds, kind_of}
 use Rattle.clap.specs.declared.error.kind.ErrorKind.{ErrorKind}
 use Rattle.ill_cli.specs.declared.orders.Order.{Order}
 use Rattle.ill_cli.specs.declared.fault.LineFault.{LineFault}
-use Rattle.ill_cli.specs.declared.fault.LineFault.TheVariants.{Line, SameWord, Missing, Unexpected, LinesAndHex, LinesAndKeepGoing, NotOneFile}
-use Rattle.ill_cli.specs.Orders.{files_in, IsBoth, IsOrderOf, IsTwice, LinesGoOn, NamesNotOne, NamesNothing}
+use Rattle.ill_cli.specs.declared.fault.LineFault.TheVariants.{Line, SameWord, Missing, Unexpected, LinesAndHex, LinesAndKeepGoing, LinesAndSummary, NotOneFile}
+use Rattle.ill_cli.specs.Orders.{files_in, IsBoth, IsOrderOf, IsTwice, LinesAreCounted, LinesGoOn, NamesNotOne, NamesNothing}
 
 -- words of `canonicalise` that are fewer than IN and OUT, or stand with a list of files, and have no `-o`
 abbrev pub LacksTwo : List Row → Type 0
@@ -28,6 +28,7 @@ IsFaultOf found (Missing error) = (kind_of error ≡ ErrorKind.MissingRequiredAr
 IsFaultOf found (Unexpected error) = (kind_of error ≡ ErrorKind.UnknownArgument) × IsCanonicalise found ExceedsTwo
 IsFaultOf found LinesAndHex = (order : Order) × IsOrderOf found order × IsBoth order
 IsFaultOf found LinesAndKeepGoing = (order : Order) × IsOrderOf found order × LinesGoOn order
+IsFaultOf found LinesAndSummary = (order : Order) × IsOrderOf found order × LinesAreCounted order
 IsFaultOf found NotOneFile = (order : Order) × IsOrderOf found order × NamesNotOne order
 
 -- words in which clap finds faults of these kinds, none or some, are refused by one of them, and no others but out of memory
@@ -39,6 +40,7 @@ IsRefusedBy kinds (Err (Missing error)) = kinds ≡ []
 IsRefusedBy kinds (Err (Unexpected error)) = kinds ≡ []
 IsRefusedBy kinds (Err LinesAndHex) = kinds ≡ []
 IsRefusedBy kinds (Err LinesAndKeepGoing) = kinds ≡ []
+IsRefusedBy kinds (Err LinesAndSummary) = kinds ≡ []
 IsRefusedBy kinds (Err NotOneFile) = kinds ≡ []
 
 -- words of `canonicalise` without `-o` are not IN and OUT

@@ -33,6 +33,7 @@ fault_status (Fault.Line (LineFault.Missing error)) = 2
 fault_status (Fault.Line (LineFault.Unexpected error)) = 2
 fault_status (Fault.Line LineFault.LinesAndHex) = 2
 fault_status (Fault.Line LineFault.LinesAndKeepGoing) = 2
+fault_status (Fault.Line LineFault.LinesAndSummary) = 2
 fault_status (Fault.Line LineFault.NotOneFile) = 2
 fault_status Fault.SameFile = 2
 fault_status (Fault.Run line) = run_status_is line.0

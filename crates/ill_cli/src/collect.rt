@@ -7,7 +7,8 @@ use crate::names::printed;
 use crate::orders::Inputs;
 use crate::output::{self, Output, OutputOf, begin};
 use crate::same_file::FileId;
-use ill_jobs::{Job, RunFault, Verdict, Work};
+use crate::summary::Summary;
+use ill_jobs::{Job, RunFault, Verdict};
 use std::rt::Files;
 use std::str;
 
@@ -18,6 +19,7 @@ pub fn collect<R: Print + Eprint + Input + Files + AllocGlobal>(
     how: How,
     inputs: &Inputs<'_>,
     output: &str,
+    summary: &mut Summary,
 ) -> u8 {
     let alloc = rt.alloc();
     // If standard output is closed, an input may be opened in its place: so this is asked first.
@@ -36,8 +38,8 @@ pub fn collect<R: Print + Eprint + Input + Files + AllocGlobal>(
         return end(rt, &Err(Fault::SameFile));
     }
     match names.as_slice() {
-        [name] => end(rt, &one_into(rt, how, name, output)),
-        names => each_into(rt, how, names, output),
+        [name] => end(rt, &one_into(rt, how, name, output, summary)),
+        names => each_into(rt, how, names, output, summary),
     }
 }
 
@@ -59,10 +61,11 @@ fn one_into<R: Print + Eprint + Input + Files + AllocGlobal>(
     how: How,
     name: &[u8],
     output: &str,
+    summary: &mut Summary,
 ) -> Result<Verdict, Fault> {
     let name = text_of(rt.alloc(), name)?;
-    let work = Work::new(Job::Canonicalise, how.hex);
-    canonicalise(rt, how.doing(work), name, output)
+    let doing = how.doing(Job::Canonicalise, "-", false);
+    canonicalise(rt, doing, name, output, summary)
 }
 
 /// An output that was opened: the name of the new file that is written in its place, if there is one.
@@ -77,13 +80,14 @@ fn each_into<R: Print + Eprint + Input + Files + AllocGlobal>(
     how: How,
     names: &[&[u8]],
     name_of_output: &str,
+    summary: &mut Summary,
 ) -> u8 {
     let output = Output::new();
     let mut begun = None;
     let mut status = 0;
     let mut lost = Ok(Verdict::Good);
     for name in names {
-        match next_into(rt, how, name, &output, name_of_output, &mut begun) {
+        match next_into(rt, how, name, &output, name_of_output, &mut begun, summary) {
             Ok(done) => {
                 if let Err(fault) = &done {
                     // Where standard error is closed, the status alone reports it.
@@ -116,6 +120,7 @@ fn next_into<'r, R: Print + Eprint + Input + Files + AllocGlobal>(
     output: &OutputOf<'r, R>,
     name_of_output: &str,
     begun: &mut Option<Begun>,
+    summary: &mut Summary,
 ) -> Result<Result<Verdict, Fault>, Fault> {
     let alloc = rt.alloc();
     let file = match text_of(alloc, name) {
@@ -134,13 +139,8 @@ fn next_into<'r, R: Print + Eprint + Input + Files + AllocGlobal>(
             part: begin(rt, output, name_of_output)?,
         });
     }
-    let work = Work {
-        job: Job::Canonicalise,
-        hex: how.hex,
-        name: &name,
-        is_named: true,
-    };
-    match put_all(rt, how.doing(work), &mut source, output) {
+    let doing = how.doing(Job::Canonicalise, &name, true);
+    match put_all(rt, doing, &mut source, output, summary) {
         Err(Fault::Run(RunLine(RunFault::WriteFault(count)))) => {
             Err(Fault::from(RunFault::WriteFault(count)))
         }

@@ -5,17 +5,18 @@ ghost use Rattle.ill_cli.specs.Status.{status_is};
 
 use crate::collect::collect;
 use crate::each::{Each, each_input};
-use crate::fault::{Fault, print, status_of};
-use crate::going::{Printed, verdict_of};
+use crate::fault::{Fault, LineFault, print, status_of};
+use crate::going::Printed;
 use crate::input::{Shared, open, open_alone, open_and_identify};
 use crate::line::order;
 use crate::orders::{Order, Task};
 use crate::output::{self, Output, ToOutput, begin, begin_standard};
 use crate::same_file::FileId;
+use crate::summary::Summary;
 use crate::words::words_of;
 use ber_core::{AtHand, ToWrite};
 use ill_dump::{Dump, run_dump};
-use ill_jobs::{Job, RunFault, Verdict, Work, run_by, run_on_by, run_same};
+use ill_jobs::{Job, RunFault, Verdict, Work, run_by, run_on_by, run_same, verdict_of};
 use ill_lines::{LineJob, LinesFault, run_lines};
 use std::io::{self, BufWriter, Read, Write};
 use std::rt::{Env, Files};
@@ -33,38 +34,71 @@ pub fn run_program<R: Print + Eprint + Input + Files + Env + AllocGlobal>(rt: &R
     }
 }
 
-/// Does what an order says, prints the line of each fault, and returns the exit status.
+/// Does what an order says, prints the line of each fault and that of the summary, and returns the exit status.
 pub fn obey<R: Print + Eprint + Input + Files + AllocGlobal>(rt: &R, order: Order<'_>) -> u8 {
     let Order {
         hex,
         lines,
         keep_going,
+        summary: is_counted,
         task,
     } = order;
-    let how = How { hex, keep_going };
-    match task {
-        Task::Each { job, inputs } => match (lines, line_job(job), inputs.files.as_slice()) {
-            (true, Some(job), [input]) => end(rt, &each_line(rt, job, input)),
-            _ => each_input(rt, Each::Job(job), how, &inputs),
-        },
-        Task::Dump { inputs } => each_input(rt, Each::Dump, how, &inputs),
-        Task::Canonicalise { input, output } => {
-            let doing = if lines {
-                Doing::Lines(LineJob::Canonicalise)
-            } else {
-                how.doing(Work::new(Job::Canonicalise, hex))
-            };
-            end(rt, &canonicalise(rt, doing, input, output))
-        }
-        Task::Collect { inputs, output } => match (lines, inputs.files.as_slice()) {
-            (true, [input]) => {
-                let doing = Doing::Lines(LineJob::Canonicalise);
-                end(rt, &canonicalise(rt, doing, input, output))
-            }
-            _ => collect(rt, how, &inputs, output),
-        },
-        Task::Compare { first, second } => end(rt, &compare(rt, hex, first, second)),
+    let how = How {
+        hex,
+        keep_going,
+        compares: is_counted,
+    };
+    let mut summary = Summary::NONE;
+    let status = if lines {
+        each_line(rt, &task)
+    } else {
+        do_task(rt, &task, how, &mut summary)
+    };
+    if is_counted {
+        // Where standard error is closed, the status alone reports what happened.
+        let _ = eprintln!(rt; "illcanon: {summary}");
     }
+    status
+}
+
+/// Does what a command does with messages, prints the line of each fault, and returns the exit status.
+fn do_task<R: Print + Eprint + Input + Files + AllocGlobal>(
+    rt: &R,
+    task: &Task<'_>,
+    how: How,
+    summary: &mut Summary,
+) -> u8 {
+    match task {
+        Task::Each { job, inputs } => each_input(rt, Each::Job(*job), how, inputs, summary),
+        Task::Dump { inputs } => each_input(rt, Each::Dump, how, inputs, summary),
+        Task::Canonicalise { input, output } => {
+            let doing = how.doing(Job::Canonicalise, "-", false);
+            end(rt, &canonicalise(rt, doing, input, output, summary))
+        }
+        Task::Collect { inputs, output } => collect(rt, how, inputs, output, summary),
+        Task::Compare { first, second } => end(rt, &compare(rt, how.hex, first, second)),
+    }
+}
+
+/// Writes the result of each line of the one file of a command, prints the line of a fault, and returns the exit status.
+fn each_line<R: Print + Eprint + Input + Files + AllocGlobal>(rt: &R, task: &Task<'_>) -> u8 {
+    let canonical = Doing::Lines(LineJob::Canonicalise);
+    let mut summary = Summary::NONE;
+    let done = match task {
+        Task::Each { job, inputs } => match (line_job(*job), inputs.files.as_slice()) {
+            (Some(job), [input]) => print_lines(rt, job, input),
+            _ => Err(Fault::from(LineFault::NotOneFile)),
+        },
+        Task::Canonicalise { input, output } => {
+            canonicalise(rt, canonical, input, output, &mut summary)
+        }
+        Task::Collect { inputs, output } => match inputs.files.as_slice() {
+            [input] => canonicalise(rt, canonical, input, output, &mut summary),
+            _ => Err(Fault::from(LineFault::NotOneFile)),
+        },
+        Task::Dump { .. } | Task::Compare { .. } => Err(Fault::from(LineFault::NotOneFile)),
+    };
+    end(rt, &done)
 }
 
 /// How the messages of inputs are read.
@@ -72,11 +106,20 @@ pub fn obey<R: Print + Eprint + Input + Files + AllocGlobal>(rt: &R, order: Orde
 pub(crate) struct How {
     pub hex: bool,
     pub keep_going: bool,
+    /// Whether each message is compared with its normal form.
+    pub compares: bool,
 }
 
 impl How {
-    /// What is done with the messages of an input.
-    pub(crate) fn doing(self, work: Work<'_>) -> Doing<'_> {
+    /// What is done with the messages of the input of this name.
+    pub(crate) fn doing(self, job: Job, name: &str, is_named: bool) -> Doing<'_> {
+        let work = Work {
+            job,
+            hex: self.hex,
+            name,
+            is_named,
+            compares: self.compares,
+        };
         if self.keep_going {
             Doing::Going(work)
         } else {
@@ -111,7 +154,7 @@ fn line_job(job: Job) -> Option<LineJob>
 }
 
 /// Writes the result of each line of an input to standard output.
-fn each_line<R: Print + Eprint + Input + Files + AllocGlobal>(
+fn print_lines<R: Print + Eprint + Input + Files + AllocGlobal>(
     rt: &R,
     job: LineJob,
     input: &str,
@@ -119,7 +162,8 @@ fn each_line<R: Print + Eprint + Input + Files + AllocGlobal>(
     let output = Output::new();
     let mut source = open(rt, input, &output)?;
     begin_standard(rt, &output)?;
-    let done = put_all(rt, Doing::Lines(job), &mut source, &output);
+    let mut summary = Summary::NONE;
+    let done = put_all(rt, Doing::Lines(job), &mut source, &output, &mut summary);
     output.finish(done)
 }
 
@@ -173,6 +217,7 @@ pub(crate) fn canonicalise<R: Print + Eprint + Input + Files + AllocGlobal>(
     doing: Doing<'_>,
     input: &str,
     name: &str,
+    summary: &mut Summary,
 ) -> Result<Verdict, Fault> {
     // If standard output is closed, the input may be opened in its place: so this is asked first.
     let written = FileId::of_output(rt, name);
@@ -182,20 +227,22 @@ pub(crate) fn canonicalise<R: Print + Eprint + Input + Files + AllocGlobal>(
         return Err(Fault::SameFile);
     }
     let part = begin(rt, &output, name)?;
-    let done = put_all(rt, doing, &mut source, &output);
+    let done = put_all(rt, doing, &mut source, &output, summary);
     output::end(rt, &output, part, name, done)
 }
 
-/// Does a job with an input.
+/// Does a job with an input, and counts its messages.
 pub(crate) fn put_all<'o, R, I: Read, J: Read, S: Write + Drop, F: Write + Drop>(
     rt: &R,
     doing: Doing<'_>,
     source: &mut Shared<'o, I, J, S, F>,
     output: &'o Output<S, F>,
+    summary: &mut Summary,
 ) -> Result<Verdict, Fault>
 where
     R: Eprint + AllocGlobal,
 {
+    summary.add_file();
     let alloc = rt.alloc();
     let mut sink = ToWrite::new(ToOutput {
         output,
@@ -203,12 +250,17 @@ where
         is_direct: matches!(doing, Doing::Lines(_)),
     });
     match doing {
-        Doing::Messages(work) => match run_by::<Shared<'o, I, J, S, F>, AtHand, _>(
-            alloc, work, source, &mut sink,
-        ) {
-            Ok(verdict) => Ok(verdict),
-            Err(fault) => Err(Fault::from(fault)),
-        },
+        Doing::Messages(work) => {
+            let ran = run_by::<Shared<'o, I, J, S, F>, AtHand, _>(alloc, work, source, &mut sink);
+            summary.add(ran.counts);
+            match ran.result {
+                Ok(verdict) => Ok(verdict),
+                Err(fault) => {
+                    summary.add_fault(fault);
+                    Err(Fault::from(fault))
+                }
+            }
+        }
         Doing::Going(work) => {
             let name = work.is_named.then_some(work.name);
             let mut reports = Printed { rt, name };
@@ -219,8 +271,14 @@ where
                 &mut sink,
                 &mut reports,
             ) {
-                Ok(gone) => Ok(verdict_of(gone)),
-                Err(fault) => Err(Fault::from(fault)),
+                Ok(gone) => {
+                    summary.add_gone(gone);
+                    Ok(verdict_of(work.job, gone))
+                }
+                Err(halt) => {
+                    summary.add_gone(halt.before);
+                    Err(Fault::from(halt.fault))
+                }
             }
         }
         Doing::Dump(dump) => match run_dump::<Shared<'o, I, J, S, F>, AtHand, _>(

@@ -10,8 +10,9 @@ use crate::names::{Name, printed};
 use crate::orders::Inputs;
 use crate::output::{Output, begin_standard};
 use crate::same_file::FileId;
+use crate::summary::Summary;
 use ill_dump::Dump;
-use ill_jobs::{Job, Verdict, Work};
+use ill_jobs::{Job, Verdict};
 use std::alloc::{AllocError, Global};
 use std::rt::Files;
 use std::str;
@@ -29,12 +30,7 @@ impl Each {
     fn doing(self, how: How, name: &str, is_named: bool) -> Doing<'_> {
         let hex = how.hex;
         match self {
-            Each::Job(job) => how.doing(Work {
-                job,
-                hex,
-                name,
-                is_named,
-            }),
+            Each::Job(job) => how.doing(job, name, is_named),
             Each::Dump => Doing::Dump(Dump {
                 hex,
                 name,
@@ -50,6 +46,7 @@ pub fn each_input<R: Print + Eprint + Input + Files + AllocGlobal>(
     each: Each,
     how: How,
     inputs: &Inputs<'_>,
+    summary: &mut Summary,
 ) -> u8 {
     let alloc = rt.alloc();
     let list = match list_of(rt, inputs.list) {
@@ -63,8 +60,8 @@ pub fn each_input<R: Print + Eprint + Input + Files + AllocGlobal>(
         return end(rt, &Err(Fault::from(LineFault::SameWord)));
     }
     match names.as_slice() {
-        [name] => end(rt, &one_file(rt, each, how, name, false)),
-        names => each_file(rt, each, how, names),
+        [name] => end(rt, &one_file(rt, each, how, name, false, summary)),
+        names => each_file(rt, each, how, names, summary),
     }
 }
 
@@ -137,12 +134,13 @@ fn each_file<R: Print + Eprint + Input + Files + AllocGlobal>(
     each: Each,
     how: How,
     names: &[&[u8]],
+    summary: &mut Summary,
 ) -> u8
     ensures { IsStatusOfEach (length names.now) result }
 {
     let mut status = 0;
     for name in names {
-        let done = one_file(rt, each, how, name, true);
+        let done = one_file(rt, each, how, name, true, summary);
         if let Err(fault) = &done {
             // Where standard error is closed, the status alone reports it.
             let _ = print_of(rt, name, fault);
@@ -175,6 +173,7 @@ fn one_file<R: Print + Eprint + Input + Files + AllocGlobal>(
     how: How,
     name: &[u8],
     is_named: bool,
+    summary: &mut Summary,
 ) -> Result<Verdict, Fault> {
     let alloc = rt.alloc();
     let file = text_of(alloc, name)?;
@@ -183,7 +182,7 @@ fn one_file<R: Print + Eprint + Input + Files + AllocGlobal>(
     let name = printed(alloc, file).map_err(|_| Fault::out_of_memory())?;
     begin_standard(rt, &output)?;
     let doing = each.doing(how, &name, is_named);
-    let done = put_all(rt, doing, &mut source, &output);
+    let done = put_all(rt, doing, &mut source, &output, summary);
     output.finish(done)
 }
 

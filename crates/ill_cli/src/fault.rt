@@ -32,6 +32,9 @@ pub enum LineFault {
     /// Each line has its result, and none is passed over.
     #[error("--lines excludes --keep-going")]
     LinesAndKeepGoing,
+    /// Each line has its result, and is not counted.
+    #[error("--lines excludes --summary")]
+    LinesAndSummary,
     /// The lines of none or of several files.
     #[error("--lines reads one FILE")]
     NotOneFile,
@@ -173,7 +176,9 @@ pub fn status_of(done: &Result<Verdict, Fault>) -> u8
         Err(Fault::Line(LineFault::SameWord | LineFault::Missing(_) | LineFault::Unexpected(_))) =>
             2,
         Err(Fault::Line(LineFault::LinesAndHex | LineFault::LinesAndKeepGoing)) => 2,
-        Err(Fault::Line(LineFault::NotOneFile) | Fault::SameFile) => 2,
+        Err(Fault::Line(LineFault::LinesAndSummary | LineFault::NotOneFile) | Fault::SameFile) => {
+            2
+        }
         Err(Fault::Run(RunLine(fault))) => run_status(fault),
         Err(Fault::CannotOpen(_) | Fault::CannotReplace(_) | Fault::Flush) => 3,
     }

@@ -1,9 +1,6 @@
 //! The lines of messages that are refused, where the work goes on after them.
-ghost use Rattle.std.specs.Prelude.{◌≡◌, ◌&&◌, ◌==◌};
-ghost use Rattle.ill_jobs.specs.Output.{verdict_if};
-
 use crate::fault::RunLine;
-use ill_jobs::{Gone, Report, Reports, RunFault, Verdict};
+use ill_jobs::{Report, Reports, RunFault};
 use std::fmt;
 
 /// A message that is refused, as one line.
@@ -47,16 +44,5 @@ impl<R: Eprint> Reports for Printed<'_, R> {
             Some(name) => eprintln!(self.rt; "illcanon: {name}: {line}"),
             None => eprintln!(self.rt; "illcanon: {line}"),
         };
-    }
-}
-
-/// What came of an input that was gone through: all is well if no message is refused, and each is as it should be.
-pub fn verdict_of(gone: Gone) -> Verdict
-    ensures { result ≡ verdict_if (gone.all_good && gone.refused == 0) }
-{
-    if gone.all_good && gone.refused == 0 {
-        Verdict::Good
-    } else {
-        Verdict::NotGood
     }
 }

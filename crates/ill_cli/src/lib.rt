@@ -23,6 +23,7 @@ mod orders;
 mod output;
 mod replacement;
 mod same_file;
+mod summary;
 mod topics;
 mod words;
 
@@ -33,3 +34,4 @@ pub use input::Opened;
 pub use line::order;
 pub use names::Name;
 pub use orders::{Inputs, Order, Task, Verb};
+pub use summary::Summary;

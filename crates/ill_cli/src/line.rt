@@ -9,7 +9,7 @@ ghost use Rattle.ill_cli.specs.declared.orders.Inputs.{Inputs};
 ghost use Rattle.ill_cli.specs.declared.orders.Order.{Order};
 ghost use Rattle.ill_cli.specs.declared.orders.Task.{Task};
 ghost use Rattle.ill_cli.specs.declared.orders.Verb.{Verb};
-ghost use Rattle.ill_cli.specs.Orders.{files_in, reads, verb as verb_of_task, verb_name, HasFiles, HasInputs, HasPair, IsBoth, IsOrderOf, IsRead, IsReadAgain, IsTwice, LinesGoOn, NamesNotOne, NamesNothing};
+ghost use Rattle.ill_cli.specs.Orders.{files_in, reads, verb as verb_of_task, verb_name, HasFiles, HasInputs, HasPair, IsBoth, IsOrderOf, IsRead, IsReadAgain, IsTwice, LinesAreCounted, LinesGoOn, NamesNotOne, NamesNothing};
 ghost use Rattle.ill_cli.specs.Refused.{IsFaultOf, IsNotTwo, IsRefusedBy};
 
 use crate::fault::LineFault;
@@ -24,6 +24,9 @@ const HEX: &str = "The input is hexadecimal text, in either case, with or withou
 
 const KEEP_GOING: &str =
     "Reports a message that is refused, and goes on with the next one, where its end is known";
+
+const SUMMARY: &str =
+    "Writes a line to standard error at the end: how many files, messages and octets there were";
 
 const MESSAGES: &str = "The messages; `-` is standard input";
 
@@ -112,6 +115,7 @@ fn by_lines<'a>(
         .after_help(after)
         .arg(flag(alloc, "hex", HEX))?
         .arg(flag(alloc, "keep-going", KEEP_GOING))?
+        .arg(flag(alloc, "summary", SUMMARY))?
         .arg(flag(alloc, "lines", LINES))
 }
 
@@ -131,11 +135,9 @@ fn on_each_or_lines<'a>(
 fn show<'a>(alloc: Global) -> Result<Command<'a>, AllocError>
     ensures { IfOk result (λ c. (app_of c ≡ each_going (codes "show")) × ((fields_of c).has_globals ≡ false)) }
 {
-    on_each(alloc, "show", "Writes the messages as text", help::SHOW)?.arg(flag(
-        alloc,
-        "keep-going",
-        KEEP_GOING,
-    ))
+    on_each(alloc, "show", "Writes the messages as text", help::SHOW)?
+        .arg(flag(alloc, "keep-going", KEEP_GOING))?
+        .arg(flag(alloc, "summary", SUMMARY))
 }
 
 fn check<'a>(alloc: Global) -> Result<Command<'a>, AllocError>
@@ -222,15 +224,16 @@ fn program<'a>(alloc: Global) -> Result<Command<'a>, AllocError>
 ///
 /// What `clap` reports of words that are no command line, or that ask for help. Or a file is missing, or `canonicalise` has a word more
 /// than IN and OUT. Or two files are named by the same word: `-` for a file that is read, any but `-` for `canonicalise`. Or `--lines`
-/// has no file, several, or a list, or is given with `--hex` or `--keep-going`.
+/// has no file, several, or a list, or is given with `--hex`, `--keep-going` or `--summary`.
 pub fn order<'a>(alloc: Global, words: &'a [String]) -> Result<Order<'a>, LineFault>
     // The words have the order's command, flags and files; standard input is not read twice, no file is written that is read by the same
-    // word, and there are files. Lines are those of one file, are no hexadecimal text, and have no messages to pass over.
+    // word, and there are files. Lines are those of one file, are no hexadecimal text, have no messages to pass over, and are not counted.
     ensures order { IfOk result (IsOrderOf (subcommand_of program (map string_bytes words.entry.now))) }
     ensures not_twice { IfOk result (λ order. IsTwice order → ⊥) }
     ensures some { IfOk result (λ order. NamesNothing order → ⊥) }
     ensures not_both { IfOk result (λ order. IsBoth order → ⊥) }
     ensures not_on { IfOk result (λ order. LinesGoOn order → ⊥) }
+    ensures not_counted { IfOk result (λ order. LinesAreCounted order → ⊥) }
     ensures one { IfOk result (λ order. NamesNotOne order → ⊥) }
     ensures fault { IfErr result (IsFaultOf (subcommand_of program (map string_bytes words.entry.now))) }
     // What clap finds wrong is refused, and nothing else, unless memory runs out.
@@ -254,6 +257,9 @@ pub fn order<'a>(alloc: Global, words: &'a [String]) -> Result<Order<'a>, LineFa
     }
     if order.lines && order.keep_going {
         return Err(LineFault::LinesAndKeepGoing);
+    }
+    if order.lines && order.summary {
+        return Err(LineFault::LinesAndSummary);
     }
     if names_not_one(&order) {
         return Err(LineFault::NotOneFile);
@@ -459,6 +465,7 @@ fn order_of<'a>(alloc: Global, matches: &ArgMatches<'a>) -> Result<Option<Order<
         hex: words.get_flag("hex"),
         lines: words.get_flag("lines"),
         keep_going: words.get_flag("keep-going"),
+        summary: words.get_flag("summary"),
         task,
     }))
 }

@@ -1,5 +1,7 @@
 -- Messages that are gone through, one after another.
-use Rattle.std.proofs.Common.{◌≡◌, ℕ, suc, ◌+◌, ◌<◌, ◌≤◌, Bool, true, false, ◌&&◌, List, [], ◌∷◌, ◌++◌, length, take, Option, Some, None, IsTrue, refl, sym, ap, subst, ◌∙◌, arith, inl, inr, append_assoc, append-nil, length-append}
+use Rattle.std.proofs.Common.{◌≡◌, ℕ, suc, ◌+◌, ◌<◌, ◌≤◌, Bool, true, false, ◌&&◌, List, [], ◌∷◌, ◌++◌, length, take, Option, Some, None, IsTrue, refl, sym, ap, ap₂, subst, ◌∙◌, arith, inl, inr, nat_eq, append_assoc, append-nil, length-append}
+use Rattle.std.proofs.Math.Dec.{eqb-suc-suc}
+use Rattle.std.proofs.Math.Nat.{min-eq_left}
 use Rattle.std.specs.Io.KnownBytes.{Consumes, Keeps, Appends, IsAtEnd}
 use Rattle.std.proofs.KnownBytes.{Consumes-nil, Consumes-trans, Consumes-kept, Keeps-refl, Appends-nil, Appends-trans}
 use Rattle.ber_leaf.specs.Profile.{profile_two}
@@ -8,14 +10,16 @@ use Rattle.ill_schema.specs.declared.refusal.Refusal.{Refusal}
 use Rattle.ill_schema.specs.Apdu.{SpellsApdu}
 use Rattle.ill_schema.proofs.Streams.{accepts_some}
 use Rattle.ill_normal.specs.Calls.{taking, putting}
-use Rattle.ill_normal.specs.Messages.{Spelling, spelling, Makes}
+use Rattle.ill_normal.specs.Messages.{Spelling, spelling, counted, position, first, after, one_if, Makes, BreaksWithin}
+use Rattle.ill_normal.proofs.WrittenMessages.{all_counted, counted_left, counted_right, one_bound}
+use Rattle.ill_normal.specs.declared.messages.Position.{Position}
 use Rattle.ill_normal.specs.declared.messages.Piece.{Piece}
 use Rattle.ill_going.specs.declared.report.Report.{Report}
 use Rattle.ill_going.specs.declared.going.Why.{Why}
-use Rattle.ill_going.specs.Items.{Item, good, bad, IsRefusedFor, AreItems, written_from, report, reports_from, all_good, Adds}
+use Rattle.ill_going.specs.Items.{Item, good, bad, IsRefusedFor, AreItems, item_octets, position_past, written_of, written_from, report, reports_from, good_in, all_good, Adds}
 use Rattle.ill_going.specs.Gone.{Reporting, reporting, Goes, HasNoEnd, GoesThrough, part_of, Halts, HaltsAfter}
 use Rattle.ill_going.specs.code.Taking.{TakesPart}
-use Rattle.ill_going.specs.code.Ending.{GoesOn, why_of}
+use Rattle.ill_going.specs.code.Ending.{GoesOn, gone_to, halted_at, why_of}
 use Rattle.ill_going.specs.declared.next.Unread.{Unread}
 
 pub adds_none : (r : Option (List Report)) → Adds r r []
@@ -27,6 +31,13 @@ adds_more None new next xs ys h k = tt
 adds_more (Some a) None next xs ys h k = absurd h
 adds_more (Some a) (Some b) None xs ys h k = absurd k
 adds_more (Some a) (Some b) (Some c) xs ys h k = k ∙ ap (λ z. z ++ ys) h ∙ append_assoc a xs ys
+
+-- one message more that is refused
+lost_all : (r g n : ℕ) → nat_eq (r + 1 + g) (n + 1) ≡ nat_eq (r + g) n
+lost_all r g n =
+    let a : r + 1 + g ≡ suc (r + g) = omega arith in
+    let b : n + 1 ≡ suc n = omega arith in
+    ap₂ (λ (x y : ℕ). nat_eq x y) a b ∙ eqb-suc-suc (r + g) n
 
 -- an item that is right for its octets
 abbrev Is : Item → List ℕ → Type 0
@@ -43,16 +54,17 @@ items_more s b (good m ∷ items) x h k = (h.0 ++ b, ap (λ z. z ++ b) h.1 ∙ a
 items_more s b (bad octets refusal ∷ items) x h k =
     (h.0 ++ b, ap (λ z. z ++ b) h.1 ∙ append_assoc octets h.0 b, h.2, h.3, items_more h.0 b items x h.4 k)
 
-module _ (text : ℕ → Spelling → List ℕ) where
-  written_push : (i : ℕ) (items : List Item) (x : Item) → written_from text i (items ++ x ∷ []) ≡ written_from text i items ++ written_from text (i + length items) (x ∷ [])
-  written_push i [] x = let e : i ≡ i + 0 = omega arith in ap (λ (n : ℕ). written_from text n (x ∷ [])) e
-  written_push i (good m ∷ items) x =
-      let e : suc i + length items ≡ i + suc (length items) = omega arith in
-      ap (λ z. text i m ++ z) (written_push (suc i) items x ∙ ap (λ (n : ℕ). written_from text (suc i) items ++ written_from text n (x ∷ [])) e)
-      ∙ sym (append_assoc (text i m) (written_from text (suc i) items) (written_from text (i + suc (length items)) (x ∷ [])))
-  written_push i (bad octets refusal ∷ items) x =
-      let e : suc i + length items ≡ i + suc (length items) = omega arith in
-      written_push (suc i) items x ∙ ap (λ (n : ℕ). written_from text (suc i) items ++ written_from text n (x ∷ [])) e
+module _ (text : Position → Spelling → List ℕ) where
+  written_push : (p : Position) (items : List Item) (x : Item) → written_from text p (items ++ x ∷ []) ≡ written_from text p items ++ written_of (text (position_past p items)) x
+  written_push p [] x = append-nil (written_of (text p) x)
+  written_push p (y ∷ items) x =
+      let next = after p (length (item_octets y)) in
+      ap (λ z. written_of (text p) y ++ z) (written_push next items x)
+      ∙ sym (append_assoc (written_of (text p) y) (written_from text next items) (written_of (text (position_past next items)) x))
+
+past_push : (p : Position) (items : List Item) (x : Item) → position_past p (items ++ x ∷ []) ≡ after (position_past p items) (length (item_octets x))
+past_push p [] x = refl
+past_push p (y ∷ items) x = past_push (after p (length (item_octets y))) items x
 
 reports_push : (i : ℕ) (items : List Item) (x : Item) → reports_from i (items ++ x ∷ []) ≡ reports_from i items ++ reports_from (i + length items) (x ∷ [])
 reports_push i [] x = let e : i ≡ i + 0 = omega arith in ap (λ (n : ℕ). reports_from n (x ∷ [])) e
@@ -63,67 +75,98 @@ reports_push i (bad octets refusal ∷ items) x =
     let e : suc i + length items ≡ i + suc (length items) = omega arith in
     ap (λ z. report i refusal true ∷ z) (reports_push (suc i) items x ∙ ap (λ (n : ℕ). reports_from (suc i) items ++ reports_from n (x ∷ [])) e)
 
--- all are good so far, and one more is or isn't
-abbrev pub next_good : Bool → Bool → Bool
-next_good so_far true = so_far
-next_good so_far false = false
-
-alone : (b : Bool) → (b && true) ≡ next_good true b
-alone true = refl
-alone false = refl
-
-later : (a b c : Bool) → (a && next_good b c) ≡ next_good (a && b) c
-later true b c = refl
-later false b true = refl
-later false b false = refl
-
-good_push : (p : Spelling → Bool) (items : List Item) (m : Spelling) → all_good p (items ++ good m ∷ []) ≡ next_good (all_good p items) (p m)
-good_push p [] m = alone (p m)
-good_push p (good x ∷ items) m = ap (λ b. p x && b) (good_push p items m) ∙ later (p x) (all_good p items) (p m)
+good_push : (p : Spelling → Bool) (items : List Item) (m : Spelling) → good_in p (items ++ good m ∷ []) ≡ good_in p items + one_if (p m)
+good_push p [] m = omega arith
+good_push p (good x ∷ items) m = omega (arith, good_push p items m)
 good_push p (bad octets refusal ∷ items) m = good_push p items m
 
-bad_push : (p : Spelling → Bool) (items : List Item) (octets : List ℕ) (refusal : Refusal) → all_good p (items ++ bad octets refusal ∷ []) ≡ all_good p items
+bad_push : (p : Spelling → Bool) (items : List Item) (octets : List ℕ) (refusal : Refusal) → good_in p (items ++ bad octets refusal ∷ []) ≡ good_in p items
 bad_push p [] octets refusal = refl
-bad_push p (good x ∷ items) octets refusal = ap (λ b. p x && b) (bad_push p items octets refusal)
+bad_push p (good x ∷ items) octets refusal = ap (λ (n : ℕ). one_if (p x) + n) (bad_push p items octets refusal)
 bad_push p (bad o r ∷ items) octets refusal = bad_push p items octets refusal
 
--- `before` messages were gone through, of which some were refused, whose output has `written` octets, and whether all others were good
-pub record Reached (text : ℕ → Spelling → List ℕ) (is_good : Spelling → Bool) (left left' held held' : Option (List ℕ)) (reports : Reporting) (before refused written : ℕ) (all : Bool) : Type 0 where
+-- no more are refused or good than there are
+sum_bound : (p : Spelling → Bool) (i : ℕ) (items : List Item) → length (reports_from i items) + good_in p items ≤ length items
+sum_bound p i [] = omega arith
+sum_bound p i (good m ∷ items) = omega (arith, one_bound (p m), sum_bound p (suc i) items)
+sum_bound p i (bad octets refusal ∷ items) = omega (arith, sum_bound p (suc i) items)
+
+counted_good : (b rest : Bool) (r g n : ℕ) → r + g ≤ n → nat_eq (r + g) n ≡ rest → nat_eq (r + (one_if b + g)) (suc n) ≡ (b && rest)
+counted_good b rest r g n le e =
+    let sum : r + (one_if b + g) ≡ one_if b + (r + g) = omega arith in
+    ap (λ (k : ℕ). nat_eq k (suc n)) sum ∙ all_counted b rest (r + g) n le e
+
+-- all that aren't refused are good exactly if as many are refused or good as there are
+counted_all : (p : Spelling → Bool) (i : ℕ) (items : List Item) → nat_eq (length (reports_from i items) + good_in p items) (length items) ≡ all_good p items
+counted_all p i [] = refl
+counted_all p i (good m ∷ items) =
+    counted_good (p m) (all_good p items) (length (reports_from (suc i) items)) (good_in p items) (length items) (sum_bound p (suc i) items) (counted_all p (suc i) items)
+counted_all p i (bad octets refusal ∷ items) =
+    let refused = length (reports_from (suc i) items) in
+    let more : suc refused + good_in p items ≡ suc (refused + good_in p items) = omega arith in
+    ap (λ (k : ℕ). nat_eq k (suc (length items))) more ∙ eqb-suc-suc (refused + good_in p items) (length items) ∙ counted_all p (suc i) items
+
+-- `before` messages were gone through, of which some were refused and some good, whose output has `written` octets; the next one is at `offset`
+pub record Reached (text : Position → Spelling → List ℕ) (is_good : Spelling → Bool) (left left' held held' : Option (List ℕ)) (reports : Reporting) (before refused good_ones offset written : ℕ) : Type 0 where
   pub items : List Item
   pub goes : Goes text left left' held held' reports items
   pub count : before ≡ length items
   pub bad_ones : refused ≡ length (reports_from 1 items)
-  pub size : written ≡ length (written_from text 1 items)
-  pub all_are : all ≡ all_good is_good items
+  pub good_are : good_ones ≡ good_in is_good items
+  pub input : offset ≡ counted (length goes.octets)
+  pub next : position_past first items ≡ position (before + 1) offset
+  pub size : written ≡ length (written_from text first items)
 
-pub reached_none : (text : ℕ → Spelling → List ℕ) (is_good : Spelling → Bool) (left held : Option (List ℕ)) (r : Option (List Report)) → Reached text is_good left left held held (reporting r r) 0 0 0 true
+pub reached_none : (text : Position → Spelling → List ℕ) (is_good : Spelling → Bool) (left held : Option (List ℕ)) (r : Option (List Report)) → Reached text is_good left left held held (reporting r r) 0 0 0 0 0
 reached_none text is_good left held r = record {
   items = [];
   goes = record { octets = []; are = refl; taken = Consumes-nil left; written = Appends-nil held; reported = adds_none r };
   count = refl;
   bad_ones = refl;
+  good_are = refl;
+  input = refl;
+  next = refl;
   size = refl;
-  all_are = refl;
 }
 
--- the octets of the next message were taken, and the piece was made of them
-abbrev pub Made : {T : Type 0} → (T → List ℕ → Type 0) → (ℕ → Spelling → List ℕ) → (Spelling → Bool) → ℕ → Option (List ℕ) → Option (List ℕ) → Piece T → Type 0
-Made is text is_good i left left' piece = (b : List ℕ) × Consumes left left' b × Makes is (text i) is_good piece b
+-- no more are refused or good than were gone through
+pub reached_sum : (text : Position → Spelling → List ℕ) (is_good : Spelling → Bool) (left left' held held' : Option (List ℕ)) (reports : Reporting) (before refused good_ones offset written : ℕ)
+    → Reached text is_good left left' held held' reports before refused good_ones offset written → refused + good_ones ≤ before
+reached_sum text is_good left left' held held' reports before refused good_ones offset written r = omega (arith, r.count, r.bad_ones, r.good_are, sum_bound is_good 1 r.items)
 
-module _ (text : ℕ → Spelling → List ℕ) (is_good : Spelling → Bool) (left left' left'' held held' held'' : Option (List ℕ)) (old new next : Option (List Report)) (before refused written : ℕ) (all : Bool)
-    (r : Reached text is_good left left' held held' (reporting old new) before refused written all) where
-  pushed : (x : Item) → written_from text 1 (r.items ++ x ∷ []) ≡ written_from text 1 r.items ++ written_from text (before + 1) (x ∷ [])
-  pushed x =
-      let e : 1 + length r.items ≡ before + 1 = omega (arith, r.count) in
-      written_push text 1 r.items x ∙ ap (λ (n : ℕ). written_from text 1 r.items ++ written_from text n (x ∷ [])) e
+-- the octets of the next message were taken, and the piece was made of them
+abbrev pub Made : {T : Type 0} → (T → List ℕ → Type 0) → (Position → Spelling → List ℕ) → (Spelling → Bool) → Position → Option (List ℕ) → Option (List ℕ) → Piece T → Type 0
+Made is text is_good p left left' piece = (b : List ℕ) × Consumes left left' b × Makes is (text p) is_good piece b
+
+module _ (text : Position → Spelling → List ℕ) (is_good : Spelling → Bool) (left left' left'' held held' held'' : Option (List ℕ)) (old new next : Option (List Report)) (before refused good_ones offset written : ℕ)
+    (r : Reached text is_good left left' held held' (reporting old new) before refused good_ones offset written) where
+  here : Position
+  here = position (before + 1) offset
+
+  pushed : (x : Item) → written_from text first (r.items ++ x ∷ []) ≡ written_from text first r.items ++ written_of (text here) x
+  unfolding here
+  pushed x = written_push text first r.items x ∙ ap (λ (p : Position). written_from text first r.items ++ written_of (text p) x) r.next
+
+  -- the offset after an item whose octets were counted
+  offset_more : (x : Item) (b : List ℕ) (n : ℕ) → n ≡ counted (length b) → item_octets x ≡ b
+      → (counted (offset + n) ≡ counted (length (r.goes.octets ++ b))) × (position_past first (r.items ++ x ∷ []) ≡ position (before + 2) (counted (offset + n)))
+  offset_more x b n e f =
+      let sum : counted (offset + n) ≡ counted (offset + length b) = ap (λ (k : ℕ). counted (offset + k)) e ∙ counted_right offset (length b) in
+      let all : counted (offset + length b) ≡ counted (length (r.goes.octets ++ b)) =
+      ap (λ (k : ℕ). counted (k + length b)) r.input ∙ counted_left (length r.goes.octets) (length b) ∙ ap counted (sym (length-append r.goes.octets b)) in
+      let number : before + 1 + 1 ≡ before + 2 = omega arith in (
+        sum ∙ all,
+        past_push first r.items x ∙ ap₂ after r.next (ap length f) ∙ ap (λ (k : ℕ). position k (counted (offset + length b))) number ∙ ap (position (before + 2)) (sym sum),
+      )
 
   reported : (x : Item) → reports_from 1 (r.items ++ x ∷ []) ≡ reports_from 1 r.items ++ reports_from (before + 1) (x ∷ [])
   reported x =
       let e : 1 + length r.items ≡ before + 1 = omega (arith, r.count) in
       reports_push 1 r.items x ∙ ap (λ (n : ℕ). reports_from 1 r.items ++ reports_from n (x ∷ [])) e
 
-  goes_more : (x : Item) (b : List ℕ) → Is x b → Consumes left' left'' b → Appends held' held'' (written_from text (before + 1) (x ∷ [])) → Adds new next (reports_from (before + 1) (x ∷ []))
+  goes_more : (x : Item) (b : List ℕ) → Is x b → Consumes left' left'' b → Appends held' held'' (written_of (text (position (before + 1) offset)) x) → Adds new next (reports_from (before + 1) (x ∷ []))
       → Goes text left left'' held held'' (reporting old next) (r.items ++ x ∷ [])
+  unfolding here
   goes_more x b is c w a = record {
     octets = r.goes.octets ++ b;
     are = items_more r.goes.octets b r.items x r.goes.are is;
@@ -133,86 +176,118 @@ module _ (text : ℕ → Spelling → List ℕ) (is_good : Spelling → Bool) (l
   }
 
   -- a message was written
-  pub reached_good : {T : Type 0} (is : T → List ℕ → Type 0) (piece : Piece T) (p : Made is text is_good (before + 1) left' left'' piece) (size : ℕ)
-      → size ≡ length (text (before + 1) (spelling p.2.apdu p.0)) → Appends held' held'' (text (before + 1) (spelling p.2.apdu p.0)) → new ≡ next
-      → Reached text is_good left left'' held held'' (reporting old next) (before + 1) refused (written + size) (next_good all piece.is_good)
+  pub reached_good : {T : Type 0} (is : T → List ℕ → Type 0) (piece : Piece T) (p : Made is text is_good (position (before + 1) offset) left' left'' piece) (size : ℕ)
+      → size ≡ length (text (position (before + 1) offset) (spelling p.2.apdu p.0)) → Appends held' held'' (text (position (before + 1) offset) (spelling p.2.apdu p.0)) → new ≡ next
+      → Reached text is_good left left'' held held'' (reporting old next) (before + 1) refused (good_ones + one_if piece.is_good) (counted (offset + piece.octets)) (written + size)
+  unfolding here goes_more
   reached_good is piece p size n w e =
       let m : Spelling = spelling p.2.apdu p.0 in
       let x = good m in
-      let one : text (before + 1) m ≡ written_from text (before + 1) (x ∷ []) = sym (append-nil (text (before + 1) m)) in
+      let short : length p.0 ≤ 1_048_576 = p.2.spells.encodes.short in
+      let more = offset_more x p.0 piece.octets (p.2.size ∙ sym (min-eq_left (omega (arith, short)))) refl in
       record {
         items = r.items ++ x ∷ [];
-        goes = goes_more x p.0 (refl, p.2.spells) p.1 (subst (Appends held' held'') one w) (subst (λ (z : Option (List Report)). Adds new z []) e (adds_none new));
+        goes = goes_more x p.0 (refl, p.2.spells) p.1 w (subst (λ (z : Option (List Report)). Adds new z []) e (adds_none new));
         count = omega (arith, r.count, length-append r.items (x ∷ []));
         bad_ones = r.bad_ones ∙ sym (ap length (reported x ∙ append-nil (reports_from 1 r.items)));
-        size = omega (arith, r.size, n, ap length (pushed x), ap length one, length-append (written_from text 1 r.items) (written_from text (before + 1) (x ∷ [])));
-        all_are = ap (λ (b : Bool). next_good b piece.is_good) r.all_are ∙ ap (λ (b : Bool). next_good (all_good is_good r.items) b) p.2.good ∙ sym (good_push is_good r.items m);
+        good_are = omega (arith, r.good_are, ap one_if p.2.good, good_push is_good r.items m);
+        input = more.0;
+        next = more.1 ∙ ap (λ (k : ℕ). position k (counted (offset + piece.octets))) (let e : before + 2 ≡ before + 1 + 1 = omega arith in e);
+        size = omega (arith, r.size, n, ap length (pushed x), length-append (written_from text first r.items) (text (position (before + 1) offset) m));
       }
 
   -- a message was refused, and reported
-  pub reached_bad : (b : List ℕ) (refusal : Refusal) → Consumes left' left'' b → IsRefusedFor b refusal → IsFrame b → held' ≡ held'' → Adds new next (report (before + 1) refusal true ∷ [])
-      → Reached text is_good left left'' held held'' (reporting old next) (before + 1) (refused + 1) written all
-  reached_bad b refusal c is frame same a =
+  pub reached_bad : (b : List ℕ) (refusal : Refusal) (n : ℕ) → n ≡ counted (length b) → Consumes left' left'' b → IsRefusedFor b refusal → IsFrame b → held' ≡ held'' → Adds new next (report (before + 1) refusal true ∷ [])
+      → Reached text is_good left left'' held held'' (reporting old next) (before + 1) (refused + 1) good_ones (counted (offset + n)) written
+  unfolding here goes_more
+  reached_bad b refusal n e c is frame same a =
       let x = bad b refusal in
+      let more = offset_more x b n e refl in
       record {
         items = r.items ++ x ∷ [];
         goes = goes_more x b (refl, frame, is) c (subst (λ (z : Option (List ℕ)). Appends held' z []) same (Appends-nil held')) a;
         count = omega (arith, r.count, length-append r.items (x ∷ []));
         bad_ones = omega (arith, r.bad_ones, ap length (reported x), length-append (reports_from 1 r.items) (report (before + 1) refusal true ∷ []));
-        size = r.size ∙ sym (ap length (pushed x ∙ append-nil (written_from text 1 r.items)));
-        all_are = r.all_are ∙ sym (bad_push is_good r.items b refusal);
+        good_are = r.good_are ∙ sym (bad_push is_good r.items b refusal);
+        input = more.0;
+        next = more.1 ∙ ap (λ (k : ℕ). position k (counted (offset + n))) (let e : before + 2 ≡ before + 1 + 1 = omega arith in e);
+        size = r.size ∙ sym (ap length (pushed x ∙ append-nil (written_from text first r.items)));
       }
 
   module _ (x y : Bool) where
     -- nothing was left
     pub through_end : (n : ℕ) → n ≡ before → n ≤ 1_000_000 → Consumes left' left'' [] → IsAtEnd left'' → held' ≡ held'' → new ≡ next
-        → GoesThrough text is_good (taking left left'' x) (putting held held'' y) (reporting old next) (record { messages = n; refused = refused; all_good = all })
+        → GoesThrough text is_good (taking left left'' x) (putting held held'' y) (reporting old next) (gone_to n refused good_ones offset)
     through_end n same le c e h k = record {
       items = r.items;
       rest = left';
       reported = new;
-      goes = subst (λ (z : Option (List ℕ)). Goes text left left' held z (reporting old new) r.items) h r.goes;
+      goes = record {
+        octets = r.goes.octets;
+        are = r.goes.are;
+        taken = r.goes.taken;
+        written = subst (λ (z : Option (List ℕ)). Appends held z (written_from text first r.items)) h r.goes.written;
+        reported = r.goes.reported;
+      };
       ends = inl (record { none = c; end = e; reported = subst (λ (z : Option (List Report)). Adds new z []) k (adds_none new) }, same ∙ r.count, r.bad_ones);
       few = le;
-      all = r.all_are;
+      good = r.good_are;
+      octets = r.input;
+      all = ap₂ (λ (a b : ℕ). nat_eq a b) (ap₂ (λ (a b : ℕ). a + b) r.bad_ones r.good_are) (same ∙ r.count) ∙ counted_all is_good 1 r.items;
     }
 
     -- a message was refused whose end can't be known
     pub through_lost : (b : List ℕ) (refusal : Refusal) → before < 1_000_000 → Consumes left' left'' b → IsRefusedFor b refusal → HasNoEnd b left'' → held' ≡ held''
         → Adds new next (report (before + 1) refusal false ∷ [])
-        → GoesThrough text is_good (taking left left'' x) (putting held held'' y) (reporting old next) (record { messages = before + 1; refused = refused + 1; all_good = all })
+        → GoesThrough text is_good (taking left left'' x) (putting held held'' y) (reporting old next) (gone_to (before + 1) (refused + 1) good_ones offset)
     through_lost b refusal lt c is no_end h a =
         let number : before + 1 ≡ length r.items + 1 = omega (arith, r.count) in
         record {
           items = r.items;
           rest = left';
           reported = new;
-          goes = subst (λ (z : Option (List ℕ)). Goes text left left' held z (reporting old new) r.items) h r.goes;
+          goes = record {
+        octets = r.goes.octets;
+        are = r.goes.are;
+        taken = r.goes.taken;
+        written = subst (λ (z : Option (List ℕ)). Appends held z (written_from text first r.items)) h r.goes.written;
+        reported = r.goes.reported;
+      };
           ends = inr (
             record { octets = b; refusal = refusal; taken = c; no_end = no_end; refused = is; reported = subst (λ (n : ℕ). Adds new next (report n refusal false ∷ [])) number a },
             number,
             omega (arith, r.bad_ones),
           );
           few = omega arith;
-          all = r.all_are;
+          good = r.good_are;
+          octets = r.input;
+          all = lost_all refused good_ones before ∙ ap₂ (λ (a b : ℕ). nat_eq a b) (ap₂ (λ (a b : ℕ). a + b) r.bad_ones r.good_are) r.count ∙ counted_all is_good 1 r.items;
         }
 
-    halts : (n written' : ℕ) (why : Why) → n ≡ before → new ≡ next → written' ≡ length (written_from text 1 r.items) + part_of why
-        → Halts text (taking left' left'' x) (putting held' held'' y) n why
-        → HaltsAfter text (taking left left'' x) (putting held held'' y) (reporting old next) (record { messages = n; refused = refused; written = written'; why = why })
+    halts : (n written' : ℕ) (why : Why) → n ≡ before → new ≡ next → written' ≡ length (written_from text first r.items) + part_of why
+        → Halts text (taking left' left'' x) (putting held' held'' y) n (position_past first r.items) why
+        → HaltsAfter text is_good (taking left left'' x) (putting held held'' y) (reporting old next) (halted_at n refused good_ones offset written' why)
     halts n written' why same k size h = record {
       items = r.items;
       rest = left';
       grown = held';
-      goes = subst (λ (z : Option (List Report)). Goes text left left' held held' (reporting old z) r.items) k r.goes;
+      goes = record {
+        octets = r.goes.octets;
+        are = r.goes.are;
+        taken = r.goes.taken;
+        written = r.goes.written;
+        reported = subst (λ (z : Option (List Report)). Adds old z (reports_from 1 r.items)) k r.goes.reported;
+      };
       messages = same ∙ r.count;
       refused = r.bad_ones;
+      good = r.good_are;
+      octets = r.input;
       written = size;
       halts = h;
     }
 
     pub halts_unread : (u : Unread) → before < 1_000_000 → held' ≡ held'' → new ≡ next → (u ≡ Unread.Broken → IsTrue x × TakesPart left' left'')
-        → HaltsAfter text (taking left left'' x) (putting held held'' y) (reporting old next) (record { messages = before; refused = refused; written = written; why = why_of u })
+        → HaltsAfter text is_good (taking left left'' x) (putting held held'' y) (reporting old next) (halted_at before refused good_ones offset written (why_of u))
     halts_unread Unread.OutOfMemory lt h k broken =
         halts before written Why.OutOfMemory refl k (omega (arith, r.size)) (lt, subst (λ (z : Option (List ℕ)). Keeps held' z) h (Keeps-refl held'))
     halts_unread Unread.Broken lt h k broken =
@@ -220,16 +295,19 @@ module _ (text : ℕ → Spelling → List ℕ) (is_good : Spelling → Bool) (l
         halts before written Why.ReadFault refl k (omega (arith, r.size))
         (omega arith, b.0, (b.1.octets, b.1.taken, b.1.unfinished), subst (λ (z : Option (List ℕ)). Keeps held' z) h (Keeps-refl held'))
 
-    pub halts_writing : {T : Type 0} (is : T → List ℕ → Type 0) (piece : Piece T) (n written' : ℕ) → before < 1_000_000 → written' ≡ written + n → (p : Made is text is_good (before + 1) left' left'' piece)
-        → Appends held' held'' (take n (text (before + 1) (spelling p.2.apdu p.0))) → n < length (text (before + 1) (spelling p.2.apdu p.0)) → IsTrue y → new ≡ next
-        → HaltsAfter text (taking left left'' x) (putting held held'' y) (reporting old next) (record { messages = before; refused = refused; written = written'; why = Why.WriteFault n })
+    pub halts_writing : {T : Type 0} (is : T → List ℕ → Type 0) (piece : Piece T) (n written' : ℕ) → before < 1_000_000 → written' ≡ written + n → (p : Made is text is_good (position (before + 1) offset) left' left'' piece)
+        → Appends held' held'' (take n (text (position (before + 1) offset) (spelling p.2.apdu p.0))) → n < length (text (position (before + 1) offset) (spelling p.2.apdu p.0)) → IsTrue y → new ≡ next
+        → HaltsAfter text is_good (taking left left'' x) (putting held held'' y) (reporting old next) (halted_at before refused good_ones offset written' (Why.WriteFault n))
     halts_writing is piece n written' lt sum p w fewer broken k =
-        halts before written' (Why.WriteFault n) refl k (omega (arith, sum, r.size))
-        (lt, record { message = spelling p.2.apdu p.0; spells = p.2.spells; taken = p.1; written = w; fewer = fewer; broken = broken })
+        halts before written' (Why.WriteFault n) refl k (omega (arith, sum, r.size)) (
+          lt,
+          subst (λ (q : Position). BreaksWithin (text q) (taking left' left'' x) (putting held' held'' y) n) (sym r.next)
+              (record { message = spelling p.2.apdu p.0; spells = p.2.spells; taken = p.1; written = w; fewer = fewer; broken = broken }),
+        )
 
     -- after the last message that an input may have an octet was taken, or the source broke
     pub halts_at_last : (n : ℕ) (why : Why) → n ≡ before → n ≡ 1_000_000 → held' ≡ held'' → new ≡ next → GoesOn left' left'' x why
-        → HaltsAfter text (taking left left'' x) (putting held held'' y) (reporting old next) (record { messages = n; refused = refused; written = written; why = why })
+        → HaltsAfter text is_good (taking left left'' x) (putting held held'' y) (reporting old next) (halted_at n refused good_ones offset written why)
     halts_at_last n Why.TooMany same last h k e =
         halts n written Why.TooMany same k (omega (arith, r.size)) (last, e, subst (λ (z : Option (List ℕ)). Keeps held' z) h (Keeps-refl held'))
     halts_at_last n Why.ReadFault same last h k e =

@@ -1,5 +1,5 @@
 -- An input is messages in one way.
-use Rattle.std.proofs.Common.{◌≡◌, ◌≢◌, ℕ, suc, ◌<◌, ◌≤◌, List, [], ◌∷◌, ◌++◌, length, take, drop, Some, refl, sym, ap, ap₂, subst, ◌∙◌, arith, inl, inr, append_assoc, append-nil, length-append}
+use Rattle.std.proofs.Common.{◌≡◌, ◌≢◌, ℕ, ◌<◌, ◌≤◌, List, [], ◌∷◌, ◌++◌, length, take, drop, Some, refl, sym, ap, ap₂, subst, ◌∙◌, arith, inl, inr, append_assoc, append-nil, length-append}
 use Rattle.std.proofs.lemmas.List.{append_cancel_left, take_all, take-append-drop}
 use Rattle.ber_leaf.specs.Profile.{profile_two}
 use Rattle.ber_frame.specs.Framed.{IsFrame}
@@ -11,20 +11,22 @@ use Rattle.ill_refusals.specs.Fault.{Fault, fault_of, Refuses}
 use Rattle.ill_schema.specs.declared.refusal.Cause.{Cause}
 use Rattle.ill_refusals.proofs.Prefixes.{refusal_stays}
 use Rattle.ill_refusals.specs.Outcome.{OnlyRefuses}
-use Rattle.ill_normal.specs.Messages.{Spelling, output_from}
+use Rattle.ill_normal.specs.Messages.{Spelling, first, after, output_from}
+use Rattle.ill_normal.specs.declared.messages.Position.{Position}
 use Rattle.ill_normal.proofs.Canonical.{spells_once, refuses_whole}
 use Rattle.ill_going.specs.Items.{Item, good, bad, AreItems, written_from, good_ones, HasNoMore, IsRefusedFor}
 use Rattle.ill_going.proofs.TakenElements.{spelling_framed, none_begins}
 
-module _ (text : ℕ → Spelling → List ℕ) (same : (j k : ℕ) (m : Spelling) → text j m ≡ text k m) where
-  output_at : (i j : ℕ) (ms : List Spelling) → output_from text i ms ≡ output_from text j ms
-  output_at i j [] = refl
-  output_at i j (m ∷ ms) = ap₂ (λ (a b : List ℕ). a ++ b) (same i j m) (output_at (suc i) (suc j) ms)
+module _ (text : Position → Spelling → List ℕ) (same : (q r : Position) (m : Spelling) → text q m ≡ text r m) where
+  output_at : (p q : Position) (ms : List Spelling) → output_from text p ms ≡ output_from text q ms
+  output_at p q [] = refl
+  output_at p q (m ∷ ms) = ap₂ (λ (a b : List ℕ). a ++ b) (same p q m) (output_at (after p (length m.octets)) (after q (length m.octets)) ms)
 
-  pub good_written : (i : ℕ) (items : List Item) → written_from text i items ≡ output_from text 1 (good_ones items)
-  good_written i [] = refl
-  good_written i (good m ∷ items) = ap₂ (λ (a b : List ℕ). a ++ b) (same i 1 m) (good_written (suc i) items ∙ output_at 1 2 (good_ones items))
-  good_written i (bad octets refusal ∷ items) = good_written (suc i) items
+  pub good_written : (p : Position) (items : List Item) → written_from text p items ≡ output_from text first (good_ones items)
+  good_written p [] = refl
+  good_written p (good m ∷ items) =
+      let n = length m.octets in ap₂ (λ (a b : List ℕ). a ++ b) (same p first m) (good_written (after p n) items ∙ output_at first (after first n) (good_ones items))
+  good_written p (bad octets refusal ∷ items) = good_written (after p (length octets)) items
 
 -- a message that is spelled isn't refused
 not_both : {A : Type 0} (a : Apdu) (b octets : List ℕ) (refusal : Refusal) → SpellsApdu profile_two a b → b ≡ octets → IsRefusedFor octets refusal → A

@@ -1,6 +1,6 @@
 -- Octets of an element that are taken, fed to a framer and kept.
-use Rattle.std.proofs.Common.{◌≡◌, ℕ, zero, suc, ◌+◌, ◌-◌, ◌<◌, ◌≤◌, Bool, List, [], ◌∷◌, ◌++◌, length, take, drop, Option, Some, refl, sym, ap, subst, ◌∙◌, arith, inl, inr, append_assoc, append-nil, length-append, lit≤}
-use Rattle.std.specs.Prelude.{MatchBool}
+use Rattle.std.proofs.Common.{◌≡◌, ℕ, zero, suc, ◌+◌, ◌-◌, ◌<◌, ◌≤◌, Bool, List, [], ◌∷◌, ◌++◌, length, take, drop, Option, Some, refl, sym, ap, ap₂, subst, ◌∙◌, arith, inl, inr, append_assoc, append-nil, length-append, lit≤}
+use Rattle.std.specs.Prelude.{MatchOption}
 use Rattle.std.proofs.lemmas.Bool.{cases_lt}
 use Rattle.std.proofs.lemmas.List.{length-take-le, take-take, take_all, take-append-le, take-append-drop}
 use Rattle.std.proofs.Math.Seq.{take-append-add}
@@ -22,11 +22,12 @@ use Rattle.ill_schema.proofs.Streams.{take_front}
 use Rattle.ill_refusals.specs.Fault.{fault_of}
 use Rattle.ill_refusals.specs.Outcome.{OnlyRefuses}
 use Rattle.ill_read.specs.Answers.{IsUnfinished}
-use Rattle.ill_normal.specs.Messages.{Spelling, Makes}
+use Rattle.ill_normal.specs.Messages.{Spelling, counted, Makes}
+use Rattle.ill_normal.proofs.WrittenMessages.{counted_left}
 use Rattle.ill_normal.specs.declared.messages.Piece.{Piece}
 use Rattle.ill_going.specs.declared.next.Next.{Next}
 use Rattle.ill_going.specs.Gone.{HasNoEnd}
-use Rattle.ill_going.specs.code.Taking.{Framing, Takes, TakesElement, TakesPart, TakesRest, TakesUnframed, Took, IsNext, is_whole}
+use Rattle.ill_going.specs.code.Taking.{Framing, Takes, TakesElement, TakesPart, TakesRest, TakesUnframed, Took, IsNext, end_of}
 
 -- all octets of a slice of which no fewer leave more to be needed
 pub feeds_all : (f : Framer) (b xs : List ℕ) (m need : ℕ) → m ≤ length xs → length xs ≤ need → ((w : List ℕ) → length w < need → IsPart (b ++ w))
@@ -88,7 +89,7 @@ fed_no_more f f' hand n none fed b h =
     let z : n ≡ 0 = omega arith in
     subst (IsFed f') (ap (λ (k : ℕ). b ++ take k hand) z ∙ append-nil b) (fed b h)
 
-pub framing_none : (left : Option (List ℕ)) (f : Framer) → IsFed f [] → Framing left left f [] 0
+pub framing_none : (left : Option (List ℕ)) (f : Framer) → IsFed f [] → Framing left left f [] 0 0
 framing_none left f h = record {
   octets = [];
   taken = Consumes-nil left;
@@ -96,6 +97,7 @@ framing_none left f h = record {
   within = λ n lt. absurd (omega (arith, lt));
   keeps = sym (take_all 1_048_576 [] (omega arith));
   counts = omega arith;
+  size_is = refl;
 }
 
 -- the first octets of two lists
@@ -106,7 +108,7 @@ kept_more (suc m) (x ∷ a) b =
     let e : suc m - suc (length (take m a)) ≡ m - length (take m a) = omega arith in
     ap (λ z. x ∷ z) (ap (λ (i : ℕ). take m a ++ take i b) e ∙ kept_more m a b)
 
-module _ (left left' left'' : Option (List ℕ)) (f f' : Framer) (kept kept' : List ℕ) (count n : ℕ) (r : Framing left left' f kept count) (t : Takes left' left'' f f' kept kept' n) where
+module _ (left left' left'' : Option (List ℕ)) (f f' : Framer) (kept kept' : List ℕ) (count size n : ℕ) (r : Framing left left' f kept count size) (t : Takes left' left'' f f' kept kept' n) where
   within_both : (k : ℕ) → k < length (r.octets ++ t.octets) → IsPart (take k (r.octets ++ t.octets))
   within_both k lt = elim (cases_lt k (length r.octets)) [
     | inl less ↦ subst IsPart (sym (take-append-le k r.octets t.octets (omega (arith, less)))) (r.within k less)
@@ -118,7 +120,7 @@ module _ (left left' left'' : Option (List ℕ)) (f f' : Framer) (kept kept' : L
         subst IsPart e (t.within r.octets (k - length r.octets) r.fed more)
   ]
 
-  pub framing_more : (least : ℕ) → least ≤ count + n → Framing left left'' f' kept' least
+  pub framing_more : (least : ℕ) → least ≤ count + n → Framing left left'' f' kept' least (counted (size + n))
   framing_more least le = record {
     octets = r.octets ++ t.octets;
     taken = Consumes-trans left left' left'' r.octets t.octets r.taken t.taken;
@@ -126,6 +128,7 @@ module _ (left left' left'' : Option (List ℕ)) (f f' : Framer) (kept kept' : L
     within = within_both;
     keeps = t.keeps ∙ ap (λ z. z ++ take (1_048_576 - length z) t.octets) r.keeps ∙ kept_more 1_048_576 r.octets t.octets;
     counts = omega (arith, le, r.counts, t.size, length-append r.octets t.octets);
+    size_is = ap₂ (λ (a b : ℕ). counted (a + b)) r.size_is t.size ∙ counted_left (length r.octets) (length t.octets) ∙ ap counted (sym (length-append r.octets t.octets));
   }
 
   -- no octet more was taken
@@ -133,30 +136,31 @@ module _ (left left' left'' : Option (List ℕ)) (f f' : Framer) (kept kept' : L
   no_more [] z = refl
   no_more (o ∷ x) z = absurd (omega (arith, z))
 
-  pub element_ends : (frame : Frame) → n ≡ 0 → ((b : List ℕ) → IsFed f' b → Judged b frame) → TakesElement left left'' kept' frame
+  pub element_ends : (frame : Frame) → n ≡ 0 → ((b : List ℕ) → IsFed f' b → Judged b frame) → TakesElement left left'' kept' size frame
   unfolding framing_more
   element_ends frame z judged =
       let m = framing_more 0 (omega arith) in
+      let none : r.octets ++ t.octets ≡ r.octets = ap (λ w. r.octets ++ w) (no_more t.octets (sym t.size ∙ z)) ∙ append-nil r.octets in
       record {
         octets = m.octets;
         taken = m.taken;
         judged = judged m.octets m.fed;
         within = m.within;
         keeps = m.keeps;
-        part = λ p.
-            let none : r.octets ++ t.octets ≡ r.octets = ap (λ w. r.octets ++ w) (no_more t.octets (sym t.size ∙ z)) ∙ append-nil r.octets in
-            inl (t.none r.octets z r.fed (subst IsPart none p));
+        part = λ p. inl (t.none r.octets z r.fed (subst IsPart none p));
+        size_is = r.size_is ∙ ap (λ x. counted (length x)) (sym none);
       }
 
-pub element_endless : (left left' : Option (List ℕ)) (f : Framer) (kept : List ℕ) (count : ℕ) (frame : Frame) → Framing left left' f kept count → 18_446_744_073_709_551_615 ≤ count
-    → ((b : List ℕ) → IsFed f b → Judged b frame) → TakesElement left left' kept frame
-element_endless left left' f kept count frame r le judged = record {
+pub element_endless : (left left' : Option (List ℕ)) (f : Framer) (kept : List ℕ) (count size : ℕ) (frame : Frame) → Framing left left' f kept count size → 18_446_744_073_709_551_615 ≤ count
+    → ((b : List ℕ) → IsFed f b → Judged b frame) → TakesElement left left' kept size frame
+element_endless left left' f kept count size frame r le judged = record {
   octets = r.octets;
   taken = r.taken;
   judged = judged r.octets r.fed;
   within = r.within;
   keeps = r.keeps;
   part = λ p. inr (omega (arith, le, r.counts));
+  size_is = r.size_is;
 }
 
 -- ---- what is taken, as messages
@@ -175,9 +179,9 @@ no_message b p within a n h = elim (cases_lt n (length b)) [
   | inr ge ↦ part_and_whole b p (subst IsFrame (take_all n b ge) (spelling_framed a (take n b) h.1))
 ]
 
-pub part_taken : (left left' left'' : Option (List ℕ)) (f : Framer) (kept : List ℕ) (count : ℕ) → Framing left left' f kept count → Keeps left' left'' → ((b : List ℕ) → IsFed f b → IsPart b)
+pub part_taken : (left left' left'' : Option (List ℕ)) (f : Framer) (kept : List ℕ) (count size : ℕ) → Framing left left' f kept count size → Keeps left' left'' → ((b : List ℕ) → IsFed f b → IsPart b)
     → TakesPart left left''
-part_taken left left' left'' f kept count r keeps part = record {
+part_taken left left' left'' f kept count size r keeps part = record {
   octets = r.octets;
   taken = Consumes-kept left left' left'' r.octets r.taken keeps;
   unfinished = no_message r.octets (part r.octets r.fed) r.within;
@@ -190,7 +194,7 @@ nothing_kept : (m : ℕ) (xs : List ℕ) → take (suc m) xs ≡ [] → xs ≡ [
 nothing_kept m [] e = refl
 nothing_kept m (x ∷ xs) e = let f : x ∷ take m xs ≡ [] = e in cc
 
-module _ (left left' : Option (List ℕ)) (kept : List ℕ) (frame : Frame) (t : TakesElement left left' kept frame) where
+module _ (left left' : Option (List ℕ)) (kept : List ℕ) (size : ℕ) (frame : Frame) (t : TakesElement left left' kept size frame) where
   -- a message at the front of an element is the element
   message_is : (a : Apdu) (m rest : List ℕ) → SpellsApdu profile_two a m → kept ≡ m ++ rest → t.octets ≡ m
   message_is a m rest h e =
@@ -219,18 +223,18 @@ module _ (left left' : Option (List ℕ)) (kept : List ℕ) (frame : Frame) (t :
         elim (t.part (subst IsPart (sym none) none_is_part)) [ inl e ↦ e | inr le ↦ absurd (omega (arith, le, ap length none)) ],
       )
 
-  end_is : (f : Frame) → Judged t.octets f → MatchBool (is_whole f) (IsFrame t.octets) (HasNoEnd t.octets left')
-  end_is framed.Whole j = j
+  end_is : (f : Frame) → Judged t.octets f → MatchOption (end_of f size) (HasNoEnd t.octets left') (λ n. IsFrame t.octets × (n ≡ counted (length t.octets)))
+  end_is framed.Whole j = (j, t.size_is)
   end_is framed.Unframed j = inl (record { front = t.octets; more = []; joined = sym (append-nil t.octets); unframed = j; within = t.within })
   end_is framed.Part j = inr (j, t.part j)
 
-  pub refused_next : {T : Type 0} (is : T → List ℕ → Type 0) (text : Spelling → List ℕ) (is_good : Spelling → Bool) (refusal : Refusal) (ends : Bool) → ends ≡ is_whole frame
-      → OnlyRefuses profile_two kept (fault_of refusal) → IsNext {T = T} is text is_good left left' (Next.Refused refusal ends)
-  refused_next is text is_good refusal ends e h = (
+  pub refused_next : {T : Type 0} (is : T → List ℕ → Type 0) (text : Spelling → List ℕ) (is_good : Spelling → Bool) (refusal : Refusal) (end : Option ℕ) → end ≡ end_of frame size
+      → OnlyRefuses profile_two kept (fault_of refusal) → IsNext {T = T} is text is_good left left' (Next.Refused refusal end)
+  refused_next is text is_good refusal end e h = (
     t.octets,
     t.taken,
     subst (λ z. OnlyRefuses profile_two z (fault_of refusal)) t.keeps h,
-    subst (λ b. MatchBool b (IsFrame t.octets) (HasNoEnd t.octets left')) (sym e) (end_is frame t.judged),
+    subst (λ (o : Option ℕ). MatchOption o (HasNoEnd t.octets left') (λ n. IsFrame t.octets × (n ≡ counted (length t.octets)))) (sym e) (end_is frame t.judged),
   )
 
 -- ---- the rest of a length that is too great
@@ -248,8 +252,8 @@ rest_more left left' left'' kept kept' kept'' x r c k = record {
       ∙ ap (λ z. take 1_048_576 z) (append_assoc octets r.more x);
 }
 
-pub took_unframed : (left left' left'' : Option (List ℕ)) (kept kept' : List ℕ) → TakesElement left left' kept framed.Unframed → TakesRest left' left'' kept kept' → TakesUnframed left left'' kept'
-took_unframed left left' left'' kept kept' t r = record {
+pub took_unframed : (left left' left'' : Option (List ℕ)) (kept kept' : List ℕ) (size : ℕ) → TakesElement left left' kept size framed.Unframed → TakesRest left' left'' kept kept' → TakesUnframed left left'' kept'
+took_unframed left left' left'' kept kept' size t r = record {
   octets = t.octets;
   more = r.more;
   taken = Consumes-trans left left' left'' t.octets r.more t.taken r.taken;
@@ -271,19 +275,19 @@ unframed_unfinished : (octets more : List ℕ) → IsUnframed octets → ((n : �
 unframed_unfinished octets more unframed within a n h =
     none_begins octets more unframed within (take n (octets ++ more)) (drop n (octets ++ more)) (spelling_framed a (take n (octets ++ more)) h.1) (sym (take-append-drop n (octets ++ more)))
 
-pub unframed_broken : (left left' left'' : Option (List ℕ)) (kept kept' : List ℕ) → TakesElement left left' kept framed.Unframed → TakesRest left' left'' kept kept' → TakesPart left left''
-unframed_broken left left' left'' kept kept' t r = record {
+pub unframed_broken : (left left' left'' : Option (List ℕ)) (kept kept' : List ℕ) (size : ℕ) → TakesElement left left' kept size framed.Unframed → TakesRest left' left'' kept kept' → TakesPart left left''
+unframed_broken left left' left'' kept kept' size t r = record {
   octets = t.octets ++ r.more;
   taken = Consumes-trans left left' left'' t.octets r.more t.taken r.taken;
   unfinished = unframed_unfinished t.octets r.more t.judged t.within;
 }
 
-module _ (left left' : Option (List ℕ)) (kept : List ℕ) where
+module _ (left left' : Option (List ℕ)) (kept : List ℕ) (size : ℕ) where
   -- what the reader made of what was kept
-  pub read_took : {T : Type 0} (is : T → List ℕ → Type 0) (text : Spelling → List ℕ) (is_good : Spelling → Bool) (frame : Frame) → Took left left' kept frame → (piece : Piece T) (rest m : List ℕ)
+  pub read_took : {T : Type 0} (is : T → List ℕ → Type 0) (text : Spelling → List ℕ) (is_good : Spelling → Bool) (frame : Frame) → Took left left' kept size frame → (piece : Piece T) (rest m : List ℕ)
       → Consumes (Some kept) (Some rest) m → Makes is text is_good piece m → IsNext is text is_good left left' (Next.Read piece)
-  read_took is text is_good framed.Whole t piece rest m c h = read_next left left' kept framed.Whole t is text is_good piece rest m c h
-  read_took is text is_good framed.Part t piece rest m c h = read_next left left' kept framed.Part t is text is_good piece rest m c h
+  read_took is text is_good framed.Whole t piece rest m c h = read_next left left' kept size framed.Whole t is text is_good piece rest m c h
+  read_took is text is_good framed.Part t piece rest m c h = read_next left left' kept size framed.Part t is text is_good piece rest m c h
   read_took is text is_good framed.Unframed t piece rest m c h =
       let all : t.octets ++ t.more ≡ m ++ (rest ++ drop 1_048_576 (t.octets ++ t.more)) =
       sym (take-append-drop 1_048_576 (t.octets ++ t.more)) ∙ ap (λ z. z ++ drop 1_048_576 (t.octets ++ t.more)) (sym t.keeps ∙ c) ∙ append_assoc m rest (drop 1_048_576 (t.octets ++ t.more)) in
@@ -293,21 +297,21 @@ module _ (left left' : Option (List ℕ)) (kept : List ℕ) where
   nothing_first [] b e = refl
   nothing_first (x ∷ a) b e = let f : x ∷ (a ++ b) ≡ [] = e in cc
 
-  pub none_took : (frame : Frame) → Took left left' kept frame → (rest : List ℕ) → Consumes (Some kept) (Some rest) [] → IsAtEnd (Some rest) → Consumes left left' [] × IsAtEnd left'
-  none_took framed.Whole t rest c end = none_next left left' kept framed.Whole t rest c end
-  none_took framed.Part t rest c end = none_next left left' kept framed.Part t rest c end
+  pub none_took : (frame : Frame) → Took left left' kept size frame → (rest : List ℕ) → Consumes (Some kept) (Some rest) [] → IsAtEnd (Some rest) → Consumes left left' [] × IsAtEnd left'
+  none_took framed.Whole t rest c end = none_next left left' kept size framed.Whole t rest c end
+  none_took framed.Part t rest c end = none_next left left' kept size framed.Part t rest c end
   none_took framed.Unframed t rest c end =
       let none : t.octets ≡ [] = nothing_first t.octets t.more (nothing_kept 1_048_575 (t.octets ++ t.more) (sym t.keeps ∙ c ∙ end)) in
       absurd (t.unframed none_is_part.0 (subst (λ z. IsFrame (z ++ none_is_part.0)) (sym none) none_is_part.2))
 
-  pub refused_took : {T : Type 0} (is : T → List ℕ → Type 0) (text : Spelling → List ℕ) (is_good : Spelling → Bool) (frame : Frame) → Took left left' kept frame → (refusal : Refusal) (ends : Bool)
-      → ends ≡ is_whole frame → OnlyRefuses profile_two kept (fault_of refusal) → IsNext {T = T} is text is_good left left' (Next.Refused refusal ends)
-  refused_took is text is_good framed.Whole t refusal ends e h = refused_next left left' kept framed.Whole t is text is_good refusal ends e h
-  refused_took is text is_good framed.Part t refusal ends e h = refused_next left left' kept framed.Part t is text is_good refusal ends e h
-  refused_took is text is_good framed.Unframed t refusal ends e h = (
+  pub refused_took : {T : Type 0} (is : T → List ℕ → Type 0) (text : Spelling → List ℕ) (is_good : Spelling → Bool) (frame : Frame) → Took left left' kept size frame → (refusal : Refusal) (end : Option ℕ)
+      → end ≡ end_of frame size → OnlyRefuses profile_two kept (fault_of refusal) → IsNext {T = T} is text is_good left left' (Next.Refused refusal end)
+  refused_took is text is_good framed.Whole t refusal end e h = refused_next left left' kept size framed.Whole t is text is_good refusal end e h
+  refused_took is text is_good framed.Part t refusal end e h = refused_next left left' kept size framed.Part t is text is_good refusal end e h
+  refused_took is text is_good framed.Unframed t refusal end e h = (
     t.octets ++ t.more,
     t.taken,
     subst (λ z. OnlyRefuses profile_two z (fault_of refusal)) t.keeps h,
-    subst (λ b. MatchBool b (IsFrame (t.octets ++ t.more)) (HasNoEnd (t.octets ++ t.more) left')) (sym e)
+    subst (λ (o : Option ℕ). MatchOption o (HasNoEnd (t.octets ++ t.more) left') (λ n. IsFrame (t.octets ++ t.more) × (n ≡ counted (length (t.octets ++ t.more))))) (sym e)
         (inl (record { front = t.octets; more = t.more; joined = refl; unframed = t.unframed; within = t.within })),
   )

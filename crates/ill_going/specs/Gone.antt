@@ -5,8 +5,9 @@ use Rattle.ber_frame.specs.Framed.{IsPart, IsUnframed}
 use Rattle.ill_schema.specs.declared.refusal.Refusal.{Refusal}
 use Rattle.ill_read.specs.Answers.{TakesNoMessage}
 use Rattle.ill_normal.specs.Calls.{Taking, taking, Putting, putting}
-use Rattle.ill_normal.specs.Messages.{Spelling, BreaksWithin}
-use Rattle.ill_going.specs.Items.{Item, AreItems, IsRefusedFor, written_from, report, reports_from, all_good, Adds}
+use Rattle.ill_normal.specs.Messages.{Spelling, counted, first, BreaksWithin}
+use Rattle.ill_normal.specs.declared.messages.Position.{Position}
+use Rattle.ill_going.specs.Items.{Item, AreItems, IsRefusedFor, position_past, written_from, report, reports_from, good_in, all_good, Adds}
 use Rattle.ill_going.specs.declared.report.Report.{Report}
 use Rattle.ill_going.specs.declared.going.Gone.{Gone}
 use Rattle.ill_going.specs.declared.going.Halted.{Halted}
@@ -21,11 +22,11 @@ abbrev pub reporting : Option (List Report) → Option (List Report) → Reporti
 reporting old new = record { old = old; new = new }
 
 -- the octets that were taken are these messages; what is written of them was put, and what is refused was reported
-pub record Goes (text : ℕ → Spelling → List ℕ) (left left' held held' : Option (List ℕ)) (reports : Reporting) (items : List Item) : Type 0 where
+pub record Goes (text : Position → Spelling → List ℕ) (left left' held held' : Option (List ℕ)) (reports : Reporting) (items : List Item) : Type 0 where
   pub octets : List ℕ
   pub are : AreItems octets items []
   pub taken : Consumes left left' octets
-  pub written : Appends held held' (written_from text 1 items)
+  pub written : Appends held held' (written_from text first items)
   pub reported : Adds reports.old reports.new (reports_from 1 items)
 
 -- of these octets no element begins with the first ones, of which any fewer are part of one
@@ -63,22 +64,24 @@ EndsWith left left' reports items gone =
     ⊎ (LosesEnd left left' reports (length items) × (gone.messages ≡ length items + 1) × (gone.refused ≡ length (reports_from 1 items) + 1))
 
 -- the input was gone through, as far as the ends of its messages can be known
-pub record GoesThrough (text : ℕ → Spelling → List ℕ) (is_good : Spelling → Bool) (source : Taking) (sink : Putting) (reports : Reporting) (gone : Gone) : Type 0 where
+pub record GoesThrough (text : Position → Spelling → List ℕ) (is_good : Spelling → Bool) (source : Taking) (sink : Putting) (reports : Reporting) (gone : Gone) : Type 0 where
   pub items : List Item
   pub rest : Option (List ℕ)
   pub reported : Option (List Report)
   pub goes : Goes text source.left rest sink.held sink.held' (reporting reports.old reported) items
   pub ends : EndsWith rest source.left' (reporting reported reports.new) items gone
   pub few : gone.messages ≤ 1_000_000
+  pub good : gone.good ≡ good_in is_good items
+  pub octets : gone.octets ≡ counted (length goes.octets)
   pub all : gone.all_good ≡ all_good is_good items
 
--- why no further message was gone through, after `before` of them
-abbrev pub Halts : (ℕ → Spelling → List ℕ) → Taking → Putting → ℕ → Why → Type 0
-Halts text source sink before Why.OutOfMemory = (before < 1_000_000) × Keeps sink.held sink.held'
-Halts text source sink before Why.ReadFault =
+-- why no further message was gone through, after `before` of them, where `next` is the position of the next one
+abbrev pub Halts : (Position → Spelling → List ℕ) → Taking → Putting → ℕ → Position → Why → Type 0
+Halts text source sink before next Why.OutOfMemory = (before < 1_000_000) × Keeps sink.held sink.held'
+Halts text source sink before next Why.ReadFault =
     (before ≤ 1_000_000) × IsTrue source.broken × TakesNoMessage source.left source.left' × Keeps sink.held sink.held'
-Halts text source sink before (Why.WriteFault n) = (before < 1_000_000) × BreaksWithin (text (before + 1)) source sink n
-Halts text source sink before Why.TooMany =
+Halts text source sink before next (Why.WriteFault n) = (before < 1_000_000) × BreaksWithin (text next) source sink n
+Halts text source sink before next Why.TooMany =
     (before ≡ 1_000_000) × ((octet : ℕ) × Consumes source.left source.left' (octet ∷ [])) × Keeps sink.held sink.held'
 
 -- the octets of the last message that were written, where the sink broke within it
@@ -87,12 +90,14 @@ part_of (Why.WriteFault n) = n
 part_of _ = 0
 
 -- the messages before the end, and why there was one
-pub record HaltsAfter (text : ℕ → Spelling → List ℕ) (source : Taking) (sink : Putting) (reports : Reporting) (halted : Halted) : Type 0 where
+pub record HaltsAfter (text : Position → Spelling → List ℕ) (is_good : Spelling → Bool) (source : Taking) (sink : Putting) (reports : Reporting) (halted : Halted) : Type 0 where
   pub items : List Item
   pub rest : Option (List ℕ)
   pub grown : Option (List ℕ)
   pub goes : Goes text source.left rest sink.held grown reports items
   pub messages : halted.messages ≡ length items
   pub refused : halted.refused ≡ length (reports_from 1 items)
-  pub written : halted.written ≡ length (written_from text 1 items) + part_of halted.why
-  pub halts : Halts text (taking rest source.left' source.broken) (putting grown sink.held' sink.broken) halted.messages halted.why
+  pub good : halted.good ≡ good_in is_good items
+  pub octets : halted.octets ≡ counted (length goes.octets)
+  pub written : halted.written ≡ length (written_from text first items) + part_of halted.why
+  pub halts : Halts text (taking rest source.left' source.broken) (putting grown sink.held' sink.broken) halted.messages (position_past first items) halted.why

@@ -1,12 +1,13 @@
 -- An input that isn't given up at a message that is refused: what it is, what is written of it, and what is reported.
-use Rattle.std.specs.Prelude.{◌≡◌, ℕ, suc, Bool, true, ◌&&◌, List, [], ◌∷◌, ◌++◌, take, Option, Some, None}
+use Rattle.std.specs.Prelude.{◌≡◌, ℕ, suc, ◌+◌, Bool, true, ◌&&◌, List, [], ◌∷◌, ◌++◌, length, take, Option, Some, None}
 use Rattle.ber_leaf.specs.Profile.{profile_two}
 use Rattle.ber_frame.specs.Framed.{IsFrame}
 use Rattle.ill_schema.specs.declared.refusal.Refusal.{Refusal}
 use Rattle.ill_schema.specs.Apdu.{SpellsApdu}
 use Rattle.ill_refusals.specs.Fault.{fault_of}
 use Rattle.ill_refusals.specs.Outcome.{OnlyRefuses}
-use Rattle.ill_normal.specs.Messages.{Spelling}
+use Rattle.ill_normal.specs.Messages.{Spelling, after, one_if}
+use Rattle.ill_normal.specs.declared.messages.Position.{Position}
 use Rattle.ill_going.specs.declared.report.Report.{Report}
 
 -- one message of an input: a spelling, or octets that are refused
@@ -24,11 +25,24 @@ AreItems s [] rest = s ≡ rest
 AreItems s (good m ∷ items) rest = (t : List ℕ) × (s ≡ m.octets ++ t) × SpellsApdu profile_two m.apdu m.octets × AreItems t items rest
 AreItems s (bad octets refusal ∷ items) rest = (t : List ℕ) × (s ≡ octets ++ t) × IsFrame octets × IsRefusedFor octets refusal × AreItems t items rest
 
--- what is written of messages that are numbered from i on, where `text i m` is written of message i if it isn't refused
-abbrev pub written_from : (ℕ → Spelling → List ℕ) → ℕ → List Item → List ℕ
-written_from text i [] = []
-written_from text i (good m ∷ items) = text i m ++ written_from text (suc i) items
-written_from text i (bad octets refusal ∷ items) = written_from text (suc i) items
+abbrev pub item_octets : Item → List ℕ
+item_octets (good m) = m.octets
+item_octets (bad octets refusal) = octets
+
+-- the position after messages
+abbrev pub position_past : Position → List Item → Position
+position_past p [] = p
+position_past p (x ∷ items) = position_past (after p (length (item_octets x))) items
+
+-- what is written of one message, where `text` is written of it if it isn't refused
+abbrev pub written_of : (Spelling → List ℕ) → Item → List ℕ
+written_of text (good m) = text m
+written_of text (bad octets refusal) = []
+
+-- what is written of messages from this position on, where `text p m` is written of the message at p if it isn't refused
+abbrev pub written_from : (Position → Spelling → List ℕ) → Position → List Item → List ℕ
+written_from text p [] = []
+written_from text p (x ∷ items) = written_of (text p) x ++ written_from text (after p (length (item_octets x))) items
 
 abbrev pub report : ℕ → Refusal → Bool → Report
 report i refusal ends = record { message = i; refusal = refusal; ends = ends }
@@ -44,6 +58,12 @@ abbrev pub all_good : (Spelling → Bool) → List Item → Bool
 all_good is_good [] = true
 all_good is_good (good m ∷ items) = is_good m && all_good is_good items
 all_good is_good (bad octets refusal ∷ items) = all_good is_good items
+
+-- how many messages that aren't refused are as they should be
+abbrev pub good_in : (Spelling → Bool) → List Item → ℕ
+good_in is_good [] = 0
+good_in is_good (good m ∷ items) = one_if (is_good m) + good_in is_good items
+good_in is_good (bad octets refusal ∷ items) = good_in is_good items
 
 -- the messages that aren't refused
 abbrev pub good_ones : List Item → List Spelling

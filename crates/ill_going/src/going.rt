@@ -1,15 +1,15 @@
 //! The loop over the messages of an input.
-ghost use Rattle.std.specs.Prelude.{◌≡◌, ℕ, List, [], ◌∷◌, IfOk, IfErr, OnOk, IsTrue};
+ghost use Rattle.std.specs.Prelude.{◌≡◌, ℕ, ◌+◌, ◌≤◌, List, [], ◌∷◌, is_some, IfOk, IfErr, OnOk, IsTrue};
 ghost use Rattle.std.specs.Io.KnownBytes.{Consumes, IsAtEnd, Keeps};
 ghost use Rattle.ill_normal.specs.Calls.{taking, putting};
 ghost use Rattle.ill_going.specs.Items.{report};
 ghost use Rattle.ill_going.specs.Gone.{GoesThrough, HaltsAfter, reporting};
-ghost use Rattle.ill_going.specs.code.Ending.{GoesOn};
+ghost use Rattle.ill_going.specs.code.Ending.{GoesOn, gone_to, halted_at};
 
 use crate::next::{Next, next_message};
 use crate::report::{Report, Reports};
 use ber_core::{Look, Sink, Source};
-use ill_normal::{Maker, Output, Refusal};
+use ill_normal::{Maker, Output, Position, Refusal};
 use std::alloc::Global;
 
 /// How many messages an input may have.
@@ -22,7 +22,11 @@ pub struct Gone {
     pub messages: u32,
     /// How many of them are refused.
     pub refused: u32,
-    /// Whether the others are as they should be.
+    /// How many of the others are as they should be.
+    pub good: u32,
+    /// How many octets the messages have whose ends are known; 18,446,744,073,709,551,615 where they are more.
+    pub octets: u64,
+    /// Whether all that are not refused are as they should be.
     pub all_good: bool,
 }
 
@@ -45,6 +49,10 @@ pub struct Halted {
     pub messages: u32,
     /// How many of them are refused. They were reported.
     pub refused: u32,
+    /// How many of the others are as they should be.
+    pub good: u32,
+    /// How many octets they have, those that are refused too; 18,446,744,073,709,551,615 where they are more.
+    pub octets: u64,
     /// How many octets were written.
     pub written: u128,
     pub why: Why,
@@ -69,22 +77,29 @@ pub fn keep_going<M: Maker, R: Source, L: Look<R>, W: Sink, T: Reports>(
 ) -> Result<Gone, Halted>
     ensures through { IfOk result (GoesThrough (M.text maker.now) (M.is_good maker.now) (taking (R.left source.old) (R.left source.new) (R.is_broken source.new))
         (putting (W.contents sink.old) (W.contents sink.new) (W.is_broken sink.new)) (reporting (T.reported reports.old) (T.reported reports.new))) }
-    ensures halts { IfErr result (HaltsAfter (M.text maker.now) (taking (R.left source.old) (R.left source.new) (R.is_broken source.new))
+    ensures halts { IfErr result (HaltsAfter (M.text maker.now) (M.is_good maker.now) (taking (R.left source.old) (R.left source.new) (R.is_broken source.new))
         (putting (W.contents sink.old) (W.contents sink.new) (W.is_broken sink.new)) (reporting (T.reported reports.old) (T.reported reports.new))) }
     ensures source_stays { IsTrue (R.is_broken source.old) → IsTrue (R.is_broken source.new) }
     ensures sink_stays { IsTrue (W.is_broken sink.old) → IsTrue (W.is_broken sink.new) }
 {
     let mut refused = 0;
-    let mut all_good = true;
+    let mut good = 0;
+    let mut offset: u64 = 0;
     let mut written = 0;
     let mut kept = Vec::new(alloc);
     let mut room = M::Out::empty(alloc);
     for before in 0..MESSAGES {
-        let number = before + 1;
-        let next = match next_message::<M, R, L>(alloc, maker, number, source, &mut kept, room) {
+        let position = Position {
+            number: before + 1,
+            offset,
+        };
+        let next = match next_message::<M, R, L>(alloc, maker, position, source, &mut kept, room) {
             Ok(Some(next)) => next,
-            Ok(None) => return Ok(gone_to(before, refused, all_good)),
-            Err(unread) => return Err(halted_at(before, refused, written, unread.why())),
+            Ok(None) => return Ok(gone_to(before, refused, good, offset)),
+            Err(unread) => {
+                let why = unread.why();
+                return Err(halted_at(before, refused, good, offset, written, why));
+            }
         };
         match next {
             Next::Read(piece) => {
@@ -92,63 +107,70 @@ pub fn keep_going<M: Maker, R: Source, L: Look<R>, W: Sink, T: Reports>(
                     Ok(count) => count,
                     Err(count) => {
                         let written = written + count as u128;
-                        return Err(halted_at(before, refused, written, Why::WriteFault(count)));
+                        let why = Why::WriteFault(count);
+                        return Err(halted_at(before, refused, good, offset, written, why));
                     }
                 };
                 written += count as u128;
-                if !piece.is_good {
-                    all_good = false;
-                }
+                good += u32::from(piece.is_good);
+                offset = offset.saturating_add(u64::from(piece.octets));
                 room = piece.text;
             }
-            Next::Refused { refusal, ends } => {
+            Next::Refused { refusal, end } => {
                 refused += 1;
-                reports.report(report(number, refusal, ends));
-                if !ends {
-                    return Ok(gone_to(number, refused, all_good));
-                }
+                reports.report(report(before + 1, refusal, end));
+                let Some(octets) = end else {
+                    return Ok(gone_to(before + 1, refused, good, offset));
+                };
+                offset = offset.saturating_add(octets);
                 room = M::Out::empty(alloc);
             }
         }
     }
     drop(room);
     match end_of_input(source) {
-        Ok(()) => Ok(gone_to(MESSAGES, refused, all_good)),
-        Err(why) => Err(halted_at(MESSAGES, refused, written, why)),
+        Ok(()) => Ok(gone_to(MESSAGES, refused, good, offset)),
+        Err(why) => Err(halted_at(MESSAGES, refused, good, offset, written, why)),
     }
 }
 
 #[inline(always)]
-fn gone_to(messages: u32, refused: u32, all_good: bool) -> Gone
-    ensures { result ≡ record { messages = messages; refused = refused; all_good = all_good } }
+fn gone_to(messages: u32, refused: u32, good: u32, octets: u64) -> Gone
+    requires { refused + good ≤ messages }
+    ensures { result ≡ gone_to messages refused good octets }
 {
     Gone {
         messages,
         refused,
-        all_good,
+        good,
+        octets,
+        all_good: refused + good == messages,
     }
 }
 
 #[inline(always)]
-fn halted_at(messages: u32, refused: u32, written: u128, why: Why) -> Halted
-    ensures { result ≡ record { messages = messages; refused = refused; written = written; why = why } }
+fn halted_at(messages: u32, refused: u32, good: u32, octets: u64, written: u128, why: Why) -> Halted
+    ensures { result ≡ halted_at messages refused good octets written why }
 {
     Halted {
         messages,
         refused,
+        good,
+        octets,
         written,
         why,
     }
 }
 
+/// The report of a message that is refused, whose number of octets is known or not.
 #[inline(always)]
-fn report(message: u32, refusal: Refusal, ends: bool) -> Report
-    ensures { result ≡ report message refusal ends }
+fn report(message: u32, refusal: Refusal, end: Option<u64>) -> Report
+    ensures { result ≡ report message refusal (is_some end) }
 {
     Report {
         message,
         refusal,
-        ends,
+        ends: end.is_some(),
     }
 }
 

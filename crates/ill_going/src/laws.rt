@@ -3,16 +3,17 @@ ghost use Rattle.std.specs.Prelude.{◌≡◌, ◌≢◌, ℕ, ◌<◌, List, �
 ghost use Rattle.ber_leaf.specs.Profile.{profile_two};
 ghost use Rattle.ill_schema.specs.declared.refusal.Refusal.{Refusal};
 ghost use Rattle.ill_refusals.specs.Fault.{fault_of, Refuses};
-ghost use Rattle.ill_normal.specs.Messages.{Spelling, output_from};
+ghost use Rattle.ill_normal.specs.Messages.{Spelling, first, output_from};
+ghost use Rattle.ill_normal.specs.declared.messages.Position.{Position};
 ghost use Rattle.ill_going.specs.Gone.{HasNoEnd};
 ghost use Rattle.ill_going.specs.Items.{Item, AreItems, written_from, good_ones, HasNoMore, IsRefusedFor};
 
 use ill_normal::Cause;
 
-/// What is written of an input's good messages is what is written of them alone, if it doesn't depend on their numbers.
+/// What is written of an input's good messages is what is written of them alone, if it doesn't depend on their positions.
 pub fn good_ones_are_written()
-    ensures { (text : ℕ → Spelling → List ℕ) (i : ℕ) (items : List Item) → ((j k : ℕ) (m : Spelling) → text j m ≡ text k m)
-        → written_from text i items ≡ output_from text 1 (good_ones items) }
+    ensures { (text : Position → Spelling → List ℕ) (p : Position) (items : List Item) → ((q r : Position) (m : Spelling) → text q m ≡ text r m)
+        → written_from text p items ≡ output_from text first (good_ones items) }
 {}
 
 /// An input is messages in one way, as far as their ends can be known.

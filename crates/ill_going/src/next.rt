@@ -3,12 +3,12 @@ ghost use Rattle.std.specs.Prelude.{◌≡◌, ℕ, ◌-◌, ◌<◌, ◌≤◌,
 ghost use Rattle.std.specs.Io.KnownBytes.{Consumes, IsAtEnd, Keeps};
 ghost use Rattle.ber_frame.specs.Framed.{IsPart};
 ghost use Rattle.ber_frame.specs.Framer.{IsFed, Judged};
-ghost use Rattle.ill_going.specs.code.Taking.{is_whole, IsNext, Takes, TakesElement, TakesPart, TakesRest, Took};
+ghost use Rattle.ill_going.specs.code.Taking.{end_of, IsNext, Takes, TakesElement, TakesPart, TakesRest, Took};
 
 use crate::going::Why;
 use ber_core::{AtHand, FromSlice, Look, Source};
 use ber_frame::{Frame, Framer};
-use ill_normal::{LIMIT, Maker, Piece, ReadFailure, Refusal};
+use ill_normal::{LIMIT, Maker, Piece, Position, ReadFailure, Refusal};
 use std::alloc::{AllocError, Global};
 
 /// How many octets are asked of a source at once.
@@ -19,8 +19,8 @@ const CHUNK: usize = 1024;
 pub enum Next<T: Drop> {
     /// What was made of it.
     Read(Piece<T>),
-    /// Why it is refused, and whether its end is known.
-    Refused { refusal: Refusal, ends: bool },
+    /// Why it is refused, and how many octets it has, where its end is known; 18,446,744,073,709,551,615 where they are more.
+    Refused { refusal: Refusal, end: Option<u64> },
 }
 
 /// Why no message was read.
@@ -49,82 +49,103 @@ impl Unread {
 pub fn next_message<M: Maker, R: Source, L: Look<R>>(
     alloc: Global,
     maker: &M,
-    number: u32,
+    position: Position,
     source: &mut R,
     kept: &mut Vec<u8>,
     room: M::Out,
 ) -> Result<Option<Next<M::Out>>, Unread>
     ensures next { IfOk result (λ found. MatchOption found (Consumes (R.left source.old) (R.left source.new) [] × IsAtEnd (R.left source.new))
-        (IsNext M.Out.is (M.text maker.now number) (M.is_good maker.now) (R.left source.old) (R.left source.new))) }
+        (IsNext M.Out.is (M.text maker.now position) (M.is_good maker.now) (R.left source.old) (R.left source.new))) }
     ensures broken { IfErr result (λ e. e ≡ Unread.Broken → IsTrue (R.is_broken source.new) × TakesPart (R.left source.old) (R.left source.new)) }
     ensures stays { IsTrue (R.is_broken source.old) → IsTrue (R.is_broken source.new) }
 {
-    let frame = match take_element::<R, L>(source, kept) {
-        Ok(frame) => frame,
+    let taken = match take_element::<R, L>(source, kept) {
+        Ok(taken) => taken,
         Err(unread) => return Err(unread),
     };
     let mut octets = FromSlice::new(kept.as_slice());
-    match maker.next::<FromSlice<'_>, AtHand>(alloc, number, &mut octets, room) {
+    match maker.next::<FromSlice<'_>, AtHand>(alloc, position, &mut octets, room) {
         Ok(Some(piece)) => Ok(Some(Next::Read(piece))),
         Ok(None) => Ok(None),
         Err(ReadFailure::Refused(refusal)) => {
-            let ends = ends(frame);
-            Ok(Some(Next::Refused { refusal, ends }))
+            let end = end_of(taken);
+            Ok(Some(Next::Refused { refusal, end }))
         }
         Err(ReadFailure::OutOfMemory) => Err(Unread::OutOfMemory),
         Err(ReadFailure::ReadFault) => unreachable!(),
     }
 }
 
-/// Whether an element's end was found.
-fn ends(frame: Frame) -> bool
-    ensures { result ≡ is_whole frame }
+/// What was taken: how the octets are framed, and how many they are, up to 18,446,744,073,709,551,615.
+#[derive(Clone, Copy)]
+pub struct Taken {
+    pub frame: Frame,
+    pub octets: u64,
+}
+
+/// How many octets an element has whose end was found.
+fn end_of(taken: Taken) -> Option<u64>
+    ensures { result ≡ end_of taken.frame taken.octets }
 {
-    match frame {
-        Frame::Whole => true,
-        Frame::Part | Frame::Unframed => false,
+    match taken.frame {
+        Frame::Whole => Some(taken.octets),
+        Frame::Part | Frame::Unframed => None,
     }
 }
 
 /// Takes the next element, up to where its end can't be known or the input ends, and keeps its first 1,048,576 octets.
 /// Of a length that is too great it takes the rest, so that the reader sees it whole.
-fn take_element<R: Source, L: Look<R>>(source: &mut R, kept: &mut Vec<u8>) -> Result<Frame, Unread>
-    ensures element { IfOk result (Took (R.left source.old) (R.left source.new) kept.new.items) }
+fn take_element<R: Source, L: Look<R>>(source: &mut R, kept: &mut Vec<u8>) -> Result<Taken, Unread>
+    ensures element { IfOk result (λ taken. Took (R.left source.old) (R.left source.new) kept.new.items taken.octets taken.frame) }
     ensures broken { IfErr result (λ e. e ≡ Unread.Broken → IsTrue (R.is_broken source.new) × TakesPart (R.left source.old) (R.left source.new)) }
     ensures stays { IsTrue (R.is_broken source.old) → IsTrue (R.is_broken source.new) }
 {
-    let framer = match take_framed::<R, L>(source, kept) {
-        Ok(framer) => framer,
+    let (framer, octets) = match take_framed::<R, L>(source, kept) {
+        Ok(taken) => taken,
         Err(unread) => return Err(unread),
     };
     match framer.frame() {
         Frame::Unframed => match take_rest(source, kept, framer.lacks()) {
-            Ok(()) => Ok(Frame::Unframed),
+            Ok(()) => Ok(Taken {
+                frame: Frame::Unframed,
+                octets,
+            }),
             Err(unread) => Err(unread),
         },
-        Frame::Whole => Ok(Frame::Whole),
-        Frame::Part => Ok(Frame::Part),
+        Frame::Whole => Ok(Taken {
+            frame: Frame::Whole,
+            octets,
+        }),
+        Frame::Part => Ok(Taken {
+            frame: Frame::Part,
+            octets,
+        }),
     }
 }
 
-/// Takes octets and feeds a framer with them, up to where nothing more is needed or the input ends, and keeps the first ones.
-fn take_framed<R: Source, L: Look<R>>(source: &mut R, kept: &mut Vec<u8>) -> Result<Framer, Unread>
-    ensures element { IfOk result (λ framer. (frame : Frame) → ((b : List ℕ) → IsFed framer b → Judged b frame)
-        → TakesElement (R.left source.old) (R.left source.new) kept.new.items frame) }
+/// Takes octets and feeds a framer with them, up to where nothing more is needed or the input ends, and keeps the first ones. Returns how
+/// many they are as well, up to 18,446,744,073,709,551,615.
+fn take_framed<R: Source, L: Look<R>>(
+    source: &mut R,
+    kept: &mut Vec<u8>,
+) -> Result<(Framer, u64), Unread>
+    ensures element { IfOk result (λ taken. (frame : Frame) → ((b : List ℕ) → IsFed taken.0 b → Judged b frame)
+        → TakesElement (R.left source.old) (R.left source.new) kept.new.items taken.1 frame) }
     ensures broken { IfErr result (λ e. e ≡ Unread.Broken → IsTrue (R.is_broken source.new) × TakesPart (R.left source.old) (R.left source.new)) }
     ensures stays { IsTrue (R.is_broken source.old) → IsTrue (R.is_broken source.new) }
 {
     kept.clear();
     let mut framer = Framer::new();
     let mut buffer = [0; CHUNK];
+    let mut octets: u64 = 0;
     'element: for _ in 0..u64::MAX {
         match take_some::<R, L>(source, &mut framer, kept, &mut buffer) {
-            Ok(0) => return Ok(framer),
-            Ok(_) => {}
+            Ok(0) => return Ok((framer, octets)),
+            Ok(count) => octets = octets.saturating_add(count as u64),
             Err(unread) => return Err(unread),
         }
     }
-    Ok(framer)
+    Ok((framer, octets))
 }
 
 /// Takes `count` octets more, or fewer where the input ends, and keeps them.

@@ -14,6 +14,7 @@ use Rattle.ill_normal.proofs.LongestStreams.{nothing_over, no_longer, one_rest}
 use Rattle.ill_normal.proofs.WrittenMessages.{spelled_front}
 use Rattle.ill_normal.proofs.NormalStreams.{apdus_of, as_many, stream_of}
 use Rattle.ill_normal.specs.Calls.{taking, putting}
+use Rattle.ill_jobs.specs.declared.job.Counts.{Counts}
 use Rattle.ill_jobs.specs.declared.job.Verdict.{Verdict}
 use Rattle.ill_jobs.specs.declared.job.Work.{Work}
 use Rattle.ill_jobs.specs.declared.fault.RunFault.{RunFault}
@@ -62,8 +63,8 @@ one_left s r t ms ns h k e =
 over : (a : Apdu) (n : ℕ) → Accepts profile_two [] a n → ⊥
 over a n h = nothing_over profile_two [] refl a n h
 
-module _ (work : Work) (s : List ℕ) (left' held held' : Option (List ℕ)) where
-  module _ (v : Verdict) (d : Done work (Some s) left' held held' v) where
+module _ (work : Work) (s : List ℕ) (left' held held' : Option (List ℕ)) (counts : Counts) where
+  module _ (v : Verdict) (d : Done work (Some s) left' held held' counts v) where
     whole : AreSpelled s d.messages []
     whole =
         let t = taken_of work s left' held held' d.messages d.writes in
@@ -145,18 +146,18 @@ module _ (work : Work) (s : List ℕ) (left' held held' : Option (List ℕ)) whe
 
   -- the answer to messages of which s is made
   module _ (x y : Bool) where
-    pub does : (answer : Result Verdict RunFault) → IfOk answer (Done work (Some s) left' held held') → IfErr answer (StopsAfter work (taking (Some s) left' x) (putting held held' y))
+    pub does : (answer : Result Verdict RunFault) → IfOk answer (Done work (Some s) left' held held' counts) → IfErr answer (StopsAfter work (taking (Some s) left' x) (putting held held' y) counts)
         → (ms : List Spelling) → AreSpelled s ms [] → length ms ≤ 1_000_000 → AnswersVerdict answer (verdict_of work.job ms)
     does (Ok v) d n ms h le = done_does v d ms h
     does (Err e) d n ms h le = stop_does x y n.messages n.rest n.grown n.writes e n.stops ms h le
 
-    pub refuses : (answer : Result Verdict RunFault) → IfOk answer (Done work (Some s) left' held held') → IfErr answer (StopsAfter work (taking (Some s) left' x) (putting held held' y))
+    pub refuses : (answer : Result Verdict RunFault) → IfOk answer (Done work (Some s) left' held held' counts) → IfErr answer (StopsAfter work (taking (Some s) left' x) (putting held held' y) counts)
         → (rest : List ℕ) (ms : List Spelling) (f : Fault) → AreSpelled s ms rest → length ms < 1_000_000 → 0 < length rest → OnlyRefuses profile_two rest f
         → AnswersRefused answer (length ms + 1) f
     refuses (Ok v) d n rest ms f h lt some only = absurd (done_refuses v d rest ms f h some only)
     refuses (Err e) d n rest ms f h lt some only = stop_refuses x y n.messages n.rest n.grown n.writes e n.stops rest ms f h lt some only
 
-    pub refuses_more : (answer : Result Verdict RunFault) → IfOk answer (Done work (Some s) left' held held') → IfErr answer (StopsAfter work (taking (Some s) left' x) (putting held held' y))
+    pub refuses_more : (answer : Result Verdict RunFault) → IfOk answer (Done work (Some s) left' held held' counts) → IfErr answer (StopsAfter work (taking (Some s) left' x) (putting held held' y) counts)
         → (rest : List ℕ) (ms : List Spelling) → AreSpelled s ms rest → length ms ≡ 1_000_000 → 0 < length rest → AnswersFault answer RunFault.TooManyMessages
     refuses_more (Ok v) d n rest ms h many some = absurd (done_many v d rest ms h many some)
     refuses_more (Err e) d n rest ms h many some = stop_many x y n.messages n.rest n.grown n.writes e n.stops rest ms h many some

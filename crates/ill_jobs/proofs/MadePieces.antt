@@ -1,44 +1,55 @@
 -- What is made of a message is what the job writes of it.
-use Rattle.std.proofs.Common.{◌≡◌, ◌↔◌, ℕ, Bool, true, false, List, ◌++◌, codes, length, Vec, Global, IsTrue, refl, ap, ◌∙◌}
+use Rattle.std.proofs.Common.{◌≡◌, ◌↔◌, ℕ, Bool, true, false, List, ◌++◌, codes, length, Vec, Global, IsTrue, refl, sym, ap, subst, ◌∙◌}
 use Rattle.std.specs.Str.{bytes_eq}
 use Rattle.hex.specs.Hex.{encode_lower}
 use Rattle.sha2.specs.Sha256.{sha256}
 use Rattle.ber_leaf.specs.Profile.{profile_two}
-use Rattle.ill_schema.specs.Apdu.{Apdu, normal_form}
+use Rattle.ill_schema.specs.Apdu.{Apdu, SpellsApdu, normal_form}
 use Rattle.ill_read.specs.Outline.{IsOutlineOf}
 use Rattle.ill_read.specs.Outlined.{IsOutlined}
 use Rattle.ill_read.specs.declared.outlined.Outlined.{Outlined}
-use Rattle.ill_normal.specs.Checking.{Describes}
+use Rattle.ill_read.specs.declared.outline.Outline.{Outline}
+use Rattle.ill_normal.specs.Checking.{Describes, IsFormOf}
+use Rattle.ill_normal.proofs.Canonical.{spells_normal}
 use Rattle.ill_normal.specs.declared.check.Checked.{Checked}
 use Rattle.ill_text.specs.Shown.{shown_text}
 use Rattle.ill_jobs.specs.declared.job.Job.{Job}
 use Rattle.ill_normal.specs.Messages.{Makes}
+use Rattle.ill_normal.specs.declared.messages.Position.{Position}
 use Rattle.ill_normal.specs.declared.messages.Piece.{Piece}
-use Rattle.ill_jobs.specs.Output.{is_good, line_of_check, line_of_digest, message_text}
+use Rattle.ill_jobs.specs.declared.piece.Found.{Found}
+use Rattle.ill_jobs.specs.code.Finding.{IsFound}
+use Rattle.ill_jobs.specs.Output.{counts_as_good, good_if, line_of_check, line_of_digest, message_text}
 use Rattle.ill_jobs.specs.code.Writing.{IsWritten}
 use Rattle.ill_jobs.specs.declared.written.Written.{Written}
 use Rattle.ill_jobs.proofs.NormalTest.{tests_equality}
 
-module _ (i : ℕ) (name label : List ℕ) where
+module _ (p : Position) (name label : List ℕ) (compares : Bool) where
   -- the normal form as it is, and in digits
-  pub makes_normal : (p : Piece (Vec ℕ Global)) (b : List ℕ) → Makes (λ v octets. v.items ≡ octets) (λ m. normal_form m.apdu) (λ m. true) p b
-      → Makes IsWritten (message_text Job.Canonicalise false name label i) (is_good Job.Canonicalise) (record { text = Written.Octets p.text; is_good = p.is_good; octets = p.octets }) b
-  makes_normal p b h = record { apdu = h.apdu; spells = h.spells; text = h.text; good = h.good; size = h.size }
+  pub makes_normal : (made : Piece (Vec ℕ Global)) (b : List ℕ) → Makes (λ v octets. v.items ≡ octets) (λ m. normal_form m.apdu) (good_if compares) made b
+      → Makes IsWritten (message_text Job.Canonicalise false name label p) (counts_as_good Job.Canonicalise compares)
+          (record { text = Written.Octets made.text; is_good = made.is_good; octets = made.octets }) b
+  makes_normal made b h = record { apdu = h.apdu; spells = h.spells; text = h.text; good = h.good; size = h.size }
 
   module _ (text : Vec ℕ Global) where
-    pub makes_hex : (p : Piece (Vec ℕ Global)) → text.items ≡ encode_lower p.text.items ++ codes "\n" → (b : List ℕ) → Makes (λ v octets. v.items ≡ octets) (λ m. normal_form m.apdu) (λ m. true) p b
-        → Makes IsWritten (message_text Job.Canonicalise true name label i) (is_good Job.Canonicalise) (record { text = Written.Octets text; is_good = true; octets = p.octets }) b
-    makes_hex p e b h = record { apdu = h.apdu; spells = h.spells; text = e ∙ ap (λ l. encode_lower l ++ codes "\n") h.text; good = refl; size = h.size }
+    pub makes_hex : (made : Piece (Vec ℕ Global)) → text.items ≡ encode_lower made.text.items ++ codes "\n" → (b : List ℕ)
+        → Makes (λ v octets. v.items ≡ octets) (λ m. normal_form m.apdu) (good_if compares) made b
+        → Makes IsWritten (message_text Job.Canonicalise true name label p) (counts_as_good Job.Canonicalise compares)
+            (record { text = Written.Octets text; is_good = made.is_good; octets = made.octets }) b
+    makes_hex made e b h = record { apdu = h.apdu; spells = h.spells; text = e ∙ ap (λ l. encode_lower l ++ codes "\n") h.text; good = h.good; size = h.size }
 
-    pub makes_digest : (p : Piece (Vec ℕ Global)) (hex : Bool) → text.items ≡ line_of_digest (sha256 p.text.items) name i → (b : List ℕ)
-        → Makes (λ v octets. v.items ≡ octets) (λ m. normal_form m.apdu) (λ m. true) p b
-        → Makes IsWritten (message_text Job.Digest hex name label i) (is_good Job.Digest) (record { text = Written.Octets text; is_good = true; octets = p.octets }) b
-    makes_digest p hex e b h = record { apdu = h.apdu; spells = h.spells; text = e ∙ ap (λ l. line_of_digest (sha256 l) name i) h.text; good = refl; size = h.size }
+    pub makes_digest : (made : Piece (Vec ℕ Global)) (hex : Bool) → text.items ≡ line_of_digest (sha256 made.text.items) name p.number → (b : List ℕ)
+        → Makes (λ v octets. v.items ≡ octets) (λ m. normal_form m.apdu) (good_if compares) made b
+        → Makes IsWritten (message_text Job.Digest hex name label p) (counts_as_good Job.Digest compares)
+            (record { text = Written.Octets text; is_good = made.is_good; octets = made.octets }) b
+    makes_digest made hex e b h =
+        record { apdu = h.apdu; spells = h.spells; text = e ∙ ap (λ l. line_of_digest (sha256 l) name p.number) h.text; good = h.good; size = h.size }
 
-    pub makes_checked : (x : Checked) (hex : Bool) → text.items ≡ line_of_check label i x.apdu x.octets x.is_normal x.normal → (b : List ℕ) → Describes x b
-        → Makes IsWritten (message_text Job.Check hex name label i) (is_good Job.Check) (record { text = Written.Octets text; is_good = x.is_normal; octets = x.octets }) b
+    pub makes_checked : (x : Checked) (hex : Bool) → text.items ≡ line_of_check label p.number x.apdu x.octets x.is_normal x.normal → (b : List ℕ) → Describes x b
+        → Makes IsWritten (message_text Job.Check hex name label p) (counts_as_good Job.Check compares) (record { text = Written.Octets text; is_good = x.is_normal; octets = x.octets }) b
     makes_checked x hex e b h =
         let a = h.0 in
+        let i = p.number in
         let same = tests_equality x.is_normal b (normal_form a) h.5 in record {
           apdu = a;
           spells = h.1;
@@ -49,6 +60,23 @@ module _ (i : ℕ) (name label : List ℕ) where
           size = h.3;
         }
 
-  pub makes_shown : (read : Outlined) (hex : Bool) (text : Written) → ((a : Apdu) → IsOutlineOf read.outline a → IsWritten text (label ++ shown_text i a)) → (b : List ℕ) → IsOutlined read b
-      → Makes IsWritten (message_text Job.Show hex name label i) (is_good Job.Show) (record { text = text; is_good = true; octets = read.read }) b
-  makes_shown read hex text is b h = record { apdu = h.0; spells = h.1; text = is h.0 h.2; good = refl; size = h.3 }
+  pub makes_shown : (found : Found) (hex : Bool) (text : Written) → ((a : Apdu) → IsOutlineOf found.outline a → IsWritten text (label ++ shown_text p.number a)) → (b : List ℕ) → IsFound compares found b
+      → Makes IsWritten (message_text Job.Show hex name label p) (counts_as_good Job.Show compares) (record { text = text; is_good = found.is_good; octets = found.octets }) b
+  makes_shown found hex text is b h = record { apdu = h.apdu; spells = h.spells; text = is h.apdu h.outline; good = h.good; size = h.size }
+
+-- a normal form that was compared
+pub makes_compared : (x : Checked) (text : Vec ℕ Global) (b : List ℕ) → Describes x b → IsFormOf text.items b
+    → Makes (λ v octets. v.items ≡ octets) (λ m. normal_form m.apdu) (good_if true) (record { text = text; is_good = x.is_normal; octets = x.octets }) b
+makes_compared x text b h form =
+    record { apdu = h.0; spells = h.1; text = form h.0 h.1; good = tests_equality x.is_normal b (normal_form h.0) h.5; size = h.3 }
+
+-- an outline that was read, and one of the normal form of what was compared
+pub found_read : (read : Outlined) (b : List ℕ) → IsOutlined read b → IsFound false (record { outline = read.outline; octets = read.read; is_good = true }) b
+found_read read b h = record { apdu = h.0; spells = h.1; outline = h.2; size = h.3; good = refl }
+
+pub found_compared : (x : Checked) (text : List ℕ) (outline : Outline) → ((a : Apdu) → SpellsApdu profile_two a text → IsOutlineOf outline a) → (b : List ℕ) → Describes x b → IsFormOf text b
+    → IsFound true (record { outline = outline; octets = x.octets; is_good = x.is_normal }) b
+found_compared x text outline is b h form =
+    let a = h.0 in
+    let spells : SpellsApdu profile_two a text = subst (SpellsApdu profile_two a) (sym (form a h.1)) (spells_normal a b h.1) in
+    record { apdu = a; spells = h.1; outline = is a spells; size = h.3; good = tests_equality x.is_normal b (normal_form a) h.5 }

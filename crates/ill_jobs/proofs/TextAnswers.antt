@@ -7,6 +7,7 @@ use Rattle.hex.specs.Hex.{decode_of}
 use Rattle.ill_refusals.specs.Fault.{Fault}
 use Rattle.ill_normal.proofs.InputAnswers.{front}
 use Rattle.ill_normal.specs.Calls.{taking, putting}
+use Rattle.ill_jobs.specs.declared.job.Counts.{Counts}
 use Rattle.ill_jobs.specs.declared.job.Job.{Job}
 use Rattle.ill_jobs.specs.declared.job.Verdict.{Verdict}
 use Rattle.ill_jobs.specs.declared.job.Work.{Work}
@@ -41,50 +42,50 @@ same_err r e f h k = cc
 pub not_both : (r : Result (List ℕ) RunFault) (a : List ℕ) (e : RunFault) → r ≡ Ok a → r ≡ Err e → ⊥
 not_both r a e h k = cc
 
-module _ (work : Work) (held held' : Option (List ℕ)) (x y : Bool) (answer : Result Verdict RunFault) where
+module _ (work : Work) (held held' : Option (List ℕ)) (x y : Bool) (answer : Result Verdict RunFault) (counts : Counts) where
   -- octets as they are
-  pub plain_does : (left left' : Option (List ℕ)) → IfOk answer (Done work left left' held held') → IfErr answer (StopsAfter work (taking left left' x) (putting held held' y))
+  pub plain_does : (left left' : Option (List ℕ)) → IfOk answer (Done work left left' held held' counts) → IfErr answer (StopsAfter work (taking left left' x) (putting held held' y) counts)
       → IfSome left (λ s. DoesMessages work.job false s answer)
   plain_does None left' d n = tt
   plain_does (Some s) left' d n = λ octets ms e h le.
-      does work s left' held held' x y answer d n ms (subst (λ z. AreSpelled z ms []) (sym (same_ok (Ok s) s octets refl e)) h) le
+      does work s left' held held' counts x y answer d n ms (subst (λ z. AreSpelled z ms []) (sym (same_ok (Ok s) s octets refl e)) h) le
 
-  pub plain_refuses : (left left' : Option (List ℕ)) → IfOk answer (Done work left left' held held') → IfErr answer (StopsAfter work (taking left left' x) (putting held held' y))
+  pub plain_refuses : (left left' : Option (List ℕ)) → IfOk answer (Done work left left' held held' counts) → IfErr answer (StopsAfter work (taking left left' x) (putting held held' y) counts)
       → IfSome left (λ s. RefusesFirst false s answer)
   plain_refuses None left' d n = tt
   plain_refuses (Some s) left' d n = λ octets rest ms f e h lt some only.
-      refuses work s left' held held' x y answer d n rest ms f (subst (λ z. AreSpelled z ms rest) (sym (same_ok (Ok s) s octets refl e)) h) lt some only
+      refuses work s left' held held' counts x y answer d n rest ms f (subst (λ z. AreSpelled z ms rest) (sym (same_ok (Ok s) s octets refl e)) h) lt some only
 
-  pub plain_more : (left left' : Option (List ℕ)) → IfOk answer (Done work left left' held held') → IfErr answer (StopsAfter work (taking left left' x) (putting held held' y))
+  pub plain_more : (left left' : Option (List ℕ)) → IfOk answer (Done work left left' held held' counts) → IfErr answer (StopsAfter work (taking left left' x) (putting held held' y) counts)
       → IfSome left (λ s. RefusesMore false s answer)
   plain_more None left' d n = tt
   plain_more (Some s) left' d n = λ octets rest ms e h many some.
-      refuses_more work s left' held held' x y answer d n rest ms (subst (λ z. AreSpelled z ms rest) (sym (same_ok (Ok s) s octets refl e)) h) many some
+      refuses_more work s left' held held' counts x y answer d n rest ms (subst (λ z. AreSpelled z ms rest) (sym (same_ok (Ok s) s octets refl e)) h) many some
 
   pub plain_text : (left : Option (List ℕ)) → IfSome left (λ s. RefusesText false s answer)
   plain_text None = tt
   plain_text (Some s) = λ fault e. absurd (not_both (Ok s) s fault refl e)
 
   -- the octets of a text
-  module _ (octets : List ℕ) (rest : Option (List ℕ)) (d : IfOk answer (Done work (Some octets) rest held held'))
-      (n : IfErr answer (StopsAfter work (taking (Some octets) rest x) (putting held held' y))) where
+  module _ (octets : List ℕ) (rest : Option (List ℕ)) (d : IfOk answer (Done work (Some octets) rest held held' counts))
+      (n : IfErr answer (StopsAfter work (taking (Some octets) rest x) (putting held held' y) counts)) where
     stands : (s : List ℕ) (left' : Option (List ℕ)) → TextOf (Some s) left' octets → hex_octets s ≡ Ok octets
     stands s left' t = same_octets s left' t.text t.taken ∙ t.stands
 
     pub text_does : (left left' : Option (List ℕ)) → TextOf left left' octets → IfSome left (λ s. DoesMessages work.job true s answer)
     text_does None left' t = tt
     text_does (Some s) left' t = λ o ms e h le.
-        does work octets rest held held' x y answer d n ms (subst (λ z. AreSpelled z ms []) (same_ok (hex_octets s) o octets e (stands s left' t)) h) le
+        does work octets rest held held' counts x y answer d n ms (subst (λ z. AreSpelled z ms []) (same_ok (hex_octets s) o octets e (stands s left' t)) h) le
 
     pub text_refuses : (left left' : Option (List ℕ)) → TextOf left left' octets → IfSome left (λ s. RefusesFirst true s answer)
     text_refuses None left' t = tt
     text_refuses (Some s) left' t = λ o r ms f e h lt some only.
-        refuses work octets rest held held' x y answer d n r ms f (subst (λ z. AreSpelled z ms r) (same_ok (hex_octets s) o octets e (stands s left' t)) h) lt some only
+        refuses work octets rest held held' counts x y answer d n r ms f (subst (λ z. AreSpelled z ms r) (same_ok (hex_octets s) o octets e (stands s left' t)) h) lt some only
 
     pub text_more : (left left' : Option (List ℕ)) → TextOf left left' octets → IfSome left (λ s. RefusesMore true s answer)
     text_more None left' t = tt
     text_more (Some s) left' t = λ o r ms e h many some.
-        refuses_more work octets rest held held' x y answer d n r ms (subst (λ z. AreSpelled z ms r) (same_ok (hex_octets s) o octets e (stands s left' t)) h) many some
+        refuses_more work octets rest held held' counts x y answer d n r ms (subst (λ z. AreSpelled z ms r) (same_ok (hex_octets s) o octets e (stands s left' t)) h) many some
 
     pub text_stands : (left left' : Option (List ℕ)) → TextOf left left' octets → IfSome left (λ s. RefusesText true s answer)
     text_stands None left' t = tt

@@ -7,7 +7,9 @@ use Rattle.sha2.specs.Sha256.{sha256}
 use Rattle.ill_schema.specs.Apdu.{normal_form}
 use Rattle.ill_schema.specs.Names.{apdu_name_of}
 use Rattle.ill_text.specs.Shown.{name_or_none, shown_text}
-use Rattle.ill_normal.specs.Messages.{Spelling, output_from}
+use Rattle.ill_normal.specs.Messages.{Spelling, first, output_from, good_of}
+use Rattle.ill_normal.specs.declared.messages.Position.{Position}
+use Rattle.ill_jobs.specs.declared.job.Counts.{Counts}
 use Rattle.ill_jobs.specs.declared.job.Job.{Job}
 use Rattle.ill_jobs.specs.declared.job.Verdict.{Verdict}
 use Rattle.ill_jobs.specs.declared.job.Work.{Work}
@@ -40,25 +42,38 @@ abbrev pub label_of : Bool → List ℕ → List ℕ
 label_of true name = name ++ codes ": "
 label_of false name = []
 
--- what is written of message i of the input of this name, after this label
-abbrev pub message_text : Job → Bool → List ℕ → List ℕ → ℕ → Spelling → List ℕ
-message_text Job.Show hex name label i m = label ++ shown_text i m.apdu
-message_text Job.Check hex name label i m = check_line label i m
-message_text Job.Digest hex name label i m = digest_line name i m
-message_text Job.Canonicalise false name label i m = normal_form m.apdu
-message_text Job.Canonicalise true name label i m = encode_lower (normal_form m.apdu) ++ codes "\n"
+-- what is written of the message at this position of the input of this name, after this label
+abbrev pub message_text : Job → Bool → List ℕ → List ℕ → Position → Spelling → List ℕ
+message_text Job.Show hex name label p m = label ++ shown_text p.number m.apdu
+message_text Job.Check hex name label p m = check_line label p.number m
+message_text Job.Digest hex name label p m = digest_line name p.number m
+message_text Job.Canonicalise false name label p m = normal_form m.apdu
+message_text Job.Canonicalise true name label p m = encode_lower (normal_form m.apdu) ++ codes "\n"
 
-abbrev pub message_output : Work → ℕ → Spelling → List ℕ
+abbrev pub message_output : Work → Position → Spelling → List ℕ
 message_output work = message_text work.job work.hex work.name.now (label_of work.is_named work.name.now)
 
--- what is written of messages that are numbered from 1 on
+-- what is written of the messages of an input
 abbrev pub output : Work → List Spelling → List ℕ
-output work ms = output_from (message_output work) 1 ms
+output work ms = output_from (message_output work) first ms
 
 -- what `check` is asked for, and no other job
 abbrev pub is_good : Job → Spelling → Bool
 is_good Job.Check m = is_normal m
 is_good _ m = true
+
+-- what counts as good: what is in normal form, where messages are compared, else every message
+abbrev pub good_if : Bool → Spelling → Bool
+good_if true m = is_normal m
+good_if false m = true
+
+abbrev pub counts_as_good : Job → Bool → Spelling → Bool
+counts_as_good Job.Check compares m = is_normal m
+counts_as_good _ compares m = good_if compares m
+
+-- the numbers of messages that have these octets
+abbrev pub counts_of : Work → List ℕ → List Spelling → Counts
+counts_of work octets ms = record { messages = length ms; good = good_of (counts_as_good work.job work.compares) ms; octets = length octets }
 
 abbrev pub verdict_if : Bool → Verdict
 verdict_if true = Verdict.Good

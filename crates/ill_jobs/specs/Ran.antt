@@ -8,13 +8,14 @@ use Rattle.ill_read.specs.declared.failure.ReadFailure.{ReadFailure}
 use Rattle.ill_read.specs.Answers.{TakesFront, TakesNoMessage}
 use Rattle.ill_refusals.specs.Outcome.{OnlyRefuses}
 use Rattle.ill_normal.specs.Calls.{Taking, taking, Putting, putting}
+use Rattle.ill_jobs.specs.declared.job.Counts.{Counts}
 use Rattle.ill_jobs.specs.declared.job.Job.{Job}
 use Rattle.ill_jobs.specs.declared.job.Verdict.{Verdict}
 use Rattle.ill_jobs.specs.declared.job.Work.{Work}
 use Rattle.ill_jobs.specs.declared.fault.RunFault.{RunFault}
 use Rattle.ill_normal.specs.Messages.{Spelling, AreSpelled}
 use Rattle.ill_normal.specs.Messages as messages
-use Rattle.ill_jobs.specs.Output.{message_output, output, verdict_of}
+use Rattle.ill_jobs.specs.Output.{counts_of, message_output, output, verdict_of}
 use Rattle.ill_jobs.specs.Hexadecimal.{hex_octets, TakesText}
 use Rattle.ill_jobs.specs.Unread.{TakesAtMost}
 
@@ -52,18 +53,20 @@ fault_at i ReadFailure.OutOfMemory = RunFault.OutOfMemory
 fault_at i ReadFailure.ReadFault = RunFault.ReadFault
 
 -- the messages before the fault, and why the job went no further; of what follows them no more was taken than a message may have
-pub record StopsAfter (work : Work) (source : Taking) (sink : Putting) (fault : RunFault) : Type 0 where
+pub record StopsAfter (work : Work) (source : Taking) (sink : Putting) (counts : Counts) (fault : RunFault) : Type 0 where
   pub messages : List Spelling
   pub rest : Option (List ℕ)
   pub grown : Option (List ℕ)
   pub writes : Writes work source.left rest sink.held grown messages
+  pub counted : counts ≡ counts_of work writes.octets messages
   pub taken : TakesFront rest source.left'
   pub stops : Stops work (taking rest source.left' source.broken) (putting grown sink.held' sink.broken) sink.held messages fault
 
 -- the job was done: the octets are messages to their end, at most 1,000,000
-pub record Done (work : Work) (left left' held held' : Option (List ℕ)) (verdict : Verdict) : Type 0 where
+pub record Done (work : Work) (left left' held held' : Option (List ℕ)) (counts : Counts) (verdict : Verdict) : Type 0 where
   pub messages : List Spelling
   pub writes : Writes work left left' held held' messages
+  pub counted : counts ≡ counts_of work writes.octets messages
   pub end : IsAtEnd left'
   pub few : length messages ≤ 1_000_000
   pub is_verdict : verdict ≡ verdict_of work.job messages
@@ -91,16 +94,16 @@ abbrev pub FailsText : Option (List ℕ) → Option (List ℕ) → Bool → RunF
 FailsText left left' source_broken fault = NoHex left left' fault ⊎ IsUnread 4_194_305 left left' source_broken fault
 
 -- the same of an input that is read as octets, or as hexadecimal text
-abbrev pub RunDone : Bool → Work → Option (List ℕ) → Option (List ℕ) → Option (List ℕ) → Option (List ℕ) → Verdict → Type 0
-RunDone false work left left' held held' verdict = Done work left left' held held' verdict
-RunDone true work left left' held held' verdict =
-    (octets : List ℕ) × TextOf left left' octets × ((rest : List ℕ) × Done work (Some octets) (Some rest) held held' verdict)
+abbrev pub RunDone : Bool → Work → Option (List ℕ) → Option (List ℕ) → Option (List ℕ) → Option (List ℕ) → Counts → Verdict → Type 0
+RunDone false work left left' held held' counts verdict = Done work left left' held held' counts verdict
+RunDone true work left left' held held' counts verdict =
+    (octets : List ℕ) × TextOf left left' octets × ((rest : List ℕ) × Done work (Some octets) (Some rest) held held' counts verdict)
 
-abbrev pub RunFails : Bool → Work → Taking → Putting → RunFault → Type 0
-RunFails false work source sink fault = StopsAfter work source sink fault
-RunFails true work source sink fault =
-    (FailsText source.left source.left' source.broken fault × Keeps sink.held sink.held')
-    ⊎ ((octets : List ℕ) × TextOf source.left source.left' octets × ((rest : List ℕ) × StopsAfter work (taking (Some octets) (Some rest) false) sink fault))
+abbrev pub RunFails : Bool → Work → Taking → Putting → Counts → RunFault → Type 0
+RunFails false work source sink counts fault = StopsAfter work source sink counts fault
+RunFails true work source sink counts fault =
+    (FailsText source.left source.left' source.broken fault × Keeps sink.held sink.held' × (counts ≡ counts_of work [] []))
+    ⊎ ((octets : List ℕ) × TextOf source.left source.left' octets × ((rest : List ℕ) × StopsAfter work (taking (Some octets) (Some rest) false) sink counts fault))
 
 -- ---- which answer an input has
 

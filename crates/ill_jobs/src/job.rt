@@ -1,6 +1,8 @@
 //! What is to be done with the messages of an input, and what came of it.
 ghost use Rattle.std.specs.Prelude.{◌≡◌, codes, false};
 
+use crate::fault::RunFault;
+
 /// What is written for each message of an input.
 #[derive(Clone, Copy, Debug, PartialEq, Eq)]
 pub enum Job {
@@ -24,23 +26,54 @@ pub struct Work<'a> {
     pub name: &'a str,
     /// Whether the line of `Check`, and the first line of `Show`, begins with the name and `: `.
     pub is_named: bool,
+    /// Whether each message is compared with its normal form, as `Check` always does, so that those in normal form are counted.
+    pub compares: bool,
 }
 
 impl Work<'_> {
-    /// The work on an input that no line needs to name, such as standard input: its name is `-`.
+    /// The work on an input that no line needs to name, such as standard input: its name is `-`. Messages are compared by `Check` alone.
     pub fn new(job: Job, hex: bool) -> Work<'static>
         ensures job { result.job ≡ job }
         ensures hex { result.hex ≡ hex }
         ensures name { result.name.now ≡ codes "-" }
         ensures not_named { result.is_named ≡ false }
+        ensures not_compared { result.compares ≡ false }
     {
         Work {
             job,
             hex,
             name: "-",
             is_named: false,
+            compares: false,
         }
     }
+}
+
+/// The messages that a job was done with, in numbers.
+#[derive(Clone, Copy, Debug, PartialEq, Eq)]
+pub struct Counts {
+    /// How many they are.
+    pub messages: u32,
+    /// How many are good: those in normal form where messages are compared, else all.
+    pub good: u32,
+    /// How many octets they have in the input.
+    pub octets: u64,
+}
+
+impl Counts {
+    /// No message.
+    pub const NONE: Counts = Counts {
+        messages: 0,
+        good: 0,
+        octets: 0,
+    };
+}
+
+/// What came of a job, and the messages that it was done with.
+#[derive(Clone, Copy, Debug, PartialEq, Eq)]
+pub struct Ran {
+    pub result: Result<Verdict, RunFault>,
+    pub counts: Counts,
 }
 
 /// What came of a job that was done.

@@ -12,10 +12,10 @@ mod text;
 mod written;
 
 pub use fault::RunFault;
-pub use going::{run_on, run_on_by};
+pub use going::{Halt, run_on, run_on_by, verdict_of};
 pub use hexadecimal::text_octets;
 pub use ill_going::{Gone, Report, Reports};
-pub use job::{Job, Verdict, Work};
+pub use job::{Counts, Job, Ran, Verdict, Work};
 pub use messages::{run, run_by};
 pub use same::run_same;
 pub use text::{Unread, read_most};

@@ -1,13 +1,13 @@
 //! Jobs on the messages of one input.
 ghost use Rattle.std.specs.Prelude.{◌≡◌, ◌<◌, false, IfOk, IfErr, IfSome, IsTrue};
 ghost use Rattle.ill_normal.specs.Calls.{taking, putting};
-ghost use Rattle.ill_jobs.specs.Output.{verdict_if};
-ghost use Rattle.ill_jobs.specs.code.Endings.{run_fault};
+ghost use Rattle.ill_jobs.specs.declared.job.Counts.{Counts};
+ghost use Rattle.ill_jobs.specs.code.Endings.{counts_with, run_fault, verdict_by};
 ghost use Rattle.ill_jobs.specs.Ran.{fault_at, Done, StopsAfter, RunDone, RunFails, DoesMessages, RefusesFirst, RefusesMore, RefusesText};
 
 use crate::fault::RunFault;
 use crate::hexadecimal::read_hex;
-use crate::job::{Verdict, Work};
+use crate::job::{Counts, Job, Ran, Verdict, Work};
 use ber_core::{AtHand, FromSlice, Look, Sink, Source, Unseen};
 use ill_normal::{ReadFailure, Stopped, Why, each_message};
 use std::alloc::Global;
@@ -28,9 +28,9 @@ pub fn run<R: Source, W: Sink>(
     sink: &mut W,
 ) -> Result<Verdict, RunFault>
     // The input was messages to its end, and their output was written.
-    ensures done { IfOk result (RunDone work.entry.hex work.entry (R.left source.old) (R.left source.new) (W.contents sink.old) (W.contents sink.new)) }
-    ensures fails { IfErr result (RunFails work.entry.hex work.entry (taking (R.left source.old) (R.left source.new) (R.is_broken source.new))
-        (putting (W.contents sink.old) (W.contents sink.new) (W.is_broken sink.new))) }
+    ensures done { IfOk result (λ verdict. (counts : Counts) × RunDone work.entry.hex work.entry (R.left source.old) (R.left source.new) (W.contents sink.old) (W.contents sink.new) counts verdict) }
+    ensures fails { IfErr result (λ fault. (counts : Counts) × RunFails work.entry.hex work.entry (taking (R.left source.old) (R.left source.new) (R.is_broken source.new))
+        (putting (W.contents sink.old) (W.contents sink.new) (W.is_broken sink.new)) counts fault) }
     // Each input has one result, unless memory, the source or the sink fails.
     ensures does { IfSome (R.left source.old) (λ s. DoesMessages work.entry.job work.entry.hex s result) }
     ensures refuses { IfSome (R.left source.old) (λ s. RefusesFirst work.entry.hex s result) }
@@ -39,10 +39,11 @@ pub fn run<R: Source, W: Sink>(
     ensures source_stays { IsTrue (R.is_broken source.old) → IsTrue (R.is_broken source.new) }
     ensures sink_stays { IsTrue (W.is_broken sink.old) → IsTrue (W.is_broken sink.new) }
 {
-    run_by::<R, Unseen, W>(alloc, work, source, sink)
+    run_by::<R, Unseen, W>(alloc, work, source, sink).result
 }
 
-/// Does a job as [`run`] does, by a way to look at the source.
+/// Does a job as [`run`] does, by a way to look at the source, and counts the messages that it was done with. Those that `work` doesn't
+/// compare with their normal forms all count as good.
 ///
 /// # Errors
 ///
@@ -52,23 +53,26 @@ pub fn run_by<R: Source, L: Look<R>, W: Sink>(
     work: Work<'_>,
     source: &mut R,
     sink: &mut W,
-) -> Result<Verdict, RunFault>
+) -> Ran
     // The input was messages to its end, and their output was written.
-    ensures done { IfOk result (RunDone work.entry.hex work.entry (R.left source.old) (R.left source.new) (W.contents sink.old) (W.contents sink.new)) }
-    ensures fails { IfErr result (RunFails work.entry.hex work.entry (taking (R.left source.old) (R.left source.new) (R.is_broken source.new))
-        (putting (W.contents sink.old) (W.contents sink.new) (W.is_broken sink.new))) }
+    ensures done { IfOk result.result (RunDone work.entry.hex work.entry (R.left source.old) (R.left source.new) (W.contents sink.old) (W.contents sink.new) result.counts) }
+    ensures fails { IfErr result.result (RunFails work.entry.hex work.entry (taking (R.left source.old) (R.left source.new) (R.is_broken source.new))
+        (putting (W.contents sink.old) (W.contents sink.new) (W.is_broken sink.new)) result.counts) }
     // Each input has one result, unless memory, the source or the sink fails.
-    ensures does { IfSome (R.left source.old) (λ s. DoesMessages work.entry.job work.entry.hex s result) }
-    ensures refuses { IfSome (R.left source.old) (λ s. RefusesFirst work.entry.hex s result) }
-    ensures too_many { IfSome (R.left source.old) (λ s. RefusesMore work.entry.hex s result) }
-    ensures no_hex { IfSome (R.left source.old) (λ s. RefusesText work.entry.hex s result) }
+    ensures does { IfSome (R.left source.old) (λ s. DoesMessages work.entry.job work.entry.hex s result.result) }
+    ensures refuses { IfSome (R.left source.old) (λ s. RefusesFirst work.entry.hex s result.result) }
+    ensures too_many { IfSome (R.left source.old) (λ s. RefusesMore work.entry.hex s result.result) }
+    ensures no_hex { IfSome (R.left source.old) (λ s. RefusesText work.entry.hex s result.result) }
     ensures source_stays { IsTrue (R.is_broken source.old) → IsTrue (R.is_broken source.new) }
     ensures sink_stays { IsTrue (W.is_broken sink.old) → IsTrue (W.is_broken sink.new) }
 {
     if !work.hex {
         return run_messages::<R, L, W>(alloc, work, source, sink);
     }
-    let octets = read_hex(alloc, source)?;
+    let octets = match read_hex(alloc, source) {
+        Ok(octets) => octets,
+        Err(fault) => return ran(Err(fault), counts(0, 0, 0)),
+    };
     let mut messages = FromSlice::new(&octets);
     run_messages::<FromSlice<'_>, AtHand, W>(alloc, work, &mut messages, sink)
 }
@@ -78,26 +82,54 @@ fn run_messages<R: Source, L: Look<R>, W: Sink>(
     work: Work<'_>,
     source: &mut R,
     sink: &mut W,
-) -> Result<Verdict, RunFault>
-    ensures done { IfOk result (Done work.entry (R.left source.old) (R.left source.new) (W.contents sink.old) (W.contents sink.new)) }
-    ensures stops { IfErr result (StopsAfter work.entry (taking (R.left source.old) (R.left source.new) (R.is_broken source.new))
-        (putting (W.contents sink.old) (W.contents sink.new) (W.is_broken sink.new))) }
+) -> Ran
+    ensures done { IfOk result.result (Done work.entry (R.left source.old) (R.left source.new) (W.contents sink.old) (W.contents sink.new) result.counts) }
+    ensures stops { IfErr result.result (StopsAfter work.entry (taking (R.left source.old) (R.left source.new) (R.is_broken source.new))
+        (putting (W.contents sink.old) (W.contents sink.new) (W.is_broken sink.new)) result.counts) }
     ensures source_stays { IsTrue (R.is_broken source.old) → IsTrue (R.is_broken source.new) }
     ensures sink_stays { IsTrue (W.is_broken sink.old) → IsTrue (W.is_broken sink.new) }
 {
     match each_message::<Work<'_>, R, L, W>(alloc, &work, source, sink) {
-        Ok(passed) => Ok(verdict(passed.all_good)),
-        Err(stopped) => Err(fault_of(stopped)),
+        Ok(passed) => {
+            let verdict = verdict(work.job, passed.all_good);
+            ran(Ok(verdict), counts(passed.whole, passed.good, passed.octets))
+        }
+        Err(stopped) => {
+            let fault = fault_of(stopped);
+            ran(Err(fault), counts(stopped.whole, stopped.good, stopped.before))
+        }
     }
 }
 
-fn verdict(all_good: bool) -> Verdict
-    ensures { result ≡ verdict_if all_good }
+#[inline(always)]
+fn ran(came: Result<Verdict, RunFault>, counts: Counts) -> Ran
+    ensures came { result.result ≡ came }
+    ensures counts { result.counts ≡ counts }
 {
-    if all_good {
-        Verdict::Good
-    } else {
-        Verdict::NotGood
+    Ran {
+        result: came,
+        counts,
+    }
+}
+
+#[inline(always)]
+fn counts(messages: u32, good: u32, octets: u64) -> Counts
+    ensures { result ≡ counts_with messages good octets }
+{
+    Counts {
+        messages,
+        good,
+        octets,
+    }
+}
+
+/// The verdict of a job where all messages that were counted are good, or not.
+pub(crate) fn verdict(job: Job, all_good: bool) -> Verdict
+    ensures { result ≡ verdict_by job all_good }
+{
+    match job {
+        Job::Check if !all_good => Verdict::NotGood,
+        _ => Verdict::Good,
     }
 }
 

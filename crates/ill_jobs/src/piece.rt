@@ -3,18 +3,22 @@ ghost use Rattle.std.specs.Prelude.{◌≡◌, ◌^◌, ◌≤◌, ℕ, ◌++◌
 ghost use Rattle.hex.specs.Hex.{encode_lower};
 ghost use Rattle.ill_read.specs.Answers.{ReadsNext};
 ghost use Rattle.ill_read.specs.Outline.{IsOutlineOf};
-ghost use Rattle.ill_schema.specs.Apdu.{Apdu};
+ghost use Rattle.ber_leaf.specs.Profile.{profile_two};
+ghost use Rattle.ill_schema.specs.Apdu.{Apdu, SpellsApdu, normal_form};
 ghost use Rattle.ill_text.specs.Shown.{shown_text};
 ghost use Rattle.ill_jobs.specs.declared.job.Job.{Job};
 ghost use Rattle.ill_normal.specs.Messages.{Makes};
-ghost use Rattle.ill_jobs.specs.Output.{check_end, is_good, label_of, line_of_check, line_of_digest, message_output, message_text};
+ghost use Rattle.ill_jobs.specs.Output.{check_end, counts_as_good, good_if, label_of, line_of_check, line_of_digest, message_output, message_text};
+ghost use Rattle.ill_jobs.specs.code.Finding.{IsFound};
 ghost use Rattle.ill_jobs.specs.code.Writing.{IsWritten};
 
 use crate::job::{Job, Work};
 use crate::written::Written;
-use ber_core::{Look, Source};
+use ber_core::{AtHand, FromSlice, Look, Source};
 use ill_digest::normal_digest;
-use ill_normal::{Checked, Maker, NormalForms, Piece, ReadFailure, apdu_name, check_one_in};
+use ill_normal::{
+    Checked, Maker, NormalForms, Piece, Position, ReadFailure, apdu_name, check_one_in,
+};
 use ill_read::{Outline, read_outline_in};
 use ill_text::Text;
 use itoa::Buffer;
@@ -26,20 +30,20 @@ const LONGEST: usize = 1 << 62;
 impl Maker for Work<'_> {
     type Out = Written;
 
-    ghost use Rattle.ill_jobs.specs.Output.{is_good, message_output};
+    ghost use Rattle.ill_jobs.specs.Output.{counts_as_good, message_output};
 
     ghost text = { λ work. message_output work };
 
-    ghost is_good = { λ work. is_good work.job };
+    ghost is_good = { λ work. counts_as_good work.job work.compares };
 
     fn next<R: Source, L: Look<R>>(
         &self,
         alloc: Global,
-        number: u32,
+        position: Position,
         source: &mut R,
         room: Written,
     ) -> Result<Option<Piece<Written>>, ReadFailure> {
-        next_piece::<R, L>(alloc, *self, number, source, room)
+        next_piece::<R, L>(alloc, *self, position, source, room)
     }
 }
 
@@ -47,43 +51,99 @@ impl Maker for Work<'_> {
 fn next_piece<R: Source, L: Look<R>>(
     alloc: Global,
     work: Work<'_>,
-    number: u32,
+    position: Position,
     source: &mut R,
     room: Written,
 ) -> Result<Option<Piece<Written>>, ReadFailure>
     ensures { ReadsNext (R.left source.old) (R.left source.new) (R.is_broken source.old) (R.is_broken source.new)
-        (Makes IsWritten (message_output work.entry number) (is_good work.entry.job)) result }
+        (Makes IsWritten (message_output work.entry position) (counts_as_good work.entry.job work.entry.compares)) result }
 {
     match work.job {
-        Job::Show => shown::<R, L>(alloc, work, number, source, room),
-        Job::Check => checked::<R, L>(alloc, work, number, source, room.into_octets()),
-        Job::Digest => digested::<R, L>(alloc, work, number, source, room.into_octets()),
-        Job::Canonicalise => { canonical::<R, L>(alloc, work, number, source, room.into_octets()) }
+        Job::Show => shown::<R, L>(alloc, work, position, source, room),
+        Job::Check => checked::<R, L>(alloc, work, position, source, room.into_octets()),
+        Job::Digest => digested::<R, L>(alloc, work, position, source, room.into_octets()),
+        Job::Canonicalise => { canonical::<R, L>(alloc, work, position, source, room.into_octets()) }
     }
 }
 
 fn shown<R: Source, L: Look<R>>(
     alloc: Global,
     work: Work<'_>,
-    number: u32,
+    position: Position,
     source: &mut R,
     room: Written,
 ) -> Result<Option<Piece<Written>>, ReadFailure>
     ensures { ReadsNext (R.left source.old) (R.left source.new) (R.is_broken source.old) (R.is_broken source.new)
-        (Makes IsWritten (message_text Job.Show work.entry.hex work.entry.name.now (label_of work.entry.is_named work.entry.name.now) number) (is_good Job.Show)) result }
+        (Makes IsWritten (message_text Job.Show work.entry.hex work.entry.name.now (label_of work.entry.is_named work.entry.name.now) position) (counts_as_good Job.Show work.entry.compares)) result }
 {
     let (octets, outline) = room.into_both(alloc);
-    let Some(read) = read_outline_in::<R, L>(alloc, source, outline)? else {
+    let Some(found) = outlined::<R, L>(alloc, work.compares, source, outline)? else {
         return Ok(None);
     };
-    let size = read.read;
-    match labelled_text(octets, work, number, read.outline) {
+    let Found {
+        outline,
+        octets: size,
+        is_good,
+    } = found;
+    match labelled_text(octets, work, position.number, outline) {
         Ok(text) => Ok(Some(Piece {
             text,
-            is_good: true,
+            is_good,
             octets: size,
         })),
         Err(AllocError) => Err(ReadFailure::OutOfMemory),
+    }
+}
+
+/// A message that was read: its outline, how many octets it has in the input, and whether it counts as good.
+#[derive(Drop)]
+struct Found {
+    outline: Outline,
+    octets: u32,
+    is_good: bool,
+}
+
+/// Reads the outline of the next message, which is compared with its normal form or not; None at the end of the input.
+fn outlined<R: Source, L: Look<R>>(
+    alloc: Global,
+    compares: bool,
+    source: &mut R,
+    room: Outline,
+) -> Result<Option<Found>, ReadFailure>
+    ensures { ReadsNext (R.left source.old) (R.left source.new) (R.is_broken source.old) (R.is_broken source.new) (IsFound compares) result }
+{
+    if !compares {
+        return match read_outline_in::<R, L>(alloc, source, room) {
+            Ok(Some(read)) => Ok(Some(Found {
+                outline: read.outline,
+                octets: read.read,
+                is_good: true,
+            })),
+            Ok(None) => Ok(None),
+            Err(failure) => Err(failure),
+        };
+    }
+    let Some((found, normal)) = check_one_in::<R, L>(alloc, source, Vec::new(alloc))? else {
+        return Ok(None);
+    };
+    match outline_of(alloc, &normal, room) {
+        Ok(outline) => Ok(Some(Found {
+            outline,
+            octets: found.octets,
+            is_good: found.is_normal,
+        })),
+        Err(AllocError) => Err(ReadFailure::OutOfMemory),
+    }
+}
+
+/// The outline of the message that the octets are.
+fn outline_of(alloc: Global, octets: &[u8], room: Outline) -> Result<Outline, AllocError>
+    ensures { (a : Apdu) → SpellsApdu profile_two a octets.now → IfOk result (λ outline. IsOutlineOf outline a) }
+{
+    let mut source = FromSlice::new(octets);
+    match read_outline_in::<FromSlice<'_>, AtHand>(alloc, &mut source, room) {
+        Ok(Some(read)) => Ok(read.outline),
+        _ => Err(AllocError),
     }
 }
 
@@ -122,17 +182,17 @@ fn label(room: Vec<u8>, work: Work<'_>) -> Result<Vec<u8>, AllocError>
 fn checked<R: Source, L: Look<R>>(
     alloc: Global,
     work: Work<'_>,
-    number: u32,
+    position: Position,
     source: &mut R,
     room: Vec<u8>,
 ) -> Result<Option<Piece<Written>>, ReadFailure>
     ensures { ReadsNext (R.left source.old) (R.left source.new) (R.is_broken source.old) (R.is_broken source.new)
-        (Makes IsWritten (message_text Job.Check work.entry.hex work.entry.name.now (label_of work.entry.is_named work.entry.name.now) number) (is_good Job.Check)) result }
+        (Makes IsWritten (message_text Job.Check work.entry.hex work.entry.name.now (label_of work.entry.is_named work.entry.name.now) position) (counts_as_good Job.Check work.entry.compares)) result }
 {
     let Some((found, normal)) = check_one_in::<R, L>(alloc, source, room)? else {
         return Ok(None);
     };
-    match check_line(normal, work, number, found) {
+    match check_line(normal, work, position.number, found) {
         Ok(text) => Ok(Some(Piece {
             text: Written::Octets(text),
             is_good: found.is_normal,
@@ -183,22 +243,26 @@ fn push_check_end(line: &mut Vec<u8>, found: Checked) -> Result<(), AllocError>
 fn digested<R: Source, L: Look<R>>(
     alloc: Global,
     work: Work<'_>,
-    number: u32,
+    position: Position,
     source: &mut R,
     room: Vec<u8>,
 ) -> Result<Option<Piece<Written>>, ReadFailure>
     ensures { ReadsNext (R.left source.old) (R.left source.new) (R.is_broken source.old) (R.is_broken source.new)
-        (Makes IsWritten (message_text Job.Digest work.entry.hex work.entry.name.now (label_of work.entry.is_named work.entry.name.now) number) (is_good Job.Digest)) result }
+        (Makes IsWritten (message_text Job.Digest work.entry.hex work.entry.name.now (label_of work.entry.is_named work.entry.name.now) position) (counts_as_good Job.Digest work.entry.compares)) result }
 {
-    let Some(normal) = NormalForms.next::<R, L>(alloc, 1, source, room)? else {
+    let Some(normal) = normal_form::<R, L>(alloc, work.compares, source, room)? else {
         return Ok(None);
     };
-    let octets = normal.octets;
-    let digest = normal_digest(&normal.text);
-    match digest_line(alloc, normal.text, &digest, work.name, number) {
+    let Piece {
+        text,
+        is_good,
+        octets,
+    } = normal;
+    let digest = normal_digest(&text);
+    match digest_line(alloc, text, &digest, work.name, position.number) {
         Ok(text) => Ok(Some(Piece {
             text: Written::Octets(text),
-            is_good: true,
+            is_good,
             octets,
         })),
         Err(AllocError) => Err(ReadFailure::OutOfMemory),
@@ -230,14 +294,15 @@ fn digest_line(
 fn canonical<R: Source, L: Look<R>>(
     alloc: Global,
     work: Work<'_>,
-    number: u32,
+    position: Position,
     source: &mut R,
     room: Vec<u8>,
 ) -> Result<Option<Piece<Written>>, ReadFailure>
     ensures { ReadsNext (R.left source.old) (R.left source.new) (R.is_broken source.old) (R.is_broken source.new)
-        (Makes IsWritten (message_text Job.Canonicalise work.entry.hex work.entry.name.now (label_of work.entry.is_named work.entry.name.now) number) (is_good Job.Canonicalise)) result }
+        (Makes IsWritten (message_text Job.Canonicalise work.entry.hex work.entry.name.now (label_of work.entry.is_named work.entry.name.now) position) (counts_as_good Job.Canonicalise work.entry.compares)) result }
 {
-    let Some(normal) = NormalForms.next::<R, L>(alloc, number, source, room)? else {
+    let _ = position;
+    let Some(normal) = normal_form::<R, L>(alloc, work.compares, source, room)? else {
         return Ok(None);
     };
     if !work.hex {
@@ -250,11 +315,38 @@ fn canonical<R: Source, L: Look<R>>(
     match hex_line(alloc, &normal.text) {
         Ok(text) => Ok(Some(Piece {
             text: Written::Octets(text),
-            is_good: true,
+            is_good: normal.is_good,
             octets: normal.octets,
         })),
         Err(AllocError) => Err(ReadFailure::OutOfMemory),
     }
+}
+
+/// Reads the normal form of the next message, which is compared with its octets or not; None at the end of the input.
+fn normal_form<R: Source, L: Look<R>>(
+    alloc: Global,
+    compares: bool,
+    source: &mut R,
+    room: Vec<u8>,
+) -> Result<Option<Piece<Vec<u8>>>, ReadFailure>
+    ensures { ReadsNext (R.left source.old) (R.left source.new) (R.is_broken source.old) (R.is_broken source.new)
+        (Makes (λ v octets. v.items ≡ octets) (λ m. normal_form m.apdu) (good_if compares)) result }
+{
+    if !compares {
+        let position = Position {
+            number: 1,
+            offset: 0,
+        };
+        return NormalForms.next::<R, L>(alloc, position, source, room);
+    }
+    let Some((found, text)) = check_one_in::<R, L>(alloc, source, room)? else {
+        return Ok(None);
+    };
+    Ok(Some(Piece {
+        text,
+        is_good: found.is_normal,
+        octets: found.octets,
+    }))
 }
 
 fn hex_line(alloc: Global, octets: &[u8]) -> Result<Vec<u8>, AllocError>

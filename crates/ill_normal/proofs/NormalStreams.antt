@@ -1,5 +1,5 @@
 -- A stream of normal forms is what is written of messages, one after another.
-use Rattle.std.proofs.Common.{◌≡◌, ℕ, suc, ◌≤◌, Bool, List, [], ◌∷◌, ◌++◌, map, length, Option, refl, sym, ap, subst, ◌∙◌, arith}
+use Rattle.std.proofs.Common.{◌≡◌, ℕ, ◌≤◌, Bool, List, [], ◌∷◌, ◌++◌, map, length, Option, refl, sym, ap, subst, ◌∙◌, arith}
 use Rattle.std.specs.Prelude.{flat_map}
 use Rattle.std.specs.Io.KnownBytes.{Appends, IsAtEnd}
 use Rattle.std.proofs.lemmas.List.{length-map}
@@ -7,10 +7,11 @@ use Rattle.ber_leaf.specs.Profile.{profile_two}
 use Rattle.ill_schema.specs.Apdu.{Apdu, IsStream, normal_form}
 use Rattle.ill_read.specs.declared.failure.ReadFailure.{ReadFailure}
 use Rattle.ill_normal.specs.Calls.{Taking, Putting}
-use Rattle.ill_normal.specs.Messages.{Spelling, AreSpelled, output_from, Writes, PassesAll, Ends, EndsAfter, part_of}
+use Rattle.ill_normal.specs.Messages.{Spelling, AreSpelled, after, first, position_after, output_from, Writes, PassesAll, Ends, EndsAfter, part_of}
 use Rattle.ill_normal.specs.Streamed.{Passes, Stops, StopsAfter}
 use Rattle.ill_normal.specs.code.Ending.{stream_cause}
 use Rattle.ill_normal.specs.declared.messages.Passed.{Passed}
+use Rattle.ill_normal.specs.declared.messages.Position.{Position}
 use Rattle.ill_normal.specs.declared.messages.Stopped.{Stopped}
 use Rattle.ill_normal.specs.declared.messages.Why.{Why}
 
@@ -27,13 +28,13 @@ unfolding apdus_of
 as_many ms = length-map ms (λ m. m.apdu)
 
 -- what is written of a message in a stream
-abbrev pub normal_text : ℕ → Spelling → List ℕ
-normal_text i m = normal_form m.apdu
+abbrev pub normal_text : Position → Spelling → List ℕ
+normal_text p m = normal_form m.apdu
 
-forms : (i : ℕ) (ms : List Spelling) → output_from normal_text i ms ≡ flat_map normal_form (apdus_of ms)
+forms : (p : Position) (ms : List Spelling) → output_from normal_text p ms ≡ flat_map normal_form (apdus_of ms)
 unfolding apdus_of
-forms i [] = refl
-forms i (m ∷ ms) = ap (λ l. normal_form m.apdu ++ l) (forms (suc i) ms)
+forms p [] = refl
+forms p (m ∷ ms) = ap (λ l. normal_form m.apdu ++ l) (forms (after p (length m.octets)) ms)
 
 passes_of : (left left' held held' : Option (List ℕ)) (ms : List Spelling) (whole before : ℕ) → (w : Writes normal_text left left' held held' ms)
     → whole ≡ length ms → before ≡ length w.octets → Passes left left' held held' whole before
@@ -42,7 +43,7 @@ passes_of left left' held held' ms whole before w count size = record {
   octets = w.octets;
   stream = stream_of w.octets [] ms w.spelled;
   taken = w.taken;
-  written = subst (Appends held held') (forms 1 ms) w.written;
+  written = subst (Appends held held') (forms first ms) w.written;
   count = as_many ms ∙ sym count;
   size = sym size;
 }
@@ -52,29 +53,29 @@ pub streamed : (is_good : Spelling → Bool) (left left' held held' : Option (Li
 streamed is_good left left' held held' p h =
     (length h.writes.octets, passes_of left left' held held' h.messages p.whole _ h.writes h.count refl, h.end, omega (arith, h.few, h.count))
 
-stops : (source : Taking) (sink : Putting) (whole : ℕ) (why : Why) → Ends normal_text source sink whole why → Stops source sink whole (stream_cause why)
-stops source sink whole (Why.Read (ReadFailure.Refused refusal)) h = (h.0, (h.1, h.2))
-stops source sink whole (Why.Read ReadFailure.OutOfMemory) h = (omega (arith, h.0), h.1)
-stops source sink whole (Why.Read ReadFailure.ReadFault) h = (h.0, (h.1, h.2, h.3))
-stops source sink whole (Why.Write n) h =
+stops : (source : Taking) (sink : Putting) (whole : ℕ) (next : Position) (why : Why) → Ends normal_text source sink whole next why → Stops source sink whole (stream_cause why)
+stops source sink whole next (Why.Read (ReadFailure.Refused refusal)) h = (h.0, (h.1, h.2))
+stops source sink whole next (Why.Read ReadFailure.OutOfMemory) h = (omega (arith, h.0), h.1)
+stops source sink whole next (Why.Read ReadFailure.ReadFault) h = (h.0, (h.1, h.2, h.3))
+stops source sink whole next (Why.Write n) h =
     let b = h.1 in (omega (arith, h.0), (b.broken, (b.message.apdu, b.message.octets, b.spells, b.taken, b.written, b.fewer)))
-stops source sink whole Why.TooMany h = h
+stops source sink whole next Why.TooMany h = h
 
-pub stops_of : (source : Taking) (sink : Putting) (e : Stopped) → EndsAfter normal_text source sink e
+pub stops_of : (is_good : Spelling → Bool) (source : Taking) (sink : Putting) (e : Stopped) → EndsAfter normal_text is_good source sink e
     → StopsAfter source sink (record { whole = e.whole; before = e.before; why = stream_cause e.why })
-stops_of source sink e h = record {
+stops_of is_good source sink e h = record {
   rest = h.rest;
   grown = h.grown;
   passes = passes_of source.left h.rest sink.held h.grown h.messages e.whole e.before h.writes h.count h.before;
   taken = h.taken;
-  stops = stops _ _ e.whole e.why h.ends;
+  stops = stops _ _ e.whole (position_after first h.messages) e.why h.ends;
 }
 
 -- of a normal form no more is written than a message may have
-part : (source : Taking) (sink : Putting) (whole : ℕ) (why : Why) → Ends normal_text source sink whole why → part_of why ≤ 1_048_576
-part source sink whole (Why.Read failure) h = omega arith
-part source sink whole (Why.Write n) h = let b = h.1 in let short : length (normal_form b.message.apdu) ≤ 1_048_576 = b.spells.normal_short in omega (arith, short, b.fewer)
-part source sink whole Why.TooMany h = omega arith
+part : (source : Taking) (sink : Putting) (whole : ℕ) (next : Position) (why : Why) → Ends normal_text source sink whole next why → part_of why ≤ 1_048_576
+part source sink whole next (Why.Read failure) h = omega arith
+part source sink whole next (Why.Write n) h = let b = h.1 in let short : length (normal_form b.message.apdu) ≤ 1_048_576 = b.spells.normal_short in omega (arith, short, b.fewer)
+part source sink whole next Why.TooMany h = omega arith
 
-pub part_bound : (source : Taking) (sink : Putting) (e : Stopped) → EndsAfter normal_text source sink e → part_of e.why ≤ 1_048_576
-part_bound source sink e h = part _ _ e.whole e.why h.ends
+pub part_bound : (is_good : Spelling → Bool) (source : Taking) (sink : Putting) (e : Stopped) → EndsAfter normal_text is_good source sink e → part_of e.why ≤ 1_048_576
+part_bound is_good source sink e h = part _ _ e.whole (position_after first h.messages) e.why h.ends

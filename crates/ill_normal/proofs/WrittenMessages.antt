@@ -1,6 +1,10 @@
 -- Messages that are read and written, one after another.
-use Rattle.std.proofs.Common.{◌≡◌, ℕ, suc, ◌+◌, ◌<◌, ◌≤◌, Bool, true, false, ◌&&◌, List, [], ◌∷◌, ◌++◌, length, take, Option, Err, IsTrue, refl, sym, ap, subst, ◌∙◌, arith, append_assoc, append-nil, length-append}
+use Rattle.std.proofs.Common.{◌≡◌, ℕ, suc, ◌+◌, ◌<◌, ◌≤◌, Bool, true, false, ◌&&◌, List, [], ◌∷◌, ◌++◌, length, take, Option, Err, IsTrue, refl, sym, ap, ap₂, subst, ◌∙◌, arith, inl, inr, nat_eq, append_assoc, append-nil, length-append}
 use Rattle.std.specs.List.{list_all}
+use Rattle.std.proofs.Math.Nat.{min-eq_left, min-eq_right}
+use Rattle.std.proofs.lemmas.Bool.{cases_lt}
+use Rattle.std.proofs.Math.Dec.{eqb-suc-suc}
+use Rattle.std.proofs.lemmas.Bool.Decides.{eqb_tells}
 use Rattle.std.specs.Io.KnownBytes.{Consumes, Appends, IsAtEnd}
 use Rattle.std.proofs.KnownBytes.{Consumes-nil, Consumes-trans, Consumes-kept, Keeps-refl, Appends-nil, Appends-trans}
 use Rattle.ber_leaf.specs.Profile.{profile_two}
@@ -9,9 +13,10 @@ use Rattle.ill_schema.proofs.Streams.{accepts_some}
 use Rattle.ill_read.specs.Answers.{ReadsNext, TakesFront}
 use Rattle.ill_read.specs.declared.failure.ReadFailure.{ReadFailure}
 use Rattle.ill_normal.specs.Calls.{taking, putting}
-use Rattle.ill_normal.specs.Messages.{Spelling, spelling, AreSpelled, output_from, Makes, Writes, PassesAll, Ends, EndsAfter}
-use Rattle.ill_normal.specs.code.Ending.{GoesOn}
+use Rattle.ill_normal.specs.Messages.{Spelling, spelling, AreSpelled, counted, position, first, after, position_after, output_from, one_if, good_of, Makes, Writes, PassesAll, BreaksWithin, Ends, EndsAfter}
+use Rattle.ill_normal.specs.code.Ending.{GoesOn, all_passed, ended_at}
 use Rattle.ill_normal.specs.declared.messages.Piece.{Piece}
+use Rattle.ill_normal.specs.declared.messages.Position.{Position}
 use Rattle.ill_normal.specs.declared.messages.Why.{Why}
 
 pub spelled_front : (b t : List ℕ) (ms : List Spelling) → AreSpelled b ms [] → AreSpelled (b ++ t) ms t
@@ -22,73 +27,107 @@ spelled_more : (b : List ℕ) (ms : List Spelling) (m : Spelling) → AreSpelled
 spelled_more b [] m h k = ([], ap (λ l. l ++ m.octets) h ∙ sym (append-nil m.octets), k, refl)
 spelled_more b (x ∷ ms) m h k = (h.0 ++ m.octets, ap (λ l. l ++ m.octets) h.1 ∙ append_assoc x.octets h.0 m.octets, h.2, spelled_more h.0 ms m h.3 k)
 
-pub output_push : (text : ℕ → Spelling → List ℕ) (i : ℕ) (ms : List Spelling) (m : Spelling)
-    → output_from text i (ms ++ m ∷ []) ≡ output_from text i ms ++ text (i + length ms) m
-output_push text i [] m = let e : i ≡ i + 0 = omega arith in append-nil (text i m) ∙ ap (λ (n : ℕ). text n m) e
-output_push text i (x ∷ ms) m =
-    let e : suc i + length ms ≡ i + suc (length ms) = omega arith in
-    ap (λ l. text i x ++ l) (output_push text (suc i) ms m ∙ ap (λ (n : ℕ). output_from text (suc i) ms ++ text n m) e)
-    ∙ sym (append_assoc (text i x) (output_from text (suc i) ms) (text (i + suc (length ms)) m))
+pub output_push : (text : Position → Spelling → List ℕ) (p : Position) (ms : List Spelling) (m : Spelling)
+    → output_from text p (ms ++ m ∷ []) ≡ output_from text p ms ++ text (position_after p ms) m
+output_push text p [] m = append-nil (text p m)
+output_push text p (x ∷ ms) m =
+    let next = after p (length x.octets) in
+    ap (λ l. text p x ++ l) (output_push text next ms m) ∙ sym (append_assoc (text p x) (output_from text next ms) (text (position_after next ms) m))
 
--- all are good so far, and one more is or isn't
-abbrev pub next_good : Bool → Bool → Bool
-next_good good true = good
-next_good good false = false
+position_push : (p : Position) (ms : List Spelling) (m : Spelling) → position_after p (ms ++ m ∷ []) ≡ after (position_after p ms) (length m.octets)
+position_push p [] m = refl
+position_push p (x ∷ ms) m = position_push (after p (length x.octets)) ms m
 
-alone : (b : Bool) → (b && true) ≡ next_good true b
-alone true = refl
-alone false = refl
+good_push : (p : Spelling → Bool) (ms : List Spelling) (m : Spelling) → good_of p (ms ++ m ∷ []) ≡ good_of p ms + one_if (p m)
+good_push p [] m = omega arith
+good_push p (x ∷ ms) m = omega (arith, good_push p ms m)
 
-later : (a b c : Bool) → (a && next_good b c) ≡ next_good (a && b) c
-later true b c = refl
-later false b true = refl
-later false b false = refl
+pub one_bound : (b : Bool) → one_if b ≤ 1
+one_bound true = omega arith
+one_bound false = omega arith
 
-good_push : (p : Spelling → Bool) (ms : List Spelling) (m : Spelling) → list_all p (ms ++ m ∷ []) ≡ next_good (list_all p ms) (p m)
-good_push p [] m = alone (p m)
-good_push p (x ∷ ms) m = ap (λ b. p x && b) (good_push p ms m) ∙ later (p x) (list_all p ms) (p m)
+good_bound : (p : Spelling → Bool) (ms : List Spelling) → good_of p ms ≤ length ms
+good_bound p [] = omega arith
+good_bound p (m ∷ ms) = omega (arith, one_bound (p m), good_bound p ms)
 
--- `whole` messages of `before` octets were read and written, whose output has `written` octets, and whether all were good
-pub record Reached (text : ℕ → Spelling → List ℕ) (is_good : Spelling → Bool) (left left' held held' : Option (List ℕ)) (whole before written : ℕ) (good : Bool) : Type 0 where
+pub all_counted : (b rest : Bool) (g n : ℕ) → g ≤ n → nat_eq g n ≡ rest → nat_eq (one_if b + g) (suc n) ≡ (b && rest)
+all_counted true rest g n le e = let more : one_if true + g ≡ suc g = omega arith in ap (λ (k : ℕ). nat_eq k (suc n)) more ∙ eqb-suc-suc g n ∙ e
+all_counted false rest g n le e =
+    let none : one_if false + g ≡ g = omega arith in
+    let fewer : nat_eq g (suc n) ≡ false = elim (eqb_tells g (suc n)) [ inl h ↦ absurd (omega (arith, le, h.1)) | inr h ↦ h.0 ] in
+    ap (λ (k : ℕ). nat_eq k (suc n)) none ∙ fewer
+
+-- all are good exactly if as many are as there are messages
+pub all_good : (p : Spelling → Bool) (ms : List Spelling) → nat_eq (good_of p ms) (length ms) ≡ list_all p ms
+all_good p [] = refl
+all_good p (m ∷ ms) = all_counted (p m) (list_all p ms) (good_of p ms) (length ms) (good_bound p ms) (all_good p ms)
+
+-- `whole` messages of `before` octets were read and written, whose output has `written` octets, and this many were good
+pub record Reached (text : Position → Spelling → List ℕ) (is_good : Spelling → Bool) (left left' held held' : Option (List ℕ)) (whole before written good : ℕ) : Type 0 where
   pub messages : List Spelling
   pub writes : Writes text left left' held held' messages
   pub count : whole ≡ length messages
   pub input : before ≡ length writes.octets
-  pub size : written ≡ length (output_from text 1 messages)
-  pub all : good ≡ list_all is_good messages
+  pub next : position_after first messages ≡ position (whole + 1) before
+  pub size : written ≡ length (output_from text first messages)
+  pub good_ones : good ≡ good_of is_good messages
 
-pub reached_none : (text : ℕ → Spelling → List ℕ) (is_good : Spelling → Bool) (left held : Option (List ℕ)) → Reached text is_good left left held held 0 0 0 true
+pub reached_none : (text : Position → Spelling → List ℕ) (is_good : Spelling → Bool) (left held : Option (List ℕ)) → Reached text is_good left left held held 0 0 0 0
 reached_none text is_good left held = record {
   messages = [];
   writes = record { octets = []; spelled = refl; taken = Consumes-nil left; written = Appends-nil held };
   count = refl;
   input = refl;
+  next = refl;
   size = refl;
-  all = refl;
+  good_ones = refl;
 }
 
 -- the octets of the next message were taken, and the piece was made of them
-abbrev pub Made : {T : Type 0} → (T → List ℕ → Type 0) → (ℕ → Spelling → List ℕ) → (Spelling → Bool) → ℕ → Option (List ℕ) → Option (List ℕ) → Piece T → Type 0
-Made is text is_good i left left' piece = (b : List ℕ) × Consumes left left' b × Makes is (text i) is_good piece b
+abbrev pub Made : {T : Type 0} → (T → List ℕ → Type 0) → (Position → Spelling → List ℕ) → (Spelling → Bool) → Position → Option (List ℕ) → Option (List ℕ) → Piece T → Type 0
+Made is text is_good p left left' piece = (b : List ℕ) × Consumes left left' b × Makes is (text p) is_good piece b
 
 -- a message has at most 1,048,576 octets
-pub made_bound : {T : Type 0} (is : T → List ℕ → Type 0) (text : ℕ → Spelling → List ℕ) (is_good : Spelling → Bool) (i : ℕ) (left left' : Option (List ℕ)) (piece : Piece T)
+pub made_bound : {T : Type 0} (is : T → List ℕ → Type 0) (text : Position → Spelling → List ℕ) (is_good : Spelling → Bool) (i : Position) (left left' : Option (List ℕ)) (piece : Piece T)
     → Made is text is_good i left left' piece → piece.octets ≤ 1_048_576
 made_bound is text is_good i left left' piece p = let h : length p.0 ≤ 1_048_576 = p.2.spells.encodes.short in omega (arith, p.2.size)
 
-module _ (text : ℕ → Spelling → List ℕ) (is_good : Spelling → Bool) (left left' left'' held held' held'' : Option (List ℕ)) (whole before written : ℕ) (good : Bool)
-    (r : Reached text is_good left left' held held' whole before written good) where
-  pushed : (m : Spelling) → output_from text 1 (r.messages ++ m ∷ []) ≡ output_from text 1 r.messages ++ text (whole + 1) m
-  pushed m = let e : 1 + length r.messages ≡ whole + 1 = omega (arith, r.count) in
-      output_push text 1 r.messages m ∙ ap (λ (n : ℕ). output_from text 1 r.messages ++ text n m) e
+pub counted_left : (a n : ℕ) → counted (counted a + n) ≡ counted (a + n)
+counted_left a n = elim (cases_lt a 18_446_744_073_709_551_615) [
+  | inl lt ↦ ap (λ (k : ℕ). counted (k + n)) (min-eq_left (omega (arith, lt)))
+  | inr ge ↦
+      let most : counted a ≡ 18_446_744_073_709_551_615 = min-eq_right (omega (arith, ge)) in
+      min-eq_right (omega (arith, most)) ∙ sym (min-eq_right (omega (arith, ge)))
+]
 
-  pub reached_more : {T : Type 0} (is : T → List ℕ → Type 0) (piece : Piece T) (p : Made is text is_good (whole + 1) left' left'' piece) (size : ℕ)
-      → size ≡ length (text (whole + 1) (spelling p.2.apdu p.0)) → Appends held' held'' (text (whole + 1) (spelling p.2.apdu p.0))
-      → Reached text is_good left left'' held held'' (whole + 1) (before + piece.octets) (written + size) (next_good good piece.is_good)
-  reached_more is piece p size n w =
+pub counted_right : (a n : ℕ) → counted (a + counted n) ≡ counted (a + n)
+counted_right a n =
+    let e : a + counted n ≡ counted n + a = omega arith in
+    let f : n + a ≡ a + n = omega arith in
+    ap counted e ∙ counted_left n a ∙ ap counted f
+
+-- an offset that isn't too great grows by the octets of a message
+grows : (number offset n : ℕ) → offset + n ≤ 18_446_744_073_709_551_615 → after (position number offset) n ≡ position (number + 1) (offset + n)
+grows number offset n le = ap (position (number + 1)) (min-eq_left le)
+
+module _ (text : Position → Spelling → List ℕ) (is_good : Spelling → Bool) (left left' left'' held held' held'' : Option (List ℕ)) (whole before written good : ℕ)
+    (r : Reached text is_good left left' held held' whole before written good) where
+  here : Position
+  here = position (whole + 1) before
+
+  pushed : (m : Spelling) → output_from text first (r.messages ++ m ∷ []) ≡ output_from text first r.messages ++ text here m
+  unfolding here
+  pushed m = output_push text first r.messages m ∙ ap (λ (p : Position). output_from text first r.messages ++ text p m) r.next
+
+  pub reached_more : {T : Type 0} (is : T → List ℕ → Type 0) (piece : Piece T) (p : Made is text is_good (position (whole + 1) before) left' left'' piece) (size : ℕ)
+      → before + piece.octets ≤ 18_446_744_073_709_551_615
+      → size ≡ length (text (position (whole + 1) before) (spelling p.2.apdu p.0)) → Appends held' held'' (text (position (whole + 1) before) (spelling p.2.apdu p.0))
+      → Reached text is_good left left'' held held'' (whole + 1) (before + piece.octets) (written + size) (good + one_if piece.is_good)
+  unfolding here
+  reached_more is piece p size le n w =
       let m : Spelling = spelling p.2.apdu p.0 in
-      let so_far = output_from text 1 r.messages in
-      let all : so_far ++ text (whole + 1) m ≡ output_from text 1 (r.messages ++ m ∷ []) = sym (pushed m) in
+      let so_far = output_from text first r.messages in
+      let all : so_far ++ text (position (whole + 1) before) m ≡ output_from text first (r.messages ++ m ∷ []) = sym (pushed m) in
       record {
         messages = r.messages ++ m ∷ [];
         writes = record {
@@ -99,12 +138,13 @@ module _ (text : ℕ → Spelling → List ℕ) (is_good : Spelling → Bool) (l
         };
         count = omega (arith, r.count, length-append r.messages (m ∷ []));
         input = omega (arith, r.input, p.2.size, length-append r.writes.octets p.0);
-        size = omega (arith, r.size, n, ap length all, length-append so_far (text (whole + 1) m));
-        all = ap (λ (b : Bool). next_good b piece.is_good) r.all ∙ ap (λ (b : Bool). next_good (list_all is_good r.messages) b) p.2.good ∙ sym (good_push is_good r.messages m);
+        next = position_push first r.messages m ∙ ap (λ (p : Position). after p (length m.octets)) r.next ∙ ap (after (position (whole + 1) before)) (sym p.2.size) ∙ grows (whole + 1) before piece.octets le;
+        size = omega (arith, r.size, n, ap length all, length-append so_far (text (position (whole + 1) before) m));
+        good_ones = omega (arith, r.good_ones, ap one_if p.2.good, good_push is_good r.messages m);
       }
 
   -- nothing was left
-  pub passes_all : (n : ℕ) → n ≡ whole → Consumes left' left'' [] → IsAtEnd left'' → n ≤ 1_000_000 → PassesAll text is_good left left'' held held' (record { whole = n; all_good = good })
+  pub passes_all : (n : ℕ) → n ≡ whole → Consumes left' left'' [] → IsAtEnd left'' → n ≤ 1_000_000 → PassesAll text is_good left left'' held held' (all_passed n good before)
   passes_all n same h e le = record {
     messages = r.messages;
     writes = record {
@@ -116,19 +156,21 @@ module _ (text : ℕ → Spelling → List ℕ) (is_good : Spelling → Bool) (l
     end = e;
     few = omega (arith, r.count, le, same);
     count = same ∙ r.count;
-    good = r.all;
+    good = r.good_ones;
+    octets = r.input;
+    all = ap₂ nat_eq r.good_ones (same ∙ r.count) ∙ all_good is_good r.messages;
   }
 
   module _ (x y : Bool) where
     -- the next message was not read
     read_ends : {T : Type 0} (was : Bool) (Is : T → List ℕ → Type 0) (e : ReadFailure) → whole < 1_000_000 → ReadsNext left' left'' was x Is (Err e)
-        → Ends text (taking left' left'' x) (putting held' held' y) whole (Why.Read e)
+        → Ends text (taking left' left'' x) (putting held' held' y) whole (position_after first r.messages) (Why.Read e)
     read_ends was Is (ReadFailure.Refused refusal) lt h = (lt, h.refused, Keeps-refl held')
     read_ends was Is ReadFailure.OutOfMemory lt h = (lt, Keeps-refl held')
     read_ends was Is ReadFailure.ReadFault lt h = (omega arith, h.fault.0, h.fault.1, Keeps-refl held')
 
     pub ends_reading : {T : Type 0} (was : Bool) (Is : T → List ℕ → Type 0) (e : ReadFailure) → whole < 1_000_000 → ReadsNext left' left'' was x Is (Err e)
-        → EndsAfter text (taking left left'' x) (putting held held' y) (record { whole = whole; before = before; written = written; why = Why.Read e })
+        → EndsAfter text is_good (taking left left'' x) (putting held held' y) (ended_at whole good before written (Why.Read e))
     ends_reading was Is e lt h = record {
       messages = r.messages;
       rest = left';
@@ -136,15 +178,16 @@ module _ (text : ℕ → Spelling → List ℕ) (is_good : Spelling → Bool) (l
       writes = r.writes;
       taken = h.taken;
       count = r.count;
+      good = r.good_ones;
       before = r.input;
       written = omega (arith, r.size);
       ends = read_ends was Is e lt h;
     }
 
     -- the sink broke
-    pub ends_writing : {T : Type 0} (is : T → List ℕ → Type 0) (piece : Piece T) (n : ℕ) → whole < 1_000_000 → TakesFront left' left'' → (p : Made is text is_good (whole + 1) left' left'' piece)
-        → Appends held' held'' (take n (text (whole + 1) (spelling p.2.apdu p.0))) → n < length (text (whole + 1) (spelling p.2.apdu p.0)) → IsTrue y
-        → EndsAfter text (taking left left'' x) (putting held held'' y) (record { whole = whole; before = before; written = written + n; why = Why.Write n })
+    pub ends_writing : {T : Type 0} (is : T → List ℕ → Type 0) (piece : Piece T) (n : ℕ) → whole < 1_000_000 → TakesFront left' left'' → (p : Made is text is_good (position (whole + 1) before) left' left'' piece)
+        → Appends held' held'' (take n (text (position (whole + 1) before) (spelling p.2.apdu p.0))) → n < length (text (position (whole + 1) before) (spelling p.2.apdu p.0)) → IsTrue y
+        → EndsAfter text is_good (taking left left'' x) (putting held held'' y) (ended_at whole good before (written + n) (Why.Write n))
     ends_writing is piece n lt t p w fewer broken = record {
       messages = r.messages;
       rest = left';
@@ -152,24 +195,25 @@ module _ (text : ℕ → Spelling → List ℕ) (is_good : Spelling → Bool) (l
       writes = r.writes;
       taken = t;
       count = r.count;
+      good = r.good_ones;
       before = r.input;
       written = omega (arith, r.size);
       ends = (
         lt,
-        record {
+        subst (λ (q : Position). BreaksWithin (text q) (taking left' left'' x) (putting held' held'' y) n) (sym r.next) (record {
           message = spelling p.2.apdu p.0;
           spells = p.2.spells;
           taken = p.1;
           written = w;
           fewer = fewer;
           broken = broken;
-        },
+        }),
       );
     }
 
     -- after the last message that an input may have an octet was taken, or the source broke
     pub ends_at_last : (n : ℕ) (why : Why) → n ≡ whole → n ≡ 1_000_000 → GoesOn left' left'' x why
-        → EndsAfter text (taking left left'' x) (putting held held' y) (record { whole = n; before = before; written = written; why = why })
+        → EndsAfter text is_good (taking left left'' x) (putting held held' y) (ended_at n good before written why)
     ends_at_last n Why.TooMany same last h = record {
       messages = r.messages;
       rest = left';
@@ -177,6 +221,7 @@ module _ (text : ℕ → Spelling → List ℕ) (is_good : Spelling → Bool) (l
       writes = r.writes;
       taken = (h.0 ∷ [], h.1, omega arith);
       count = same ∙ r.count;
+      good = r.good_ones;
       before = r.input;
       written = omega (arith, r.size);
       ends = (last, h, Keeps-refl held');
@@ -190,6 +235,7 @@ module _ (text : ℕ → Spelling → List ℕ) (is_good : Spelling → Bool) (l
           writes = r.writes;
           taken = ([], none, omega arith);
           count = same ∙ r.count;
+          good = r.good_ones;
           before = r.input;
           written = omega (arith, r.size);
           ends = (omega arith, h.0, ([], none, λ a n accepted. accepts_some profile_two [] a n refl accepted), Keeps-refl held');

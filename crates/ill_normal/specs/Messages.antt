@@ -1,5 +1,5 @@
 -- The messages of an input, one after another, and what is written of them.
-use Rattle.std.specs.Prelude.{◌≡◌, ℕ, suc, ◌+◌, ◌<◌, ◌≤◌, Bool, List, [], ◌∷◌, ◌++◌, length, take, Option, IfSome, IsTrue}
+use Rattle.std.specs.Prelude.{◌≡◌, ℕ, ◌+◌, ◌<◌, ◌≤◌, min, Bool, true, false, List, [], ◌∷◌, ◌++◌, length, take, Option, IfSome, IsTrue}
 use Rattle.std.specs.List.{list_all}
 use Rattle.std.specs.Io.KnownBytes.{Consumes, Keeps, Appends, IsAtEnd}
 use Rattle.ber_leaf.specs.Profile.{profile_two}
@@ -11,6 +11,7 @@ use Rattle.ill_refusals.specs.Outcome.{OnlyRefuses}
 use Rattle.ill_normal.specs.Calls.{Taking, taking, Putting, putting}
 use Rattle.ill_normal.specs.declared.messages.Passed.{Passed}
 use Rattle.ill_normal.specs.declared.messages.Piece.{Piece}
+use Rattle.ill_normal.specs.declared.messages.Position.{Position}
 use Rattle.ill_normal.specs.declared.messages.Stopped.{Stopped}
 use Rattle.ill_normal.specs.declared.messages.Why.{Why}
 
@@ -27,10 +28,39 @@ abbrev pub AreSpelled : List ℕ → List Spelling → List ℕ → Type 0
 AreSpelled s [] rest = s ≡ rest
 AreSpelled s (m ∷ ms) rest = (t : List ℕ) × (s ≡ m.octets ++ t) × SpellsApdu profile_two m.apdu m.octets × AreSpelled t ms rest
 
--- what is written of messages that are numbered from i on, where `text i m` is written of message i
-abbrev pub output_from : (ℕ → Spelling → List ℕ) → ℕ → List Spelling → List ℕ
-output_from text i [] = []
-output_from text i (m ∷ ms) = text i m ++ output_from text (suc i) ms
+abbrev pub position : ℕ → ℕ → Position
+position number offset = record { number = number; offset = offset }
+
+-- a number of octets, or 18,446,744,073,709,551,615 where they are more
+abbrev pub counted : ℕ → ℕ
+counted n = min n 18_446_744_073_709_551_615
+
+-- where the first message of an input is
+abbrev pub first : Position
+first = position 1 0
+
+-- the position after a message of n octets
+abbrev pub after : Position → ℕ → Position
+after p n = position (p.number + 1) (counted (p.offset + n))
+
+-- the position after messages
+abbrev pub position_after : Position → List Spelling → Position
+position_after p [] = p
+position_after p (m ∷ ms) = position_after (after p (length m.octets)) ms
+
+-- what is written of messages from this position on, where `text p m` is written of the message at p
+abbrev pub output_from : (Position → Spelling → List ℕ) → Position → List Spelling → List ℕ
+output_from text p [] = []
+output_from text p (m ∷ ms) = text p m ++ output_from text (after p (length m.octets)) ms
+
+abbrev pub one_if : Bool → ℕ
+one_if true = 1
+one_if false = 0
+
+-- how many messages are as they should be
+abbrev pub good_of : (Spelling → Bool) → List Spelling → ℕ
+good_of is_good [] = 0
+good_of is_good (m ∷ ms) = one_if (is_good m) + good_of is_good ms
 
 -- the octets spell an APDU, and the piece has what is written of it, and says whether it is as it should be, and how many octets it has
 pub record Makes {T : Type 0} (is : T → List ℕ → Type 0) (output : Spelling → List ℕ) (is_good : Spelling → Bool) (piece : Piece T) (octets : List ℕ) : Type 0 where
@@ -41,20 +71,22 @@ pub record Makes {T : Type 0} (is : T → List ℕ → Type 0) (output : Spellin
   pub size : piece.octets ≡ length octets
 
 -- the octets that were taken are these messages, and their output was written
-pub record Writes (text : ℕ → Spelling → List ℕ) (left left' held held' : Option (List ℕ)) (messages : List Spelling) : Type 0 where
+pub record Writes (text : Position → Spelling → List ℕ) (left left' held held' : Option (List ℕ)) (messages : List Spelling) : Type 0 where
   pub octets : List ℕ
   pub spelled : AreSpelled octets messages []
   pub taken : Consumes left left' octets
-  pub written : Appends held held' (output_from text 1 messages)
+  pub written : Appends held held' (output_from text first messages)
 
 -- the input was messages to its end, at most 1,000,000
-pub record PassesAll (text : ℕ → Spelling → List ℕ) (is_good : Spelling → Bool) (left left' held held' : Option (List ℕ)) (passed : Passed) : Type 0 where
+pub record PassesAll (text : Position → Spelling → List ℕ) (is_good : Spelling → Bool) (left left' held held' : Option (List ℕ)) (passed : Passed) : Type 0 where
   pub messages : List Spelling
   pub writes : Writes text left left' held held' messages
   pub end : IsAtEnd left'
   pub few : length messages ≤ 1_000_000
   pub count : passed.whole ≡ length messages
-  pub good : passed.all_good ≡ list_all is_good messages
+  pub good : passed.good ≡ good_of is_good messages
+  pub octets : passed.octets ≡ length writes.octets
+  pub all : passed.all_good ≡ list_all is_good messages
 
 -- of the next message, of which `text` is written, only the first n octets were written
 pub record BreaksWithin (text : Spelling → List ℕ) (source : Taking) (sink : Putting) (n : ℕ) : Type 0 where
@@ -65,15 +97,15 @@ pub record BreaksWithin (text : Spelling → List ℕ) (source : Taking) (sink :
   pub fewer : n < length (text message)
   pub broken : IsTrue sink.broken
 
--- why no further message was written, after `whole` of them
-abbrev pub Ends : (ℕ → Spelling → List ℕ) → Taking → Putting → ℕ → Why → Type 0
-Ends text source sink whole (Why.Read (ReadFailure.Refused refusal)) =
+-- why no further message was written, after `whole` of them, where `next` is the position of the next one
+abbrev pub Ends : (Position → Spelling → List ℕ) → Taking → Putting → ℕ → Position → Why → Type 0
+Ends text source sink whole next (Why.Read (ReadFailure.Refused refusal)) =
     (whole < 1_000_000) × IfSome source.left (λ s. (0 < length s) × OnlyRefuses profile_two s (fault_of refusal)) × Keeps sink.held sink.held'
-Ends text source sink whole (Why.Read ReadFailure.OutOfMemory) = (whole < 1_000_000) × Keeps sink.held sink.held'
-Ends text source sink whole (Why.Read ReadFailure.ReadFault) =
+Ends text source sink whole next (Why.Read ReadFailure.OutOfMemory) = (whole < 1_000_000) × Keeps sink.held sink.held'
+Ends text source sink whole next (Why.Read ReadFailure.ReadFault) =
     (whole ≤ 1_000_000) × IsTrue source.broken × TakesNoMessage source.left source.left' × Keeps sink.held sink.held'
-Ends text source sink whole (Why.Write n) = (whole < 1_000_000) × BreaksWithin (text (whole + 1)) source sink n
-Ends text source sink whole Why.TooMany =
+Ends text source sink whole next (Why.Write n) = (whole < 1_000_000) × BreaksWithin (text next) source sink n
+Ends text source sink whole next Why.TooMany =
     (whole ≡ 1_000_000) × ((octet : ℕ) × Consumes source.left source.left' (octet ∷ [])) × Keeps sink.held sink.held'
 
 -- the octets of the last message that were written, where the sink broke within it
@@ -83,13 +115,14 @@ part_of (Why.Write n) = n
 part_of Why.TooMany = 0
 
 -- the messages before the end, and why there was one; of what follows them no more was taken than a message may have
-pub record EndsAfter (text : ℕ → Spelling → List ℕ) (source : Taking) (sink : Putting) (stopped : Stopped) : Type 0 where
+pub record EndsAfter (text : Position → Spelling → List ℕ) (is_good : Spelling → Bool) (source : Taking) (sink : Putting) (stopped : Stopped) : Type 0 where
   pub messages : List Spelling
   pub rest : Option (List ℕ)
   pub grown : Option (List ℕ)
   pub writes : Writes text source.left rest sink.held grown messages
   pub taken : TakesFront rest source.left'
   pub count : stopped.whole ≡ length messages
+  pub good : stopped.good ≡ good_of is_good messages
   pub before : stopped.before ≡ length writes.octets
-  pub written : stopped.written ≡ length (output_from text 1 messages) + part_of stopped.why
-  pub ends : Ends text (taking rest source.left' source.broken) (putting grown sink.held' sink.broken) stopped.whole stopped.why
+  pub written : stopped.written ≡ length (output_from text first messages) + part_of stopped.why
+  pub ends : Ends text (taking rest source.left' source.broken) (putting grown sink.held' sink.broken) stopped.whole (position_after first messages) stopped.why

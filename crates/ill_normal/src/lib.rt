@@ -29,6 +29,6 @@ pub use laws::{
     normal_form_is_accepted, normal_form_is_its_own, normal_forms_are_equal_exactly_if_apdus_are,
     one_prefix_is_accepted, one_refusal_of_a_slice,
 };
-pub use messages::{Maker, Output, Passed, Piece, Stopped, Why, each_message};
+pub use messages::{Maker, Output, Passed, Piece, Position, Stopped, Why, each_message};
 pub use single::normalise;
 pub use stream::{NormalForms, normalise_stream};

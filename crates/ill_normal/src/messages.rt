@@ -4,7 +4,8 @@ ghost use Rattle.std.specs.Io.KnownBytes.{Appends, Consumes, IsAtEnd, Keeps};
 ghost use Rattle.ill_read.specs.Answers.{ReadsNext};
 ghost use Rattle.ill_normal.specs.Calls.{taking, putting};
 ghost use Rattle.ill_normal.specs.Messages.{EndsAfter, Makes, PassesAll, Spelling};
-ghost use Rattle.ill_normal.specs.code.Ending.{GoesOn, ended_at};
+ghost use Rattle.ill_normal.specs.declared.messages.Position.{Position};
+ghost use Rattle.ill_normal.specs.code.Ending.{GoesOn, all_passed, ended_at};
 
 use ber_core::{Look, Sink, Source};
 use ill_read::ReadFailure;
@@ -13,6 +14,15 @@ use std::alloc::Global;
 
 /// How many messages an input may have.
 const MESSAGES: u32 = 1_000_000;
+
+/// Where a message is in its input.
+#[derive(Clone, Copy, Debug, PartialEq, Eq)]
+pub struct Position {
+    /// Its number, from 1.
+    pub number: u32,
+    /// How many octets come before it; 18,446,744,073,709,551,615 where they are more.
+    pub offset: u64,
+}
 
 /// What is made of a message.
 #[derive(Drop)]
@@ -65,8 +75,8 @@ pub trait Maker {
     /// What holds that which is written of a message.
     type Out: Output;
 
-    // What is written of the message of this number.
-    ghost text: { Self → ℕ → Spelling → List ℕ };
+    // What is written of the message at this position.
+    ghost text: { Self → Position → Spelling → List ℕ };
 
     // Whether a message is as it should be.
     ghost is_good: { Self → Spelling → Bool };
@@ -80,12 +90,12 @@ pub trait Maker {
     fn next<R: Source, L: Look<R>>(
         &self,
         alloc: Global,
-        number: u32,
+        position: Position,
         source: &mut R,
         room: Self::Out,
     ) -> Result<Option<Piece<Self::Out>>, ReadFailure>
         ensures { ReadsNext (R.left source.old) (R.left source.new) (R.is_broken source.old) (R.is_broken source.new)
-            (Makes Self.Out.is (text self.now number) (is_good self.now)) result };
+            (Makes Self.Out.is (text self.now position) (is_good self.now)) result };
 }
 
 /// Messages to the end of an input.
@@ -93,6 +103,10 @@ pub trait Maker {
 pub struct Passed {
     /// How many they are.
     pub whole: u32,
+    /// How many of them are as they should be.
+    pub good: u32,
+    /// How many octets they have in the input.
+    pub octets: u64,
     /// Whether all are as they should be.
     pub all_good: bool,
 }
@@ -113,7 +127,9 @@ pub enum Why {
 pub struct Stopped {
     /// How many messages were read, and written whole.
     pub whole: u32,
-    /// How many octets those have in the input.
+    /// How many of them are as they should be.
+    pub good: u32,
+    /// How many octets they have in the input.
     pub before: u64,
     /// How many octets were written.
     pub written: u128,
@@ -135,52 +151,64 @@ pub fn each_message<M: Maker, R: Source, L: Look<R>, W: Sink>(
 ) -> Result<Passed, Stopped>
     ensures passes { IfOk result (PassesAll (M.text maker.now) (M.is_good maker.now) (R.left source.old) (R.left source.new)
         (W.contents sink.old) (W.contents sink.new)) }
-    ensures ends { IfErr result (EndsAfter (M.text maker.now) (taking (R.left source.old) (R.left source.new) (R.is_broken source.new))
+    ensures ends { IfErr result (EndsAfter (M.text maker.now) (M.is_good maker.now) (taking (R.left source.old) (R.left source.new) (R.is_broken source.new))
         (putting (W.contents sink.old) (W.contents sink.new) (W.is_broken sink.new))) }
     ensures source_stays { IsTrue (R.is_broken source.old) → IsTrue (R.is_broken source.new) }
     ensures sink_stays { IsTrue (W.is_broken sink.old) → IsTrue (W.is_broken sink.new) }
 {
-    let mut all_good = true;
+    let mut good = 0;
     let mut before = 0;
     let mut written = 0;
     let mut room = M::Out::empty(alloc);
     for whole in 0..MESSAGES {
-        let piece = match maker.next::<R, L>(alloc, whole + 1, source, room) {
+        let position = Position {
+            number: whole + 1,
+            offset: before,
+        };
+        let piece = match maker.next::<R, L>(alloc, position, source, room) {
             Ok(Some(piece)) => piece,
-            Ok(None) => return Ok(Passed { whole, all_good }),
-            Err(failure) => return Err(ended(whole, before, written, Why::Read(failure))),
+            Ok(None) => return Ok(all_passed(whole, good, before)),
+            Err(failure) => return Err(ended(whole, good, before, written, Why::Read(failure))),
         };
         let count = match piece.text.put(sink) {
             Ok(count) => count,
             Err(count) => {
                 let written = written + count as u128;
-                return Err(ended(whole, before, written, Why::Write(count)));
+                return Err(ended(whole, good, before, written, Why::Write(count)));
             }
         };
         before += u64::from(piece.octets);
         written += count as u128;
-        if !piece.is_good {
-            all_good = false;
-        }
+        good += u32::from(piece.is_good);
         room = piece.text;
     }
     drop(room);
     match end_of_input(source) {
-        Ok(()) => Ok(Passed {
-            whole: MESSAGES,
-            all_good,
-        }),
-        Err(why) => Err(ended(MESSAGES, before, written, why)),
+        Ok(()) => Ok(all_passed(MESSAGES, good, before)),
+        Err(why) => Err(ended(MESSAGES, good, before, written, why)),
+    }
+}
+
+#[inline(always)]
+fn all_passed(whole: u32, good: u32, octets: u64) -> Passed
+    ensures { result ≡ all_passed whole good octets }
+{
+    Passed {
+        whole,
+        good,
+        octets,
+        all_good: good == whole,
     }
 }
 
 /// How far the messages were written, and why no further.
 #[inline(always)]
-fn ended(whole: u32, before: u64, written: u128, why: Why) -> Stopped
-    ensures { result ≡ ended_at whole before written why }
+fn ended(whole: u32, good: u32, before: u64, written: u128, why: Why) -> Stopped
+    ensures { result ≡ ended_at whole good before written why }
 {
     Stopped {
         whole,
+        good,
         before,
         written,
         why,

@@ -11,7 +11,7 @@ ghost use Rattle.ill_normal.specs.code.Ending.{stream_cause};
 ghost use Rattle.ill_normal.specs.Streamed.{Passes, StopsAfter, AnswersCount, AnswersRefusedAfter, AnswersTooMany};
 
 use crate::failure::{NormalFailure, StreamCause, StreamFailure};
-use crate::messages::{Maker, Piece, Why, each_message};
+use crate::messages::{Maker, Piece, Position, Why, each_message};
 use ber_core::{Look, Sink, Source, Unseen};
 use ill_read::{ReadFailure, read_normal_in};
 use std::alloc::Global;
@@ -22,18 +22,18 @@ pub struct NormalForms;
 impl Maker for NormalForms {
     type Out = Vec<u8>;
 
-    ghost text = { λ _ i m. normal_form m.apdu };
+    ghost text = { λ _ p m. normal_form m.apdu };
 
     ghost is_good = { λ _ m. true };
 
     fn next<R: Source, L: Look<R>>(
         &self,
         alloc: Global,
-        number: u32,
+        position: Position,
         source: &mut R,
         room: Vec<u8>,
     ) -> Result<Option<Piece<Vec<u8>>>, ReadFailure> {
-        let _ = number;
+        let _ = position;
         let Some(normal) = read_normal_in::<R, L>(alloc, source, room)? else {
             return Ok(None);
         };

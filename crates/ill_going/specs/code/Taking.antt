@@ -1,9 +1,9 @@
 -- The octets of an element that are taken from a source and kept.
-use Rattle.std.specs.Prelude.{◌≡◌, ◌⊎◌, ℕ, ◌-◌, ◌<◌, ◌≤◌, Bool, true, false, List, ◌++◌, length, take, Option}
+use Rattle.std.specs.Prelude.{◌≡◌, ◌⊎◌, ℕ, ◌-◌, ◌<◌, ◌≤◌, Bool, List, ◌++◌, length, take, Option, Some, None}
 use Rattle.std.specs.Io.KnownBytes.{Consumes, IsAtEnd}
-use Rattle.std.specs.Prelude.{MatchBool}
+use Rattle.std.specs.Prelude.{MatchOption}
 use Rattle.ill_read.specs.Answers.{IsUnfinished}
-use Rattle.ill_normal.specs.Messages.{Spelling, Makes}
+use Rattle.ill_normal.specs.Messages.{Spelling, counted, Makes}
 use Rattle.ber_frame.specs.declared.framer.Frame.{Frame}
 use Rattle.ber_frame.specs.declared.framer.Frame.TheVariants as frame
 use Rattle.ber_frame.specs.declared.framer.Framer.{Framer}
@@ -15,13 +15,14 @@ use Rattle.ill_going.specs.declared.next.Next.{Next}
 use Rattle.ill_going.specs.declared.next.Next.TheVariants.{Read, Refused}
 
 -- a framer was fed the octets that were taken, and the first 1,048,576 of them were kept
-pub record Framing (left left' : Option (List ℕ)) (framer : Framer) (kept : List ℕ) (least : ℕ) : Type 0 where
+pub record Framing (left left' : Option (List ℕ)) (framer : Framer) (kept : List ℕ) (least size : ℕ) : Type 0 where
   pub octets : List ℕ
   pub taken : Consumes left left' octets
   pub fed : IsFed framer octets
   pub within : (n : ℕ) → n < length octets → IsPart (take n octets)
   pub keeps : kept ≡ take 1_048_576 octets
   pub counts : least ≤ length octets
+  pub size_is : size ≡ counted (length octets)
 
 -- more octets were taken, and those of the first 1,048,576 were kept
 pub record Takes (left left' : Option (List ℕ)) (framer framer' : Framer) (kept kept' : List ℕ) (n : ℕ) : Type 0 where
@@ -33,14 +34,15 @@ pub record Takes (left left' : Option (List ℕ)) (framer framer' : Framer) (kep
   pub none : (b : List ℕ) → n ≡ 0 → IsFed framer b → IsPart b → IsAtEnd left'
   pub keeps : kept' ≡ kept ++ take (1_048_576 - length kept) octets
 
--- an element was taken, as far as its end can be known, and its first 1,048,576 octets were kept
-pub record TakesElement (left left' : Option (List ℕ)) (kept : List ℕ) (frame : Frame) : Type 0 where
+-- an element of `size` octets was taken, as far as its end can be known, and its first 1,048,576 octets were kept
+pub record TakesElement (left left' : Option (List ℕ)) (kept : List ℕ) (size : ℕ) (frame : Frame) : Type 0 where
   pub octets : List ℕ
   pub taken : Consumes left left' octets
   pub judged : Judged octets frame
   pub within : (n : ℕ) → n < length octets → IsPart (take n octets)
   pub keeps : kept ≡ take 1_048_576 octets
   pub part : IsPart octets → IsAtEnd left' ⊎ (18_446_744_073_709_551_615 ≤ length octets)
+  pub size_is : size ≡ counted (length octets)
 
 -- octets with which no element begins were taken, and then some that say more of why
 pub record TakesUnframed (left left' : Option (List ℕ)) (kept : List ℕ) : Type 0 where
@@ -52,10 +54,10 @@ pub record TakesUnframed (left left' : Option (List ℕ)) (kept : List ℕ) : Ty
   pub keeps : kept ≡ take 1_048_576 (octets ++ more)
 
 -- one of the two
-abbrev pub Took : Option (List ℕ) → Option (List ℕ) → List ℕ → Frame → Type 0
-Took left left' kept frame.Unframed = TakesUnframed left left' kept
-Took left left' kept frame.Whole = TakesElement left left' kept frame.Whole
-Took left left' kept frame.Part = TakesElement left left' kept frame.Part
+abbrev pub Took : Option (List ℕ) → Option (List ℕ) → List ℕ → ℕ → Frame → Type 0
+Took left left' kept size frame.Unframed = TakesUnframed left left' kept
+Took left left' kept size frame.Whole = TakesElement left left' kept size frame.Whole
+Took left left' kept size frame.Part = TakesElement left left' kept size frame.Part
 
 -- some octets more were taken, and those of the first 1,048,576 were kept
 pub record TakesRest (left left' : Option (List ℕ)) (kept kept' : List ℕ) : Type 0 where
@@ -69,12 +71,13 @@ pub record TakesPart (left left' : Option (List ℕ)) : Type 0 where
   pub taken : Consumes left left' octets
   pub unfinished : IsUnfinished octets
 
-abbrev pub is_whole : Frame → Bool
-is_whole frame.Whole = true
-is_whole _ = false
+-- how many octets an element has whose end was found
+abbrev pub end_of : Frame → ℕ → Option ℕ
+end_of frame.Whole size = Some size
+end_of _ size = None
 
 -- the next message was read, or refused
 abbrev pub IsNext : {T : Type 0} → (T → List ℕ → Type 0) → (Spelling → List ℕ) → (Spelling → Bool) → Option (List ℕ) → Option (List ℕ) → Next T → Type 0
 IsNext is text is_good left left' (Read piece) = (b : List ℕ) × Consumes left left' b × Makes is text is_good piece b
-IsNext is text is_good left left' (Refused refusal ends) =
-    (b : List ℕ) × Consumes left left' b × IsRefusedFor b refusal × MatchBool ends (IsFrame b) (HasNoEnd b left')
+IsNext is text is_good left left' (Refused refusal end) =
+    (b : List ℕ) × Consumes left left' b × IsRefusedFor b refusal × MatchOption end (HasNoEnd b left') (λ n. IsFrame b × (n ≡ counted (length b)))

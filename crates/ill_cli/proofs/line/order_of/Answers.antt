@@ -17,13 +17,25 @@ returns-clause-some c =
     record {
       rows = rows;
       command = both_parts _ _ _ c.in-Some.name.now rows is_name are_rows ∙ ap (λ (w : Text). Some (w, rows)) name;
-      hex = λ h. c.get_flag.ensures.value (one_text-rows found (codes "hex") ∙ h);
-      no_hex = λ h. c.get_flag.ensures.other (one_text-rows found (codes "hex") ∙ h);
-      lines = λ h. c.get_flag-2.ensures.value (one_text-rows found (codes "lines") ∙ h);
-      no_lines = λ h. c.get_flag-2.ensures.other (one_text-rows found (codes "lines") ∙ h);
-      never_lines = λ h. c.get_flag-2.ensures.none (one_text-rows found (codes "lines") ∙ h);
-      going = λ h. c.get_flag-3.ensures.value (one_text-rows found (codes "keep-going") ∙ h);
-      no_going = λ h. c.get_flag-3.ensures.other (one_text-rows found (codes "keep-going") ∙ h);
-      never_going = λ h. c.get_flag-3.ensures.none (one_text-rows found (codes "keep-going") ∙ h);
+      hex = record {
+        given = λ h. c.get_flag.ensures.value (one_text-rows found (codes "hex") ∙ h);
+        missing = λ h. c.get_flag.ensures.other (one_text-rows found (codes "hex") ∙ h);
+        none = λ h. c.get_flag.ensures.none (one_text-rows found (codes "hex") ∙ h);
+      };
+      lines = record {
+        given = λ h. c.get_flag-2.ensures.value (one_text-rows found (codes "lines") ∙ h);
+        missing = λ h. c.get_flag-2.ensures.other (one_text-rows found (codes "lines") ∙ h);
+        none = λ h. c.get_flag-2.ensures.none (one_text-rows found (codes "lines") ∙ h);
+      };
+      going = record {
+        given = λ h. c.get_flag-3.ensures.value (one_text-rows found (codes "keep-going") ∙ h);
+        missing = λ h. c.get_flag-3.ensures.other (one_text-rows found (codes "keep-going") ∙ h);
+        none = λ h. c.get_flag-3.ensures.none (one_text-rows found (codes "keep-going") ∙ h);
+      };
+      summary = record {
+        given = λ h. c.get_flag-4.ensures.value (one_text-rows found (codes "summary") ∙ h);
+        missing = λ h. c.get_flag-4.ensures.other (one_text-rows found (codes "summary") ∙ h);
+        none = λ h. c.get_flag-4.ensures.none (one_text-rows found (codes "summary") ∙ h);
+      };
       files = task.1;
     }

@@ -4,19 +4,19 @@ use Rattle.ill_going.proofs.next.take_framed.Goals as goal
 
 pub returns-in-Ok-eq0-clause-element : goal.returns-in-Ok-eq0-clause-element
 returns-in-Ok-eq0-clause-element g c =
-    λ frame judged. element_ends _ _ _ _ _ _ _ _ c.in-Ok-eq0.field-0 c.element.invariant.framing c.in-Ok-eq0.ensures.takes frame c.in-Ok-eq0.field-0-test judged
+    λ frame judged. element_ends _ _ _ _ _ _ _ _ _ c.in-Ok-eq0.field-0 c.element.invariant.framing c.in-Ok-eq0.ensures.takes frame c.in-Ok-eq0.field-0-test judged
 
 pub returns-in-Err-clause-broken : goal.returns-in-Err-clause-broken
 returns-in-Err-clause-broken g c is_broken =
     let broken = c.in-Err.ensures.broken is_broken in
-    (broken.0, part_taken _ _ _ _ _ _ c.element.invariant.framing broken.1 (c.in-Err.ensures.part is_broken))
+    (broken.0, part_taken _ _ _ _ _ _ _ c.element.invariant.framing broken.1 (c.in-Err.ensures.part is_broken))
 
 pub element-preserved : goal.element-preserved
 element-preserved g c = record {
-  framing = framing_more _ _ _ _ _ _ _ _ c.in-Ok.field-0 c.element.invariant.framing c.in-Ok.ensures.takes _ (let some = c.in-Ok.field-0-test.1 in omega arith);
+  framing = rw c.saturating_add-octets.ensures (framing_more _ _ _ _ _ _ _ _ _ c.in-Ok.count c.element.invariant.framing c.in-Ok.ensures.takes _ (let some = c.in-Ok.count-test.1 in omega arith));
   space = omega (arith, c.in-Ok.ensures.room, c.element.invariant.space);
   stays = λ h. c.in-Ok.ensures.stays (c.element.invariant.stays h);
 }
 
 pub returns-clause-element : goal.returns-clause-element
-returns-clause-element g c = λ frame judged. element_endless _ _ _ _ c.element.counter frame c.element.invariant.framing (omega arith) judged
+returns-clause-element g c = λ frame judged. element_endless _ _ _ _ c.element.counter _ frame c.element.invariant.framing (omega arith) judged

@@ -1,11 +1,14 @@
+use Rattle.std.proofs.Common.{sym, subst}
 use Rattle.ill_jobs.proofs.JobEndings.{done_all, few_before, stops_after}
 use Rattle.ill_jobs.proofs.messages.run_messages.Goals as goal
 
 pub returns-in-Ok-clause-done : goal.returns-in-Ok-clause-done
-returns-in-Ok-clause-done g c = rw c.verdict.ensures (done_all c.args.work _ _ _ _ c.in-Ok.passed c.in-Ok.ensures.passes)
+returns-in-Ok-clause-done g c =
+    rw (c.ran.ensures.came, c.ran.ensures.counts, c.counts.ensures, c.verdict-verdict.ensures) (done_all c.args.work _ _ _ _ c.in-Ok.passed c.in-Ok.ensures.passes)
 
 pub returns-in-Err-clause-stops : goal.returns-in-Err-clause-stops
-returns-in-Err-clause-stops g c = rw c.fault_of.ensures (stops_after c.args.work _ _ c.in-Err.stopped c.in-Err.ensures.ends)
+returns-in-Err-clause-stops g c =
+    rw (c.ran-in-Err.ensures.came, c.ran-in-Err.ensures.counts, c.counts-in-Err.ensures, c.fault_of-fault.ensures) (stops_after c.args.work _ _ c.in-Err.stopped c.in-Err.ensures.ends)
 
 pub fault_of-requires : goal.fault_of-requires
 fault_of-requires g c = few_before c.args.work _ _ c.in-Err.stopped c.in-Err.ensures.ends

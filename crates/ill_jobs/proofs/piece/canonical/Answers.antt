@@ -9,7 +9,7 @@ returns-then-not-work g c =
     let no : c.args.work.hex ≡ false = search rules in
     let p = c.in-Some.normal in
     let label = label_of c.args.work.is_named c.args.work.name.now in
-    reads_as _ _ _ _ _ _ p _ (λ b h. rw no (makes_normal c.args.number c.args.work.name.now label p b h)) (rw c.in-Some.is at c.in_ok-normal.ensures)
+    reads_as _ _ _ _ _ _ p _ (λ b h. rw no (makes_normal c.args.position c.args.work.name.now label c.args.work.compares p b h)) (rw c.in-Some.is at c.in_ok-normal.ensures)
 
 pub returns-in-Ok : goal.returns-in-Ok
 returns-in-Ok g c =
@@ -17,4 +17,4 @@ returns-in-Ok g c =
     let p = c.in-Some.normal in
     let label = label_of c.args.work.is_named c.args.work.name.now in
     let line = rw c.deref.ensures.value at c.in-Ok.ensures in
-    reads_as _ _ _ _ _ _ p _ (λ b h. rw yes (makes_hex c.args.number c.args.work.name.now label c.in-Ok.text p line b h)) (rw c.in-Some.is at c.in_ok-normal.ensures)
+    reads_as _ _ _ _ _ _ p _ (λ b h. rw yes (makes_hex c.args.position c.args.work.name.now label c.args.work.compares c.in-Ok.text p line b h)) (rw c.in-Some.is at c.in_ok-normal.ensures)

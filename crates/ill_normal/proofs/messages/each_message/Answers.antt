@@ -1,12 +1,17 @@
-use Rattle.std.proofs.Common.{◌≡◌, ◌+◌, length, refl, arith, rules}
-use Rattle.ill_normal.proofs.WrittenMessages.{ends_at_last, ends_reading, ends_writing, made_bound, next_good, passes_all, reached_more, reached_none}
+use Rattle.std.proofs.Common.{◌+◌, refl, arith, rules}
+use Rattle.ill_normal.specs.Messages.{position}
+use Rattle.ill_normal.proofs.WrittenMessages.{ends_at_last, ends_reading, ends_writing, made_bound, one_bound, passes_all, reached_more, reached_none}
 use Rattle.ill_normal.proofs.messages.each_message.Goals as goal
-use Rattle.ill_normal.proofs.messages.each_message.Goals.{then-not-piece, else-not-piece}
 
 pub returns-in-Ok-None-clause-passes : goal.returns-in-Ok-None-clause-passes
 returns-in-Ok-None-clause-passes g c =
     let next = rw c.in-Ok-None.field-0-is at c.in-Ok-None.ensures in
-    passes_all _ _ _ _ _ _ _ (g.W.Sink.contents c.loop-whole.sink) _ _ _ _ c.loop-whole.invariant.reached _ refl next.none.0 next.none.1 (omega arith)
+    rw c.all_passed.ensures (passes_all _ _ _ _ _ _ _ (g.W.Sink.contents c.loop-whole.sink) _ _ _ _ c.loop-whole.invariant.reached _ refl next.none.0 next.none.1 (omega arith))
+
+pub returns-in-Ok-end_of_input-clause-passes : goal.returns-in-Ok-end_of_input-clause-passes
+returns-in-Ok-end_of_input-clause-passes g c =
+    let end = c.in-Ok-end_of_input.ensures.end in
+    rw c.all_passed-in-Ok-end_of_input.ensures (passes_all _ _ _ _ _ _ _ (g.W.Sink.contents c.loop-whole.sink) _ _ _ _ c.loop-whole.invariant.reached 1_000_000 (omega arith) end.0 end.1 (omega arith))
 
 pub returns-in-Err-clause-ends : goal.returns-in-Err-clause-ends
 returns-in-Err-clause-ends g c =
@@ -18,12 +23,11 @@ loop-whole-preserved g c =
     let made = next.message in
     let all = c.in-Ok.ensures.all _ made.2.text in
     let count = c.in-Ok.ensures.count _ made.2.text in
-    let more = reached_more _ _ _ _ _ _ _ _ _ _ _ _ c.loop-whole.invariant.reached _ c.in-Ok-Some.piece made c.in-Ok.count count.0 all in
-    let most = made_bound _ (g.M.Maker.text c.args.maker.now) (g.M.Maker.is_good c.args.maker.now) (c.loop-whole.whole + 1) _ _ c.in-Ok-Some.piece made in
-    let good : c.if-not-piece.all_good ≡ next_good c.loop-whole.all_good c.in-Ok-Some.piece.is_good =
-    elim c.if-not-piece.branch [ then-not-piece w ↦ rw (w.all_good-is, w.if-not-piece.true) refl | else-not-piece w ↦ rw (w.all_good-is, w.if-not-piece.false) refl ] in
+    let most = made_bound _ (g.M.Maker.text c.args.maker.now) (g.M.Maker.is_good c.args.maker.now) (position (c.loop-whole.whole + 1) c.loop-whole.before) _ _ c.in-Ok-Some.piece made in
+    let more = reached_more _ _ _ _ _ _ _ _ _ _ _ _ c.loop-whole.invariant.reached _ c.in-Ok-Some.piece made c.in-Ok.count (omega (arith, c.loop-whole.invariant.before, most, c.loop-whole-test.true)) count.0 all in
     record {
-      reached = rw (good, c.from-before.ensures) more;
+      reached = rw (c.from-good.ensures, c.from-before.ensures) more;
+      few = omega (arith, c.loop-whole.invariant.few, one_bound c.in-Ok-Some.piece.is_good, c.from-good.ensures);
       before = omega (arith, c.loop-whole.invariant.before, most, c.from-before.ensures);
       bound = omega (arith, c.loop-whole.invariant.bound, count.1);
       source_stays = λ h. next.stays (c.loop-whole.invariant.source_stays h);
@@ -42,6 +46,7 @@ returns-in-Err-put-clause-ends g c =
 pub loop-whole-init : goal.loop-whole-init
 loop-whole-init g c = record {
   reached = reached_none _ _ _ _;
+  few = omega arith;
   before = omega arith;
   bound = omega arith;
   source_stays = λ h. h;

@@ -15,16 +15,16 @@ pub returns-in-Ok-clause-too_many : goal.returns-in-Ok-clause-too_many
 returns-in-Ok-clause-too_many g c = let h = streamed _ _ _ _ _ c.in-Ok.passed c.in-Ok.ensures.passes in ok_too_many _ _ _ _ _ _ h.1 h.2 h.3
 
 pub returns-in-Err-clause-stops : goal.returns-in-Err-clause-stops
-returns-in-Err-clause-stops g c = rw c.cause.ensures (stops_of _ _ c.in-Err.stopped c.in-Err.ensures.ends)
+returns-in-Err-clause-stops g c = rw c.cause.ensures (stops_of _ _ _ c.in-Err.stopped c.in-Err.ensures.ends)
 
 pub returns-in-Err-clause-accepts : goal.returns-in-Err-clause-accepts
-returns-in-Err-clause-accepts g c = rw c.cause.ensures (stops_accepts _ _ _ _ _ _ _ (stops_of _ _ c.in-Err.stopped c.in-Err.ensures.ends))
+returns-in-Err-clause-accepts g c = rw c.cause.ensures (stops_accepts _ _ _ _ _ _ _ (stops_of _ _ _ c.in-Err.stopped c.in-Err.ensures.ends))
 
 pub returns-in-Err-clause-refuses : goal.returns-in-Err-clause-refuses
-returns-in-Err-clause-refuses g c = rw c.cause.ensures (stops_refuses _ _ _ _ _ _ _ (stops_of _ _ c.in-Err.stopped c.in-Err.ensures.ends))
+returns-in-Err-clause-refuses g c = rw c.cause.ensures (stops_refuses _ _ _ _ _ _ _ (stops_of _ _ _ c.in-Err.stopped c.in-Err.ensures.ends))
 
 pub returns-in-Err-clause-too_many : goal.returns-in-Err-clause-too_many
-returns-in-Err-clause-too_many g c = rw c.cause.ensures (stops_too_many _ _ _ _ _ _ _ (stops_of _ _ c.in-Err.stopped c.in-Err.ensures.ends))
+returns-in-Err-clause-too_many g c = rw c.cause.ensures (stops_too_many _ _ _ _ _ _ _ (stops_of _ _ _ c.in-Err.stopped c.in-Err.ensures.ends))
 
 pub cause-requires : goal.cause-requires
-cause-requires g c = part_bound _ _ c.in-Err.stopped c.in-Err.ensures.ends
+cause-requires g c = part_bound _ _ _ c.in-Err.stopped c.in-Err.ensures.ends
