@@ -9,12 +9,13 @@ use Rattle.ber_frame.specs.Framed.{IsFrame}
 use Rattle.ill_schema.specs.declared.refusal.Refusal.{Refusal}
 use Rattle.ill_schema.specs.Apdu.{SpellsApdu}
 use Rattle.ill_schema.proofs.Streams.{accepts_some}
-use Rattle.ill_normal.specs.Calls.{taking, putting}
+use Rattle.ill_normal.specs.Calls.{Taking, taking, Putting, putting}
 use Rattle.ill_normal.specs.Messages.{Spelling, spelling, counted, position, first, after, one_if, Makes, BreaksWithin}
 use Rattle.ill_normal.proofs.WrittenMessages.{all_counted, counted_left, counted_right, one_bound}
 use Rattle.ill_normal.specs.declared.messages.Position.{Position}
 use Rattle.ill_normal.specs.declared.messages.Piece.{Piece}
 use Rattle.ill_going.specs.declared.report.Report.{Report}
+use Rattle.ill_going.specs.declared.going.Halted.{Halted}
 use Rattle.ill_going.specs.declared.going.Why.{Why}
 use Rattle.ill_going.specs.Items.{Item, good, bad, IsRefusedFor, AreItems, item_octets, position_past, written_of, written_from, report, reports_from, good_in, all_good, Adds}
 use Rattle.ill_going.specs.Gone.{Reporting, reporting, Goes, HasNoEnd, GoesThrough, part_of, Halts, HaltsAfter}
@@ -128,11 +129,6 @@ reached_none text is_good left held r = record {
   next = refl;
   size = refl;
 }
-
--- no more are refused or good than were gone through
-pub reached_sum : (text : Position → Spelling → List ℕ) (is_good : Spelling → Bool) (left left' held held' : Option (List ℕ)) (reports : Reporting) (before refused good_ones offset written : ℕ)
-    → Reached text is_good left left' held held' reports before refused good_ones offset written → refused + good_ones ≤ before
-reached_sum text is_good left left' held held' reports before refused good_ones offset written r = omega (arith, r.count, r.bad_ones, r.good_are, sum_bound is_good 1 r.items)
 
 -- the octets of the next message were taken, and the piece was made of them
 abbrev pub Made : {T : Type 0} → (T → List ℕ → Type 0) → (Position → Spelling → List ℕ) → (Spelling → Bool) → Position → Option (List ℕ) → Option (List ℕ) → Piece T → Type 0
@@ -316,3 +312,8 @@ module _ (text : Position → Spelling → List ℕ) (is_good : Spelling → Boo
         (omega (arith, last), e.0, ([], none, λ a i accepted. accepts_some profile_two [] a i refl accepted), subst (λ (z : Option (List ℕ)). Keeps held' z) h (Keeps-refl held'))
     halts_at_last n Why.OutOfMemory same last h k e = absurd e
     halts_at_last n (Why.WriteFault i) same last h k e = absurd e
+
+-- no more are refused or good than were gone through
+pub halted_sum : (text : Position → Spelling → List ℕ) (is_good : Spelling → Bool) (source : Taking) (sink : Putting) (reports : Reporting) (halted : Halted)
+    → HaltsAfter text is_good source sink reports halted → halted.refused + halted.good ≤ halted.messages
+halted_sum text is_good source sink reports halted h = omega (arith, h.messages, h.refused, h.good, sum_bound is_good 1 h.items)

@@ -28,20 +28,20 @@ module _ (p : Position) (name label : List ℕ) (compares : Bool) where
   -- the normal form as it is, and in digits
   pub makes_normal : (made : Piece (Vec ℕ Global)) (b : List ℕ) → Makes (λ v octets. v.items ≡ octets) (λ m. normal_form m.apdu) (good_if compares) made b
       → Makes IsWritten (message_text Job.Canonicalise false name label p) (counts_as_good Job.Canonicalise compares)
-          (record { text = Written.Octets made.text; is_good = made.is_good; octets = made.octets }) b
+      (record { text = Written.Octets made.text; is_good = made.is_good; octets = made.octets }) b
   makes_normal made b h = record { apdu = h.apdu; spells = h.spells; text = h.text; good = h.good; size = h.size }
 
   module _ (text : Vec ℕ Global) where
     pub makes_hex : (made : Piece (Vec ℕ Global)) → text.items ≡ encode_lower made.text.items ++ codes "\n" → (b : List ℕ)
         → Makes (λ v octets. v.items ≡ octets) (λ m. normal_form m.apdu) (good_if compares) made b
         → Makes IsWritten (message_text Job.Canonicalise true name label p) (counts_as_good Job.Canonicalise compares)
-            (record { text = Written.Octets text; is_good = made.is_good; octets = made.octets }) b
+        (record { text = Written.Octets text; is_good = made.is_good; octets = made.octets }) b
     makes_hex made e b h = record { apdu = h.apdu; spells = h.spells; text = e ∙ ap (λ l. encode_lower l ++ codes "\n") h.text; good = h.good; size = h.size }
 
     pub makes_digest : (made : Piece (Vec ℕ Global)) (hex : Bool) → text.items ≡ line_of_digest (sha256 made.text.items) name p.number → (b : List ℕ)
         → Makes (λ v octets. v.items ≡ octets) (λ m. normal_form m.apdu) (good_if compares) made b
         → Makes IsWritten (message_text Job.Digest hex name label p) (counts_as_good Job.Digest compares)
-            (record { text = Written.Octets text; is_good = made.is_good; octets = made.octets }) b
+        (record { text = Written.Octets text; is_good = made.is_good; octets = made.octets }) b
     makes_digest made hex e b h =
         record { apdu = h.apdu; spells = h.spells; text = e ∙ ap (λ l. line_of_digest (sha256 l) name p.number) h.text; good = h.good; size = h.size }
 

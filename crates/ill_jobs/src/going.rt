@@ -102,7 +102,7 @@ fn go_on<R: Source, L: Look<R>, W: Sink, T: Reports>(
 {
     match keep_going::<Work<'_>, R, L, W, T>(alloc, &work, source, sink, reports) {
         Ok(gone) => Ok(gone),
-        Err(halted) => Err(halt(halted)),
+        Err(halted) => Err(halted_job(halted)),
     }
 }
 
@@ -124,7 +124,7 @@ fn at_start(fault: RunFault) -> Halt
 }
 
 /// Why a job went no further, and what was gone through before.
-fn halt(halted: Halted) -> Halt
+fn halted_job(halted: Halted) -> Halt
     requires { halted.refused + halted.good ≤ halted.messages }
     ensures fault { result.fault ≡ halt_fault halted.written halted.why }
     ensures before { result.before ≡ gone_before halted.messages halted.refused halted.good halted.octets }

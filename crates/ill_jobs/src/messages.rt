@@ -92,11 +92,17 @@ fn run_messages<R: Source, L: Look<R>, W: Sink>(
     match each_message::<Work<'_>, R, L, W>(alloc, &work, source, sink) {
         Ok(passed) => {
             let verdict = verdict(work.job, passed.all_good);
-            ran(Ok(verdict), counts(passed.whole, passed.good, passed.octets))
+            ran(
+                Ok(verdict),
+                counts(passed.whole, passed.good, passed.octets),
+            )
         }
         Err(stopped) => {
             let fault = fault_of(stopped);
-            ran(Err(fault), counts(stopped.whole, stopped.good, stopped.before))
+            ran(
+                Err(fault),
+                counts(stopped.whole, stopped.good, stopped.before),
+            )
         }
     }
 }

@@ -62,7 +62,9 @@ fn next_piece<R: Source, L: Look<R>>(
         Job::Show => shown::<R, L>(alloc, work, position, source, room),
         Job::Check => checked::<R, L>(alloc, work, position, source, room.into_octets()),
         Job::Digest => digested::<R, L>(alloc, work, position, source, room.into_octets()),
-        Job::Canonicalise => { canonical::<R, L>(alloc, work, position, source, room.into_octets()) }
+        Job::Canonicalise => {
+            canonical::<R, L>(alloc, work, position, source, room.into_octets())
+        }
     }
 }
 

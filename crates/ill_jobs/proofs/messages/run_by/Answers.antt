@@ -22,19 +22,19 @@ pub returns-clause-does : goal.returns-clause-does
 returns-clause-does g c =
     let yes : c.args.work.hex ≡ true = search rules in
     let same = c.new-messages.ensures ∙ c.deref.ensures.value in
-    let text = subst (TextOf (g.R.Source.left c.args.source.now) (g.R.Source.left c.read_hex.new.source)) (sym same) c.in_ok-octets.ensures.octets in
+    let text = subst (TextOf (g.R.Source.left c.args.source.now) (g.R.Source.left c.read_hex.new.source)) (sym same) c.in-Ok.ensures.octets in
     rw yes (text_does _ _ _ false _ _ _ _ _ c.run_messages-2.ensures.done c.run_messages-2.ensures.stops _ _ text)
 
 pub returns-clause-refuses : goal.returns-clause-refuses
 returns-clause-refuses g c =
     let yes : c.args.work.hex ≡ true = search rules in
     let same = c.new-messages.ensures ∙ c.deref.ensures.value in
-    let text = subst (TextOf (g.R.Source.left c.args.source.now) (g.R.Source.left c.read_hex.new.source)) (sym same) c.in_ok-octets.ensures.octets in
+    let text = subst (TextOf (g.R.Source.left c.args.source.now) (g.R.Source.left c.read_hex.new.source)) (sym same) c.in-Ok.ensures.octets in
     rw yes (text_refuses _ _ _ false _ _ _ _ _ c.run_messages-2.ensures.done c.run_messages-2.ensures.stops _ _ text)
 
 pub returns-clause-too_many : goal.returns-clause-too_many
 returns-clause-too_many g c =
     let yes : c.args.work.hex ≡ true = search rules in
     let same = c.new-messages.ensures ∙ c.deref.ensures.value in
-    let text = subst (TextOf (g.R.Source.left c.args.source.now) (g.R.Source.left c.read_hex.new.source)) (sym same) c.in_ok-octets.ensures.octets in
+    let text = subst (TextOf (g.R.Source.left c.args.source.now) (g.R.Source.left c.read_hex.new.source)) (sym same) c.in-Ok.ensures.octets in
     rw yes (text_more _ _ _ false _ _ _ _ _ c.run_messages-2.ensures.done c.run_messages-2.ensures.stops _ _ text)

@@ -10,5 +10,5 @@ pub returns-in-Err-clause-stops : goal.returns-in-Err-clause-stops
 returns-in-Err-clause-stops g c =
     rw (c.ran-in-Err.ensures.came, c.ran-in-Err.ensures.counts, c.counts-in-Err.ensures, c.fault_of-fault.ensures) (stops_after c.args.work _ _ c.in-Err.stopped c.in-Err.ensures.ends)
 
-pub fault_of-requires : goal.fault_of-requires
-fault_of-requires g c = few_before c.args.work _ _ c.in-Err.stopped c.in-Err.ensures.ends
+pub fault_of-fault-requires : goal.fault_of-fault-requires
+fault_of-fault-requires g c = few_before c.args.work _ _ c.in-Err.stopped c.in-Err.ensures.ends
