@@ -139,6 +139,18 @@ def make_schema():
     }
 
 
+def block(value):
+    """A list or object over many lines: one for each of its parts."""
+    if isinstance(value, dict):
+        return "{\n" + ",\n".join(f"    {json.dumps(name)}: {json.dumps(part)}" for name, part in value.items()) + "\n  }"
+    return "[\n" + ",\n".join(f"    {json.dumps(part)}" for part in value) + "\n  ]"
+
+
+def schema_text():
+    parts = [f"  {json.dumps(name)}: {block(part) if name in ('properties', 'oneOf', '$defs') else json.dumps(part)}" for name, part in make_schema().items()]
+    return "{\n" + ",\n".join(parts) + "\n}\n"
+
+
 # ---- lines
 
 
@@ -222,7 +234,7 @@ def compare_files(schema, messages, more):
 
 
 def main():
-    made = json.dumps(make_schema(), indent=2) + "\n"
+    made = schema_text()
     if sys.argv[1:] == ["--write"]:
         SCHEMA.write_text(made)
         return
