@@ -1,5 +1,5 @@
 //! The text that is made, a token at a time.
-ghost use Rattle.std.specs.Prelude.{◌≡◌, ◌++◌, [], ◌∷◌, false, codes, decimal, IfOk, OnOk, string_bytes};
+ghost use Rattle.std.specs.Prelude.{◌≡◌, ◌++◌, [], ◌∷◌, false, codes, decimal, IfOk, OnOk, string_bytes, vec_capacity};
 ghost use Rattle.std.specs.Fmt.{signed_decimal};
 ghost use Rattle.json.specs.Print.{IsPrintable, print};
 ghost use Rattle.json.specs.Reads.{token_of};
@@ -26,6 +26,7 @@ impl Out {
     pub fn new(alloc: Global, room: Vec<u8>) -> Out
         ensures before { result.writer.before ≡ [] }
         ensures tokens { result.writer.tokens ≡ [] }
+        ensures room { result.writer.spare ≡ vec_capacity room }
     {
         let mut room = room;
         room.clear();
