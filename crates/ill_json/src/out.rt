@@ -27,6 +27,7 @@ impl Out {
         ensures before { result.writer.before ≡ [] }
         ensures tokens { result.writer.tokens ≡ [] }
         ensures room { result.writer.spare ≡ vec_capacity room }
+        ensures whole { result.failed ≡ false }
     {
         let mut room = room;
         room.clear();
