@@ -103,7 +103,7 @@ fn flag_text(is_true: bool) -> &'static [u8]
 }
 
 /// Whether any octet isn't 0.
-fn is_set(octets: &[Mark]) -> bool
+pub fn is_set(octets: &[Mark]) -> bool
     ensures { result ≡ not (list_all (nat_eq 0) (octets_in octets.now)) }
 {
     for mark in octets {
@@ -239,7 +239,7 @@ fn put_mark<W: Sink>(mark: Mark, out: &mut Out, sink: &mut W)
 }
 
 /// The number that octets are in two's complement; 0 where there are no octets or more than eight.
-fn number_in(octets: &[Mark]) -> i64
+pub fn number_in(octets: &[Mark]) -> i64
     ensures { 0 < length (octets_in octets.now) → length (octets_in octets.now) ≤ 8 → result ≡ integer_of (octets_in octets.now) }
 {
     let octets = first_eight(octets);

@@ -73,7 +73,7 @@ fn put_marked_leaf<'m, W: Sink>(
 }
 
 /// How many marks of octets come first.
-fn front_octets(marks: &[Mark]) -> usize
+pub fn front_octets(marks: &[Mark]) -> usize
     ensures exact { result ≡ front_octets marks.now }
     ensures within { result ≤ length marks.now }
 {
@@ -221,7 +221,7 @@ fn put_item<'m, W: Sink>(
 }
 
 /// Whether no mark is left, or the end comes first.
-fn at_end(marks: &[Mark]) -> bool
+pub fn at_end(marks: &[Mark]) -> bool
     ensures { result ≡ is_at_end marks.now }
 {
     match marks.first() {
@@ -231,7 +231,7 @@ fn at_end(marks: &[Mark]) -> bool
 }
 
 /// The row that was passed, where its mark comes first.
-fn passed(marks: &[Mark]) -> Option<PartId>
+pub fn passed(marks: &[Mark]) -> Option<PartId>
     ensures { result ≡ passed_in marks.now }
 {
     match marks {
@@ -250,7 +250,8 @@ pub fn alternative(marks: &[Mark]) -> Option<u8>
     }
 }
 
-fn first_mark(marks: &[Mark]) -> Option<Mark>
+/// The first mark, if there is one.
+pub fn first_mark(marks: &[Mark]) -> Option<Mark>
     ensures { result ≡ slice_get marks.now 0 }
 {
     marks.first().copied()

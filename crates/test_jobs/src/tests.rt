@@ -2,6 +2,7 @@
 mod breaks;
 mod contracts;
 mod going;
+mod json;
 mod runs;
 mod sames;
 mod shows;

@@ -1,0 +1,433 @@
+-- A line is of one APDU: values that fit the tables have one JSON value only where they are one value.
+use Rattle.std.proofs.Common.{◌≡◌, ℕ, zero, suc, ◌+◌, ◌-◌, ◌<◌, ◌≤◌, ◌/◌, ◌%◌, ◌^◌, Bool, true, false, not, ◌&&◌, ◌||◌, IsTrue, List, [], ◌∷◌, ◌++◌, length, Option, Some, None, refl, sym, ap, subst, ◌∙◌, arith, codes, slice_get, ℤ, pos, negsuc, neg_ℤ, ◌≤ℤ◌, le-ltb, lt-ltb}
+use Rattle.std.specs.Prelude.{nat_le, nat_lt}
+use Rattle.std.specs.Char.{encode_utf8}
+use Rattle.std.specs.Fmt.{signed_decimal}
+use Rattle.std.specs.List.{list_any}
+use Rattle.std.specs.Str.{bytes_eq}
+use Rattle.std.proofs.lemmas.Bool.Decides.{nat_tests}
+use Rattle.std.proofs.lemmas.Fmt.{signed_decimal_injective}
+use Rattle.std.proofs.lemmas.Int.{ints}
+use Rattle.std.proofs.lemmas.List.{append_cancel_right}
+use Rattle.std.proofs.lemmas.Slice.Eq.{bytes_eq-Decides}
+use lib.Signed.{mag}
+use Rattle.json.specs.Json.{Json, Members, value}
+use Rattle.json.specs.Json as json
+use Rattle.json.specs.Lex.{tokens}
+use Rattle.json.specs.Print.{print}
+use Rattle.json.specs.Token.{Token}
+use Rattle.json.specs.Tree.{HasNumbers, ItemsHaveNumbers, MembersHaveNumbers, depth, json_tokens}
+use Rattle.json.proofs.Printed.Decimals.{IsNumber-decimal, IsNumber-signed_decimal}
+use Rattle.json.proofs.Printed.Tokens.{tokens-print}
+use Rattle.json.proofs.Printed.Trees.{ArePrintable-json_tokens, value-json_tokens}
+use Rattle.ber_core.specs.Octets.{are_octets}
+use Rattle.ber_leaf.specs.Leaf.{Leaf, Holds, enumerated, integer, normal_content}
+use Rattle.ber_leaf.specs.Profile.{Profile}
+use Rattle.ber_leaf.specs.Simple.{Simple, flag, whole, date, time, printable, general, visible}
+use Rattle.ber_leaf.proofs.Integers.{whole_bounds}
+use Rattle.ill_schema.specs.declared.node.Kind.{Kind}
+use Rattle.ill_schema.specs.declared.node.LeafKind.{LeafKind}
+use Rattle.ill_schema.specs.declared.node.NodeId.{NodeId}
+use Rattle.ill_schema.specs.declared.node.NodeId.TheVariants.{Boolean, IllApdu}
+use Rattle.ill_schema.specs.declared.part.Row.{Row}
+use Rattle.ill_schema.specs.Apdu.{Apdu, choice_of}
+use Rattle.ill_schema.specs.Content.{Content, simple, sequence, list, alternative, Entries, no_entries, absent, present, Items, no_items, item}
+use Rattle.ill_schema.specs.Fits.{Fits, FitItems, FitRows, FitsApdu}
+use Rattle.ill_schema.specs.Names.{names_of}
+use Rattle.ill_schema.specs.Table.{kind_of, rows_of}
+use Rattle.ill_schema.specs.Tagging.{leaf_of}
+use Rattle.ill_text.specs.Numbers.{number_name}
+use Rattle.ill_text.specs.Shown.{name_or_none, node_or_left_out, row_name, row_node}
+use Rattle.ill_json.specs.Json.{characters, entry_members, item_values, json_line_of, leaf_json, line_json, number_json, value_json, with_file}
+use Rattle.ill_json.specs.declared.line.Head.{Head}
+
+both : (a b : Bool) → IsTrue (a && b) → IsTrue a × IsTrue b
+both true b h = (refl, h)
+both false b h = absurd cc
+
+-- ---- characters
+
+low : (a : ℕ) → a < 128 → encode_utf8 a ≡ a ∷ []
+unfolding encode_utf8
+low a h = rw (lt-ltb a 128 h) refl
+
+high : (a : ℕ) → 128 ≤ a → a < 256 → encode_utf8 a ≡ (192 + a / 64) ∷ (128 + a % 64) ∷ []
+unfolding encode_utf8
+high a h k = rw (le-ltb a 128 h, lt-ltb a 2048 (omega arith)) refl
+
+-- two octets, as the first is ASCII or not
+one_by : (a b : ℕ) (x y : List ℕ) (s t : Bool) → nat_lt a 128 ≡ s → nat_lt b 128 ≡ t → a < 256 → b < 256 → encode_utf8 a ++ x ≡ encode_utf8 b ++ y → (a ≡ b) × (x ≡ y)
+one_by a b x y true true f g h k e =
+    let q : a ∷ x ≡ b ∷ y = ap (λ (l : List ℕ). l ++ x) (sym (low a (grind (arith, nat_tests)))) ∙ e ∙ ap (λ (l : List ℕ). l ++ y) (low b (grind (arith, nat_tests))) in
+    (cc, cc)
+one_by a b x y true false f g h k e =
+    let q : a ∷ x ≡ (192 + b / 64) ∷ (128 + b % 64) ∷ y = ap (λ (l : List ℕ). l ++ x) (sym (low a (grind (arith, nat_tests)))) ∙ e ∙ ap (λ (l : List ℕ). l ++ y) (high b (grind (arith, nat_tests)) k) in
+    let first : a ≡ 192 + b / 64 = cc in
+    let small : a < 128 = grind (arith, nat_tests) in
+    absurd (omega arith)
+one_by a b x y false true f g h k e =
+    let q : (192 + a / 64) ∷ (128 + a % 64) ∷ x ≡ b ∷ y = ap (λ (l : List ℕ). l ++ x) (sym (high a (grind (arith, nat_tests)) h)) ∙ e ∙ ap (λ (l : List ℕ). l ++ y) (low b (grind (arith, nat_tests))) in
+    let first : 192 + a / 64 ≡ b = cc in
+    let small : b < 128 = grind (arith, nat_tests) in
+    absurd (omega arith)
+one_by a b x y false false f g h k e =
+    let q : (192 + a / 64) ∷ (128 + a % 64) ∷ x ≡ (192 + b / 64) ∷ (128 + b % 64) ∷ y = ap (λ (l : List ℕ). l ++ x) (sym (high a (grind (arith, nat_tests)) h)) ∙ e ∙ ap (λ (l : List ℕ). l ++ y) (high b (grind (arith, nat_tests)) k) in
+    let first : 192 + a / 64 ≡ 192 + b / 64 = cc in
+    let second : 128 + a % 64 ≡ 128 + b % 64 = cc in
+    (omega arith, cc)
+
+some_character : (a : ℕ) (x : List ℕ) → a < 256 → [] ≡ encode_utf8 a ++ x → ⊥
+some_character a x h e = by (nat_lt a 128) refl
+  where
+    by : (s : Bool) → nat_lt a 128 ≡ s → ⊥
+    by true f = absurd (let q : [] ≡ a ∷ x = e ∙ ap (λ (l : List ℕ). l ++ x) (low a (grind (arith, nat_tests))) in cc)
+    by false f = absurd (let q : [] ≡ (192 + a / 64) ∷ (128 + a % 64) ∷ x = e ∙ ap (λ (l : List ℕ). l ++ x) (high a (grind (arith, nat_tests)) h) in cc)
+
+octet_of : (a : ℕ) (o : List ℕ) → IsTrue (are_octets (a ∷ o)) → (a < 256) × IsTrue (are_octets o)
+octet_of a o h = let p = both (nat_lt a 256) (are_octets o) h in let f = p.0 in (grind (arith, nat_tests), p.1)
+
+characters_once : (o p : List ℕ) → IsTrue (are_octets o) → IsTrue (are_octets p) → characters o ≡ characters p → o ≡ p
+characters_once [] [] h k e = refl
+characters_once [] (b ∷ p) h k e = absurd (some_character b (characters p) (octet_of b p k).0 e)
+characters_once (a ∷ o) [] h k e = absurd (some_character a (characters o) (octet_of a o h).0 (sym e))
+characters_once (a ∷ o) (b ∷ p) h k e =
+    let x = octet_of a o h in
+    let y = octet_of b p k in
+    let q = one_by a b (characters o) (characters p) (nat_lt a 128) (nat_lt b 128) refl refl x.0 y.0 e in
+    let rest = characters_once o p x.1 y.1 q.1 in
+    let first = q.0 in
+    cc
+
+-- ---- leaves
+
+-- the digits of a number
+abbrev digits_of : Json → List ℕ
+digits_of (json.number s) = s
+digits_of (json.object (json.member k (json.number s) ms)) = s
+digits_of _ = []
+
+digits : (z : ℤ) (name : Option (List ℕ)) → digits_of (number_json z name) ≡ signed_decimal z
+digits z None = refl
+digits z (Some name) = refl
+
+mag_bound : (z : ℤ) → (neg_ℤ (pos 9_223_372_036_854_775_808) ≤ℤ z) × (z ≤ℤ pos 9_223_372_036_854_775_807) → mag z < 2 ^ 63
+mag_bound (pos n) h = let top = h.1 in omega (arith, ints)
+mag_bound (negsuc n) h = let low = h.0 in omega (arith, ints)
+
+whole_size : (p : Profile) (k : Kind) (l : Leaf) (z : ℤ) → leaf_of k (whole z) ≡ Some l → Holds p l (whole z) (normal_content (whole z)) → mag z < 2 ^ 63
+whole_size p (Kind.Leaf LeafKind.Integer) l z e h =
+    let same : l ≡ integer = cc in mag_bound z ((whole_bounds p z).0 (normal_content (whole z), subst (λ x. Holds p x (whole z) (normal_content (whole z))) same h))
+whole_size p (Kind.Leaf LeafKind.Enumerated) l z e h =
+    let same : l ≡ enumerated = cc in mag_bound z ((whole_bounds p z).0 (normal_content (whole z), subst (λ x. Holds p x (whole z) (normal_content (whole z))) same h))
+whole_size p _ l z e h = absurd cc
+
+-- the sort of a leaf is that of its kind
+abbrev leaf_sort : Simple → ℕ
+leaf_sort (flag b) = 0
+leaf_sort (whole z) = 1
+leaf_sort (date o) = 2
+leaf_sort (time o) = 3
+leaf_sort (printable o) = 4
+leaf_sort (general o) = 5
+leaf_sort (visible o) = 5
+
+abbrev kind_sort : Kind → ℕ
+kind_sort (Kind.Leaf LeafKind.Boolean) = 0
+kind_sort (Kind.Leaf LeafKind.Integer) = 1
+kind_sort (Kind.Leaf LeafKind.Enumerated) = 1
+kind_sort (Kind.Leaf LeafKind.Date) = 2
+kind_sort (Kind.Leaf LeafKind.Time) = 3
+kind_sort (Kind.Leaf LeafKind.Printable) = 4
+kind_sort Kind.IllString = 5
+kind_sort Kind.Seq = 6
+kind_sort Kind.SeqOf = 7
+kind_sort Kind.Choice = 8
+
+sort_of : (k : Kind) (v : Simple) (l : Leaf) → leaf_of k v ≡ Some l → kind_sort k ≡ leaf_sort v
+sort_of (Kind.Leaf LeafKind.Boolean) (flag b) l e = refl
+sort_of (Kind.Leaf LeafKind.Integer) (whole z) l e = refl
+sort_of (Kind.Leaf LeafKind.Enumerated) (whole z) l e = refl
+sort_of (Kind.Leaf LeafKind.Date) (date o) l e = refl
+sort_of (Kind.Leaf LeafKind.Time) (time o) l e = refl
+sort_of (Kind.Leaf LeafKind.Printable) (printable o) l e = refl
+sort_of Kind.IllString (general o) l e = refl
+sort_of Kind.IllString (visible o) l e = refl
+sort_of _ _ l e = absurd cc
+
+-- the first letter of the first key
+abbrev first_letter : Json → ℕ
+first_letter (json.object (json.member (letter ∷ key) j ms)) = letter
+first_letter _ = 0
+
+leaf_once : (p : Profile) (row : List ℕ) (k : Kind) (v w : Simple) (l m : Leaf) → leaf_of k v ≡ Some l → leaf_of k w ≡ Some m → Holds p l v (normal_content v) → Holds p m w (normal_content w)
+    → leaf_json row v ≡ leaf_json row w → v ≡ w
+leaf_once p row k (flag a) (flag b) l m f g h i e = let q : a ≡ b = cc in ap flag q
+leaf_once p row k (whole y) (whole z) l m f g h i e =
+    ap whole (signed_decimal_injective y z (whole_size p k l y f h) (whole_size p k m z g i) (sym (digits y (number_name row y)) ∙ ap digits_of e ∙ digits z (number_name row z)))
+leaf_once p row k (date o) (date q) l m f g h i e = let same : characters o ≡ characters q = cc in ap date (characters_once o q h.0 i.0 same)
+leaf_once p row k (time o) (time q) l m f g h i e = let same : characters o ≡ characters q = cc in ap time (characters_once o q h.0 i.0 same)
+leaf_once p row k (printable o) (printable q) l m f g h i e = let same : characters o ≡ characters q = cc in ap printable (characters_once o q h.0 i.0 same)
+leaf_once p row k (general o) (general q) l m f g h i e = let same : characters o ≡ characters q = cc in ap general (characters_once o q h.0 i.0 same)
+leaf_once p row k (visible o) (visible q) l m f g h i e = let same : characters o ≡ characters q = cc in ap visible (characters_once o q h.0 i.0 same)
+leaf_once p row k (general o) (visible q) l m f g h i e = absurd (let letter : 103 ≡ 118 = ap first_letter e in omega (arith, letter))
+leaf_once p row k (visible o) (general q) l m f g h i e = absurd (let letter : 118 ≡ 103 = ap first_letter e in omega (arith, letter))
+leaf_once p row k v w l m f g h i e = absurd (let q : leaf_sort v ≡ leaf_sort w = sym (sort_of k v l f) ∙ sort_of k w m g in cc)
+
+-- ---- the names of a node's rows
+
+abbrev all_new : List (List ℕ) → Bool
+all_new [] = true
+all_new (name ∷ names) = not (list_any (bytes_eq name) names) && all_new names
+
+names_new : (node : NodeId) → IsTrue (all_new (names_of node).1)
+names_new Boolean = refl
+names_new _ = refl
+
+names_enough : (node : NodeId) → IsTrue (nat_le (length (rows_of node)) (length (names_of node).1))
+names_enough Boolean = refl
+names_enough _ = refl
+
+same_bytes : (x : List ℕ) → bytes_eq x x ≡ true
+same_bytes x = (bytes_eq-Decides x x).1 refl
+
+any_at : (x : List ℕ) (names : List (List ℕ)) (i : ℕ) → slice_get names i ≡ Some x → list_any (bytes_eq x) names ≡ true
+any_at x [] i e = absurd cc
+any_at x (n ∷ names) zero e = let q : x ≡ n = cc in subst (λ y. bytes_eq x y || list_any (bytes_eq x) names ≡ true) q (rw (same_bytes x) refl)
+any_at x (n ∷ names) (suc i) e = rw (any_at x names i e) (or_true (bytes_eq x n))
+  where
+    or_true : (a : Bool) → (a || true) ≡ true
+    or_true true = refl
+    or_true false = refl
+
+not_new : (x : List ℕ) (names : List (List ℕ)) (i : ℕ) → IsTrue (all_new (x ∷ names)) → slice_get names i ≡ Some x → ⊥
+not_new x names i h e =
+    let p = (both (not (list_any (bytes_eq x) names)) (all_new names) h).0 in
+    absurd (let q : IsTrue (not true) = subst (λ (b : Bool). IsTrue (not b)) (any_at x names i e) p in cc)
+
+name_once : (names : List (List ℕ)) (i j : ℕ) (x : List ℕ) → IsTrue (all_new names) → slice_get names i ≡ Some x → slice_get names j ≡ Some x → i ≡ j
+name_once [] i j x h e f = absurd cc
+name_once (n ∷ names) zero zero x h e f = refl
+name_once (n ∷ names) zero (suc j) x h e f = let q : x ≡ n = cc in absurd (not_new n names j h (f ∙ ap (λ (y : List ℕ). Some y) q))
+name_once (n ∷ names) (suc i) zero x h e f = let q : x ≡ n = cc in absurd (not_new n names i h (e ∙ ap (λ (y : List ℕ). Some y) q))
+name_once (n ∷ names) (suc i) (suc j) x h e f = ap (λ (k : ℕ). suc k) (name_once names i j x (both (not (list_any (bytes_eq n) names)) (all_new names) h).1 e f)
+
+enough_after : (m n : ℕ) → IsTrue (nat_le (suc m) (suc n)) → IsTrue (nat_le m n)
+enough_after m n h = grind (arith, nat_tests)
+
+name_at : (names : List (List ℕ)) (rows : List Row) (i : ℕ) (row : Row) → IsTrue (nat_le (length rows) (length names)) → slice_get rows i ≡ Some row → slice_get names i ≡ Some (name_or_none (slice_get names i))
+name_at names [] i row h e = absurd cc
+name_at [] (r ∷ rows) i row h e = absurd (let q : length (r ∷ rows) ≤ 0 = grind (arith, nat_tests) in omega (arith, q))
+name_at (n ∷ names) (r ∷ rows) zero row h e = refl
+name_at (n ∷ names) (r ∷ rows) (suc i) row h e = name_at names rows i row (enough_after (length rows) (length names) h) e
+
+row_once : (node : NodeId) (i j : ℕ) (r s : Row) → slice_get (rows_of node) i ≡ Some r → slice_get (rows_of node) j ≡ Some s → row_name node i ≡ row_name node j → i ≡ j
+row_once node i j r s h k e =
+    name_once (names_of node).1 i j (row_name node i) (names_new node) (name_at (names_of node).1 (rows_of node) i r (names_enough node) h)
+    (name_at (names_of node).1 (rows_of node) j s (names_enough node) k ∙ ap (λ (x : List ℕ). Some x) (sym e))
+
+-- ---- values
+
+-- the rows from row i on
+abbrev From : List Row → ℕ → List Row → Type 0
+From rows i all = (k : ℕ) → slice_get rows k ≡ slice_get all (i + k)
+
+from_all : (rows : List Row) → From rows 0 rows
+from_all rows = λ k. ap (λ (n : ℕ). slice_get rows n) (let s : k ≡ 0 + k = omega arith in s)
+
+from_next : (row : Row) (rows : List Row) (i : ℕ) (all : List Row) → From (row ∷ rows) i all → From rows (suc i) all
+from_next row rows i all h = λ k. h (suc k) ∙ ap (λ (n : ℕ). slice_get all n) (let s : i + suc k ≡ suc i + k = omega arith in s)
+
+from_here : (row : Row) (rows : List Row) (i : ℕ) (all : List Row) → From (row ∷ rows) i all → slice_get all i ≡ Some row
+from_here row rows i all h = ap (λ (n : ℕ). slice_get all n) (let s : i ≡ i + 0 = omega arith in s) ∙ sym (h 0)
+
+object_same : (ms ns : Members) → json.object ms ≡ json.object ns → ms ≡ ns
+object_same ms ns e = cc
+
+member_same : (k l : List ℕ) (i j : Json) (ms ns : Members) → json.member k i ms ≡ json.member l j ns → (k ≡ l) × (i ≡ j) × (ms ≡ ns)
+member_same k l i j ms ns e = (cc, cc, cc)
+
+-- no later entry has the name of row i
+no_later : (p : Profile) (node : NodeId) (i j : ℕ) (rows : List Row) (es : Entries) (r : Row) (v : Json) (ms : Members) → slice_get (rows_of node) i ≡ Some r → i < j → From rows j (rows_of node) → FitRows p es rows
+    → entry_members node j es ≡ json.member (row_name node i) v ms → ⊥
+no_later p node i j rows no_entries r v ms at lt from fit e = absurd cc
+no_later p node i j [] (absent es) r v ms at lt from fit e = absurd fit
+no_later p node i j (row ∷ rows) (absent es) r v ms at lt from fit e = no_later p node i (suc j) rows es r v ms at (omega arith) (from_next row rows j (rows_of node) from) fit.1 e
+no_later p node i j [] (present c es) r v ms at lt from fit e = absurd fit
+no_later p node i j (row ∷ rows) (present c es) r v ms at lt from fit e =
+    let same = row_once node j i row r (from_here row rows j (rows_of node) from) at (member_same _ _ _ _ _ _ e).0 in
+    absurd (omega (arith, lt, same))
+
+abbrev content_sort : Content → ℕ
+content_sort (simple v) = leaf_sort v
+content_sort (sequence es) = 6
+content_sort (list is) = 7
+content_sort (alternative n c) = 8
+
+fit_sort : (p : Profile) (c : Content) (node : NodeId) → Fits p c node → kind_sort (kind_of node) ≡ content_sort c
+fit_sort p (simple v) node h = sort_of (kind_of node) v h.0 h.1
+fit_sort p (sequence es) node h = ap kind_sort h.0
+fit_sort p (list is) node h = ap kind_sort h.0
+fit_sort p (alternative n c) node h = ap kind_sort h.1.0
+
+small_sort : (v : Simple) → leaf_sort v < 6
+small_sort (flag b) = omega arith
+small_sort (whole z) = omega arith
+small_sort (date o) = omega arith
+small_sort (time o) = omega arith
+small_sort (printable o) = omega arith
+small_sort (general o) = omega arith
+small_sort (visible o) = omega arith
+
+other : (p : Profile) (c d : Content) (node : NodeId) → Fits p c node → Fits p d node → content_sort c ≡ content_sort d
+other p c d node h k = sym (fit_sort p c node h) ∙ fit_sort p d node k
+
+row_fits : (p : Profile) (node : NodeId) (i : ℕ) (c : Content) (row : Row) → slice_get (rows_of node) i ≡ Some row → Fits p c row.node → Fits p c (row_node node i)
+row_fits p node i c row e h = subst (λ n. Fits p c n) (sym (ap node_or_left_out e)) h
+
+mutual
+  pub value_once : (p : Profile) (row : List ℕ) (node : NodeId) (c d : Content) → Fits p c node → Fits p d node → value_json row node c ≡ value_json row node d → c ≡ d
+  value_once p row node (simple v) (simple w) h k e = ap simple (leaf_once p row (kind_of node) v w h.0 k.0 h.1 k.1 h.2 k.2 e)
+  value_once p row node (sequence es) (sequence fs) h k e = ap sequence (entries_once p node 0 (rows_of node) es fs (from_all (rows_of node)) h.1 k.1 (object_same _ _ e))
+  value_once p row node (list is) (list js) h k e = ap list (items_once p row node is js h.1 k.1 (let q : item_values row (row_node node 0) is ≡ item_values row (row_node node 0) js = cc in q))
+  value_once p row node (alternative n c) (alternative m d) h k e =
+      let parts = member_same _ _ _ _ _ _ (object_same _ _ e) in
+      let same = row_once node n m h.0 k.0 h.1.1 k.1.1 parts.0 in
+      let body = parts.1 ∙ ap (λ (x : ℕ). value_json (row_name node x) (row_node node x) d) (sym same) in
+      let fits = subst (λ (x : ℕ). Fits p d (row_node node x)) (sym same) (row_fits p node m d k.0 k.1.1 k.2) in
+      let inner = value_once p (row_name node n) (row_node node n) c d (row_fits p node n c h.0 h.1.1 h.2) fits body in
+      ap (alternative n) inner ∙ ap (λ (x : ℕ). alternative x d) same
+  value_once p row node (simple v) (sequence fs) h k e = absurd (omega (arith, small_sort v, other p (simple v) (sequence fs) node h k))
+  value_once p row node (simple v) (list js) h k e = absurd (omega (arith, small_sort v, other p (simple v) (list js) node h k))
+  value_once p row node (simple v) (alternative m d) h k e = absurd (omega (arith, small_sort v, other p (simple v) (alternative m d) node h k))
+  value_once p row node (sequence es) (simple w) h k e = absurd (omega (arith, small_sort w, other p (sequence es) (simple w) node h k))
+  value_once p row node (list is) (simple w) h k e = absurd (omega (arith, small_sort w, other p (list is) (simple w) node h k))
+  value_once p row node (alternative n c) (simple w) h k e = absurd (omega (arith, small_sort w, other p (alternative n c) (simple w) node h k))
+  value_once p row node (sequence es) (list js) h k e = absurd (omega (arith, other p (sequence es) (list js) node h k))
+  value_once p row node (sequence es) (alternative m d) h k e = absurd (omega (arith, other p (sequence es) (alternative m d) node h k))
+  value_once p row node (list is) (sequence fs) h k e = absurd (omega (arith, other p (list is) (sequence fs) node h k))
+  value_once p row node (list is) (alternative m d) h k e = absurd (omega (arith, other p (list is) (alternative m d) node h k))
+  value_once p row node (alternative n c) (sequence fs) h k e = absurd (omega (arith, other p (alternative n c) (sequence fs) node h k))
+  value_once p row node (alternative n c) (list js) h k e = absurd (omega (arith, other p (alternative n c) (list js) node h k))
+
+  entries_once : (p : Profile) (node : NodeId) (i : ℕ) (rows : List Row) (es fs : Entries) → From rows i (rows_of node) → FitRows p es rows → FitRows p fs rows → entry_members node i es ≡ entry_members node i fs → es ≡ fs
+  entries_once p node i [] no_entries no_entries from h k e = refl
+  entries_once p node i [] no_entries (absent fs) from h k e = absurd k
+  entries_once p node i [] no_entries (present d fs) from h k e = absurd k
+  entries_once p node i [] (absent es) fs from h k e = absurd h
+  entries_once p node i [] (present c es) fs from h k e = absurd h
+  entries_once p node i (row ∷ rows) no_entries fs from h k e = absurd h
+  entries_once p node i (row ∷ rows) (absent es) no_entries from h k e = absurd k
+  entries_once p node i (row ∷ rows) (present c es) no_entries from h k e = absurd k
+  entries_once p node i (row ∷ rows) (absent es) (absent fs) from h k e = ap absent (entries_once p node (suc i) rows es fs (from_next row rows i (rows_of node) from) h.1 k.1 e)
+  entries_once p node i (row ∷ rows) (absent es) (present d fs) from h k e =
+      absurd (no_later p node i (suc i) rows es row _ _ (from_here row rows i (rows_of node) from) (omega arith) (from_next row rows i (rows_of node) from) h.1 e)
+  entries_once p node i (row ∷ rows) (present c es) (absent fs) from h k e =
+      absurd (no_later p node i (suc i) rows fs row _ _ (from_here row rows i (rows_of node) from) (omega arith) (from_next row rows i (rows_of node) from) k.1 (sym e))
+  entries_once p node i (row ∷ rows) (present c es) (present d fs) from h k e =
+      let parts = member_same _ _ _ _ _ _ e in
+      let at = from_here row rows i (rows_of node) from in
+      let first = value_once p (row_name node i) (row_node node i) c d (row_fits p node i c row at h.1) (row_fits p node i d row at k.1) parts.1 in
+      let rest = entries_once p node (suc i) rows es fs (from_next row rows i (rows_of node) from) h.2 k.2 parts.2 in
+      ap (λ (x : Content). present x es) first ∙ ap (present d) rest
+
+  items_once : (p : Profile) (row : List ℕ) (node : NodeId) (is js : Items) → FitItems p is (rows_of node) → FitItems p js (rows_of node) → item_values row (row_node node 0) is ≡ item_values row (row_node node 0) js → is ≡ js
+  items_once p row node no_items no_items h k e = refl
+  items_once p row node no_items (item d js) h k e = absurd cc
+  items_once p row node (item c is) no_items h k e = absurd cc
+  items_once p row node (item c is) (item d js) h k e =
+      let one : value_json row (row_node node 0) c ≡ value_json row (row_node node 0) d = cc in
+      let values : item_values row (row_node node 0) is ≡ item_values row (row_node node 0) js = cc in
+      let first = value_once p row (row_node node 0) c d (row_fits p node 0 c h.0 h.1 h.2) (row_fits p node 0 d k.0 k.1 k.2) one in
+      let rest = items_once p row node is js h.3 k.3 values in
+      ap (λ (x : Content). item x is) first ∙ ap (item d) rest
+
+-- ---- APDUs
+
+with_file_once : (file : Option (List ℕ)) (ms ns : Members) → with_file file ms ≡ with_file file ns → ms ≡ ns
+with_file_once None ms ns e = e
+with_file_once (Some name) ms ns e = (member_same _ _ _ _ _ _ e).2
+
+pub apdu_once : (p : Profile) (file : Option (List ℕ)) (head head' : Head) (a b : Apdu) → FitsApdu p a → FitsApdu p b → line_json file head a ≡ line_json file head' b → choice_of a ≡ choice_of b
+apdu_once p file head head' a b h k e =
+    let number = member_same _ _ _ _ _ _ (with_file_once file _ _ (object_same _ _ e)) in
+    let offset = member_same _ _ _ _ _ _ number.2 in
+    let octets = member_same _ _ _ _ _ _ offset.2 in
+    let apdu = member_same _ _ _ _ _ _ octets.2 in
+    let normal = member_same _ _ _ _ _ _ apdu.2 in
+    let body = member_same _ _ _ _ _ _ normal.2 in
+    let n = a.number - 1 in
+    let m = b.number - 1 in
+    let name : row_name IllApdu n ≡ row_name IllApdu m = let q = apdu.1 in cc in
+    let same = row_once IllApdu n m h.1.0 k.1.0 h.1.1.1 k.1.1.1 name in
+    let fits = subst (λ (x : ℕ). Fits p b.body (row_node IllApdu x)) (sym same) (row_fits p IllApdu m b.body k.1.0 k.1.1.1 k.1.2) in
+    let inner = value_once p [] (row_node IllApdu n) a.body b.body (row_fits p IllApdu n a.body h.1.0 h.1.1.1 h.1.2) fits (body.1 ∙ ap (λ (x : ℕ). value_json [] (row_node IllApdu x) b.body) (sym same)) in
+    ap (alternative n) inner ∙ ap (λ (x : ℕ). alternative x b.body) same
+
+-- ---- texts
+
+-- a head of numbers that 64 bits hold
+abbrev pub IsSmall : Head → Type 0
+IsSmall head = (head.number < 2 ^ 64) × (head.offset < 2 ^ 64) × (head.octets < 2 ^ 64)
+
+number_numbers : (z : ℤ) (name : Option (List ℕ)) → mag z < 2 ^ 63 → HasNumbers (number_json z name)
+number_numbers z None h = IsNumber-signed_decimal z h
+number_numbers z (Some name) h = (IsNumber-signed_decimal z h, (tt, tt))
+
+leaf_numbers : (p : Profile) (row : List ℕ) (k : Kind) (v : Simple) (l : Leaf) → leaf_of k v ≡ Some l → Holds p l v (normal_content v) → HasNumbers (leaf_json row v)
+leaf_numbers p row k (flag b) l e h = tt
+leaf_numbers p row k (whole z) l e h = number_numbers z (number_name row z) (whole_size p k l z e h)
+leaf_numbers p row k (date o) l e h = tt
+leaf_numbers p row k (time o) l e h = tt
+leaf_numbers p row k (printable o) l e h = tt
+leaf_numbers p row k (general o) l e h = (tt, tt)
+leaf_numbers p row k (visible o) l e h = (tt, tt)
+
+mutual
+  value_numbers : (p : Profile) (row : List ℕ) (node : NodeId) (c : Content) → Fits p c node → HasNumbers (value_json row node c)
+  value_numbers p row node (simple v) h = leaf_numbers p row (kind_of node) v h.0 h.1 h.2
+  value_numbers p row node (sequence es) h = entries_numbers p node 0 (rows_of node) es (from_all (rows_of node)) h.1
+  value_numbers p row node (list is) h = items_numbers p row node is h.1
+  value_numbers p row node (alternative n c) h = (value_numbers p (row_name node n) (row_node node n) c (row_fits p node n c h.0 h.1.1 h.2), tt)
+
+  entries_numbers : (p : Profile) (node : NodeId) (i : ℕ) (rows : List Row) (es : Entries) → From rows i (rows_of node) → FitRows p es rows → MembersHaveNumbers (entry_members node i es)
+  entries_numbers p node i rows no_entries from h = tt
+  entries_numbers p node i [] (absent es) from h = absurd h
+  entries_numbers p node i [] (present c es) from h = absurd h
+  entries_numbers p node i (row ∷ rows) (absent es) from h = entries_numbers p node (suc i) rows es (from_next row rows i (rows_of node) from) h.1
+  entries_numbers p node i (row ∷ rows) (present c es) from h = (
+    value_numbers p (row_name node i) (row_node node i) c (row_fits p node i c row (from_here row rows i (rows_of node) from) h.1),
+    entries_numbers p node (suc i) rows es (from_next row rows i (rows_of node) from) h.2,
+  )
+
+  items_numbers : (p : Profile) (row : List ℕ) (node : NodeId) (is : Items) → FitItems p is (rows_of node) → ItemsHaveNumbers (item_values row (row_node node 0) is)
+  items_numbers p row node no_items h = tt
+  items_numbers p row node (item c is) h = (value_numbers p row (row_node node 0) c (row_fits p node 0 c h.0 h.1 h.2), items_numbers p row node is h.3)
+
+file_numbers : (file : Option (List ℕ)) (ms : Members) → MembersHaveNumbers ms → MembersHaveNumbers (with_file file ms)
+file_numbers None ms h = h
+file_numbers (Some name) ms h = (tt, h)
+
+line_numbers : (p : Profile) (file : Option (List ℕ)) (head : Head) (a : Apdu) → IsSmall head → FitsApdu p a → HasNumbers (line_json file head a)
+line_numbers p file head a small h =
+    let n = a.number - 1 in
+    file_numbers file _ (
+      IsNumber-decimal head.number small.0,
+      (IsNumber-decimal head.offset small.1, (IsNumber-decimal head.octets small.2, (tt, (tt, (value_numbers p [] (row_node IllApdu n) a.body (row_fits p IllApdu n a.body h.1.0 h.1.1.1 h.1.2), tt))))),
+    )
+
+abbrev read_value : Json → Option (Json × List Token) → Json
+read_value i None = i
+read_value i (Some p) = p.0
+
+-- a text is of one value
+text_once : (i j : Json) → HasNumbers i → HasNumbers j → print (json_tokens i) ≡ print (json_tokens j) → i ≡ j
+text_once i j h k e =
+    let same = sym (tokens-print (json_tokens i) (ArePrintable-json_tokens i h)) ∙ ap tokens e ∙ tokens-print (json_tokens j) (ArePrintable-json_tokens j k) in
+    let d = depth i + depth j in
+    let back : Some (i, []) ≡ Some (j, []) = sym (value-json_tokens i d [] (omega arith)) ∙ ap (λ (ts : List Token). value d (ts ++ [])) same ∙ value-json_tokens j d [] (omega arith) in
+    ap (read_value i) back
+
+-- APDUs that fit the tables have one line only where they are one APDU
+pub line_once : (p : Profile) (file : Option (List ℕ)) (head head' : Head) (a b : Apdu) → IsSmall head → IsSmall head' → FitsApdu p a → FitsApdu p b → json_line_of file head a ≡ json_line_of file head' b → choice_of a ≡ choice_of b
+line_once p file head head' a b small small' h k e =
+    apdu_once p file head head' a b h k (text_once _ _ (line_numbers p file head a small h) (line_numbers p file head' b small' k) (append_cancel_right _ _ (codes "\n") e))

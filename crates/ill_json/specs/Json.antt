@@ -1,0 +1,76 @@
+-- The line of JSON (RFC 8259) of a message: the text of a JSON value, and a line feed.
+use Rattle.std.specs.Prelude.{ℕ, suc, ◌-◌, ℤ, List, [], ◌++◌, codes, decimal, Option, Some, None, flat_map}
+use Rattle.std.specs.Char.{encode_utf8}
+use Rattle.std.specs.Fmt.{signed_decimal}
+use Rattle.json.specs.Json.{Json, boolean, number, string, array, object, Members, no_members, member}
+use Rattle.json.specs.Json as json
+use Rattle.json.specs.Print.{print}
+use Rattle.json.specs.Tree.{json_tokens}
+use Rattle.ber_leaf.specs.Simple.{Simple, flag, whole, date, time, printable, general, visible}
+use Rattle.ill_schema.specs.declared.node.NodeId.{NodeId}
+use Rattle.ill_schema.specs.declared.node.NodeId.TheVariants.{IllApdu}
+use Rattle.ill_schema.specs.Apdu.{Apdu}
+use Rattle.ill_schema.specs.Content.{Content, simple, sequence, list, alternative, Entries, no_entries, absent, present, Items, no_items, item}
+use Rattle.ill_text.specs.Numbers.{number_name}
+use Rattle.ill_text.specs.Shown.{row_name, row_node}
+use Rattle.ill_json.specs.declared.line.Head.{Head}
+
+-- each octet is the character of its number, in UTF-8
+abbrev pub characters : List ℕ → List ℕ
+characters octets = flat_map encode_utf8 octets
+
+-- a number without a name, or with one
+abbrev pub number_json : ℤ → Option (List ℕ) → Json
+number_json n None = number (signed_decimal n)
+number_json n (Some name) = object (member (codes "number") (number (signed_decimal n)) (member (codes "name") (string name) no_members))
+
+-- a string under the name of its type
+abbrev pub text_json : List ℕ → List ℕ → Json
+text_json kind octets = object (member kind (string (characters octets)) no_members)
+
+-- a leaf in a row of this name
+abbrev pub leaf_json : List ℕ → Simple → Json
+leaf_json row (flag b) = boolean b
+leaf_json row (whole n) = number_json n (number_name row n)
+leaf_json row (date octets) = string (characters octets)
+leaf_json row (time octets) = string (characters octets)
+leaf_json row (printable octets) = string (characters octets)
+leaf_json row (general octets) = text_json (codes "general") octets
+leaf_json row (visible octets) = text_json (codes "visible") octets
+
+abbrev mutual
+  -- a value of this type, in a row of this name
+  pub value_json : List ℕ → NodeId → Content → Json
+  value_json row node (simple v) = leaf_json row v
+  value_json row node (sequence es) = object (entry_members node 0 es)
+  value_json row node (list is) = array (item_values row (row_node node 0) is)
+  value_json row node (alternative n c) = object (member (row_name node n) (value_json (row_name node n) (row_node node n) c) no_members)
+
+  -- the entries from row i on; an absent one is no member
+  pub entry_members : NodeId → ℕ → Entries → Members
+  entry_members node i no_entries = no_members
+  entry_members node i (absent es) = entry_members node (suc i) es
+  entry_members node i (present c es) = member (row_name node i) (value_json (row_name node i) (row_node node i) c) (entry_members node (suc i) es)
+
+  -- items of this type, in a row of this name
+  pub item_values : List ℕ → NodeId → Items → json.Items
+  item_values row node no_items = json.no_items
+  item_values row node (item c is) = json.item (value_json row node c) (item_values row node is)
+
+-- the name of the file comes first, where it is given
+abbrev pub with_file : Option (List ℕ) → Members → Members
+with_file None ms = ms
+with_file (Some name) ms = member (codes "file") (string name) ms
+
+-- the APDU stands in the row of ILL-APDU that its number, from 1, says
+abbrev pub line_json : Option (List ℕ) → Head → Apdu → Json
+line_json file head a = object (with_file file
+    (member (codes "number") (number (decimal head.number))
+    (member (codes "offset") (number (decimal head.offset))
+    (member (codes "octets") (number (decimal head.octets))
+    (member (codes "apdu") (string (row_name IllApdu (a.number - 1)))
+    (member (codes "normal") (boolean head.is_normal)
+    (member (codes "value") (value_json [] (row_node IllApdu (a.number - 1)) a.body) no_members)))))))
+
+abbrev pub json_line_of : Option (List ℕ) → Head → Apdu → List ℕ
+json_line_of file head a = print (json_tokens (line_json file head a)) ++ codes "\n"

@@ -1,0 +1,40 @@
+-- Tokens that are put one after another.
+use Rattle.std.specs.Prelude.{◌≡◌, ℕ, false, List, [], ◌∷◌, ◌++◌, Option, Some, None, codes, decimal}
+use Rattle.json.specs.Token.{Token, key, string, number, boolean}
+use Rattle.json.specs.Tree.{json_tokens}
+use Rattle.ill_schema.specs.Content.{Content}
+use Rattle.ill_schema.specs.declared.node.NodeId.{NodeId}
+use Rattle.ill_text.specs.Shown.{row_name, row_node}
+use Rattle.ill_json.specs.Json.{value_json}
+use Rattle.ill_json.specs.declared.line.Head.{Head}
+use Rattle.ill_json.specs.declared.out.Out.{Out}
+
+-- these tokens were put, unless memory was refused
+unfoldable pub Adds : List Token → Out → Out → Type 0
+Adds ts old new = new.failed ≡ false → (old.failed ≡ false) × (new.writer.before ≡ old.writer.before) × (new.writer.tokens ≡ old.writer.tokens ++ ts)
+
+-- the member of the value in row i
+abbrev pub part_tokens : NodeId → ℕ → Content → List Token
+part_tokens node i c = key (row_name node i) ∷ json_tokens (value_json (row_name node i) (row_node node i) c)
+
+-- the member of an entry
+abbrev pub entry_tokens : NodeId → ℕ → Option Content → List Token
+entry_tokens node i None = []
+entry_tokens node i (Some c) = part_tokens node i c
+
+-- the value of an entry
+abbrev pub value_tokens : List ℕ → NodeId → Option Content → List Token
+value_tokens row node None = []
+value_tokens row node (Some c) = json_tokens (value_json row node c)
+
+-- the member of a file's name
+abbrev pub file_tokens : Option (List ℕ) → List Token
+file_tokens None = []
+file_tokens (Some name) = key (codes "file") ∷ string name ∷ []
+
+-- the members beside the value, with this name of the APDU
+abbrev pub head_tokens : Head → List ℕ → List Token
+head_tokens head apdu =
+    key (codes "number") ∷ number (decimal head.number) ∷ key (codes "offset") ∷ number (decimal head.offset)
+    ∷ key (codes "octets") ∷ number (decimal head.octets) ∷ key (codes "apdu") ∷ string apdu
+    ∷ key (codes "normal") ∷ boolean head.is_normal ∷ []

@@ -1,0 +1,108 @@
+//! Messages as lines.
+ghost use Rattle.std.specs.Prelude.{◌≡◌, ◌++◌, IfOk, option_map};
+ghost use Rattle.json.specs.Tree.{json_tokens};
+ghost use Rattle.ill_schema.specs.Apdu.{Apdu, choice_of};
+ghost use Rattle.ill_schema.specs.declared.node.NodeId.TheVariants.{IllApdu};
+ghost use Rattle.ill_read.specs.Outline.{IsMarked, IsOutlineOf};
+ghost use Rattle.ill_json.specs.Json.{json_line_of, line_json};
+ghost use Rattle.ill_json.specs.code.Adding.{Adds, file_tokens, head_tokens};
+
+use crate::out::Out;
+use crate::value::put_value;
+use ill_read::{Mark, Outline};
+use ill_schema::NodeId;
+use ill_text::{after_first, alternative, row_name, row_node};
+use json::Token;
+use std::alloc::{AllocError, Global};
+
+/// What the line of a message says of it beside its value.
+#[derive(Clone, Copy)]
+pub struct Head {
+    /// Its number among the messages of the input, from 1.
+    pub number: u32,
+    /// How many octets of the input come before it.
+    pub offset: u64,
+    /// How many octets it has.
+    pub octets: u32,
+    /// Whether it is in normal form.
+    pub is_normal: bool,
+}
+
+/// The line of JSON of the message that the outline is of, in the memory of `room`, whose octets are forgotten.
+///
+/// It ends in a line feed, and is an object of these members, in this order:
+/// - `file`: the name of the file, where it is given
+/// - `number`, `offset`, `octets`: those of the head
+/// - `apdu`: the name of the APDU
+/// - `normal`: whether the message is in normal form
+/// - `value`: the value of the APDU
+///
+/// A sequence is an object of the rows that it has, defaults among them; a choice is an object of its
+/// alternative; a list is an array. A number is written in full, so a reader that holds it in a double
+/// loses what it has beyond 53 bits. A number with a name is an object of `number` and `name`. A string
+/// of an ILL-String is an object of `general` or `visible`. In a string each octet is the character of
+/// its number.
+///
+/// # Errors
+///
+/// Only out of memory.
+pub fn json_line(
+    alloc: Global,
+    room: Vec<u8>,
+    file: Option<&str>,
+    head: Head,
+    outline: &Outline,
+) -> Result<Vec<u8>, AllocError>
+    ensures { (a : Apdu) → IsOutlineOf outline.now a → IfOk result (λ line. line.items ≡ json_line_of (option_map (λ name. name.now) file.entry) head a) }
+{
+    let mut out = Out::new(alloc, room);
+    put_line(file, head, outline.marks(), &mut out);
+    out.into_line()
+}
+
+/// Puts the object of the message that the marks are of.
+fn put_line(file: Option<&str>, head: Head, marks: &[Mark], out: &mut Out)
+    ensures { (a : Apdu) → IsMarked (choice_of a) marks.now → Adds (json_tokens (line_json (option_map (λ name. name.now) file.entry) head a)) out.old out.new }
+{
+    match alternative(marks) {
+        Some(row) => {
+            out.put(Token::BeginObject);
+            put_file(file, out);
+            put_head(head, row_name(NodeId::ILL_APDU, row as usize), out);
+            let node = row_node(NodeId::ILL_APDU, row as usize);
+            out.put(Token::Key("value"));
+            let _ = put_value(after_first(marks), "", node, out);
+            out.put(Token::EndObject);
+        }
+        None => {}
+    }
+}
+
+/// Puts the member of the file's name, if it is given.
+fn put_file(file: Option<&str>, out: &mut Out)
+    ensures { Adds (file_tokens (option_map (λ name. name.now) file.entry)) out.old out.new }
+{
+    match file {
+        Some(name) => {
+            out.put(Token::Key("file"));
+            out.put(Token::String(name));
+        }
+        None => {}
+    }
+}
+
+/// Puts the members of the head, with the APDU's name.
+fn put_head(head: Head, name: &str, out: &mut Out)
+    ensures { Adds (head_tokens head name.now) out.old out.new }
+{
+    out.put(Token::Key("number"));
+    out.count(head.number as u64);
+    out.put(Token::Key("offset"));
+    out.count(head.offset);
+    out.put(Token::Key("octets"));
+    out.count(head.octets as u64);
+    out.put(Token::Key("apdu"));
+    out.put(Token::String(name));
+    out.put(Token::Key("normal"));
+    out.put(Token::Bool(head.is_normal));
+}

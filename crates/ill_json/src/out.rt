@@ -1,0 +1,118 @@
+//! The text that is made, a token at a time.
+ghost use Rattle.std.specs.Prelude.{◌≡◌, ◌++◌, [], ◌∷◌, false, codes, decimal, IfOk, OnOk, string_bytes, vec_capacity};
+ghost use Rattle.std.specs.Fmt.{signed_decimal};
+ghost use Rattle.json.specs.Print.{IsPrintable, print};
+ghost use Rattle.json.specs.Reads.{token_of};
+ghost use Rattle.json.specs.Token.{number, string};
+ghost use Rattle.ill_text.specs.code.Marks.{octets_in};
+ghost use Rattle.ill_json.specs.Json.{characters};
+ghost use Rattle.ill_json.specs.code.Adding.{Adds};
+
+use ill_read::Mark;
+use json::{Token, Writer};
+use std::alloc::{AllocError, Global};
+
+/// The text so far, and whether memory was refused for the rest.
+#[derive(Drop)]
+pub struct Out {
+    writer: Writer,
+    /// Memory for a string.
+    characters: String,
+    failed: bool,
+}
+
+impl Out {
+    /// No text yet, in the memory of `room`, whose octets are forgotten.
+    pub fn new(alloc: Global, room: Vec<u8>) -> Out
+        ensures before { result.writer.before ≡ [] }
+        ensures tokens { result.writer.tokens ≡ [] }
+        ensures room { result.writer.spare ≡ vec_capacity room }
+        ensures whole { result.failed ≡ false }
+    {
+        let mut room = room;
+        room.clear();
+        Out {
+            writer: Writer::new(room),
+            characters: String::new(alloc),
+            failed: false,
+        }
+    }
+
+    /// The text as a line.
+    pub fn into_line(self) -> Result<Vec<u8>, AllocError>
+        ensures { IfOk result (λ line. (self.failed ≡ false) × (line.items ≡ self.writer.before ++ print self.writer.tokens ++ codes "\n")) }
+    {
+        let Out {
+            writer,
+            characters: _,
+            failed,
+        } = self;
+        if failed {
+            return Err(AllocError);
+        }
+        let mut line = writer.into_inner();
+        line.push(b'\n')?;
+        Ok(line)
+    }
+
+    /// Puts a token.
+    pub fn put(&mut self, token: Token<'_>)
+        requires { IsPrintable (token_of token) }
+        ensures { Adds (token_of token.entry ∷ []) self.old self.new }
+    {
+        if self.writer.token(token).is_err() {
+            self.failed = true;
+        }
+    }
+
+    /// Puts a count.
+    pub fn count(&mut self, count: u64)
+        ensures { Adds (number (decimal count) ∷ []) self.old self.new }
+    {
+        if self.writer.u64(count).is_err() {
+            self.failed = true;
+        }
+    }
+
+    /// Puts a number.
+    pub fn whole(&mut self, whole: i64)
+        ensures { Adds (number (signed_decimal whole) ∷ []) self.old self.new }
+    {
+        if self.writer.i64(whole).is_err() {
+            self.failed = true;
+        }
+    }
+
+    /// Puts a string: each octet is the character of its number.
+    pub fn octets(&mut self, octets: &[Mark])
+        ensures { Adds (string (characters (octets_in octets.now)) ∷ []) self.old self.new }
+    {
+        self.characters.clear();
+        if add_characters(&mut self.characters, octets).is_err() {
+            self.failed = true;
+            return;
+        }
+        if self.writer.token(Token::String(&self.characters)).is_err() {
+            self.failed = true;
+        }
+    }
+}
+
+/// Adds the characters whose numbers the octets are.
+fn add_characters(text: &mut String, octets: &[Mark]) -> Result<(), AllocError>
+    ensures { OnOk result (string_bytes text.new ≡ string_bytes text.old ++ characters (octets_in octets.now)) }
+{
+    for mark in octets {
+        add_character(text, *mark)?;
+    }
+    Ok(())
+}
+
+fn add_character(text: &mut String, mark: Mark) -> Result<(), AllocError>
+    ensures { OnOk result (string_bytes text.new ≡ string_bytes text.old ++ characters (octets_in (mark ∷ []))) }
+{
+    match mark {
+        Mark::Octet(octet) => text.push(octet as char),
+        _ => Ok(()),
+    }
+}

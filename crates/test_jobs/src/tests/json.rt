@@ -1,0 +1,73 @@
+//! What `json_line` says, row by row.
+use ber_core::{AtHand, FromSlice};
+use ill_json::{Head, json_line};
+use ill_read::{Outline, read_outline_in};
+use std::alloc::Global;
+use std::test::Fail;
+use test_support::octets_of;
+
+/// The octets of a message; the name of its file, its number, its offset and whether it is in normal form; its line.
+const ROWS: [(&str, Option<&str>, u32, u64, bool, &str); 4] = [
+    (
+        "741f301d800102a10aa1031b0147a2031b0151a20ca00a80083230323430323239",
+        None,
+        1,
+        0,
+        true,
+        "{\"number\":1,\"offset\":0,\"octets\":33,\"apdu\":\"Expired\",\"normal\":true,\"value\":{\"protocol-version-num\":2,\"transaction-id\":{\"transaction-group-qualifier\":{\"general\":\"G\"},\"transaction-qualifier\":{\"general\":\"Q\"}},\"service-date-time\":{\"date-time-of-this-service\":{\"date\":\"20240229\"}}}}\n",
+    ),
+    // each octet of a text is a character, and a number of 63 bits is written in full
+    (
+        "743f303d80087fffffffffffffffa119a007a005a1031a014ca10a1b08e9225c0a007f80ffa2021a00a214a012800832303234303232398106323335393630a300",
+        Some("a \"b\""),
+        4_294_967_295,
+        18_446_744_073_709_551_615,
+        false,
+        "{\"file\":\"a \\\"b\\\"\",\"number\":4294967295,\"offset\":18446744073709551615,\"octets\":65,\"apdu\":\"Expired\",\"normal\":false,\"value\":{\"protocol-version-num\":9223372036854775807,\"transaction-id\":{\"initial-requester-id\":{\"person-or-institution-symbol\":{\"institution-symbol\":{\"visible\":\"L\"}}},\"transaction-group-qualifier\":{\"general\":\"\u{e9}\\\"\\\\\\n\\u0000\u{7f}\u{80}\u{ff}\"},\"transaction-qualifier\":{\"visible\":\"\"}},\"service-date-time\":{\"date-time-of-this-service\":{\"date\":\"20240229\",\"time\":\"235960\"}},\"requester-id\":{}}}\n",
+    ),
+    // defaults, lists, choices, numbers with names, and one beyond the names
+    (
+        "616e306c8001ffa10aa1031b0147a2031b0151a20ca00a80083230323430323239850103a7061b04706f7374a9090a01010a01020a0106ab0c8001ff810100820101830102ac0a81083230323430333031ad008e0101b003800102b20ea10c8003455552810531322e3530b4038001ff",
+        Some(""),
+        3,
+        12,
+        true,
+        "{\"file\":\"\",\"number\":3,\"offset\":12,\"octets\":112,\"apdu\":\"ILL-Request\",\"normal\":true,\"value\":{\"protocol-version-num\":-1,\"transaction-id\":{\"transaction-group-qualifier\":{\"general\":\"G\"},\"transaction-qualifier\":{\"general\":\"Q\"}},\"service-date-time\":{\"date-time-of-this-service\":{\"date\":\"20240229\"}},\"transaction-type\":{\"number\":3,\"name\":\"partitioned\"},\"delivery-service\":{\"physical-delivery\":{\"general\":\"post\"}},\"ill-service-type\":[{\"number\":1,\"name\":\"loan\"},{\"number\":2,\"name\":\"copy-non-returnable\"},6],\"requester-optional-messages\":{\"can-send-received\":true,\"can-send-returned\":false,\"requester-shipped\":1,\"requester-checked-in\":2},\"search-type\":{\"need-before-date\":\"20240301\",\"expiry-flag\":3},\"supply-medium-info-type\":[],\"place-on-hold\":{\"number\":1,\"name\":\"yes\"},\"item-id\":{\"item-type\":{\"number\":2,\"name\":\"serial\"}},\"cost-info-type\":{\"maximum-cost\":{\"currency-code\":\"EUR\",\"monetary-value\":\"12.50\"},\"reciprocal-agreement\":false,\"will-pay-fee\":false,\"payment-provided\":false},\"third-party-info-type\":{\"permission-to-forward\":true,\"permission-to-chain\":false,\"permission-to-partition\":false,\"permission-to-change-send-to-list\":false,\"preference\":2},\"retry-flag\":false,\"forward-flag\":false}}\n",
+    ),
+    (
+        "643a3038800102a10aa1031b0147a2031b0151a20ca00a800832303234303232399f1f0103bf2014a3123010800101a10b3009a007a005a1031b014c",
+        None,
+        1,
+        0,
+        true,
+        "{\"number\":1,\"offset\":0,\"octets\":60,\"apdu\":\"ILL-Answer\",\"normal\":true,\"value\":{\"protocol-version-num\":2,\"transaction-id\":{\"transaction-group-qualifier\":{\"general\":\"G\"},\"transaction-qualifier\":{\"general\":\"Q\"}},\"service-date-time\":{\"date-time-of-this-service\":{\"date\":\"20240229\"}},\"transaction-results\":{\"number\":3,\"name\":\"unfilled\"},\"results-explanation\":{\"unfilled-results\":{\"reason-unfilled\":1,\"location-list\":[{\"location-id\":{\"person-or-institution-symbol\":{\"institution-symbol\":{\"general\":\"L\"}}}}]}}}}\n",
+    ),
+];
+
+/// The outline of the message that the octets are.
+fn outline(alloc: Global, octets: &[u8]) -> Result<Outline, Fail> {
+    let mut source = FromSlice::new(octets);
+    match read_outline_in::<FromSlice<'_>, AtHand>(alloc, &mut source, Outline::new(alloc)) {
+        Ok(Some(read)) => Ok(read.outline),
+        _ => Err(Fail::from("not read")),
+    }
+}
+
+#[test]
+fn each_line_of_json(rt: HostRuntime) -> Result<(), Fail> {
+    let alloc = rt.alloc();
+    for (input, file, number, offset, is_normal, wanted) in &ROWS {
+        let octets = octets_of(alloc, input)?;
+        let outline = outline(alloc, &octets)?;
+        let head = Head {
+            number: *number,
+            offset: *offset,
+            octets: octets.len() as u32,
+            is_normal: *is_normal,
+        };
+        let room = octets;
+        let line = json_line(alloc, room, *file, head, &outline)?;
+        assert!(rt; line.as_slice() == wanted.as_bytes(), "{input}");
+    }
+    Ok(())
+}
