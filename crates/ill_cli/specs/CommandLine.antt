@@ -24,13 +24,13 @@ files_rule = record (new_rule (codes "file")) { value_names = 1; action = Some A
 abbrev pub output_rule : Rule
 output_rule = record (new_rule (codes "output")) { long = Some (codes "output"); short = Some 111; value_names = 1 }
 
--- a command on any number of files, one that goes on after a message that is refused and counts messages, and one that has lines, too
+-- a command on any number of files, one that goes on after a message that is refused, counts messages and writes JSON, and one that has lines, too
 
 abbrev pub each_file : Text → App
 each_file name = with_rule (with_rule (with_rule (new_app name) (flag_rule (codes "hex"))) list_rule) files_rule
 
 abbrev pub each_going : Text → App
-each_going name = with_rule (with_rule (each_file name) (flag_rule (codes "keep-going"))) (flag_rule (codes "summary"))
+each_going name = with_rule (with_rule (with_rule (each_file name) (flag_rule (codes "keep-going"))) (flag_rule (codes "summary"))) (flag_rule (codes "json"))
 
 abbrev pub with_lines : Text → App
 with_lines name = with_rule (with_rule (with_rule (with_rule (new_app name) (flag_rule (codes "hex"))) (flag_rule (codes "keep-going")))

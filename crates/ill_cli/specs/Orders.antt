@@ -19,6 +19,7 @@ verb_name Verb.Canonicalise = codes "canonicalise"
 -- the command that a task is of
 abbrev pub verb_of_job : Job → Verb
 verb_of_job Job.Show = Verb.Show
+verb_of_job Job.Json = Verb.Show
 verb_of_job Job.Check = Verb.Check
 verb_of_job Job.Digest = Verb.Digest
 verb_of_job Job.Canonicalise = Verb.Canonicalise
@@ -71,6 +72,7 @@ pub record IsOrderOf (found : Option (Text × List Row)) (order : Order) : Type 
   pub lines : HasFlag rows (codes "lines") order.lines
   pub going : HasFlag rows (codes "keep-going") order.keep_going
   pub summary : HasFlag rows (codes "summary") order.summary
+  pub json : HasFlag rows (codes "json") order.json
   pub files : HasFiles rows order.task
 
 -- how many of the words are this name

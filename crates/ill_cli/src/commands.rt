@@ -41,12 +41,14 @@ pub fn obey<R: Print + Eprint + Input + Files + AllocGlobal>(rt: &R, order: Orde
         lines,
         keep_going,
         summary: is_counted,
+        json,
         task,
     } = order;
     let how = How {
         hex,
         keep_going,
         compares: is_counted,
+        json,
     };
     let mut summary = Summary::NONE;
     let status = if lines {
@@ -69,6 +71,10 @@ fn do_task<R: Print + Eprint + Input + Files + AllocGlobal>(
     summary: &mut Summary,
 ) -> u8 {
     match task {
+        Task::Each {
+            job: Job::Show,
+            inputs,
+        } if how.json => each_input(rt, Each::Job(Job::Json), how, inputs, summary),
         Task::Each { job, inputs } => each_input(rt, Each::Job(*job), how, inputs, summary),
         Task::Dump { inputs } => each_input(rt, Each::Dump, how, inputs, summary),
         Task::Canonicalise { input, output } => {
@@ -108,6 +114,8 @@ pub(crate) struct How {
     pub keep_going: bool,
     /// Whether each message is compared with its normal form.
     pub compares: bool,
+    /// Whether what is shown is JSON.
+    pub json: bool,
 }
 
 impl How {
@@ -146,7 +154,7 @@ fn line_job(job: Job) -> Option<LineJob>
     ensures { result ≡ line_job_of job }
 {
     match job {
-        Job::Show => None,
+        Job::Show | Job::Json => None,
         Job::Check => Some(LineJob::Check),
         Job::Digest => Some(LineJob::Digest),
         Job::Canonicalise => Some(LineJob::Canonicalise),

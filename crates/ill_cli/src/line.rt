@@ -28,6 +28,8 @@ const KEEP_GOING: &str =
 const SUMMARY: &str =
     "Writes a line to standard error at the end: how many files, messages and octets there were";
 
+const JSON: &str = "Writes a line of JSON for each message";
+
 const MESSAGES: &str = "The messages; `-` is standard input";
 
 const LINES: &str =
@@ -137,7 +139,8 @@ fn show<'a>(alloc: Global) -> Result<Command<'a>, AllocError>
 {
     on_each(alloc, "show", "Writes the messages as text", help::SHOW)?
         .arg(flag(alloc, "keep-going", KEEP_GOING))?
-        .arg(flag(alloc, "summary", SUMMARY))
+        .arg(flag(alloc, "summary", SUMMARY))?
+        .arg(flag(alloc, "json", JSON))
 }
 
 fn check<'a>(alloc: Global) -> Result<Command<'a>, AllocError>
@@ -466,6 +469,7 @@ fn order_of<'a>(alloc: Global, matches: &ArgMatches<'a>) -> Result<Option<Order<
         lines: words.get_flag("lines"),
         keep_going: words.get_flag("keep-going"),
         summary: words.get_flag("summary"),
+        json: words.get_flag("json"),
         task,
     }))
 }

@@ -22,6 +22,8 @@ pub struct Order<'a> {
     pub lines: bool,
     /// Whether a message that is refused is reported, and the next one read.
     pub keep_going: bool,
+    /// Whether `show` writes a line of JSON for each message.
+    pub json: bool,
     /// Whether a line at the end says how many files and messages there were.
     pub summary: bool,
     pub task: Task<'a>,

@@ -31,6 +31,7 @@ module _ (work : Work) where
   is_verdict : (job : Job) (compares : Bool) (ms : List Spelling) → verdict_by job (list_all (counts_as_good job compares) ms) ≡ verdict_of job ms
   is_verdict Job.Check compares ms = refl
   is_verdict Job.Show compares ms = sym (ap verdict_if (all_true ms))
+  is_verdict Job.Json compares ms = sym (ap verdict_if (all_true ms))
   is_verdict Job.Digest compares ms = sym (ap verdict_if (all_true ms))
   is_verdict Job.Canonicalise compares ms = sym (ap verdict_if (all_true ms))
 

@@ -1,5 +1,5 @@
 -- What is made of a message is what the job writes of it.
-use Rattle.std.proofs.Common.{◌≡◌, ◌↔◌, ℕ, Bool, true, false, List, ◌++◌, codes, length, Vec, Global, IsTrue, refl, sym, ap, subst, ◌∙◌}
+use Rattle.std.proofs.Common.{◌≡◌, ◌↔◌, ℕ, Bool, true, false, List, ◌++◌, codes, length, Vec, Global, IsTrue, refl, sym, ap, ap₂, subst, ◌∙◌}
 use Rattle.std.specs.Str.{bytes_eq}
 use Rattle.hex.specs.Hex.{encode_lower}
 use Rattle.sha2.specs.Sha256.{sha256}
@@ -13,43 +13,45 @@ use Rattle.ill_normal.specs.Checking.{Describes, IsFormOf}
 use Rattle.ill_normal.proofs.Canonical.{spells_normal}
 use Rattle.ill_normal.specs.declared.check.Checked.{Checked}
 use Rattle.ill_text.specs.Shown.{shown_text}
+use Rattle.ill_json.specs.Json.{json_line_of}
 use Rattle.ill_jobs.specs.declared.job.Job.{Job}
 use Rattle.ill_normal.specs.Messages.{Makes}
 use Rattle.ill_normal.specs.declared.messages.Position.{Position}
 use Rattle.ill_normal.specs.declared.messages.Piece.{Piece}
 use Rattle.ill_jobs.specs.declared.piece.Found.{Found}
 use Rattle.ill_jobs.specs.code.Finding.{IsFound}
-use Rattle.ill_jobs.specs.Output.{counts_as_good, good_if, line_of_check, line_of_digest, message_text}
+use Rattle.ill_jobs.specs.Output.{counts_as_good, file_of, good_if, head_of, label_of, line_of_check, line_of_digest, message_text}
 use Rattle.ill_jobs.specs.code.Writing.{IsWritten}
 use Rattle.ill_jobs.specs.declared.written.Written.{Written}
 use Rattle.ill_jobs.proofs.NormalTest.{tests_equality}
 
-module _ (p : Position) (name label : List ℕ) (compares : Bool) where
+module _ (p : Position) (name : List ℕ) (named compares : Bool) where
   -- the normal form as it is, and in digits
   pub makes_normal : (made : Piece (Vec ℕ Global)) (b : List ℕ) → Makes (λ v octets. v.items ≡ octets) (λ m. normal_form m.apdu) (good_if compares) made b
-      → Makes IsWritten (message_text Job.Canonicalise false name label p) (counts_as_good Job.Canonicalise compares)
+      → Makes IsWritten (message_text Job.Canonicalise false name named p) (counts_as_good Job.Canonicalise compares)
       (record { text = Written.Octets made.text; is_good = made.is_good; octets = made.octets }) b
   makes_normal made b h = record { apdu = h.apdu; spells = h.spells; text = h.text; good = h.good; size = h.size }
 
   module _ (text : Vec ℕ Global) where
     pub makes_hex : (made : Piece (Vec ℕ Global)) → text.items ≡ encode_lower made.text.items ++ codes "\n" → (b : List ℕ)
         → Makes (λ v octets. v.items ≡ octets) (λ m. normal_form m.apdu) (good_if compares) made b
-        → Makes IsWritten (message_text Job.Canonicalise true name label p) (counts_as_good Job.Canonicalise compares)
+        → Makes IsWritten (message_text Job.Canonicalise true name named p) (counts_as_good Job.Canonicalise compares)
         (record { text = Written.Octets text; is_good = made.is_good; octets = made.octets }) b
     makes_hex made e b h = record { apdu = h.apdu; spells = h.spells; text = e ∙ ap (λ l. encode_lower l ++ codes "\n") h.text; good = h.good; size = h.size }
 
     pub makes_digest : (made : Piece (Vec ℕ Global)) (hex : Bool) → text.items ≡ line_of_digest (sha256 made.text.items) name p.number → (b : List ℕ)
         → Makes (λ v octets. v.items ≡ octets) (λ m. normal_form m.apdu) (good_if compares) made b
-        → Makes IsWritten (message_text Job.Digest hex name label p) (counts_as_good Job.Digest compares)
+        → Makes IsWritten (message_text Job.Digest hex name named p) (counts_as_good Job.Digest compares)
         (record { text = Written.Octets text; is_good = made.is_good; octets = made.octets }) b
     makes_digest made hex e b h =
         record { apdu = h.apdu; spells = h.spells; text = e ∙ ap (λ l. line_of_digest (sha256 l) name p.number) h.text; good = h.good; size = h.size }
 
-    pub makes_checked : (x : Checked) (hex : Bool) → text.items ≡ line_of_check label p.number x.apdu x.octets x.is_normal x.normal → (b : List ℕ) → Describes x b
-        → Makes IsWritten (message_text Job.Check hex name label p) (counts_as_good Job.Check compares) (record { text = Written.Octets text; is_good = x.is_normal; octets = x.octets }) b
+    pub makes_checked : (x : Checked) (hex : Bool) → text.items ≡ line_of_check (label_of named name) p.number x.apdu x.octets x.is_normal x.normal → (b : List ℕ) → Describes x b
+        → Makes IsWritten (message_text Job.Check hex name named p) (counts_as_good Job.Check compares) (record { text = Written.Octets text; is_good = x.is_normal; octets = x.octets }) b
     makes_checked x hex e b h =
         let a = h.0 in
         let i = p.number in
+        let label = label_of named name in
         let same = tests_equality x.is_normal b (normal_form a) h.5 in record {
           apdu = a;
           spells = h.1;
@@ -60,9 +62,20 @@ module _ (p : Position) (name label : List ℕ) (compares : Bool) where
           size = h.3;
         }
 
-  pub makes_shown : (found : Found) (hex : Bool) (text : Written) → ((a : Apdu) → IsOutlineOf found.outline a → IsWritten text (label ++ shown_text p.number a)) → (b : List ℕ) → IsFound compares found b
-      → Makes IsWritten (message_text Job.Show hex name label p) (counts_as_good Job.Show compares) (record { text = text; is_good = found.is_good; octets = found.octets }) b
+  pub makes_shown : (found : Found) (hex : Bool) (text : Written) → ((a : Apdu) → IsOutlineOf found.outline a → IsWritten text (label_of named name ++ shown_text p.number a)) → (b : List ℕ) → IsFound compares found b
+      → Makes IsWritten (message_text Job.Show hex name named p) (counts_as_good Job.Show compares) (record { text = text; is_good = found.is_good; octets = found.octets }) b
   makes_shown found hex text is b h = record { apdu = h.apdu; spells = h.spells; text = is h.apdu h.outline; good = h.good; size = h.size }
+
+  pub makes_json : (found : Found) (hex : Bool) (text : Vec ℕ Global)
+      → ((a : Apdu) → IsOutlineOf found.outline a → text.items ≡ json_line_of (file_of named name) (head_of p found.octets found.is_good) a) → (b : List ℕ) → IsFound true found b
+      → Makes IsWritten (message_text Job.Json hex name named p) (counts_as_good Job.Json compares) (record { text = Written.Octets text; is_good = found.is_good; octets = found.octets }) b
+  makes_json found hex text is b h = record {
+    apdu = h.apdu;
+    spells = h.spells;
+    text = is h.apdu h.outline ∙ ap₂ (λ (n : ℕ) (t : Bool). json_line_of (file_of named name) (head_of p n t) h.apdu) h.size h.good;
+    good = h.good;
+    size = h.size;
+  }
 
 -- a normal form that was compared
 pub makes_compared : (x : Checked) (text : Vec ℕ Global) (b : List ℕ) → Describes x b → IsFormOf text.items b

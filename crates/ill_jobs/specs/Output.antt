@@ -1,5 +1,5 @@
 -- What a job writes.
-use Rattle.std.specs.Prelude.{ℕ, Bool, true, false, List, [], ◌++◌, length, codes, decimal}
+use Rattle.std.specs.Prelude.{ℕ, Bool, true, false, List, [], ◌++◌, length, codes, decimal, Option, Some, None}
 use Rattle.std.specs.List.{list_all}
 use Rattle.std.specs.Str.{bytes_eq}
 use Rattle.hex.specs.Hex.{encode_lower}
@@ -7,6 +7,8 @@ use Rattle.sha2.specs.Sha256.{sha256}
 use Rattle.ill_schema.specs.Apdu.{normal_form}
 use Rattle.ill_schema.specs.Names.{apdu_name_of}
 use Rattle.ill_text.specs.Shown.{name_or_none, shown_text}
+use Rattle.ill_json.specs.Json.{json_line_of}
+use Rattle.ill_json.specs.declared.line.Head.{Head}
 use Rattle.ill_normal.specs.Messages.{Spelling, first, output_from, good_of}
 use Rattle.ill_normal.specs.declared.messages.Position.{Position}
 use Rattle.ill_jobs.specs.declared.job.Counts.{Counts}
@@ -42,16 +44,26 @@ abbrev pub label_of : Bool → List ℕ → List ℕ
 label_of true name = name ++ codes ": "
 label_of false name = []
 
--- what is written of the message at this position of the input of this name, after this label
-abbrev pub message_text : Job → Bool → List ℕ → List ℕ → Position → Spelling → List ℕ
-message_text Job.Show hex name label p m = label ++ shown_text p.number m.apdu
-message_text Job.Check hex name label p m = check_line label p.number m
-message_text Job.Digest hex name label p m = digest_line name p.number m
-message_text Job.Canonicalise false name label p m = normal_form m.apdu
-message_text Job.Canonicalise true name label p m = encode_lower (normal_form m.apdu) ++ codes "\n"
+-- the file that a line of JSON names, or none
+abbrev pub file_of : Bool → List ℕ → Option (List ℕ)
+file_of true name = Some name
+file_of false name = None
+
+-- what a line of JSON says of a message of this many octets beside its value
+abbrev pub head_of : Position → ℕ → Bool → Head
+head_of p octets normal = record { number = p.number; offset = p.offset; octets = octets; is_normal = normal }
+
+-- what is written of the message at this position of the input of this name, which is named or not
+abbrev pub message_text : Job → Bool → List ℕ → Bool → Position → Spelling → List ℕ
+message_text Job.Show hex name named p m = label_of named name ++ shown_text p.number m.apdu
+message_text Job.Json hex name named p m = json_line_of (file_of named name) (head_of p (length m.octets) (is_normal m)) m.apdu
+message_text Job.Check hex name named p m = check_line (label_of named name) p.number m
+message_text Job.Digest hex name named p m = digest_line name p.number m
+message_text Job.Canonicalise false name named p m = normal_form m.apdu
+message_text Job.Canonicalise true name named p m = encode_lower (normal_form m.apdu) ++ codes "\n"
 
 abbrev pub message_output : Work → Position → Spelling → List ℕ
-message_output work = message_text work.job work.hex work.name.now (label_of work.is_named work.name.now)
+message_output work = message_text work.job work.hex work.name.now work.is_named
 
 -- what is written of the messages of an input
 abbrev pub output : Work → List Spelling → List ℕ
@@ -69,6 +81,7 @@ good_if false m = true
 
 abbrev pub counts_as_good : Job → Bool → Spelling → Bool
 counts_as_good Job.Check compares m = is_normal m
+counts_as_good Job.Json compares m = is_normal m
 counts_as_good _ compares m = good_if compares m
 
 -- the numbers of messages that have these octets

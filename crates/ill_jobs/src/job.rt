@@ -8,6 +8,8 @@ use crate::fault::RunFault;
 pub enum Job {
     /// Its text, a line for each leaf.
     Show,
+    /// A line of JSON: where it is in the input, and its value.
+    Json,
     /// A line that says whether it is its normal form.
     Check,
     /// A line with its digest (SHA-256 of its normal form), the name of the input, and its number.
@@ -24,14 +26,14 @@ pub struct Work<'a> {
     pub hex: bool,
     /// The name of the input.
     pub name: &'a str,
-    /// Whether the line of `Check`, and the first line of `Show`, begins with the name and `: `.
+    /// Whether the line of `Check`, and the first line of `Show`, begins with the name and `: `, and the line of `Json` has the name.
     pub is_named: bool,
-    /// Whether each message is compared with its normal form, as `Check` always does, so that those in normal form are counted.
+    /// Whether each message is compared with its normal form, as `Check` and `Json` always do, so that those in normal form are counted.
     pub compares: bool,
 }
 
 impl Work<'_> {
-    /// The work on an input that no line needs to name, such as standard input: its name is `-`. Messages are compared by `Check` alone.
+    /// The work on an input that no line needs to name, such as standard input: its name is `-`. Messages are compared by `Check` and `Json` alone.
     pub fn new(job: Job, hex: bool) -> Work<'static>
         ensures job { result.job ≡ job }
         ensures hex { result.hex ≡ hex }

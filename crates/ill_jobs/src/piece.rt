@@ -1,5 +1,5 @@
 //! What a job makes of one message.
-ghost use Rattle.std.specs.Prelude.{◌≡◌, ◌^◌, ◌≤◌, ℕ, ◌++◌, codes, length, IfOk, OnOk};
+ghost use Rattle.std.specs.Prelude.{◌≡◌, ◌^◌, ◌≤◌, ℕ, ◌++◌, codes, length, option_map, IfOk, OnOk};
 ghost use Rattle.hex.specs.Hex.{encode_lower};
 ghost use Rattle.ill_read.specs.Answers.{ReadsNext};
 ghost use Rattle.ill_read.specs.Outline.{IsOutlineOf};
@@ -8,7 +8,7 @@ ghost use Rattle.ill_schema.specs.Apdu.{Apdu, SpellsApdu, normal_form};
 ghost use Rattle.ill_text.specs.Shown.{shown_text};
 ghost use Rattle.ill_jobs.specs.declared.job.Job.{Job};
 ghost use Rattle.ill_normal.specs.Messages.{Makes};
-ghost use Rattle.ill_jobs.specs.Output.{check_end, counts_as_good, good_if, label_of, line_of_check, line_of_digest, message_output, message_text};
+ghost use Rattle.ill_jobs.specs.Output.{check_end, counts_as_good, file_of, good_if, head_of, label_of, line_of_check, line_of_digest, message_output, message_text};
 ghost use Rattle.ill_jobs.specs.code.Finding.{IsFound};
 ghost use Rattle.ill_jobs.specs.code.Writing.{IsWritten};
 
@@ -16,6 +16,7 @@ use crate::job::{Job, Work};
 use crate::written::Written;
 use ber_core::{AtHand, FromSlice, Look, Source};
 use ill_digest::normal_digest;
+use ill_json::{Head, json_line};
 use ill_normal::{
     Checked, Maker, NormalForms, Piece, Position, ReadFailure, apdu_name, check_one_in,
 };
@@ -60,6 +61,7 @@ fn next_piece<R: Source, L: Look<R>>(
 {
     match work.job {
         Job::Show => shown::<R, L>(alloc, work, position, source, room),
+        Job::Json => json::<R, L>(alloc, work, position, source, room),
         Job::Check => checked::<R, L>(alloc, work, position, source, room.into_octets()),
         Job::Digest => digested::<R, L>(alloc, work, position, source, room.into_octets()),
         Job::Canonicalise => {
@@ -76,7 +78,7 @@ fn shown<R: Source, L: Look<R>>(
     room: Written,
 ) -> Result<Option<Piece<Written>>, ReadFailure>
     ensures { ReadsNext (R.left source.old) (R.left source.new) (R.is_broken source.old) (R.is_broken source.new)
-        (Makes IsWritten (message_text Job.Show work.entry.hex work.entry.name.now (label_of work.entry.is_named work.entry.name.now) position) (counts_as_good Job.Show work.entry.compares)) result }
+        (Makes IsWritten (message_text Job.Show work.entry.hex work.entry.name.now work.entry.is_named position) (counts_as_good Job.Show work.entry.compares)) result }
 {
     let (octets, outline) = room.into_both(alloc);
     let Some(found) = outlined::<R, L>(alloc, work.compares, source, outline)? else {
@@ -94,6 +96,50 @@ fn shown<R: Source, L: Look<R>>(
             octets: size,
         })),
         Err(AllocError) => Err(ReadFailure::OutOfMemory),
+    }
+}
+
+fn json<R: Source, L: Look<R>>(
+    alloc: Global,
+    work: Work<'_>,
+    position: Position,
+    source: &mut R,
+    room: Written,
+) -> Result<Option<Piece<Written>>, ReadFailure>
+    ensures { ReadsNext (R.left source.old) (R.left source.new) (R.is_broken source.old) (R.is_broken source.new)
+        (Makes IsWritten (message_text Job.Json work.entry.hex work.entry.name.now work.entry.is_named position) (counts_as_good Job.Json work.entry.compares)) result }
+{
+    let (octets, outline) = room.into_both(alloc);
+    let Some(found) = outlined::<R, L>(alloc, true, source, outline)? else {
+        return Ok(None);
+    };
+    let head = head(position, &found);
+    match json_line(alloc, octets, file_of(work), head, &found.outline) {
+        Ok(line) => Ok(Some(Piece {
+            text: Written::Octets(line),
+            is_good: found.is_good,
+            octets: found.octets,
+        })),
+        Err(AllocError) => Err(ReadFailure::OutOfMemory),
+    }
+}
+
+/// The name of the file that a line of JSON has, if there are several files.
+fn file_of(work: Work<'_>) -> Option<&str>
+    ensures { option_map (λ name. name.now) result ≡ file_of work.entry.is_named work.entry.name.now }
+{
+    if work.is_named { Some(work.name) } else { None }
+}
+
+/// What a line of JSON says of a message beside its value.
+fn head(position: Position, found: &Found) -> Head
+    ensures { result ≡ head_of position found.now.octets found.now.is_good }
+{
+    Head {
+        number: position.number,
+        offset: position.offset,
+        octets: found.octets,
+        is_normal: found.is_good,
     }
 }
 
@@ -189,7 +235,7 @@ fn checked<R: Source, L: Look<R>>(
     room: Vec<u8>,
 ) -> Result<Option<Piece<Written>>, ReadFailure>
     ensures { ReadsNext (R.left source.old) (R.left source.new) (R.is_broken source.old) (R.is_broken source.new)
-        (Makes IsWritten (message_text Job.Check work.entry.hex work.entry.name.now (label_of work.entry.is_named work.entry.name.now) position) (counts_as_good Job.Check work.entry.compares)) result }
+        (Makes IsWritten (message_text Job.Check work.entry.hex work.entry.name.now work.entry.is_named position) (counts_as_good Job.Check work.entry.compares)) result }
 {
     let Some((found, normal)) = check_one_in::<R, L>(alloc, source, room)? else {
         return Ok(None);
@@ -250,7 +296,7 @@ fn digested<R: Source, L: Look<R>>(
     room: Vec<u8>,
 ) -> Result<Option<Piece<Written>>, ReadFailure>
     ensures { ReadsNext (R.left source.old) (R.left source.new) (R.is_broken source.old) (R.is_broken source.new)
-        (Makes IsWritten (message_text Job.Digest work.entry.hex work.entry.name.now (label_of work.entry.is_named work.entry.name.now) position) (counts_as_good Job.Digest work.entry.compares)) result }
+        (Makes IsWritten (message_text Job.Digest work.entry.hex work.entry.name.now work.entry.is_named position) (counts_as_good Job.Digest work.entry.compares)) result }
 {
     let Some(normal) = normal_form::<R, L>(alloc, work.compares, source, room)? else {
         return Ok(None);
@@ -301,7 +347,7 @@ fn canonical<R: Source, L: Look<R>>(
     room: Vec<u8>,
 ) -> Result<Option<Piece<Written>>, ReadFailure>
     ensures { ReadsNext (R.left source.old) (R.left source.new) (R.is_broken source.old) (R.is_broken source.new)
-        (Makes IsWritten (message_text Job.Canonicalise work.entry.hex work.entry.name.now (label_of work.entry.is_named work.entry.name.now) position) (counts_as_good Job.Canonicalise work.entry.compares)) result }
+        (Makes IsWritten (message_text Job.Canonicalise work.entry.hex work.entry.name.now work.entry.is_named position) (counts_as_good Job.Canonicalise work.entry.compares)) result }
 {
     let _ = position;
     let Some(normal) = normal_form::<R, L>(alloc, work.compares, source, room)? else {

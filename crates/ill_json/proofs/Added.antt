@@ -1,7 +1,7 @@
 -- What is put one after another.
 use Rattle.std.proofs.Common.{◌≡◌, List, [], ◌∷◌, ◌++◌, true, false, refl, sym, ap, subst, ◌∙◌, append_assoc, append-nil}
 use Rattle.json.specs.Token.{Token}
-use Rattle.ill_json.specs.declared.out.Out.{Out}
+use Rattle.ill_json.specs.declared.writing.Out.{Out}
 use Rattle.ill_json.specs.code.Adding.{Adds}
 
 pub adds_nothing : (o : Out) → Adds [] o o

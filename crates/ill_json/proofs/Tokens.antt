@@ -18,7 +18,7 @@ use Rattle.ill_text.proofs.Lines.{mark_step, no_entry, no_item}
 use Rattle.ill_json.specs.Json.{characters, entry_members, item_values, json_line_of, line_json, value_json}
 use Rattle.ill_json.specs.code.Adding.{Adds, entry_tokens, file_tokens, head_tokens, part_tokens, value_tokens}
 use Rattle.ill_json.specs.declared.line.Head.{Head}
-use Rattle.ill_json.specs.declared.out.Out.{Out}
+use Rattle.ill_json.specs.declared.writing.Out.{Out}
 use Rattle.ill_json.proofs.Added.{adds_as, adds_then}
 
 -- ---- entries

@@ -14,7 +14,7 @@ ghost use Rattle.ill_text.specs.code.Marks.{is_there, octets_in};
 ghost use Rattle.ill_json.specs.Json.{leaf_json, number_json, text_json};
 ghost use Rattle.ill_json.specs.code.Adding.{Adds, value_tokens};
 
-use crate::out::Out;
+use crate::writing::Out;
 use ill_read::{LeafType, Mark};
 use ill_schema::{Kind, LeafKind, NodeId, PartId, Presence, kind, row};
 use ill_text::{is_set, number_in, number_name};

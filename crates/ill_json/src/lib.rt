@@ -3,7 +3,7 @@
 
 mod leaf;
 mod line;
-mod out;
 mod value;
+mod writing;
 
 pub use line::{Head, json_line};

@@ -7,8 +7,8 @@ ghost use Rattle.ill_read.specs.Outline.{IsMarked, IsOutlineOf};
 ghost use Rattle.ill_json.specs.Json.{json_line_of, line_json};
 ghost use Rattle.ill_json.specs.code.Adding.{Adds, file_tokens, head_tokens};
 
-use crate::out::Out;
 use crate::value::put_value;
+use crate::writing::Out;
 use ill_read::{Mark, Outline};
 use ill_schema::NodeId;
 use ill_text::{after_first, alternative, row_name, row_node};

@@ -12,7 +12,7 @@ ghost use Rattle.ill_json.specs.Json.{leaf_json, value_json};
 ghost use Rattle.ill_json.specs.code.Adding.{Adds, entry_tokens, part_tokens};
 
 use crate::leaf::{has_default, put_default, put_leaf};
-use crate::out::Out;
+use crate::writing::Out;
 use ill_read::{LeafType, Mark};
 use ill_schema::{NodeId, PartId};
 use ill_text::{after_first, at_end, first_mark, front_octets, passed, row_name, row_node};

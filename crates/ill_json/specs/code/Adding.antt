@@ -7,7 +7,7 @@ use Rattle.ill_schema.specs.declared.node.NodeId.{NodeId}
 use Rattle.ill_text.specs.Shown.{row_name, row_node}
 use Rattle.ill_json.specs.Json.{value_json}
 use Rattle.ill_json.specs.declared.line.Head.{Head}
-use Rattle.ill_json.specs.declared.out.Out.{Out}
+use Rattle.ill_json.specs.declared.writing.Out.{Out}
 
 -- these tokens were put, unless memory was refused
 unfoldable pub Adds : List Token → Out → Out → Type 0

@@ -37,5 +37,10 @@ returns-clause-some c =
         missing = λ h. c.get_flag-4.ensures.other (one_text-rows found (codes "summary") ∙ h);
         none = λ h. c.get_flag-4.ensures.none (one_text-rows found (codes "summary") ∙ h);
       };
+      json = record {
+        given = λ h. c.get_flag-5.ensures.value (one_text-rows found (codes "json") ∙ h);
+        missing = λ h. c.get_flag-5.ensures.other (one_text-rows found (codes "json") ∙ h);
+        none = λ h. c.get_flag-5.ensures.none (one_text-rows found (codes "json") ∙ h);
+      };
       files = task.1;
     }

@@ -1,6 +1,5 @@
 use Rattle.std.proofs.Common.{◌≡◌, true, false, rules}
 use Rattle.ill_read.proofs.NextRead.{reads_as}
-use Rattle.ill_jobs.specs.Output.{label_of}
 use Rattle.ill_jobs.proofs.MadePieces.{makes_normal, makes_hex}
 use Rattle.ill_jobs.proofs.piece.canonical.Goals as goal
 
@@ -8,13 +7,11 @@ pub returns-then-not-work : goal.returns-then-not-work
 returns-then-not-work g c =
     let no : c.args.work.hex ≡ false = search rules in
     let p = c.in-Some.normal in
-    let label = label_of c.args.work.is_named c.args.work.name.now in
-    reads_as _ _ _ _ _ _ p _ (λ b h. rw no (makes_normal c.args.position c.args.work.name.now label c.args.work.compares p b h)) (rw c.in-Some.is at c.in_ok-normal.ensures)
+    reads_as _ _ _ _ _ _ p _ (λ b h. rw no (makes_normal c.args.position c.args.work.name.now c.args.work.is_named c.args.work.compares p b h)) (rw c.in-Some.is at c.in_ok-normal.ensures)
 
 pub returns-in-Ok : goal.returns-in-Ok
 returns-in-Ok g c =
     let yes : c.args.work.hex ≡ true = search rules in
     let p = c.in-Some.normal in
-    let label = label_of c.args.work.is_named c.args.work.name.now in
     let line = rw c.deref.ensures.value at c.in-Ok.ensures in
-    reads_as _ _ _ _ _ _ p _ (λ b h. rw yes (makes_hex c.args.position c.args.work.name.now label c.args.work.compares c.in-Ok.text p line b h)) (rw c.in-Some.is at c.in_ok-normal.ensures)
+    reads_as _ _ _ _ _ _ p _ (λ b h. rw yes (makes_hex c.args.position c.args.work.name.now c.args.work.is_named c.args.work.compares c.in-Ok.text p line b h)) (rw c.in-Some.is at c.in_ok-normal.ensures)
