@@ -13,12 +13,12 @@ _illcanon() {
     case $command in
         '') words='show check digest dump same canonicalise help --help --version -h -V' ;;
         help) words='show check digest dump same canonicalise help causes profile' ;;
-        show) words='--hex --keep-going --files-from --help -h' ;;
-        check) words='--hex --keep-going --lines --files-from --help -h' ;;
-        digest) words='--hex --keep-going --lines --files-from --help -h' ;;
+        show) words='--hex --keep-going --summary --json --files-from --help -h' ;;
+        check) words='--hex --keep-going --summary --lines --files-from --help -h' ;;
+        digest) words='--hex --keep-going --summary --lines --files-from --help -h' ;;
         dump) words='--hex --files-from --help -h' ;;
         same) words='--hex --help -h' ;;
-        canonicalise) words='--hex --keep-going --lines --output -o --files-from --help -h' ;;
+        canonicalise) words='--hex --keep-going --summary --lines --output -o --files-from --help -h' ;;
     esac
     COMPREPLY=()
     if [[ -z $command || $command == help || ($options && $word == -*) ]]; then

@@ -17,6 +17,8 @@ complete -c illcanon -n '__fish_seen_subcommand_from help' -f -a profile -d 'Wha
 complete -c illcanon -n '__fish_seen_subcommand_from show check digest dump same canonicalise' -s h -l help -d 'Print help'
 complete -c illcanon -n '__fish_seen_subcommand_from show check digest dump same canonicalise' -l hex -d 'The input is hexadecimal text'
 complete -c illcanon -n '__fish_seen_subcommand_from show check digest canonicalise' -l keep-going -d 'Go on after a message that is refused'
+complete -c illcanon -n '__fish_seen_subcommand_from show check digest canonicalise' -l summary -d 'Report numbers at the end'
+complete -c illcanon -n '__fish_seen_subcommand_from show' -l json -d 'Write a line of JSON for each message'
 complete -c illcanon -n '__fish_seen_subcommand_from check digest canonicalise' -l lines -d 'Each line is a message in hexadecimal'
 complete -c illcanon -n '__fish_seen_subcommand_from show check digest dump canonicalise' -l files-from -r -F -d 'Read names of files, each ended by a NUL'
 complete -c illcanon -n '__fish_seen_subcommand_from canonicalise' -s o -l output -r -F -d 'Write all normal forms to one file'

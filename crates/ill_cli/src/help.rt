@@ -16,11 +16,19 @@ Each message is a line `message 1 Expired` and then a line for each leaf, as
 `service-date-time.date-time-of-this-service.date = 20240229`. Of several files, the
 first line of each message begins with the name of its file and `: `.
 
+With --json each message is one line of JSON: its number, its offset and size in octets,
+its APDU, whether it is in normal form, and its value, nested by the names of the tables.
+Of several files, the line has the name of its file as `file`.
+
 With --keep-going each message that is refused has its line on standard error, and the
 next one is read, where the end of the refused one is known.
 
+With --summary a line on standard error at the end says how many files, messages and
+octets were read, and how many messages are in normal form, are not, and are refused.
+
 Example: illcanon show messages.ber
          illcanon show --keep-going messages.ber 2> refused.txt
+         illcanon show --json messages.ber | jq -r .apdu | sort | uniq -c
 
 Status: 0 done; 1 a message is refused, or the hexadecimal text is invalid; 2 usage;
 3 memory, files or pipes. Of several files: 3 if one gave 3, else 1 if one gave 1.";
@@ -33,10 +41,14 @@ each line begins with the name of its file and `: `.
 With --keep-going each message that is refused has its line on standard error, and the
 next one is read, where the end of the refused one is known.
 
+With --summary a line on standard error at the end says how many files, messages and
+octets were read, and how many messages are in normal form, are not, and are refused.
+
 Example: illcanon check messages.ber | grep 'not normal'
          illcanon check --keep-going archive/*.ber > lines.txt 2> refused.txt
          find archive -name '*.ber' -print0 | illcanon check --files-from -
          illcanon check --lines messages.txt | grep -n refused
+         illcanon check --keep-going --summary archive/*.ber > lines.txt
 
 Status: 0 all are normal; 1 one is not normal or is refused, or the hexadecimal text
 is invalid; 2 usage; 3 memory, files or pipes. Of several files: 3 if one gave 3,
@@ -49,6 +61,9 @@ that say the same have the same digest, however they are spelled.
 
 With --keep-going each message that is refused has its line on standard error, and the
 next one is read, where the end of the refused one is known.
+
+With --summary a line on standard error at the end says how many files, messages and
+octets were read, and how many messages are in normal form, are not, and are refused.
 
 Example: illcanon digest *.ber | sort | uniq -w 64 -D    # copies
          illcanon digest --keep-going archive/*.ber > digests.txt 2> refused.txt
@@ -64,7 +79,7 @@ tables, and the value of a leaf; and in brackets what is not normal in its spell
 `indefinite`, `length in 3 octets where 1 does`, `segment`, `default written`,
 `TRUE as 01` or `without inner SEQUENCE`. Where a message is refused, the elements
 before the place have their lines, and then comes the refusal: the cause in words, the
-names of the elements round the place, what was found there, and which tags were due.
+names of the elements around the place, what was found there, and which tags were due.
 
 Example: illcanon dump messages.ber
          echo 740430020500 | illcanon dump --hex -
@@ -96,13 +111,16 @@ pipes, links) are written directly, and so is OUT where no new file can be made.
 
 With -o OUT the normal forms of the messages of each FILE go to OUT, one file after the
 other. A file that can't be opened doesn't stop the others. OUT is as it was if none can
-be opened, and it must be none of them.
+be opened. It must not be one of the files.
 
 With --keep-going each message that is refused has its line on standard error, and the
 next one is read, where the end of the refused one is known.
 
+With --summary a line on standard error at the end says how many files, messages and
+octets were read, and how many messages are in normal form, are not, and are refused.
+
 With --lines each line of OUT is the normal form of the message in this line of IN, or
-why there is none, as `refused at 0: Truncated` or `hex: odd number of digits`.
+why the line is not a message, as `refused at 0: Truncated` or `hex: odd number of digits`.
 
 Example: illcanon canonicalise messages.ber messages.der
          illcanon canonicalise --keep-going -o all.der archive/*.ber
