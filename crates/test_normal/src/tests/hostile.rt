@@ -1,10 +1,10 @@
 //! Inputs that end early, and sources and sinks that break: at each octet of each message of up to 200.
-use super::rows::ROWS;
+use super::rows::{ROWS, octets_of_row};
 use ill_normal::{
     Cause, Failure, NormalFailure, Pieces, ReadFailure, Refusal, Room, decode, normalise,
     read_message,
 };
-use std::alloc::{AllocError, Global};
+use std::alloc::Global;
 use std::test::Fail;
 use test_support::octets_of;
 
@@ -77,9 +77,8 @@ fn ends_at_each_octet(alloc: Global, octets: &[u8]) -> bool {
 }
 
 /// Whether a row comes true where its message ends early, and where a source or a sink breaks. One of more than 200 octets isn't tried.
-fn comes_true(alloc: Global, pieces: &str, normal: &str) -> Result<bool, AllocError> {
-    let octets = octets_of(alloc, pieces)?;
-    let normal = octets_of(alloc, if normal == "=" { pieces } else { normal })?;
+fn comes_true(alloc: Global, row: &str) -> Result<bool, Fail> {
+    let (octets, normal) = octets_of_row(alloc, row)?;
     Ok(
         octets.len() > 200
             || (ends_at_each_octet(alloc, &octets)
@@ -90,8 +89,8 @@ fn comes_true(alloc: Global, pieces: &str, normal: &str) -> Result<bool, AllocEr
 
 #[test]
 fn messages_that_break_off_leave_what_they_must(rt: HostRuntime) -> Result<(), Fail> {
-    for (name, pieces, normal) in &ROWS {
-        assert!(rt; comes_true(rt.alloc(), pieces, normal)?, "{name}");
+    for row in ROWS.lines() {
+        assert!(rt; comes_true(rt.alloc(), row)?, "{row}");
     }
     Ok(())
 }

@@ -1,10 +1,10 @@
 //! Single messages to their normal form.
-use super::rows::ROWS;
+use super::rows::{ROWS, octets_of_row};
 use super::sips::Sips;
 use super::{EXPIRED, INDEFINITE_HEX, LONG_FORM};
 use ill_normal::{
-    Ahead, AtHand, Cause, FromSlice, NodeId, NormalFailure, PartId, Pieces, Refusal, Room, Source,
-    apdu_name, decode, normal_form_is_accepted, normal_form_is_its_own,
+    Ahead, AtHand, Cause, FromSlice, Message, NodeId, NormalFailure, PartId, Pieces, Refusal, Room,
+    Source, apdu_name, decode, normal_form_is_accepted, normal_form_is_its_own,
     normal_forms_are_equal_exactly_if_apdus_are, normalise, one_prefix_is_accepted,
     one_refusal_of_a_slice, read_message, read_message_by,
 };
@@ -25,24 +25,6 @@ fn has_normal_form(alloc: Global, octets: &[u8], normal: &[u8], per_call: usize)
         && sink.octets.as_slice() == normal
 }
 
-fn row_has_normal_form(alloc: Global, pieces: &str, normal: &str) -> Result<bool, AllocError> {
-    let octets = octets_of(alloc, pieces)?;
-    let normal = octets_of(alloc, if normal == "=" { pieces } else { normal })?;
-    Ok(
-        has_normal_form(alloc, &octets, &normal, 1)
-            && has_normal_form(alloc, &octets, &normal, 7)
-            && has_normal_form(alloc, &octets, &normal, 4096),
-    )
-}
-
-#[test]
-fn normalises_each_row(rt: HostRuntime) -> Result<(), Fail> {
-    for (name, pieces, normal) in &ROWS {
-        assert!(rt; row_has_normal_form(rt.alloc(), pieces, normal)?, "{name}");
-    }
-    Ok(())
-}
-
 /// Whether there is a message, and then this number of octets is at hand.
 fn leaves(alloc: Global, source: &mut FromSlice<'_>, count: usize) -> bool {
     let read = read_message_by::<FromSlice<'_>, AtHand>(alloc, source);
@@ -50,13 +32,12 @@ fn leaves(alloc: Global, source: &mut FromSlice<'_>, count: usize) -> bool {
 }
 
 /// Whether a message that is there twice is taken twice, and then none.
-fn is_taken_twice(alloc: Global, pieces: &str) -> Result<bool, AllocError> {
-    let mut twice = octets_of(alloc, pieces)?;
-    let size = twice.len();
-    twice.extend_from_slice(&octets_of(alloc, pieces)?)?;
+fn is_taken_twice(alloc: Global, octets: &[u8]) -> Result<bool, AllocError> {
+    let mut twice = octets.to_vec(alloc)?;
+    twice.extend_from_slice(octets)?;
     let mut source = FromSlice::new(&twice);
     Ok(
-        leaves(alloc, &mut source, size)
+        leaves(alloc, &mut source, octets.len())
             && leaves(alloc, &mut source, 0)
             && matches!(
                 read_message_by::<FromSlice<'_>, AtHand>(alloc, &mut source),
@@ -65,10 +46,21 @@ fn is_taken_twice(alloc: Global, pieces: &str) -> Result<bool, AllocError> {
     )
 }
 
+/// Whether the message of a row has its normal form, and is taken whole where it is at hand.
+fn row_comes_true(alloc: Global, row: &str) -> Result<bool, Fail> {
+    let (octets, normal) = octets_of_row(alloc, row)?;
+    Ok(
+        has_normal_form(alloc, &octets, &normal, 1)
+            && has_normal_form(alloc, &octets, &normal, 7)
+            && has_normal_form(alloc, &octets, &normal, 4096)
+            && is_taken_twice(alloc, &octets)?,
+    )
+}
+
 #[test]
-fn octets_at_hand_are_taken_message_by_message(rt: HostRuntime) -> Result<(), Fail> {
-    for (name, pieces, _) in &ROWS {
-        assert!(rt; is_taken_twice(rt.alloc(), pieces)?, "{name}");
+fn each_row_has_its_normal_form(rt: HostRuntime) -> Result<(), Fail> {
+    for row in ROWS.lines() {
+        assert!(rt; row_comes_true(rt.alloc(), row)?, "{row}");
     }
     Ok(())
 }
@@ -199,16 +191,18 @@ fn a_fault_leaves_nothing_or_the_first_octets(rt: HostRuntime) -> Result<(), Fai
     Ok(())
 }
 
+fn are_of_expired(read: &Message, decoded: &Message) -> bool {
+    read.octets() == 47
+        && decoded.octets() == 33
+        && read.same_apdu(decoded)
+        && apdu_name(read.apdu()) == Some("Expired")
+}
+
 /// Whether a message that is read is the APDU that a slice is decoded to, by another spelling.
 fn is_one_apdu(alloc: Global, read: &[u8], decoded: &[u8]) -> bool {
     let mut source = Pieces::new(read, 5, None);
     match (read_message(alloc, &mut source), decode(alloc, decoded)) {
-        (Ok(Some(read)), Ok(decoded)) => {
-            read.octets() == 47
-                && decoded.octets() == 33
-                && read.same_apdu(&decoded)
-                && apdu_name(read.apdu()) == Some("Expired")
-        }
+        (Ok(Some(read)), Ok(decoded)) => are_of_expired(&read, &decoded),
         _ => false,
     }
 }
