@@ -1,4 +1,5 @@
-//! Command lines and fault lines; and the whole program over a runtime of ours, with files of the host.
+//! The whole program over a runtime of ours, with files of the host; and what it prints where it fails.
+mod commands;
 mod contracts;
 mod fake;
 mod files;
@@ -7,4 +8,5 @@ mod lines;
 mod lists;
 mod names;
 mod outputs;
-mod results;
+mod reports;
+mod runs;

@@ -14,7 +14,7 @@ use std::rt::Env;
 use std::test::Fail;
 
 /// Which calls fail.
-#[derive(Clone, Copy, Default)]
+#[derive(Clone, Copy)]
 pub struct Faults {
     /// Standard output takes this many octets, and a file that is written too.
     pub room: Option<usize>,
@@ -26,15 +26,23 @@ pub struct Faults {
     pub create_new: bool,
 }
 
+/// No call fails.
+pub const NO_FAULTS: Faults = Faults {
+    room: None,
+    readable: None,
+    sync: false,
+    rename: false,
+    create_new: false,
+};
+
 /// What the program starts with.
-#[derive(Clone, Copy, Default)]
+#[derive(Clone, Copy)]
 pub struct Start<'a> {
     /// The words of the command line after the program's name.
     pub words: &'a [&'a [u8]],
     pub input: &'a [u8],
-    /// The files that standard input and standard output are, where they are files.
-    pub input_file: Option<&'a str>,
-    pub output_file: Option<&'a str>,
+    /// The file that standard input and standard output are, where they are a file.
+    pub standard: Option<&'a str>,
     pub faults: Faults,
 }
 
@@ -51,18 +59,6 @@ pub struct Ended {
     pub status: u8,
     pub output: Vec<u8>,
     pub errors: Vec<u8>,
-}
-
-impl Ended {
-    /// Whether standard output is this text.
-    pub fn has_written(&self, text: &str) -> bool {
-        self.output.as_slice() == text.as_bytes()
-    }
-
-    /// Whether standard error is this text.
-    pub fn has_reported(&self, text: &str) -> bool {
-        self.errors.as_slice() == text.as_bytes()
-    }
 }
 
 /// Runs the program.
@@ -277,8 +273,7 @@ impl Fake<'_> {
     /// The host's path of what the program asks for.
     fn path<'p>(&'p self, path: &'p str) -> io::Result<&'p str> {
         let file = match path {
-            "/dev/stdin" => self.start.input_file,
-            "/dev/stdout" => self.start.output_file,
+            "/dev/stdin" | "/dev/stdout" => self.start.standard,
             _ => Some(path),
         };
         file.ok_or(io::Error::from(ErrorKind::NotFound))

@@ -1,260 +1,135 @@
-//! Files that the program must not lose: an input that is the output, and an output that is whole or as it was.
-use super::fake::{Ended, Faults, Start, folder, run};
+//! Outputs that are files with a mode, with more than one name, or with another file beside them.
+use super::fake::{NO_FAULTS, Start, run};
+use super::runs::Octets::Repeated;
+use super::runs::{EXPIRED, INDEFINITE, enter, holds, leave};
+use std::alloc::AllocError;
 use std::fs::{self, Permissions};
 use std::os::unix::fs::{MetadataExt, PermissionsExt, symlink};
-use std::process::Abort;
 use std::test::Fail;
-use test_support::octets_of;
 
-/// An EXPIRED in indefinite form, and its normal form.
-const INDEFINITE: &str =
-    "74803080800102a180a1801b01470000a2801b015100000000a280a080800832303234303232390000000000000000";
-
-const NORMAL: &str = "741f301d800102a10aa1031b0147a2031b0151a20ca00a80083230323430323239";
-
-/// What stands in an output before the program runs.
-const OLD: &[u8] = b"what was there before";
-
-fn enter(rt: &HostRuntime) -> Result<String, Fail> {
-    let folder = folder(rt)?;
-    std::env::set_current_dir(rt, folder.as_str())?;
-    fs::write(rt, "in.ber", octets_of(rt.alloc(), INDEFINITE)?.as_slice())?;
-    fs::write(rt, "out.der", OLD)?;
-    Ok(folder)
-}
-
-fn leave(rt: &HostRuntime, folder: &str) -> Result<(), Fail> {
-    Ok(fs::remove_dir_all(rt, folder)?)
-}
-
-fn canonicalise(rt: &HostRuntime, input: &str, output: &str, start: Start<'_>) -> Ended {
-    let words: [&[u8]; 3] = [b"canonicalise", input.as_bytes(), output.as_bytes()];
-    run(
+/// Whether the normal form of B goes to the file of this name, without a word.
+fn goes_to(rt: &HostRuntime, name: &str) -> Result<bool, Fail> {
+    let words: [&[u8]; 3] = [b"canonicalise", b"B", name.as_bytes()];
+    let ended = run(
         rt,
         Start {
             words: &words,
-            ..start
+            input: b"",
+            standard: None,
+            faults: NO_FAULTS,
         },
+    );
+    let is_quiet = ended.status == 0 && ended.output.is_empty() && ended.errors.is_empty();
+    Ok(is_quiet && has_form(rt, name)?)
+}
+
+fn has_form(rt: &HostRuntime, name: &str) -> Result<bool, Fail> {
+    holds(rt, name, Repeated(EXPIRED, 33))
+}
+
+/// Whether a file is replaced by a new one of its mode, and a file of the name that the new one would have at first is left.
+fn is_replaced(rt: &HostRuntime) -> Result<bool, Fail> {
+    fs::write(rt, "old", b"old")?;
+    fs::write(rt, "old.part", b"another's")?;
+    fs::set_permissions(rt, "old", Permissions::from_mode(0o640))?;
+    let number = fs::metadata(rt, "old")?.ino();
+    let is_written = goes_to(rt, "old")?;
+    let found = fs::metadata(rt, "old")?;
+    Ok(
+        is_written
+            && found.ino() != number
+            && found.mode() & 0o7777 == 0o640
+            && fs::read(rt, "old.part")?.as_slice() == b"another's".as_slice()
+            && !fs::exists(rt, "old.part1")?,
     )
 }
 
-fn with_faults<'a>(faults: Faults) -> Start<'a> {
-    Start {
-        faults,
-        ..Start::default()
-    }
+/// Whether a file of two names is written under both.
+fn keeps_its_names(rt: &HostRuntime) -> Result<bool, Fail> {
+    fs::write(rt, "one", b"old")?;
+    fs::hard_link(rt, "one", "other")?;
+    Ok(goes_to(rt, "one")? && has_form(rt, "other")? && fs::metadata(rt, "one")?.nlink() == 2)
 }
 
-/// Whether a file holds these octets.
-fn holds(rt: &HostRuntime, name: &str, octets: &[u8]) -> Result<bool, Fail> {
-    Ok(fs::read(rt, name)?.as_slice() == octets)
+/// Whether a link stays, and the file is made that it leads to.
+fn keeps_the_link(rt: &HostRuntime) -> Result<bool, Fail> {
+    symlink(rt, "target", "link")?;
+    Ok(
+        goes_to(rt, "link")?
+            && has_form(rt, "target")?
+            && fs::symlink_metadata(rt, "link")?.is_symlink(),
+    )
 }
 
-/// Stops unless IN and OUT of these names are refused as one file, and the file is as it was. A standard stream is the file only where its
-/// word is `-`.
-fn refuses(
-    rt: &HostRuntime,
-    abort: &impl Abort,
-    input: &[u8],
-    (first, second): (&str, &str),
-) -> Result<(), Fail> {
-    let start = Start {
-        input,
-        input_file: (first == "-").then_some("in.ber"),
-        output_file: (second == "-").then_some("in.ber"),
-        ..Start::default()
-    };
-    let ended = canonicalise(rt, first, second, start);
-    assert!(abort; ended.status == 2, "{first} {second}");
-    assert!(abort; ended.output.is_empty(), "{first} {second}");
-    assert!(abort;
-        ended.has_reported("illcanon: IN and OUT are the same file\n"),
-        "{first} {second}"
-    );
-    assert!(abort; holds(rt, "in.ber", input)?, "{first} {second}");
-    Ok(())
-}
-
-#[test]
-fn one_file_under_two_names_is_refused(rt: HostRuntime) -> Result<(), Fail> {
-    let folder = enter(&rt)?;
-    fs::hard_link(&rt, "in.ber", "hard.ber")?;
-    symlink(&rt, "in.ber", "soft.ber")?;
-    let input = octets_of(rt.alloc(), INDEFINITE)?;
-    let rows = [
-        ("in.ber", "./in.ber"),
-        ("in.ber", "hard.ber"),
-        ("in.ber", "soft.ber"),
-        ("soft.ber", "in.ber"),
-        ("-", "in.ber"),
-        ("in.ber", "-"),
-        ("-", "-"),
-    ];
-    for names in rows {
-        refuses(&rt, &rt, &input, names)?;
-    }
-    leave(&rt, folder.as_str())
-}
-
-#[test]
-fn different_files_are_no_refusal(rt: HostRuntime) -> Result<(), Fail> {
-    let folder = enter(&rt)?;
-    let normal = octets_of(rt.alloc(), NORMAL)?;
-    let input = octets_of(rt.alloc(), INDEFINITE)?;
-    let standard = Start {
-        input: &input,
-        input_file: Some("in.ber"),
-        ..Start::default()
-    };
-    let ended = canonicalise(&rt, "-", "out.der", standard);
-    assert!(rt; ended.status == 0);
-    assert!(rt; holds(&rt, "out.der", &normal)?);
-    let ended = canonicalise(&rt, "/dev/null", "/dev/null", Start::default());
-    assert!(rt; ended.status == 2);
-    let ended = canonicalise(&rt, "/dev/null", "//dev/null", Start::default());
-    assert!(rt; ended.status == 0);
-    leave(&rt, folder.as_str())
-}
-
-#[test]
-fn an_output_is_replaced_whole(rt: HostRuntime) -> Result<(), Fail> {
-    let folder = enter(&rt)?;
-    let normal = octets_of(rt.alloc(), NORMAL)?;
-    fs::File::create(&rt, "out.der.part")?;
-    fs::set_permissions(&rt, "out.der", Permissions::from_mode(0o640))?;
-    let number = fs::metadata(&rt, "out.der")?.ino();
-    let ended = canonicalise(&rt, "in.ber", "out.der", Start::default());
-    assert!(rt; ended.status == 0 && ended.errors.is_empty());
-    assert!(rt; holds(&rt, "out.der", &normal)?);
-    let found = fs::metadata(&rt, "out.der")?;
-    assert!(rt; found.ino() != number, "it is a new file");
-    assert!(rt; found.mode() & 0o7777 == 0o640);
-    assert!(rt;
-        holds(&rt, "out.der.part", b"")?,
-        "a file of that name is another's"
-    );
-    assert!(rt; !fs::exists(&rt, "out.der.part1")?);
-    leave(&rt, folder.as_str())
-}
-
-#[test]
-fn an_absent_output_is_made(rt: HostRuntime) -> Result<(), Fail> {
-    let folder = enter(&rt)?;
-    let normal = octets_of(rt.alloc(), NORMAL)?;
-    let ended = canonicalise(&rt, "in.ber", "new.der", Start::default());
-    assert!(rt; ended.status == 0 && ended.errors.is_empty());
-    assert!(rt; holds(&rt, "new.der", &normal)?);
-    assert!(rt; !fs::exists(&rt, "new.der.part")?);
-    for name in ["", "none/", "none/new.der"] {
-        let ended = canonicalise(&rt, "in.ber", name, Start::default());
-        assert!(rt; ended.status == 3, "{name}");
-        assert!(rt; !fs::exists(&rt, ".part")?, "{name}");
-    }
-    leave(&rt, folder.as_str())
-}
-
-#[test]
-fn a_fault_of_the_input_leaves_the_messages_before(rt: HostRuntime) -> Result<(), Fail> {
-    let alloc = rt.alloc();
-    let folder = enter(&rt)?;
-    let normal = octets_of(alloc, NORMAL)?;
-    let mut two = octets_of(alloc, INDEFINITE)?;
-    two.push(0x75)?;
-    fs::write(&rt, "two.ber", two.as_slice())?;
-    let ended = canonicalise(&rt, "two.ber", "out.der", Start::default());
-    assert!(rt; ended.status == 1);
-    assert!(rt; ended.has_reported("illcanon: refused at 0 in message 2: UnexpectedTag\n"));
-    assert!(rt; holds(&rt, "out.der", &normal)?);
-
-    let breaks = with_faults(Faults {
-        readable: Some(47),
-        ..Faults::default()
-    });
-    fs::write(&rt, "out.der", OLD)?;
-    let ended = canonicalise(&rt, "two.ber", "out.der", breaks);
-    assert!(rt; ended.status == 3 && ended.has_reported("illcanon: read fault\n"));
-    assert!(rt; holds(&rt, "out.der", &normal)?);
-
-    fs::write(&rt, "bad.ber", b"\x75")?;
-    let ended = canonicalise(&rt, "bad.ber", "out.der", Start::default());
-    assert!(rt; ended.status == 1);
-    assert!(rt; holds(&rt, "out.der", b"")?);
-    leave(&rt, folder.as_str())
-}
-
-#[test]
-fn a_fault_of_the_output_leaves_what_was_there(rt: HostRuntime) -> Result<(), Fail> {
-    let alloc = rt.alloc();
-    let folder = enter(&rt)?;
-    let message = octets_of(alloc, NORMAL)?;
-    let mut many = Vec::new(alloc);
-    for _ in 0..300u32 {
-        many.extend_from_slice(&message)?;
-    }
-    fs::write(&rt, "many.ber", many.as_slice())?;
-    let none = Faults::default();
-    let rows = [
-        (
-            Faults {
-                room: Some(10),
-                ..none
-            },
-            "illcanon: write fault after 10 octets\n",
-        ),
-        (
-            Faults {
-                room: Some(9890),
-                ..none
-            },
-            "illcanon: flush fault\n",
-        ),
-        (Faults { sync: true, ..none }, "illcanon: flush fault\n"),
-        (
-            Faults {
-                rename: true,
-                ..none
-            },
-            "illcanon: cannot replace out.der\n",
-        ),
-    ];
-    for (faults, errors) in rows {
-        let ended = canonicalise(&rt, "many.ber", "out.der", with_faults(faults));
-        assert!(rt; ended.status == 3, "{errors}");
-        assert!(rt; ended.has_reported(errors), "{errors}");
-        assert!(rt; holds(&rt, "out.der", OLD)?, "{errors}");
-        assert!(rt; !fs::exists(&rt, "out.der.part")?, "{errors}");
-    }
-    leave(&rt, folder.as_str())
-}
-
-#[test]
-fn some_outputs_are_written_directly(rt: HostRuntime) -> Result<(), Fail> {
-    let alloc = rt.alloc();
-    let folder = enter(&rt)?;
-    let normal = octets_of(alloc, NORMAL)?;
-    fs::hard_link(&rt, "out.der", "second.der")?;
-    symlink(&rt, "target.der", "soft.der")?;
-    let mut long = String::from_str(alloc, "")?;
+/// A name of 255 letters, which no name with more at its end can be made of.
+fn long_name(rt: &HostRuntime) -> Result<String, AllocError> {
+    let mut name = String::new(rt.alloc());
     for _ in 0..255u32 {
-        long.push('n')?;
+        name.push('n')?;
     }
-    let no_new_file = Faults {
-        create_new: true,
-        ..Faults::default()
-    };
-    let rows = [
-        ("out.der", "second.der", Faults::default()),
-        ("soft.der", "target.der", Faults::default()),
-        (long.as_str(), long.as_str(), Faults::default()),
-        ("plain.der", "plain.der", no_new_file),
-    ];
-    for (output, other, faults) in rows {
-        let ended = canonicalise(&rt, "in.ber", output, with_faults(faults));
-        assert!(rt; ended.status == 0, "{output}");
-        assert!(rt; holds(&rt, output, &normal)?, "{output}");
-        assert!(rt; holds(&rt, other, &normal)?, "{other}");
-    }
-    assert!(rt; fs::symlink_metadata(&rt, "soft.der")?.is_symlink());
-    assert!(rt; fs::metadata(&rt, "out.der")?.nlink() == 2);
-    leave(&rt, folder.as_str())
+    Ok(name)
+}
+
+fn is_written_under_a_long_name(rt: &HostRuntime) -> Result<bool, Fail> {
+    let name = long_name(rt)?;
+    goes_to(rt, name.as_str())
+}
+
+/// Whether an output that is absent is made, and no other file.
+fn is_made(rt: &HostRuntime) -> Result<bool, Fail> {
+    Ok(goes_to(rt, "new")? && !fs::exists(rt, "new.part")?)
+}
+
+/// Whether a file is refused as its own output under each of its names, and is as it was.
+fn is_refused_under_each_name(rt: &HostRuntime) -> Result<bool, Fail> {
+    fs::hard_link(rt, "B", "hard")?;
+    symlink(rt, "B", "soft")?;
+    let is_refused = is_refused(rt, b"B", b"hard")
+        && is_refused(rt, b"B", b"soft")
+        && is_refused(rt, b"soft", b"B");
+    Ok(is_refused && fs::read(rt, "B")?.as_slice() == INDEFINITE)
+}
+
+fn is_refused(rt: &HostRuntime, input: &[u8], output: &[u8]) -> bool {
+    let words: [&[u8]; 3] = [b"canonicalise", input, output];
+    let ended = run(
+        rt,
+        Start {
+            words: &words,
+            input: b"",
+            standard: None,
+            faults: NO_FAULTS,
+        },
+    );
+    ended.status == 2
+        && ended.output.is_empty()
+        && ended.errors.as_slice() == b"illcanon: IN and OUT are the same file\n".as_slice()
+}
+
+/// What goes wrong in the folder where this is.
+fn first_wrong(rt: &HostRuntime) -> Result<Option<&'static str>, Fail> {
+    Ok(if !is_made(rt)? {
+        Some("an absent file")
+    } else if !is_replaced(rt)? {
+        Some("a file with a mode")
+    } else if !keeps_its_names(rt)? {
+        Some("a file of two names")
+    } else if !keeps_the_link(rt)? {
+        Some("a link")
+    } else if !is_written_under_a_long_name(rt)? {
+        Some("a long name")
+    } else if !is_refused_under_each_name(rt)? {
+        Some("the input under another name")
+    } else {
+        None
+    })
+}
+
+#[test]
+fn outputs_keep_what_they_must_of_their_files(rt: HostRuntime) -> Result<(), Fail> {
+    let folder = enter(&rt)?;
+    let wrong = first_wrong(&rt)?;
+    leave(&rt, folder.as_str())?;
+    assert!(rt; wrong.is_none(), "{wrong:?}");
+    Ok(())
 }

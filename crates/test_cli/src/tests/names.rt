@@ -1,10 +1,11 @@
-//! How names of files are printed, and words that are no text.
-use super::fake::{Start, run};
+//! How names of files are printed, and words that are long.
+use super::fake::{NO_FAULTS, Start, run};
 use ill_cli::Name;
+use std::alloc::{AllocError, Global};
 use std::test::Fail;
 
 /// Names, and their form in a fault's line, as bash reads it back.
-const NAMES: [(&[u8], &[u8]); 9] = [
+static NAMES: [(&[u8], &[u8]); 9] = [
     (b"messages.ber", b"messages.ber"),
     (b"K\xc3\xb6ln 1'2\"3\\4.ber", b"K\xc3\xb6ln 1'2\"3\\4.ber"),
     (b"", b""),
@@ -16,46 +17,43 @@ const NAMES: [(&[u8], &[u8]); 9] = [
     (b"caf\xe9 'x'", b"$'caf\\351 \\'x\\''"),
 ];
 
+/// Whether a name is printed so.
+fn is_printed(alloc: Global, octets: &[u8], want: &[u8]) -> Result<bool, AllocError> {
+    let name = Name(octets.to_vec(alloc)?);
+    let line = format!(in alloc; "{name}")?;
+    Ok(line.as_bytes() == want)
+}
+
 #[test]
 fn names_have_one_line(rt: HostRuntime) -> Result<(), Fail> {
-    let alloc = rt.alloc();
-    for (octets, want) in NAMES {
-        let name = Name(octets.to_vec(alloc)?);
-        let line = format!(in alloc; "{name}")?;
-        assert!(rt; line.as_bytes() == want);
+    for (octets, want) in &NAMES {
+        assert!(rt; is_printed(rt.alloc(), octets, want)?, "{octets:?}");
     }
     Ok(())
 }
 
-#[test]
-fn a_word_that_is_no_text_names_no_file(rt: HostRuntime) {
-    let words: [&[u8]; 2] = [b"check", b"caf\xe9.ber"];
+/// Runs `check` on a name that no file has.
+fn check_absent(rt: &HostRuntime, name: &[u8]) -> (u8, usize) {
+    let words: [&[u8]; 2] = [b"check", name];
     let ended = run(
-        &rt,
+        rt,
         Start {
             words: &words,
-            ..Start::default()
+            input: b"",
+            standard: None,
+            faults: NO_FAULTS,
         },
     );
-    assert!(rt; ended.status == 3);
-    assert!(rt; ended.output.is_empty());
-    assert!(rt; ended.has_reported("illcanon: cannot open $'caf\\351.ber'\n"));
+    (ended.status, ended.errors.len())
 }
 
 #[test]
-fn a_long_word_is_read_whole(rt: HostRuntime) -> Result<(), Fail> {
-    let alloc = rt.alloc();
-    let mut word = b"/tmp/".to_vec(alloc)?;
-    word.resize(5000, b'a')?;
-    let words: [&[u8]; 2] = [b"check", &word];
-    let ended = run(
-        &rt,
-        Start {
-            words: &words,
-            ..Start::default()
-        },
-    );
-    assert!(rt; ended.status == 3);
-    assert!(rt; ended.errors.len() == "illcanon: cannot open \n".len() + 5000);
+fn words_are_read_whole(rt: HostRuntime) -> Result<(), Fail> {
+    let mut long = b"/tmp/".to_vec(rt.alloc())?;
+    long.resize(5000, b'a')?;
+    let line = "illcanon: cannot open \n".len();
+    assert!(rt; check_absent(&rt, &long) == (3, line + 5000));
+    // It is no text, and printed as $'caf\351.ber'.
+    assert!(rt; check_absent(&rt, b"caf\xe9.ber") == (3, line + 14));
     Ok(())
 }

@@ -1,9 +1,9 @@
 //! Sources that show what they have at hand.
 use super::fake::Step::{self, Fails, Moves};
-use super::fake::{Log, Scripted, octet_at};
-use ber_core::{Ahead, AtHand, Broken, FromBuffer, FromSlice, Look, Pieces, Source, Unseen};
+use super::fake::{Log, Scripted, are_first, takes};
+use ber_core::{Ahead, AtHand, FromBuffer, FromSlice, Look, Pieces, Source, Unseen};
+use std::alloc::{AllocError, Global};
 use std::io::ErrorKind;
-use std::process::Abort;
 use std::test::Fail;
 
 /// A call on a source over a buffered reader.
@@ -27,7 +27,7 @@ struct Row {
     reads: &'static [usize],
 }
 
-const ROWS: [Row; 9] = [
+static ROWS: [Row; 9] = [
     Row {
         name: "nothing-at-hand-before-the-first-take",
         script: &[Moves(4)],
@@ -115,64 +115,49 @@ const ROWS: [Row; 9] = [
     },
 ];
 
-/// What an octet of the caller's is that no call wrote.
-const UNTOUCHED: u8 = 0xEE;
-
-/// Makes one call, and gathers the octets that it gave.
-fn try_call<S: Ahead>(
-    rt: &(impl Abort + AllocGlobal),
-    name: &str,
+/// Whether as many octets are at hand as must be, and those that are passed are then gone. They are added to those that came before.
+fn passes<S: Ahead>(
     source: &mut S,
-    call: Call,
-    given: &mut Vec<u8>,
-) -> Result<(), Fail> {
-    match call {
-        Takes(size, want) => {
-            let mut buffer = vec![in rt.alloc(); UNTOUCHED; size]?;
-            let count = source.take(&mut buffer);
-            assert!(rt; count == want.ok_or(Broken), "{name}");
-            assert!(rt; source.broken() == want.is_none(), "{name}");
-            let (front, rest) = buffer.split_at(want.unwrap_or(0).min(size));
-            given.extend_from_slice(front)?;
-            assert!(rt; rest.iter().all(|octet| *octet == UNTOUCHED), "{name}");
-        }
-        Passes(count, at_hand) => {
-            let shown = source.at_hand();
-            assert!(rt; shown.len() == at_hand, "{name}");
-            assert!(rt; count <= at_hand, "{name}");
-            given.extend_from_slice(&shown[..count])?;
-            source.pass(count);
-        }
+    count: usize,
+    at_hand: usize,
+    came: &mut Vec<u8>,
+) -> Result<bool, AllocError> {
+    let shown = source.at_hand();
+    if shown.len() != at_hand || count > at_hand {
+        return Ok(false);
     }
-    Ok(())
+    came.extend_from_slice(&shown[..count])?;
+    source.pass(count);
+    Ok(true)
 }
 
-/// Makes the calls of a row: what each returns, which octets come, and what reached the reader.
-fn try_row(rt: &(impl Abort + AllocGlobal), row: &Row) -> Result<(), Fail> {
-    let Row {
-        name,
-        script,
-        calls,
-        reads,
-    } = row;
-    let log = Log::new(rt.alloc());
-    let mut source = FromBuffer::new(rt.alloc(), Scripted { script, log: &log })?;
-    let mut given = Vec::new(rt.alloc());
-    assert!(rt; !source.broken(), "{name}");
-    for call in calls.iter() {
-        try_call(rt, name, &mut source, *call, &mut given)?;
+/// Whether each call of a row does what it must, on a source that is not broken at first. The octets that came are added.
+fn calls_do(alloc: Global, row: &Row, log: &Log, came: &mut Vec<u8>) -> Result<bool, AllocError> {
+    let script = row.script;
+    let mut source = FromBuffer::new(alloc, Scripted { script, log })?;
+    let mut is_right = !source.broken();
+    for call in row.calls {
+        let is_next_right = match *call {
+            Takes(size, want) => takes(alloc, &mut source, size, want, came)?,
+            Passes(count, at_hand) => passes(&mut source, count, at_hand, came)?,
+        };
+        is_right = is_right && is_next_right;
     }
-    for (place, octet) in given.iter().enumerate() {
-        assert!(rt; *octet == octet_at(place), "{name}");
-    }
-    assert!(rt; log.has_calls(reads), "{name}");
-    Ok(())
+    Ok(is_right)
+}
+
+/// Whether a row comes true: what each call does, which octets come, and what reaches the reader.
+fn comes_true(alloc: Global, row: &Row) -> Result<bool, AllocError> {
+    let log = Log::new(alloc);
+    let mut came = Vec::new(alloc);
+    let is_right = calls_do(alloc, row, &log, &mut came)?;
+    Ok(is_right && are_first(&came) && log.has_calls(row.reads))
 }
 
 #[test]
 fn buffered_readers_show_what_they_read(rt: HostRuntime) -> Result<(), Fail> {
     for row in &ROWS {
-        try_row(&rt, row)?;
+        assert!(rt; comes_true(rt.alloc(), row)?, "{}", row.name);
     }
     Ok(())
 }
@@ -182,14 +167,14 @@ fn slices_show_all_that_is_left(rt: HostRuntime) {
     let octets = [1, 2, 3, 4, 5];
     let mut source = FromSlice::new(&octets);
     let mut buffer = [0; 2];
-    assert!(rt; source.at_hand() == [1, 2, 3, 4, 5].as_slice());
+    let is_whole = source.at_hand() == octets.as_slice();
     source.pass(2);
-    assert!(rt; source.take(&mut buffer) == Ok(2));
-    assert!(rt; buffer == [3, 4]);
-    assert!(rt; source.at_hand() == [5].as_slice());
+    let is_taken = source.take(&mut buffer) == Ok(2) && buffer == [3, 4];
+    let is_left = source.at_hand() == [5].as_slice();
     source.pass(1);
-    assert!(rt; source.take(&mut buffer) == Ok(0));
-    assert!(rt; source.at_hand().is_empty() && !source.broken());
+    assert!(rt; is_whole && is_taken && is_left);
+    assert!(rt; source.take(&mut buffer) == Ok(0) && source.at_hand().is_empty());
+    assert!(rt; !source.broken());
 }
 
 /// Takes an octet, if one is seen.
@@ -203,10 +188,13 @@ fn next<R: Source, L: Look<R>>(source: &mut R) -> Option<u8> {
 fn looks_see_what_is_at_hand_or_nothing(rt: HostRuntime) {
     let octets = [1, 2];
     let mut slice = FromSlice::new(&octets);
-    assert!(rt; next::<FromSlice<'_>, AtHand>(&mut slice) == Some(1));
-    assert!(rt; next::<FromSlice<'_>, Unseen>(&mut slice).is_none());
-    assert!(rt; next::<FromSlice<'_>, AtHand>(&mut slice) == Some(2));
-    assert!(rt; next::<FromSlice<'_>, AtHand>(&mut slice).is_none());
+    let seen = [
+        next::<FromSlice<'_>, AtHand>(&mut slice),
+        next::<FromSlice<'_>, Unseen>(&mut slice),
+        next::<FromSlice<'_>, AtHand>(&mut slice),
+        next::<FromSlice<'_>, AtHand>(&mut slice),
+    ];
     let mut pieces = Pieces::new(&octets, 1, None);
-    assert!(rt; next::<Pieces<'_>, Unseen>(&mut pieces).is_none());
+    let unseen = next::<Pieces<'_>, Unseen>(&mut pieces);
+    assert!(rt; seen == [Some(1), None, Some(2), None] && unseen.is_none());
 }

@@ -5,17 +5,18 @@ use std::alloc::{AllocError, Global};
 use std::test::Fail;
 use test_support::octets_of;
 
-/// A row a line: the contents of an OCTET STRING, and the SEQUENCE of it alone (X.690, 8.1.3 and 10.1).
-const ROWS: &str = "\
-=3002 0400
-5a*125=307f 047d 5a*125
-5a*126=308180 047e 5a*126
-5a*127=308181 047f 5a*127
-5a*128=308183 048180 5a*128
-5a*255=30820102 0481ff 5a*255
-5a*256=30820104 04820100 5a*256
-5a*65535=3083010003 0482ffff 5a*65535
-5a*65536=3083010005 0483010000 5a*65536";
+/// The contents of an OCTET STRING, and the SEQUENCE of it alone (X.690, 8.1.3 and 10.1).
+static ROWS: [(&str, &str); 9] = [
+    ("", "3002 0400"),
+    ("5a*125", "307f 047d 5a*125"),
+    ("5a*126", "308180 047e 5a*126"),
+    ("5a*127", "308181 047f 5a*127"),
+    ("5a*128", "308183 048180 5a*128"),
+    ("5a*255", "30820102 0481ff 5a*255"),
+    ("5a*256", "30820104 04820100 5a*256"),
+    ("5a*65535", "3083010003 0482ffff 5a*65535"),
+    ("5a*65536", "3083010005 0483010000 5a*65536"),
+];
 
 /// The SEQUENCE of an OCTET STRING, written as an element and whole contents.
 fn whole(buffer: &mut DerBuffer, ids: (Id, Id), content: &[u8]) -> Result<(), AllocError> {
@@ -43,83 +44,115 @@ fn enclosed(buffer: &mut DerBuffer, ids: (Id, Id), content: &[u8]) -> Result<(),
     buffer.enclose(0, ids.0)
 }
 
-#[test]
-fn lengths_are_set_when_elements_close(rt: HostRuntime) -> Result<(), Fail> {
-    let (Some(sequence), Some(string)) = (
-        Id::new(Class::Universal, true, 16),
-        Id::new(Class::Universal, false, 4),
-    ) else {
-        return Err(Fail::new("no identifier"));
-    };
-    let ids = (sequence, string);
-    let mut buffer = DerBuffer::new(rt.alloc());
-    let mut count = 0u8;
-    for row in ROWS.lines() {
-        let (content, element) = row.split_once('=').unwrap_or((row, ""));
-        let content = octets_of(rt.alloc(), content)?;
-        let element = octets_of(rt.alloc(), element)?;
-        whole(&mut buffer, ids, &content)?;
-        assert!(rt; buffer.octets() == element.as_slice(), "whole: {row}");
-        nested(&mut buffer, ids, &content)?;
-        assert!(rt; buffer.octets() == element.as_slice(), "nested: {row}");
-        enclosed(&mut buffer, ids, &content)?;
-        assert!(rt; buffer.octets() == element.as_slice(), "enclosed: {row}");
-        count = count.wrapping_add(1);
+/// Whether each way to write the contents gives the element.
+fn is_written(
+    buffer: &mut DerBuffer,
+    ids: (Id, Id),
+    content: &[u8],
+    element: &[u8],
+) -> Result<bool, AllocError> {
+    whole(buffer, ids, content)?;
+    let is_whole = buffer.octets() == element;
+    nested(buffer, ids, content)?;
+    let is_nested = buffer.octets() == element;
+    enclosed(buffer, ids, content)?;
+    Ok(is_whole && is_nested && buffer.octets() == element)
+}
+
+fn is_row_written(
+    alloc: Global,
+    buffer: &mut DerBuffer,
+    ids: (Id, Id),
+    row: &(&str, &str),
+) -> Result<bool, AllocError> {
+    let content = octets_of(alloc, row.0)?;
+    let element = octets_of(alloc, row.1)?;
+    is_written(buffer, ids, &content, &element)
+}
+
+fn id(class: Class, constructed: bool, number: u32) -> Result<Id, Fail> {
+    match Id::new(class, constructed, number) {
+        Some(id) => Ok(id),
+        None => Err("no identifier")?,
     }
-    assert_eq!(rt; count, 9);
-    Ok(())
 }
 
 #[test]
-fn elements_stand_behind_what_was_written(rt: HostRuntime) -> Result<(), Fail> {
-    let (Some(wrapper), Some(integer)) = (
-        Id::new(Class::Context, true, 31),
-        Id::new(Class::Context, false, 16_384),
-    ) else {
-        return Err(Fail::new("no identifier"));
-    };
+fn lengths_are_set_when_elements_close(rt: HostRuntime) -> Result<(), Fail> {
+    let ids = (
+        id(Class::Universal, true, 16)?,
+        id(Class::Universal, false, 4)?,
+    );
     let mut buffer = DerBuffer::new(rt.alloc());
-    assert!(rt; buffer.is_empty());
-    buffer.append(&[0x01, 0x02, 0x03])?;
+    for row in &ROWS {
+        assert!(rt;
+            is_row_written(rt.alloc(), &mut buffer, ids, row)?,
+            "{}",
+            row.0
+        );
+    }
+    Ok(())
+}
+
+/// Three octets, and an element with an element in it.
+fn follow(buffer: &mut DerBuffer, wrapper: Id, integer: Id) -> Result<(), AllocError> {
+    buffer.append(b"\x01\x02\x03")?;
     let base = buffer.open(wrapper)?;
     buffer.primitive(integer, &[5])?;
-    buffer.close(base)?;
-    assert!(rt;
-        buffer.octets()
-            == [
-                0x01, 0x02, 0x03, 0xBF, 0x1F, 0x06, 0x9F, 0x81, 0x80, 0x00, 0x01, 0x05
-            ]
-            .as_slice()
-    );
+    buffer.close(base)
+}
 
+/// Whether the buffer is cut to its first four octets, and not where that lengthens it.
+fn is_cut(buffer: &mut DerBuffer) -> bool {
     buffer.cut(4);
-    assert!(rt; buffer.octets() == [0x01, 0x02, 0x03, 0xBF].as_slice());
+    let is_cut = buffer.octets() == b"\x01\x02\x03\xBF".as_slice();
     buffer.cut(9);
-    assert!(rt; buffer.len() == 4);
-    buffer.enclose(2, integer)?;
+    is_cut && buffer.len() == 4
+}
+
+#[test]
+fn elements_follow_what_was_written(rt: HostRuntime) -> Result<(), Fail> {
+    let wrapper = id(Class::Context, true, 31)?;
+    let integer = id(Class::Context, false, 16_384)?;
+    let mut buffer = DerBuffer::new(rt.alloc());
+    let is_empty = buffer.is_empty();
+    follow(&mut buffer, wrapper, integer)?;
     assert!(rt;
-        buffer.octets() == [0x01, 0x02, 0x9F, 0x81, 0x80, 0x00, 0x02, 0x03, 0xBF].as_slice()
+        is_empty
+            && buffer.octets() == b"\x01\x02\x03\xBF\x1F\x06\x9F\x81\x80\x00\x01\x05".as_slice()
     );
+    let is_cut = is_cut(&mut buffer);
+    buffer.enclose(2, integer)?;
+    assert!(rt; is_cut && buffer.octets() == b"\x01\x02\x9F\x81\x80\x00\x02\x03\xBF".as_slice());
     Ok(())
+}
+
+/// Closes an element at each of the places.
+fn close(buffer: &mut DerBuffer, bases: &[usize]) -> Result<(), AllocError> {
+    for base in bases {
+        buffer.close(*base)?;
+    }
+    Ok(())
+}
+
+/// Whether nothing happens where no element was opened, and an element ends where one was.
+fn ends_what_was_opened(buffer: &mut DerBuffer, string: Id) -> Result<bool, AllocError> {
+    close(buffer, &[0, 1])?;
+    let is_empty = buffer.is_empty();
+    buffer.append(b"\x04\x05")?;
+    close(buffer, &[0, 3, usize::MAX])?;
+    let is_left = buffer.octets() == b"\x04\x05".as_slice();
+    buffer.close(2)?;
+    let is_ended = buffer.octets() == b"\x04\x00".as_slice();
+    buffer.enclose(usize::MAX, string)?;
+    let is_enclosed = buffer.octets() == b"\x04\x00\x04\x00".as_slice();
+    Ok(is_empty && is_left && is_ended && is_enclosed)
 }
 
 #[test]
 fn nothing_closes_where_nothing_was_opened(rt: HostRuntime) -> Result<(), Fail> {
-    let Some(string) = Id::new(Class::Universal, false, 4) else {
-        return Err(Fail::new("no identifier"));
-    };
+    let string = id(Class::Universal, false, 4)?;
     let mut buffer = DerBuffer::new(rt.alloc());
-    buffer.close(0)?;
-    buffer.close(1)?;
-    assert!(rt; buffer.is_empty());
-    buffer.append(&[0x04, 0x05])?;
-    buffer.close(0)?;
-    buffer.close(3)?;
-    buffer.close(usize::MAX)?;
-    assert!(rt; buffer.octets() == [0x04, 0x05].as_slice());
-    buffer.close(2)?;
-    assert!(rt; buffer.octets() == [0x04, 0x00].as_slice());
-    buffer.enclose(usize::MAX, string)?;
-    assert!(rt; buffer.octets() == [0x04, 0x00, 0x04, 0x00].as_slice());
+    assert!(rt; ends_what_was_opened(&mut buffer, string)?);
     Ok(())
 }

@@ -1,7 +1,8 @@
 //! A reader and a writer whose calls do what a script says, and a log of the calls that reached them.
 ghost use Rattle.std.specs.Prelude.{◌≤◌, IfOk};
 
-use std::alloc::Global;
+use ber_core::{Broken, Source};
+use std::alloc::{AllocError, Global};
 use std::cell::{Cell, RefCell};
 use std::io::{self, Error, ErrorKind, Read, Write};
 
@@ -130,4 +131,43 @@ impl Write for Scripted<'_> {
     fn flush(&mut self) -> io::Result<()> {
         Ok(())
     }
+}
+
+/// What an octet of the caller's is that no call wrote.
+const UNTOUCHED: u8 = 0xEE;
+
+/// Whether a `take` with a buffer of this size returns this number of octets, or [`Broken`] for None, and writes no more than these. They
+/// are added to those that came before.
+pub fn takes<S: Source>(
+    alloc: Global,
+    source: &mut S,
+    size: usize,
+    want: Option<usize>,
+    came: &mut Vec<u8>,
+) -> Result<bool, AllocError> {
+    let mut buffer = vec![in alloc; UNTOUCHED; size]?;
+    let count = source.take(&mut buffer);
+    let is_right = count == want.ok_or(Broken) && source.broken() == want.is_none();
+    let (front, rest) = buffer.split_at(want.unwrap_or(0).min(size));
+    came.extend_from_slice(front)?;
+    Ok(is_right && are_untouched(rest))
+}
+
+fn are_untouched(octets: &[u8]) -> bool {
+    for octet in octets {
+        if *octet != UNTOUCHED {
+            return false;
+        }
+    }
+    true
+}
+
+/// Whether these are the first octets of what a scripted reader gives.
+pub fn are_first(octets: &[u8]) -> bool {
+    for (place, octet) in octets.iter().enumerate() {
+        if *octet != octet_at(place) {
+            return false;
+        }
+    }
+    true
 }

@@ -28,77 +28,75 @@ fn frames_end_in_one_way(octets: &[u8]) {
     prove!(one.frame() == other.frame());
 }
 
+/// Whether the octets are this, and all that is shorter is part of an element; so also where they are fed in two slices.
+fn ends_as(octets: &[u8], frame: Frame) -> bool {
+    for cut in 0..octets.len() {
+        let (first, second) = octets.split_at(cut);
+        if pushed(first) != Frame::Part || fed(first, second) != (octets.len(), frame) {
+            return false;
+        }
+    }
+    pushed(octets) == frame
+}
+
+/// Each is one element. The fourth is X.690's VisibleString "Jones" in segments.
+static ELEMENTS: [&[u8]; 12] = [
+    b"\x05\x00",
+    b"\x04\x03\x30\x80\xFF",
+    b"\x30\x80\x00\x00",
+    b"\x3A\x80\x04\x03\x4A\x6F\x6E\x04\x02\x65\x73\x00\x00",
+    // A tag number in two octets, one in six, and one whose first octet is 80.
+    b"\x9F\x81\x00\x01\x41",
+    b"\xDF\xFF\xFF\xFF\xFF\xFF\x7F\x00",
+    b"\x5F\x80\x01\x00",
+    // A length in one octet and in four, where a short one does.
+    b"\x04\x81\x02\x00\x00",
+    b"\x24\x84\x00\x00\x00\x01\xFF",
+    // An end mark within contents of definite length isn't read, and one element in another has its own.
+    b"\xA1\x80\x30\x04\x00\x00\x00\x00\x00\x00",
+    b"\xA1\x80\x30\x80\x05\x00\x00\x00\x00\x00",
+    // Universal 0 is no end mark where it is constructed.
+    b"\x30\x80\x20\x00\x00\x00",
+];
+
 #[test]
 fn framed_elements_end(rt: HostRuntime) {
-    // Each is one element. The fourth is X.690's VisibleString "Jones" in segments.
-    let rows: [&[u8]; 12] = [
-        &[0x05, 0x00],
-        &[0x04, 0x03, 0x30, 0x80, 0xFF],
-        &[0x30, 0x80, 0x00, 0x00],
-        &[
-            0x3A, 0x80, 0x04, 0x03, 0x4A, 0x6F, 0x6E, 0x04, 0x02, 0x65, 0x73, 0x00, 0x00,
-        ],
-        // A tag number in two octets, one in six, and one whose first octet is 80.
-        &[0x9F, 0x81, 0x00, 0x01, 0x41],
-        &[0xDF, 0xFF, 0xFF, 0xFF, 0xFF, 0xFF, 0x7F, 0x00],
-        &[0x5F, 0x80, 0x01, 0x00],
-        // A length in one octet and in four, where a short one does.
-        &[0x04, 0x81, 0x02, 0x00, 0x00],
-        &[0x24, 0x84, 0x00, 0x00, 0x00, 0x01, 0xFF],
-        // An end mark within contents of definite length isn't read, and one element in another has its own.
-        &[0xA1, 0x80, 0x30, 0x04, 0x00, 0x00, 0x00, 0x00, 0x00, 0x00],
-        &[0xA1, 0x80, 0x30, 0x80, 0x05, 0x00, 0x00, 0x00, 0x00, 0x00],
-        // Universal 0 is no end mark where it is constructed.
-        &[0x30, 0x80, 0x20, 0x00, 0x00, 0x00],
-    ];
-    for row in rows {
-        assert_eq!(rt; pushed(row), Frame::Whole, "{row:?}");
-        for cut in 0..row.len() {
-            assert_eq!(rt; pushed(&row[..cut]), Frame::Part, "{cut} of {row:?}");
-            let (count, frame) = fed(&row[..cut], &row[cut..]);
-            assert_eq!(rt; count, row.len(), "{row:?} at {cut}");
-            assert_eq!(rt; frame, Frame::Whole, "{row:?} at {cut}");
-        }
+    for element in &ELEMENTS {
+        assert!(rt; ends_as(element, Frame::Whole), "{element:?}");
     }
 }
 
 #[test]
 fn nothing_after_an_element_is_taken(rt: HostRuntime) {
-    assert_eq!(rt; fed(&[0x05], &[0x00, 0x05, 0x00]), (2, Frame::Whole));
-    assert_eq!(rt; fed(&[0x05, 0x00], &[0x00]), (2, Frame::Whole));
-    let octets = [0x30, 0x80, 0x04, 0x01, 0x00, 0x00, 0x00, 0x00, 0x00];
-    assert_eq!(rt; fed(&octets, &[0x00]), (7, Frame::Whole));
+    let octets = b"\x30\x80\x04\x01\x00\x00\x00\x00\x00";
+    assert!(rt;
+        fed(b"\x05", b"\x00\x05\x00") == (2, Frame::Whole)
+            && fed(b"\x05\x00", b"\x00") == (2, Frame::Whole)
+            && fed(octets, b"\x00") == (7, Frame::Whole)
+    );
 }
+
+/// Of each the end is not known. Up to its last octet each is part of an element.
+static UNFRAMED: [&[u8]; 9] = [
+    b"\x00",
+    b"\x04\x80",
+    b"\x30\xFF",
+    b"\x30\x80\x00\x01",
+    b"\x30\x80\x04\x80",
+    b"\x30\x80\x30\x80\x00\x00\x00\x05",
+    // 4,294,967,295 octets, 4,294,967,296 and more; in the last, the octets that follow don't matter.
+    b"\x04\x84\xFF\xFF\xFF\xFF",
+    b"\x04\x85\x01",
+    b"\x30\xFE\x00\x01",
+];
 
 #[test]
 fn some_ends_are_not_known(rt: HostRuntime) {
-    // Up to its last octet each is part of an element.
-    let rows: [&[u8]; 9] = [
-        &[0x00],
-        &[0x04, 0x80],
-        &[0x30, 0xFF],
-        &[0x30, 0x80, 0x00, 0x01],
-        &[0x30, 0x80, 0x04, 0x80],
-        &[0x30, 0x80, 0x30, 0x80, 0x00, 0x00, 0x00, 0x05],
-        // 4,294,967,295 octets, 4,294,967,296 and more; in the last, the octets that follow don't matter.
-        &[0x04, 0x84, 0xFF, 0xFF, 0xFF, 0xFF],
-        &[0x04, 0x85, 0x01],
-        &[0x30, 0xFE, 0x00, 0x01],
-    ];
-    for row in rows {
-        assert_eq!(rt; pushed(row), Frame::Unframed, "{row:?}");
-        for cut in 0..row.len() {
-            assert_eq!(rt; pushed(&row[..cut]), Frame::Part, "{cut} of {row:?}");
-            assert_eq!(rt;
-                fed(&row[..cut], &row[cut..]),
-                (row.len(), Frame::Unframed),
-                "{row:?} at {cut}"
-            );
-        }
-        assert_eq!(rt;
-            fed(row, &[0x00, 0x00]),
-            (row.len(), Frame::Unframed),
-            "{row:?}"
+    for octets in &UNFRAMED {
+        assert!(rt;
+            ends_as(octets, Frame::Unframed)
+                && fed(octets, b"\x00\x00") == (octets.len(), Frame::Unframed),
+            "{octets:?}"
         );
     }
 }
@@ -106,43 +104,57 @@ fn some_ends_are_not_known(rt: HostRuntime) {
 #[test]
 fn the_greatest_length_is_framed(rt: HostRuntime) {
     let mut framer = Framer::new();
-    assert_eq!(rt;
-        framer.feed(&[0x04, 0x86, 0x00, 0x00, 0xFF, 0xFF, 0xFF, 0xFE]),
-        8
+    assert!(rt;
+        framer.feed(b"\x04\x86\x00\x00\xFF\xFF\xFF\xFE") == 8 && framer.need() == 4_294_967_294
     );
-    assert_eq!(rt; framer.need(), 4_294_967_294);
-    assert_eq!(rt; framer.feed(&[0x00, 0x00, 0x00]), 3);
-    assert_eq!(rt; framer.need(), 4_294_967_291);
-    assert_eq!(rt; framer.frame(), Frame::Part);
+    assert!(rt;
+        framer.feed(b"\x00\x00\x00") == 3
+            && framer.need() == 4_294_967_291
+            && framer.frame() == Frame::Part
+    );
+}
+
+/// Whether the octets are taken whole, each time.
+fn takes_each(framer: &mut Framer, octets: &[u8], times: u32) -> bool {
+    for _ in 0..times {
+        if framer.feed(octets) != octets.len() {
+            return false;
+        }
+    }
+    true
 }
 
 #[test]
 fn elements_are_framed_however_deep(rt: HostRuntime) {
     let mut framer = Framer::new();
-    for _ in 0..100_000 {
-        assert_eq!(rt; framer.feed(&[0x30, 0x80]), 2);
-    }
-    for _ in 0..99_999 {
-        assert_eq!(rt; framer.feed(&[0x00, 0x00]), 2);
-    }
-    assert_eq!(rt; framer.frame(), Frame::Part);
-    assert_eq!(rt; framer.feed(&[0x00, 0x00, 0x00, 0x00]), 2);
-    assert_eq!(rt; framer.frame(), Frame::Whole);
-    assert_eq!(rt; framer.need(), 0);
+    assert!(rt;
+        takes_each(&mut framer, b"\x30\x80", 100_000)
+            && takes_each(&mut framer, b"\x00\x00", 99_999)
+            && framer.frame() == Frame::Part
+    );
+    assert!(rt;
+        framer.feed(b"\x00\x00\x00\x00") == 2
+            && framer.frame() == Frame::Whole
+            && framer.need() == 0
+    );
 }
+
+/// The first octets of elements, and how many octets of a great length are missing.
+static LACKING: [(&[u8], u8); 5] = [
+    (b"\x04\x85\x01", 4),
+    (b"\x30\xFE\x00\x01", 124),
+    (b"\x04\x84\xFF\xFF\xFF\xFF", 0),
+    (b"\x04\x80", 0),
+    (b"\x04\x85\x00", 0),
+];
 
 #[test]
 fn octets_of_a_great_length_are_missing(rt: HostRuntime) {
-    let rows: [(&[u8], u8); 5] = [
-        (&[0x04, 0x85, 0x01], 4),
-        (&[0x30, 0xFE, 0x00, 0x01], 124),
-        (&[0x04, 0x84, 0xFF, 0xFF, 0xFF, 0xFF], 0),
-        (&[0x04, 0x80], 0),
-        (&[0x04, 0x85, 0x00], 0),
-    ];
-    for (octets, lacks) in rows {
+    for (octets, lacks) in &LACKING {
         let mut framer = Framer::new();
-        assert_eq!(rt; framer.feed(octets), octets.len(), "{octets:?}");
-        assert_eq!(rt; framer.lacks(), lacks, "{octets:?}");
+        assert!(rt;
+            framer.feed(octets) == octets.len() && framer.lacks() == *lacks,
+            "{octets:?}"
+        );
     }
 }

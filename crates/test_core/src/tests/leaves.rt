@@ -1,145 +1,222 @@
 //! Worked contents, with their values from outside.
 use ber_leaf::{
-    DateText, Flag, GeneralText, IllString, Leaf, LeafFault, PrintableText, Segments, TimeText,
-    VisibleText, Whole, enumerated_is_held_as_integer, normal_content_holds_its_value,
-    normal_content_is_least, normal_contents_tell_values_apart, octets_hold_one_out,
-    octets_hold_one_value, profile_two_holds_what_one_does, whole_numbers_have_bounds,
+    DateText, Flag, GeneralText, IllString, Leaf, LeafFault, PrintableText, TimeText, VisibleText,
+    Whole, enumerated_is_held_as_integer, normal_content_holds_its_value, normal_content_is_least,
+    normal_contents_tell_values_apart, octets_hold_one_out, octets_hold_one_value,
+    profile_two_holds_what_one_does, whole_numbers_have_bounds,
 };
 use std::alloc::{AllocError, Global};
 use std::test::Fail;
-use test_support::octets_of;
+use test_support::{general_string, octets_of};
 
-/// A row a line: its name, kind, octets in hexadecimal (`.` for none), fault, value, and normal content (`-` where the row has none).
-const ROWS: &str = "\
-joined-date-pieces D 3230323430323239 none - 3230323430323239
-boolean-empty B . BadBoolean - -
-boolean-two-octets B 0000 BadBoolean - -
-boolean-false B 00 none false 00
-boolean-true-as-07 B 07 none true ff
-integer-zero I 00 none 0 00
-integer-minus-128 I 80 none -128 80
-integer-128 I 0080 none 128 0080
-integer-minus-129 I ff7f none -129 ff7f
-integer-least I 8000000000000000 none -9223372036854775808 8000000000000000
-integer-padded-minus-128 I ff80 BadInteger - -
-integer-padded-127 I 007f BadInteger - -
-integer-empty I . BadInteger - -
-integer-nine-octets-from-01 I 010000000000000000 IntegerTooLong - -
-integer-nine-octets-from-0080 I 008000000000000000 IntegerTooLong - -
-integer-nine-zero-octets I 000000000000000000 BadInteger - -
-general-empty General . none - -
-general-space General 20 none - -
-general-tilde General 7e none - -
-general-shift-out General 0e BadText - -
-general-unit-separator-accepted General 1f none - -
-general-delete-accepted General 7f none - -
-printable-amount P 31322e3530 none - -
-printable-asterisk P 2a BadText - -
-printable-at P 40 BadText - -
-date-year-zero-leap-day D 3030303030323239 none - -
-date-leap-century D 3230303030323239 none - -
-date-last-day D 3939393931323331 none - -
-date-common-century D 3139303030323239 BadDate - -
-date-month-thirteen D 3230323431333031 BadDate - -
-date-seven-digits D 32303234303232 BadDate - -
-time-of-second-sixty T 323335393630 none - -
-time-of-hour-24 T 323430303030 none - -
-time-of-past-24 T 323430303031 BadTime - -
-time-of-minute-sixty T 323336303030 BadTime - -
-time-of-second-61 T 323335393631 BadTime - -
-time-of-four-digits T 31323030 BadTime - -";
+/// Contents: a name, the kind (B BOOLEAN, I INTEGER, G GeneralString, P PrintableString, V VisibleString, D ISO-Date, T ISO-Time), the octets,
+/// and the normal content of the value that they hold. DER writes a text as it is.
+static CONTENTS: [(&str, &str, &str, &str); 23] = [
+    ("boolean-false", "B", "00", "00"),
+    ("boolean-true-as-07", "B", "07", "ff"),
+    ("integer-zero", "I", "00", "00"),
+    ("integer-minus-128", "I", "80", "80"),
+    ("integer-128", "I", "0080", "0080"),
+    ("integer-minus-129", "I", "ff7f", "ff7f"),
+    ("integer-least", "I", "8000000000000000", "8000000000000000"),
+    ("general-empty", "G", "", ""),
+    ("general-space", "G", "20", "20"),
+    ("general-tilde", "G", "7e", "7e"),
+    ("general-unit-separator-accepted", "G", "1f", "1f"),
+    ("general-delete-accepted", "G", "7f", "7f"),
+    ("visible-space", "V", "20", "20"),
+    ("printable-amount", "P", "31322e3530", "31322e3530"),
+    (
+        "joined-date-pieces",
+        "D",
+        "3230323430323239",
+        "3230323430323239",
+    ),
+    (
+        "date-year-zero-leap-day",
+        "D",
+        "3030303030323239",
+        "3030303030323239",
+    ),
+    (
+        "date-leap-century",
+        "D",
+        "3230303030323239",
+        "3230303030323239",
+    ),
+    ("date-last-day", "D", "3939393931323331", "3939393931323331"),
+    (
+        "date-day-before-in-common-century",
+        "D",
+        "3139303030323238",
+        "3139303030323238",
+    ),
+    ("time-of-second-sixty", "T", "323335393630", "323335393630"),
+    ("time-of-hour-24", "T", "323430303030", "323430303030"),
+    (
+        "time-of-second-sixty-at-noon",
+        "T",
+        "313230303630",
+        "313230303630",
+    ),
+    ("time-of-start-of-day", "T", "303030303030", "303030303030"),
+];
+
+/// What is no content: a name, the kind, the octets, and the fault.
+static FAULTS: [(&str, &str, &str, LeafFault); 21] = [
+    ("boolean-empty", "B", "", LeafFault::BadBoolean),
+    ("boolean-two-octets", "B", "0000", LeafFault::BadBoolean),
+    (
+        "integer-padded-minus-128",
+        "I",
+        "ff80",
+        LeafFault::BadInteger,
+    ),
+    ("integer-padded-127", "I", "007f", LeafFault::BadInteger),
+    ("integer-empty", "I", "", LeafFault::BadInteger),
+    (
+        "integer-nine-octets-from-01",
+        "I",
+        "010000000000000000",
+        LeafFault::IntegerTooLong,
+    ),
+    (
+        "integer-nine-octets-from-0080",
+        "I",
+        "008000000000000000",
+        LeafFault::IntegerTooLong,
+    ),
+    (
+        "integer-nine-zero-octets",
+        "I",
+        "000000000000000000",
+        LeafFault::BadInteger,
+    ),
+    ("general-shift-out", "G", "0e", LeafFault::BadText),
+    ("visible-delete", "V", "7f", LeafFault::BadText),
+    ("printable-asterisk", "P", "2a", LeafFault::BadText),
+    ("printable-at", "P", "40", LeafFault::BadText),
+    (
+        "date-common-century",
+        "D",
+        "3139303030323239",
+        LeafFault::BadDate,
+    ),
+    (
+        "date-month-thirteen",
+        "D",
+        "3230323431333031",
+        LeafFault::BadDate,
+    ),
+    (
+        "date-seven-digits",
+        "D",
+        "32303234303232",
+        LeafFault::BadDate,
+    ),
+    (
+        "date-of-a-letter",
+        "D",
+        "3230323430323258",
+        LeafFault::BadDate,
+    ),
+    ("time-of-past-24", "T", "323430303031", LeafFault::BadTime),
+    (
+        "time-of-minute-sixty",
+        "T",
+        "323336303030",
+        LeafFault::BadTime,
+    ),
+    ("time-of-second-61", "T", "323335393631", LeafFault::BadTime),
+    ("time-of-four-digits", "T", "31323030", LeafFault::BadTime),
+    (
+        "time-past-24-by-a-minute",
+        "T",
+        "323430313030",
+        LeafFault::BadTime,
+    ),
+];
 
 /// The integers at powers of 256 and at the ends of each size, and one off: their octets and their numbers.
-const INTEGERS: &str = "\
-8000000000000000 -9223372036854775808
-feffffffffffffff -72057594037927937
-ff00000000000000 -72057594037927936
-ff00000000000001 -72057594037927935
-ff7fffffffffffff -36028797018963969
-80000000000000 -36028797018963968
-feffffffffffff -281474976710657
-ff000000000000 -281474976710656
-ff000000000001 -281474976710655
-ff7fffffffffff -140737488355329
-800000000000 -140737488355328
-feffffffffff -1099511627777
-ff0000000000 -1099511627776
-ff0000000001 -1099511627775
-ff7fffffffff -549755813889
-8000000000 -549755813888
-feffffffff -4294967297
-ff00000000 -4294967296
-ff00000001 -4294967295
-ff7fffffff -2147483649
-80000000 -2147483648
-feffffff -16777217
-ff000000 -16777216
-ff000001 -16777215
-ff7fffff -8388609
-800000 -8388608
-feffff -65537
-ff0000 -65536
-ff0001 -65535
-ff7fff -32769
-8000 -32768
-feff -257
-ff00 -256
-ff01 -255
-ff7f -129
-80 -128
-fe -2
-ff -1
-00 0
-01 1
-02 2
-7f 127
-0080 128
-00ff 255
-0100 256
-0101 257
-7fff 32767
-008000 32768
-00ffff 65535
-010000 65536
-010001 65537
-7fffff 8388607
-00800000 8388608
-00ffffff 16777215
-01000000 16777216
-01000001 16777217
-7fffffff 2147483647
-0080000000 2147483648
-00ffffffff 4294967295
-0100000000 4294967296
-0100000001 4294967297
-7fffffffff 549755813887
-008000000000 549755813888
-00ffffffffff 1099511627775
-010000000000 1099511627776
-010000000001 1099511627777
-7fffffffffff 140737488355327
-00800000000000 140737488355328
-00ffffffffffff 281474976710655
-01000000000000 281474976710656
-01000000000001 281474976710657
-7fffffffffffff 36028797018963967
-0080000000000000 36028797018963968
-00ffffffffffffff 72057594037927935
-0100000000000000 72057594037927936
-0100000000000001 72057594037927937
-7fffffffffffffff 9223372036854775807";
-
-fn fault_of(name: &str) -> Option<LeafFault> {
-    match name {
-        "BadBoolean" => Some(LeafFault::BadBoolean),
-        "BadInteger" => Some(LeafFault::BadInteger),
-        "IntegerTooLong" => Some(LeafFault::IntegerTooLong),
-        "BadText" => Some(LeafFault::BadText),
-        "BadDate" => Some(LeafFault::BadDate),
-        "BadTime" => Some(LeafFault::BadTime),
-        _ => None,
-    }
-}
+static INTEGERS: [(&str, i64); 77] = [
+    ("8000000000000000", -9_223_372_036_854_775_808),
+    ("feffffffffffffff", -72_057_594_037_927_937),
+    ("ff00000000000000", -72_057_594_037_927_936),
+    ("ff00000000000001", -72_057_594_037_927_935),
+    ("ff7fffffffffffff", -36_028_797_018_963_969),
+    ("80000000000000", -36_028_797_018_963_968),
+    ("feffffffffffff", -281_474_976_710_657),
+    ("ff000000000000", -281_474_976_710_656),
+    ("ff000000000001", -281_474_976_710_655),
+    ("ff7fffffffffff", -140_737_488_355_329),
+    ("800000000000", -140_737_488_355_328),
+    ("feffffffffff", -1_099_511_627_777),
+    ("ff0000000000", -1_099_511_627_776),
+    ("ff0000000001", -1_099_511_627_775),
+    ("ff7fffffffff", -549_755_813_889),
+    ("8000000000", -549_755_813_888),
+    ("feffffffff", -4_294_967_297),
+    ("ff00000000", -4_294_967_296),
+    ("ff00000001", -4_294_967_295),
+    ("ff7fffffff", -2_147_483_649),
+    ("80000000", -2_147_483_648),
+    ("feffffff", -16_777_217),
+    ("ff000000", -16_777_216),
+    ("ff000001", -16_777_215),
+    ("ff7fffff", -8_388_609),
+    ("800000", -8_388_608),
+    ("feffff", -65_537),
+    ("ff0000", -65_536),
+    ("ff0001", -65_535),
+    ("ff7fff", -32_769),
+    ("8000", -32_768),
+    ("feff", -257),
+    ("ff00", -256),
+    ("ff01", -255),
+    ("ff7f", -129),
+    ("80", -128),
+    ("fe", -2),
+    ("ff", -1),
+    ("00", 0),
+    ("01", 1),
+    ("02", 2),
+    ("7f", 127),
+    ("0080", 128),
+    ("00ff", 255),
+    ("0100", 256),
+    ("0101", 257),
+    ("7fff", 32_767),
+    ("008000", 32_768),
+    ("00ffff", 65_535),
+    ("010000", 65_536),
+    ("010001", 65_537),
+    ("7fffff", 8_388_607),
+    ("00800000", 8_388_608),
+    ("00ffffff", 16_777_215),
+    ("01000000", 16_777_216),
+    ("01000001", 16_777_217),
+    ("7fffffff", 2_147_483_647),
+    ("0080000000", 2_147_483_648),
+    ("00ffffffff", 4_294_967_295),
+    ("0100000000", 4_294_967_296),
+    ("0100000001", 4_294_967_297),
+    ("7fffffffff", 549_755_813_887),
+    ("008000000000", 549_755_813_888),
+    ("00ffffffffff", 1_099_511_627_775),
+    ("010000000000", 1_099_511_627_776),
+    ("010000000001", 1_099_511_627_777),
+    ("7fffffffffff", 140_737_488_355_327),
+    ("00800000000000", 140_737_488_355_328),
+    ("00ffffffffffff", 281_474_976_710_655),
+    ("01000000000000", 281_474_976_710_656),
+    ("01000000000001", 281_474_976_710_657),
+    ("7fffffffffffff", 36_028_797_018_963_967),
+    ("0080000000000000", 36_028_797_018_963_968),
+    ("00ffffffffffffff", 72_057_594_037_927_935),
+    ("0100000000000000", 72_057_594_037_927_936),
+    ("0100000000000001", 72_057_594_037_927_937),
+    ("7fffffffffffffff", 9_223_372_036_854_775_807),
+];
 
 /// The normal content of the value that the octets hold, or their fault.
 fn normal_of<L: Leaf>(
@@ -169,157 +246,117 @@ fn normal_at(
         "D" => normal_of::<DateText>(alloc, octets),
         "T" => normal_of::<TimeText>(alloc, octets),
         "P" => normal_of::<PrintableText>(alloc, octets),
-        "General" => normal_of::<GeneralText>(alloc, octets),
+        "G" => normal_of::<GeneralText>(alloc, octets),
         _ => normal_of::<VisibleText>(alloc, octets),
     }
 }
 
-#[test]
-fn rows(rt: HostRuntime) -> Result<(), Fail> {
-    let mut count = 0u8;
-    for line in ROWS.lines() {
-        let mut words = line.split(' ');
-        let name = words.next().unwrap_or("");
-        let kind = words.next().unwrap_or("");
-        let octets = octets_of(rt.alloc(), words.next().unwrap_or(""))?;
-        let fault = fault_of(words.next().unwrap_or(""));
-        let _value = words.next();
-        let normal = words.next().unwrap_or("-");
-        match normal_at(rt.alloc(), kind, octets)? {
-            Ok(content) => {
-                assert_eq!(rt; None, fault, "{name}");
-                if normal != "-" {
-                    assert!(rt; content == octets_of(rt.alloc(), normal)?, "{name}");
-                }
-            }
-            Err(found) => assert_eq!(rt; Some(found), fault, "{name}"),
-        }
-        count = count.wrapping_add(1);
-    }
-    assert_eq!(rt; count, 37);
-    Ok(())
+/// Whether the octets have this normal content.
+fn is_normal(alloc: Global, kind: &str, octets: &str, normal: &str) -> Result<bool, AllocError> {
+    let found = normal_at(alloc, kind, octets_of(alloc, octets)?)?;
+    let normal = octets_of(alloc, normal)?;
+    Ok(matches!(&found, Ok(content) if content.as_slice() == normal.as_slice()))
 }
 
 #[test]
-fn row_values(rt: HostRuntime) -> Result<(), Fail> {
-    for line in ROWS.lines() {
-        let mut words = line.split(' ');
-        let name = words.next().unwrap_or("");
-        let kind = words.next().unwrap_or("");
-        let octets = octets_of(rt.alloc(), words.next().unwrap_or(""))?;
-        let value = words.nth(1).unwrap_or("-");
-        if kind == "B" && Flag::check(&octets).is_none() {
-            assert_eq!(rt; Flag::of(octets), value == "true", "{name}");
-        } else if kind == "I" && Whole::check(&octets).is_none() {
-            assert_eq!(rt; Whole::of(octets), value.parse::<i64>()?, "{name}");
-        }
+fn contents_have_a_normal_content(rt: HostRuntime) -> Result<(), Fail> {
+    for (name, kind, octets, normal) in &CONTENTS {
+        assert!(rt; is_normal(rt.alloc(), kind, octets, normal)?, "{name}");
     }
     Ok(())
 }
 
 #[test]
-fn integers(rt: HostRuntime) -> Result<(), Fail> {
-    for line in INTEGERS.lines() {
-        let (hex, number) = line.split_once(' ').ok_or("two words")?;
-        let octets = octets_of(rt.alloc(), hex)?;
-        let number = number.parse::<i64>()?;
-        assert_eq!(rt; Whole::check(&octets), None, "{number}");
-        assert_eq!(rt; Whole::normal_size(&number), octets.len(), "{number}");
-        let mut room = vec![in rt.alloc(); 0; Whole::normal_size(&number)]?;
-        Whole::put_normal(&number, &mut room);
-        assert!(rt; room == octets, "{number}");
-        assert_eq!(rt; Whole::of(octets), number);
+fn other_octets_have_a_fault(rt: HostRuntime) -> Result<(), Fail> {
+    for (name, kind, octets, fault) in &FAULTS {
+        let found = normal_at(rt.alloc(), kind, octets_of(rt.alloc(), octets)?)?;
+        assert!(rt; found.err() == Some(*fault), "{name}");
     }
     Ok(())
+}
+
+/// The truth that the octet is as a BOOLEAN.
+fn truth(alloc: Global, octet: u8) -> Result<Option<bool>, AllocError> {
+    let octets = vec![in alloc; octet]?;
+    if Flag::check(&octets).is_some() {
+        return Ok(None);
+    }
+    Ok(Some(Flag::of(octets)))
+}
+
+#[test]
+fn all_octets_but_zero_are_true(rt: HostRuntime) -> Result<(), Fail> {
+    for octet in 0..=255 {
+        assert!(rt; truth(rt.alloc(), octet)? == Some(octet != 0), "{octet}");
+    }
+    Ok(())
+}
+
+/// Whether the octets hold the number, and are its normal content.
+fn is_whole(alloc: Global, octets: &str, number: i64) -> Result<bool, AllocError> {
+    let octets = octets_of(alloc, octets)?;
+    let size = Whole::normal_size(&number);
+    let mut room = vec![in alloc; 0; size]?;
+    Whole::put_normal(&number, &mut room);
+    Ok(
+        size == octets.len()
+            && room == octets
+            && Whole::check(&octets).is_none()
+            && Whole::of(octets) == number,
+    )
+}
+
+#[test]
+fn integers_have_their_least_octets(rt: HostRuntime) -> Result<(), Fail> {
+    for (octets, number) in &INTEGERS {
+        assert!(rt; is_whole(rt.alloc(), octets, *number)?, "{number}");
+    }
+    Ok(())
+}
+
+/// Whether each alphabet has the octet where it must.
+fn is_in_its_alphabets(octet: u8) -> bool {
+    let printable = b"ABCDEFGHIJKLMNOPQRSTUVWXYZabcdefghijklmnopqrstuvwxyz0123456789 '()+,-./:=?";
+    let text = [octet];
+    PrintableText::check(&text).is_none() == printable.contains(&octet)
+        && VisibleText::check(&text).is_none() == (octet >= 32 && octet < 127)
+        && GeneralText::check(&text).is_none() == (octet != 14 && octet != 15 && octet != 27)
 }
 
 #[test]
 fn alphabets(rt: HostRuntime) {
-    let printable = b"ABCDEFGHIJKLMNOPQRSTUVWXYZabcdefghijklmnopqrstuvwxyz0123456789 '()+,-./:=?";
     for octet in 0..=255u8 {
-        let text = [octet];
-        assert_eq!(rt;
-            PrintableText::check(&text).is_none(),
-            printable.contains(&octet),
-            "{octet}"
-        );
-        assert_eq!(rt;
-            VisibleText::check(&text).is_none(),
-            octet >= 32 && octet < 127,
-            "{octet}"
-        );
-        assert_eq!(rt;
-            GeneralText::check(&text).is_none(),
-            octet != 14 && octet != 15 && octet != 27,
-            "{octet}"
-        );
+        assert!(rt; is_in_its_alphabets(octet), "{octet}");
+    }
+}
+
+fn time(alloc: Global, digits: &[u8]) -> Result<TimeText, Fail> {
+    match TimeText::new(digits.to_vec(alloc)?) {
+        Ok(text) => Ok(text),
+        Err(_) => Err("no ISO-Time")?,
     }
 }
 
 #[test]
-fn days_and_times(rt: HostRuntime) {
-    assert_eq!(rt; DateText::check(b"00000229"), None);
-    assert_eq!(rt; DateText::check(b"19000228"), None);
-    assert_eq!(rt; DateText::check(b"19000229"), Some(LeafFault::BadDate));
-    assert_eq!(rt; DateText::check(b"2024022X"), Some(LeafFault::BadDate));
-    assert_eq!(rt; TimeText::check(b"235960"), None);
-    assert_eq!(rt; TimeText::check(b"120060"), None);
-    assert_eq!(rt; TimeText::check(b"240000"), None);
-    assert_eq!(rt; TimeText::check(b"000000"), None);
-    assert_eq!(rt; TimeText::check(b"240001"), Some(LeafFault::BadTime));
-    assert_eq!(rt; TimeText::check(b"240100"), Some(LeafFault::BadTime));
-}
-
-#[test]
-fn joined_date_pieces(rt: HostRuntime) -> Result<(), Fail> {
-    let mut segments = Segments::new(rt.alloc());
-    segments.push(b"2024")?;
-    segments.push(b"0229")?;
-    let octets = segments.into_octets();
-    assert!(rt; octets.as_slice() == b"20240229".as_slice());
-    assert_eq!(rt; DateText::check(&octets), None);
+fn the_end_of_a_day_is_not_its_start(rt: HostRuntime) -> Result<(), Fail> {
+    let start = time(rt.alloc(), b"000000")?;
+    let end = time(rt.alloc(), b"240000")?;
+    assert!(rt; start != end);
     Ok(())
 }
 
-#[test]
-fn texts(rt: HostRuntime) -> Result<(), Fail> {
-    let midnight = TimeText::new(b"000000".to_vec(rt.alloc())?)
-        .ok()
-        .ok_or("a time")?;
-    let end = TimeText::new(b"240000".to_vec(rt.alloc())?)
-        .ok()
-        .ok_or("a time")?;
-    assert!(rt; midnight != end);
-    assert!(rt; end.copy(rt.alloc())? == end);
-    let day = DateText::new(b"20240229".to_vec(rt.alloc())?)
-        .ok()
-        .ok_or("a day")?;
-    assert!(rt; day.copy(rt.alloc())?.octets() == b"20240229".as_slice());
-    assert!(rt; day == day.copy(rt.alloc())?);
-    let price = PrintableText::new(b"12.50".to_vec(rt.alloc())?)
-        .ok()
-        .ok_or("printable")?;
-    assert!(rt; price.copy(rt.alloc())? == price);
-    let refused = PrintableText::new(b"12*50".to_vec(rt.alloc())?);
-    assert!(rt; matches!(&refused, Err(LeafFault::BadText)));
-    Ok(())
+fn visible(alloc: Global, letters: &[u8]) -> Result<IllString, Fail> {
+    match VisibleText::new(letters.to_vec(alloc)?) {
+        Ok(text) => Ok(IllString::Visible(text)),
+        Err(_) => Err("no VisibleString")?,
+    }
 }
 
 #[test]
-fn strings(rt: HostRuntime) -> Result<(), Fail> {
-    let general = GeneralText::new(b"Jones".to_vec(rt.alloc())?)
-        .ok()
-        .ok_or("general")?;
-    let visible = VisibleText::new(b"Jones".to_vec(rt.alloc())?)
-        .ok()
-        .ok_or("visible")?;
-    assert!(rt; general.octets() == visible.octets());
-    let one = IllString::General(general);
-    let other = IllString::Visible(visible);
-    assert!(rt; one.octets() == other.octets());
-    assert!(rt; one != other, "the choice is a part of the value");
-    assert!(rt; one == one.copy(rt.alloc())?);
-    assert!(rt; other == other.copy(rt.alloc())?);
+fn strings_of_two_alternatives_differ(rt: HostRuntime) -> Result<(), Fail> {
+    let general = general_string(rt.alloc(), "Jones")?;
+    let visible = visible(rt.alloc(), b"Jones")?;
+    assert!(rt; general.octets() == visible.octets() && general != visible);
     Ok(())
 }
 

@@ -1,12 +1,12 @@
 //! What there is to say of a message.
 use super::{EXPIRED_HEX, INDEFINITE_HEX, TYPED_SEGMENT_HEX};
 use ill_normal::{Cause, Checked, Pieces, ReadFailure, Refusal, check_one};
+use std::alloc::Global;
 use std::test::Fail;
 use test_support::octets_of;
 
-/// A name, a message, the APDU's number, the message's size and that of its normal form in octets,
-/// and whether it is normal.
-const ROWS: [(&str, &str, Checked); 3] = [
+/// A name, a message, and what there is to say of it.
+static ROWS: [(&str, &str, Checked); 3] = [
     (
         "check-line-normal",
         EXPIRED_HEX,
@@ -40,16 +40,23 @@ const ROWS: [(&str, &str, Checked); 3] = [
     ),
 ];
 
+/// Whether this is said of the message, and then that no other follows, however many octets a call gives.
+fn is_checked(alloc: Global, octets: &[u8], want: Checked) -> bool {
+    for per_call in [1, 7, 4096] {
+        let mut source = Pieces::new(octets, per_call, None);
+        let first = check_one(alloc, &mut source);
+        if first != Ok(Some(want)) || check_one(alloc, &mut source) != Ok(None) {
+            return false;
+        }
+    }
+    true
+}
+
 #[test]
 fn messages_are_checked(rt: HostRuntime) -> Result<(), Fail> {
-    for (name, hex, want) in ROWS {
+    for (name, hex, want) in &ROWS {
         let octets = octets_of(rt.alloc(), hex)?;
-        for per_call in [1, 7, 4096] {
-            let mut source = Pieces::new(&octets, per_call, None);
-            let answer = check_one(rt.alloc(), &mut source);
-            assert!(rt; answer == Ok(Some(want)), "{name}");
-            assert!(rt; check_one(rt.alloc(), &mut source) == Ok(None), "{name}");
-        }
+        assert!(rt; is_checked(rt.alloc(), &octets, *want), "{name}");
     }
     Ok(())
 }

@@ -1,12 +1,12 @@
 //! Messages one after another, where some are refused.
 use super::{EXPIRED, EXPIRED_HEX, INDEFINITE_HEX};
-use ber_core::{AtHand, FromSlice, Unseen};
+use ber_core::{AtHand, FromSlice, Look, Unseen};
 use ill_going::{Gone, Halted, Report, Reports, Why, keep_going};
 use ill_normal::{
     Broken, Cause, NodeId, NormalFailure, NormalForms, PartId, Pieces, Refusal, Room, Source,
     StreamCause, ToWrite, normalise_stream,
 };
-use std::alloc::{AllocError, Global};
+use std::alloc::Global;
 use std::test::Fail;
 use test_support::octets_of;
 
@@ -38,20 +38,22 @@ struct Row {
 /// A refused message: its number, the offset, the cause, and whether its end is known.
 type Refused = (u32, u32, Cause, bool);
 
-/// What is reported of these.
-fn reports_of(alloc: Global, rows: &[Refused]) -> Result<Vec<Report>, Fail> {
-    let mut reports = Vec::new(alloc);
-    for (message, at, cause, ends) in rows {
-        reports.push(Report {
-            message: *message,
-            refusal: Refusal {
-                at: *at,
-                cause: *cause,
-            },
-            ends: *ends,
-        })?;
+/// Whether these were reported.
+fn are_reported(reports: &[Report], wanted: &[Refused]) -> bool {
+    if reports.len() != wanted.len() {
+        return false;
     }
-    Ok(reports)
+    for (report, want) in reports.iter().zip(wanted) {
+        let Report {
+            message,
+            refusal: Refusal { at, cause },
+            ends,
+        } = *report;
+        if (message, at, cause, ends) != *want {
+            return false;
+        }
+    }
+    true
 }
 
 const MISSING_TIME: Cause = Cause::Missing(PartId {
@@ -59,7 +61,7 @@ const MISSING_TIME: Cause = Cause::Missing(PartId {
     row: 2,
 });
 
-const ROWS: [Row; 12] = [
+static ROWS: [Row; 12] = [
     Row {
         name: "nothing",
         input: &[],
@@ -154,13 +156,16 @@ const ROWS: [Row; 12] = [
     },
 ];
 
-/// EXPIRED, `count` times.
-fn expireds(alloc: Global, count: usize) -> Result<Vec<u8>, AllocError> {
-    let mut octets = Vec::new(alloc);
-    for _ in 0..count {
-        octets.extend_from_slice(EXPIRED)?;
+/// Whether the octets are EXPIRED, `count` times.
+fn are_expireds(octets: &[u8], count: usize) -> bool {
+    let mut found = 0usize;
+    for message in octets.chunks(EXPIRED.len()) {
+        if message != EXPIRED {
+            return false;
+        }
+        found = found.saturating_add(1);
     }
-    Ok(octets)
+    found == count
 }
 
 /// The octets that words in hexadecimal say, joined.
@@ -172,205 +177,183 @@ fn joined(alloc: Global, words: &[&str]) -> Result<Vec<u8>, Fail> {
     Ok(octets)
 }
 
-/// The number and the refusal of the first message that is refused, by a call that stops there.
-fn first_refused(alloc: Global, octets: &[u8]) -> Option<(u32, Refusal)> {
-    let mut source = FromSlice::new(octets);
-    let mut sink = Vec::new(alloc);
-    let result = normalise_stream(alloc, &mut source, &mut ToWrite::new(&mut sink));
-    let Err(failure) = result else {
-        return None;
+/// What comes of messages that are gone over.
+#[derive(Clone, Copy)]
+struct Want<'a> {
+    result: Result<Gone, Halted>,
+    /// How often EXPIRED is written.
+    written: usize,
+    reports: &'a [Refused],
+}
+
+/// Whether that comes of the messages of a source.
+fn comes_of<R: Source, L: Look<R>>(alloc: Global, source: &mut R, want: &Want<'_>) -> bool {
+    let mut octets = Vec::new(alloc);
+    let mut reported = Reported {
+        reports: Vec::new(alloc),
     };
-    match failure.why {
-        StreamCause::Normal(NormalFailure::Refused(refusal)) => {
-            Some((failure.whole.saturating_add(1), refusal))
+    let result = keep_going::<NormalForms, R, L, ToWrite<&mut Vec<u8>>, Reported>(
+        alloc,
+        &NormalForms,
+        source,
+        &mut ToWrite::new(&mut octets),
+        &mut reported,
+    );
+    result == want.result
+        && are_expireds(&octets, want.written)
+        && are_reported(&reported.reports, want.reports)
+}
+
+/// Whether a call that stops at the first message that is refused stops at the first of these.
+fn stops_at_the_first(alloc: Global, octets: &[u8], refused: &[Refused]) -> bool {
+    let mut source = FromSlice::new(octets);
+    let mut sink: Room<128> = Room::new(128, None);
+    let result = normalise_stream(alloc, &mut source, &mut sink);
+    match (result, refused) {
+        (Ok(_), []) => true,
+        (Err(failure), [(message, at, cause, _), ..]) => {
+            let refusal = Refusal {
+                at: *at,
+                cause: *cause,
+            };
+            failure.whole.saturating_add(1) == *message
+                && failure.why == StreamCause::Normal(NormalFailure::Refused(refusal))
         }
-        _ => None,
+        _ => false,
     }
 }
 
-#[test]
-fn the_first_is_refused_as_by_a_call_that_stops(rt: HostRuntime) -> Result<(), Fail> {
-    let alloc = rt.alloc();
-    for row in &ROWS {
-        let octets = joined(alloc, row.input)?;
-        let first = row.reports.first().map(|(message, at, cause, _)| (
-            *message,
-            Refusal {
-                at: *at,
-                cause: *cause,
-            },
-        ));
-        assert!(rt; first_refused(alloc, &octets) == first, "{}", row.name);
+/// Whether a row comes true, of octets in pieces and of octets at hand.
+fn comes_true(alloc: Global, row: &Row, octets: &[u8]) -> bool {
+    let want = Want {
+        result: Ok(Gone {
+            messages: row.messages,
+            refused: u32::try_from(row.reports.len()).unwrap_or(u32::MAX),
+            all_good: true,
+        }),
+        written: row.written,
+        reports: row.reports,
+    };
+    for per_call in [1, 5, 64] {
+        let mut source = Pieces::new(octets, per_call, None);
+        if !comes_of::<Pieces<'_>, Unseen>(alloc, &mut source, &want) {
+            return false;
+        }
     }
-    Ok(())
+    comes_of::<FromSlice<'_>, AtHand>(alloc, &mut FromSlice::new(octets), &want)
 }
 
 #[test]
 fn refused_messages_are_passed_over(rt: HostRuntime) -> Result<(), Fail> {
-    let alloc = rt.alloc();
     for row in &ROWS {
-        let name = row.name;
-        let octets = joined(alloc, row.input)?;
-        let written = expireds(alloc, row.written)?;
-        let reports = reports_of(alloc, row.reports)?;
-        let gone = Gone {
-            messages: row.messages,
-            refused: row.reports.len() as u32,
-            all_good: true,
-        };
-        for per_call in [1, 5, 64] {
-            let mut source = Pieces::new(&octets, per_call, None);
-            let mut sink = Vec::new(alloc);
-            let mut reported = Reported {
-                reports: Vec::new(alloc),
-            };
-            let result = keep_going::<
-                NormalForms,
-                Pieces<'_>,
-                Unseen,
-                ToWrite<&mut Vec<u8>>,
-                Reported,
-            >(
-                alloc,
-                &NormalForms,
-                &mut source,
-                &mut ToWrite::new(&mut sink),
-                &mut reported,
-            );
-            assert!(rt; result == Ok(gone), "{name}, {per_call} a call");
-            assert!(rt; sink.as_slice() == written.as_slice(), "{name}");
-            assert!(rt; reported.reports.as_slice() == reports.as_slice(), "{name}");
-        }
-        let mut source = FromSlice::new(&octets);
-        let mut sink = Vec::new(alloc);
-        let mut reported = Reported {
-            reports: Vec::new(alloc),
-        };
-        let result = keep_going::<
-            NormalForms,
-            FromSlice<'_>,
-            AtHand,
-            ToWrite<&mut Vec<u8>>,
-            Reported,
-        >(
-            alloc,
-            &NormalForms,
-            &mut source,
-            &mut ToWrite::new(&mut sink),
-            &mut reported,
+        let octets = joined(rt.alloc(), row.input)?;
+        assert!(rt;
+            comes_true(rt.alloc(), row, &octets)
+                && stops_at_the_first(rt.alloc(), &octets, row.reports),
+            "{}",
+            row.name
         );
-        assert!(rt; result == Ok(gone), "{name}");
-        assert!(rt; sink.as_slice() == written.as_slice(), "{name}");
-        assert!(rt; reported.reports.as_slice() == reports.as_slice(), "{name}");
     }
     Ok(())
 }
 
-/// EXPIRED, a NULL, and EXPIRED.
-const BETWEEN: [&str; 3] = [EXPIRED_HEX, "0500", EXPIRED_HEX];
+/// EXPIRED, a REFUSED, and EXPIRED.
+const BETWEEN: &[&str] = &[EXPIRED_HEX, "0500", EXPIRED_HEX];
+
+/// What is reported of these.
+const REFUSED: &[Refused] = &[(2, 0, Cause::UnexpectedTag, true)];
+
+/// Whether a sink that breaks after n octets, of the 66 that are to be written, has these.
+fn has_the_first(alloc: Global, octets: &[u8], n: usize) -> bool {
+    let mut source = FromSlice::new(octets);
+    let mut sink: Room<128> = Room::new(64, Some(n));
+    let mut reported = Reported {
+        reports: Vec::new(alloc),
+    };
+    let result = keep_going::<NormalForms, FromSlice<'_>, AtHand, Room<128>, Reported>(
+        alloc,
+        &NormalForms,
+        &mut source,
+        &mut sink,
+        &mut reported,
+    );
+    let (messages, reports, of_the_last) = if n < 33 {
+        (0, [].as_slice(), n)
+    } else {
+        (2, REFUSED, n - 33)
+    };
+    let halted = Halted {
+        messages,
+        refused: reports.len() as u32,
+        written: n as u128,
+        why: Why::WriteFault(of_the_last),
+    };
+    let (first, second) = sink.octets().split_at(n.min(33).min(sink.octets().len()));
+    result == Err(halted)
+        && sink.octets().len() == n
+        && EXPIRED.starts_with(first)
+        && EXPIRED.starts_with(second)
+        && are_reported(&reported.reports, reports)
+}
 
 #[test]
 fn a_broken_sink_has_the_first_octets(rt: HostRuntime) -> Result<(), Fail> {
-    let alloc = rt.alloc();
-    let octets = joined(alloc, &BETWEEN)?;
-    let written = expireds(alloc, 2)?;
+    let octets = joined(rt.alloc(), BETWEEN)?;
     for n in 0..66 {
-        let mut source = FromSlice::new(&octets);
-        let mut sink: Room<128> = Room::new(64, Some(n));
-        let mut reported = Reported {
-            reports: Vec::new(alloc),
-        };
-        let result = keep_going::<NormalForms, FromSlice<'_>, AtHand, Room<128>, Reported>(
-            alloc,
-            &NormalForms,
-            &mut source,
-            &mut sink,
-            &mut reported,
-        );
-        let halted = if n < 33 {
-            Halted {
-                messages: 0,
-                refused: 0,
-                written: n as u128,
-                why: Why::WriteFault(n),
-            }
-        } else {
-            Halted {
-                messages: 2,
-                refused: 1,
-                written: n as u128,
-                why: Why::WriteFault(n - 33),
-            }
-        };
-        assert!(rt; result == Err(halted), "{n}");
-        assert!(rt; written.get(..n) == Some(sink.octets()), "{n}");
-        assert_eq!(rt; reported.reports.len(), halted.refused as usize, "{n}");
+        assert!(rt; has_the_first(rt.alloc(), &octets, n), "{n}");
     }
     Ok(())
+}
+
+/// Whether a source that breaks after n octets leaves the normal forms of the messages that are whole in these.
+fn leaves_what_was_whole(alloc: Global, octets: &[u8], n: usize) -> bool {
+    let (messages, written, reports) = match n {
+        0..=32 => (0, 0, [].as_slice()),
+        33..=34 => (1, 1, [].as_slice()),
+        35..=67 => (2, 1, REFUSED),
+        _ => (3, 2, REFUSED),
+    };
+    let halted = Halted {
+        messages,
+        refused: reports.len() as u32,
+        written: 33 * written as u128,
+        why: Why::ReadFault,
+    };
+    let want = Want {
+        result: Err(halted),
+        written,
+        reports,
+    };
+    let mut source = Pieces::new(octets, 64, Some(n));
+    comes_of::<Pieces<'_>, Unseen>(alloc, &mut source, &want)
 }
 
 #[test]
 fn a_broken_source_leaves_what_was_whole(rt: HostRuntime) -> Result<(), Fail> {
-    let alloc = rt.alloc();
-    let octets = joined(alloc, &BETWEEN)?;
-    for breaks_at in 0..69 {
-        let mut source = Pieces::new(&octets, 64, Some(breaks_at));
-        let mut sink = Vec::new(alloc);
-        let mut reported = Reported {
-            reports: Vec::new(alloc),
-        };
-        let result = keep_going::<NormalForms, Pieces<'_>, Unseen, ToWrite<&mut Vec<u8>>, Reported>(
-            alloc,
-            &NormalForms,
-            &mut source,
-            &mut ToWrite::new(&mut sink),
-            &mut reported,
-        );
-        let (messages, refused, count) = match breaks_at {
-            0..=32 => (0, 0, 0),
-            33..=34 => (1, 0, 1),
-            35..=67 => (2, 1, 1),
-            _ => (3, 1, 2),
-        };
-        let written = expireds(alloc, count)?;
-        let halted = Halted {
-            messages,
-            refused,
-            written: written.len() as u128,
-            why: Why::ReadFault,
-        };
-        assert!(rt; result == Err(halted), "{breaks_at}");
-        assert!(rt; sink.as_slice() == written.as_slice(), "{breaks_at}");
-        assert_eq!(rt; reported.reports.len(), refused as usize, "{breaks_at}");
+    let octets = joined(rt.alloc(), BETWEEN)?;
+    for n in 0..69 {
+        assert!(rt; leaves_what_was_whole(rt.alloc(), &octets, n), "{n}");
     }
     Ok(())
 }
 
+/// A message of 2,097,152 octets in definite form, which is twice as many as a message may have, and EXPIRED.
+const PAST_THE_LIMIT: &[&str] = &["748400200000 00*2097152", EXPIRED_HEX];
+
 #[test]
 fn a_message_past_the_limit_is_passed_over(rt: HostRuntime) -> Result<(), Fail> {
-    let alloc = rt.alloc();
-    // 2,097,152 octets in definite form, which is twice as many as a message may have.
-    let mut octets = joined(alloc, &["748400200000"])?;
-    for _ in 0..2048 {
-        octets.extend_from_slice(&[0; 1024])?;
-    }
-    octets.extend_from_slice(EXPIRED)?;
-    let mut source = FromSlice::new(&octets);
-    let mut sink = Vec::new(alloc);
-    let mut reported = Reported {
-        reports: Vec::new(alloc),
+    let octets = joined(rt.alloc(), PAST_THE_LIMIT)?;
+    let want = Want {
+        result: Ok(Gone {
+            messages: 2,
+            refused: 1,
+            all_good: true,
+        }),
+        written: 1,
+        reports: &[(1, 0, Cause::TooLong, true)],
     };
-    let result = keep_going::<NormalForms, FromSlice<'_>, AtHand, ToWrite<&mut Vec<u8>>, Reported>(
-        alloc,
-        &NormalForms,
-        &mut source,
-        &mut ToWrite::new(&mut sink),
-        &mut reported,
-    );
-    let reports = reports_of(alloc, &[(1, 0, Cause::TooLong, true)])?;
-    assert!(rt; result.map(|gone| gone.messages) == Ok(2));
-    assert!(rt; reported.reports.as_slice() == reports.as_slice());
-    assert!(rt; sink.as_slice() == EXPIRED);
+    let mut source = FromSlice::new(&octets);
+    assert!(rt; comes_of::<FromSlice<'_>, AtHand>(rt.alloc(), &mut source, &want));
     Ok(())
 }
 
@@ -420,12 +403,11 @@ impl Reports for Count {
 
 #[test]
 fn a_million_refused_messages_are_enough(rt: HostRuntime) {
-    let alloc = rt.alloc();
     let mut source = Nulls { at: false };
     let mut sink: Room<1> = Room::new(1, None);
     let mut count = Count { reports: 0 };
     let result = keep_going::<NormalForms, Nulls, Unseen, Room<1>, Count>(
-        alloc,
+        rt.alloc(),
         &NormalForms,
         &mut source,
         &mut sink,
@@ -437,6 +419,5 @@ fn a_million_refused_messages_are_enough(rt: HostRuntime) {
         written: 0,
         why: Why::TooMany,
     };
-    assert!(rt; result == Err(halted));
-    assert_eq!(rt; count.reports, 1_000_000);
+    assert!(rt; result == Err(halted) && count.reports == 1_000_000);
 }

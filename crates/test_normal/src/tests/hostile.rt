@@ -1,5 +1,5 @@
 //! Inputs that end early, and sources and sinks that break: at each octet of each message of up to 200.
-use super::rows::ROWS;
+use super::rows::{ROWS, octets_of_row};
 use ill_normal::{
     Cause, Failure, NormalFailure, Pieces, ReadFailure, Refusal, Room, decode, normalise,
     read_message,
@@ -12,132 +12,105 @@ fn number(octets: usize) -> u32 {
     u32::try_from(octets).unwrap_or(u32::MAX)
 }
 
-/// The name, the message and its normal form, if that is a row of a message of up to 200 octets.
-fn short_row(
+/// Whether the octets, which are the front of a message, are refused as cut short after the last, as a slice and from a source. A source
+/// without an octet has no message.
+fn is_truncated(alloc: Global, octets: &[u8]) -> bool {
+    let refusal = Refusal {
+        at: number(octets.len()),
+        cause: Cause::Truncated,
+    };
+    let decoded = decode(alloc, octets).err() == Some(Failure::Refused(refusal));
+    let mut source = Pieces::new(octets, 64, None);
+    decoded
+        && match read_message(alloc, &mut source) {
+            Ok(found) => octets.is_empty() && found.is_none(),
+            Err(failure) => !octets.is_empty() && failure == ReadFailure::Refused(refusal),
+        }
+}
+
+/// What comes of a message from a source that breaks after a number of octets, into a sink that breaks so: the result, and how many octets
+/// the sink has, None where they are not the first of the normal form.
+fn broken(
     alloc: Global,
-    line: &'static str,
-) -> Result<Option<(&'static str, Vec<u8>, Vec<u8>)>, Fail> {
-    let (name, row) = line.split_once('|').ok_or("no name")?;
-    let (pieces, want) = row.split_once('|').ok_or("no normal form")?;
-    let octets = octets_of(alloc, pieces)?;
-    if octets.len() > 200 {
-        return Ok(None);
-    }
-    let normal = octets_of(alloc, if want == "=" { pieces } else { want })?;
-    Ok(Some((name, octets, normal)))
+    octets: &[u8],
+    normal: &[u8],
+    (source_breaks, sink_breaks): (Option<usize>, Option<usize>),
+) -> (Result<Option<u32>, NormalFailure>, Option<usize>) {
+    let mut source = Pieces::new(octets, 64, source_breaks);
+    let mut sink: Room<256> = Room::new(64, sink_breaks);
+    let result = normalise(alloc, &mut source, &mut sink);
+    let written = sink.octets();
+    let count = normal.starts_with(written).then_some(written.len());
+    (result, count)
 }
 
-#[test]
-fn what_ends_early_is_truncated_there(rt: HostRuntime) -> Result<(), Fail> {
-    let alloc = rt.alloc();
-    for line in ROWS.lines() {
-        let Some((name, octets, _)) = short_row(alloc, line)? else {
-            continue;
-        };
-        for n in 0..octets.len() {
-            let refusal = Refusal {
-                at: number(n),
-                cause: Cause::Truncated,
-            };
-            let front = &octets[..n];
-            let decoded = decode(alloc, front).err();
-            assert!(rt; decoded == Some(Failure::Refused(refusal)), "{name}: {n}");
-            let mut source = Pieces::new(front, 64, None);
-            match read_message(alloc, &mut source) {
-                Ok(found) => assert!(rt; n == 0 && found.is_none(), "{name}: {n}"),
-                Err(failure) => {
-                    assert!(rt;
-                        n > 0 && failure == ReadFailure::Refused(refusal),
-                        "{name}: {n}"
-                    )
-                }
-            }
+/// Whether a source that breaks in the message leaves nothing in the sink. One that breaks after it is not noticed.
+fn breaks_at_each_read(alloc: Global, octets: &[u8], normal: &[u8]) -> bool {
+    for n in 0..octets.len() {
+        let found = broken(alloc, octets, normal, (Some(n), None));
+        if found != (Err(NormalFailure::ReadFault), Some(0)) {
+            return false;
         }
     }
-    Ok(())
+    let found = broken(alloc, octets, normal, (Some(octets.len()), None));
+    found == (Ok(Some(number(normal.len()))), Some(normal.len()))
 }
 
-#[test]
-fn a_source_that_breaks_in_a_message_leaves_nothing(rt: HostRuntime) -> Result<(), Fail> {
-    let alloc = rt.alloc();
-    for line in ROWS.lines() {
-        let Some((name, octets, _)) = short_row(alloc, line)? else {
-            continue;
-        };
-        for n in 0..octets.len() {
-            let mut source = Pieces::new(&octets, 64, Some(n));
-            let mut sink: Room<256> = Room::new(64, None);
-            let answer = normalise(alloc, &mut source, &mut sink);
-            assert!(rt; answer == Err(NormalFailure::ReadFault), "{name}: {n}");
-            assert!(rt; sink.octets().is_empty(), "{name}: {n}");
+/// Whether a sink that breaks has the first octets of the normal form.
+fn breaks_at_each_write(alloc: Global, octets: &[u8], normal: &[u8]) -> bool {
+    for n in 0..normal.len() {
+        let fault = NormalFailure::WriteFault(number(n));
+        if broken(alloc, octets, normal, (None, Some(n))) != (Err(fault), Some(n)) {
+            return false;
         }
     }
-    Ok(())
+    true
 }
 
-#[test]
-fn a_source_that_breaks_behind_a_message_is_not_noticed(rt: HostRuntime) -> Result<(), Fail> {
-    let alloc = rt.alloc();
-    for line in ROWS.lines() {
-        let Some((name, octets, normal)) = short_row(alloc, line)? else {
-            continue;
-        };
-        let mut source = Pieces::new(&octets, 64, Some(octets.len()));
-        let mut sink: Room<256> = Room::new(64, None);
-        let answer = normalise(alloc, &mut source, &mut sink);
-        assert!(rt; answer == Ok(Some(number(normal.len()))), "{name}");
-        assert!(rt; sink.octets() == normal.as_slice(), "{name}");
-    }
-    Ok(())
-}
-
-#[test]
-fn a_sink_that_breaks_has_the_first_octets(rt: HostRuntime) -> Result<(), Fail> {
-    let alloc = rt.alloc();
-    for line in ROWS.lines() {
-        let Some((name, octets, normal)) = short_row(alloc, line)? else {
-            continue;
-        };
-        for n in 0..normal.len() {
-            let mut source = Pieces::new(&octets, 64, None);
-            let mut sink: Room<256> = Room::new(64, Some(n));
-            let answer = normalise(alloc, &mut source, &mut sink);
-            assert!(rt;
-                answer == Err(NormalFailure::WriteFault(number(n))),
-                "{name}: {n}"
-            );
-            assert!(rt; sink.octets() == &normal[..n], "{name}: {n}");
+fn ends_at_each_octet(alloc: Global, octets: &[u8]) -> bool {
+    for n in 0..octets.len() {
+        if !is_truncated(alloc, &octets[..n]) {
+            return false;
         }
+    }
+    true
+}
+
+/// Whether a row comes true where its message ends early, and where a source or a sink breaks. One of more than 200 octets isn't tried.
+fn comes_true(alloc: Global, row: &str) -> Result<bool, Fail> {
+    let (octets, normal) = octets_of_row(alloc, row)?;
+    Ok(
+        octets.len() > 200
+            || (ends_at_each_octet(alloc, &octets)
+                && breaks_at_each_read(alloc, &octets, &normal)
+                && breaks_at_each_write(alloc, &octets, &normal)),
+    )
+}
+
+#[test]
+fn messages_that_break_off_leave_what_they_must(rt: HostRuntime) -> Result<(), Fail> {
+    for row in ROWS.lines() {
+        assert!(rt; comes_true(rt.alloc(), row)?, "{row}");
     }
     Ok(())
 }
 
 /// A message of the greatest size, whose note is in segments of one octet, nested to depth 32.
-fn nested_segments(alloc: Global) -> Result<Vec<u8>, Fail> {
-    let mut octets = octets_of(
-        alloc,
-        "71803080800102a10aa1031b0147a2031b0151a20ca00a80083230323430323239bf2e803b80 2480*27",
-    )?;
-    for _ in 0..349_474 {
-        octets.extend_from_slice(b"\x04\x01A")?;
-    }
-    for _ in 0..62 {
-        octets.push(0)?;
-    }
-    Ok(octets)
+const NESTED: &str =
+    "71803080800102a10aa1031b0147a2031b0151a20ca00a80083230323430323239bf2e803b80 2480*27 040141*349474 00*62";
+
+/// Whether the note is joined, with as many octets a call.
+fn is_joined(alloc: Global, octets: &[u8], per_call: usize) -> bool {
+    let mut source = Pieces::new(octets, per_call.max(1), None);
+    let mut sink: Room<350_000> = Room::new(4096, None);
+    normalise(alloc, &mut source, &mut sink) == Ok(Some(349_524))
+        && sink.octets().ends_with(b"AAAA")
 }
 
 #[test]
 fn a_note_of_nested_segments_is_joined(rt: HostRuntime) -> Result<(), Fail> {
-    let alloc = rt.alloc();
-    let octets = nested_segments(alloc)?;
+    let octets = octets_of(rt.alloc(), NESTED)?;
     assert!(rt; octets.len() == 1_048_576);
-    for per_call in [1, 4096] {
-        let mut source = Pieces::new(&octets, per_call, None);
-        let mut sink: Room<350_000> = Room::new(4096, None);
-        let answer = normalise(alloc, &mut source, &mut sink);
-        assert!(rt; answer == Ok(Some(349_524)));
-        assert!(rt; sink.octets().ends_with(b"AAAA"));
-    }
+    assert!(rt; is_joined(rt.alloc(), &octets, 1) && is_joined(rt.alloc(), &octets, 4096));
     Ok(())
 }

@@ -1,4 +1,9 @@
 //! Worked messages: a name, the octets in pieces (`hex*count` is a piece, `count` times), and the normal form, `=` where it is the same.
+use std::alloc::Global;
+use std::test::Fail;
+use test_support::octets_of;
+
+/// Each is a line.
 pub const ROWS: &str = "\
 expired-normal-form|741f301d800102a10aa1031b0147a2031b0151a20ca00a80083230323430323239|=
 expired-all-indefinite|74803080800102a180a1801b01470000a2801b015100000000a280a080800832303234303232390000000000000000|741f301d800102a10aa1031b0147a2031b0151a20ca00a80083230323430323239
@@ -44,3 +49,20 @@ jones-indefinite|74293027800102a114a10d3a8004034a6f6e040265730000a2031b0151a20ca
 request-normal-form|61343032800102a10aa1031b0147a2031b0151a20ca00a80083230323430323239a9030a0101ab0c800100810100820101830101b000|=
 answer-normal-form|64333031800102a10aa1031b0147a2031b0151a20ca00a800832303234303232399f1f0107bf200da70b3009a0071b0531322e3530|=
 ";
+
+/// The name, the message and the normal form of a row.
+fn parts_of(row: &str) -> Option<(&str, &str, &str)> {
+    let (name, row) = row.split_once('|')?;
+    let (pieces, normal) = row.split_once('|')?;
+    Some((name, pieces, normal))
+}
+
+/// The message of a row, and its normal form.
+pub fn octets_of_row(alloc: Global, row: &str) -> Result<(Vec<u8>, Vec<u8>), Fail> {
+    let Some((_, pieces, normal)) = parts_of(row) else {
+        return Err("no row")?;
+    };
+    let octets = octets_of(alloc, pieces)?;
+    let normal = octets_of(alloc, if normal == "=" { pieces } else { normal })?;
+    Ok((octets, normal))
+}

@@ -1,9 +1,10 @@
 //! Messages one after another.
-use super::{EXPIRED, EXPIRED_HEX, INDEFINITE_HEX};
+use super::EXPIRED;
 use ill_normal::{
     Broken, Cause, NormalFailure, Pieces, Refusal, Room, Sink, Source, StreamCause, StreamFailure,
-    ToWrite, normalise_stream,
+    normalise_stream,
 };
+use std::alloc::Global;
 use std::test::Fail;
 use test_support::octets_of;
 
@@ -64,114 +65,111 @@ impl Sink for Counter {
     }
 }
 
+/// EXPIRED twice.
+const TWO: &str =
+    "741f301d800102a10aa1031b0147a2031b0151a20ca00a80083230323430323239 741f301d800102a10aa1031b0147a2031b0151a20ca00a80083230323430323239";
+
+/// The same, the first of them with indefinite lengths, in 47 octets.
+const MIXED: &str =
+    "74803080800102a180a1801b01470000a2801b015100000000a280a080800832303234303232390000000000000000 741f301d800102a10aa1031b0147a2031b0151a20ca00a80083230323430323239";
+
+/// EXPIRED, and an octet that begins no message.
+const BAD_SECOND: &str = "741f301d800102a10aa1031b0147a2031b0151a20ca00a80083230323430323239 75";
+
+/// Whether the octets are the first of EXPIRED and EXPIRED.
+fn are_of_two(octets: &[u8]) -> bool {
+    let (first, second) = octets.split_at(octets.len().min(EXPIRED.len()));
+    EXPIRED.starts_with(first) && EXPIRED.starts_with(second)
+}
+
+/// Whether a stream comes to this result with as many octets a call, and this number of octets of EXPIRED and EXPIRED is written to a sink
+/// that breaks after 36 where it must.
+fn comes_to(
+    alloc: Global,
+    octets: &[u8],
+    (per_call, breaks): (usize, bool),
+    want: (Result<u32, StreamFailure>, usize),
+) -> bool {
+    let mut source = Pieces::new(octets, per_call.max(1), None);
+    let mut sink: Room<128> = Room::new(64, breaks.then_some(36));
+    let result = normalise_stream(alloc, &mut source, &mut sink);
+    (result, sink.octets().len()) == want && are_of_two(sink.octets())
+}
+
+/// A name, the octets of a stream, whether the sink breaks after 36, what comes of it, and how many octets are written.
+static STREAMS: [(&str, &str, bool, Result<u32, StreamFailure>, usize); 5] = [
+    ("stream-of-nothing", "", false, Ok(0), 0),
+    ("stream-of-two", TWO, false, Ok(2), 66),
+    ("stream-indefinite-then-definite", MIXED, false, Ok(2), 66),
+    (
+        "stream-with-bad-second",
+        BAD_SECOND,
+        false,
+        Err(StreamFailure {
+            whole: 1,
+            before: 33,
+            why: StreamCause::Normal(NormalFailure::Refused(Refusal {
+                at: 0,
+                cause: Cause::UnexpectedTag,
+            })),
+        }),
+        33,
+    ),
+    // The second message is the 33 octets after the first 47; three of its normal form are written.
+    (
+        "stream-with-broken-sink",
+        MIXED,
+        true,
+        Err(StreamFailure {
+            whole: 1,
+            before: 47,
+            why: StreamCause::Normal(NormalFailure::WriteFault(3)),
+        }),
+        36,
+    ),
+];
+
 #[test]
-fn a_stream_is_normalised(rt: HostRuntime) -> Result<(), Fail> {
-    let alloc = rt.alloc();
-    let two = octets_of(
-        alloc,
-        format!(in alloc; "{EXPIRED_HEX} {EXPIRED_HEX}")?.as_str(),
-    )?;
-    let mixed = octets_of(
-        alloc,
-        format!(in alloc; "{INDEFINITE_HEX} {EXPIRED_HEX}")?.as_str(),
-    )?;
-    for (name, octets) in [
-        ("stream-of-two", two.as_slice()),
-        ("stream-indefinite-then-definite", mixed.as_slice()),
-    ] {
+fn a_stream_is_normalised_as_far_as_it_goes(rt: HostRuntime) -> Result<(), Fail> {
+    for (name, pieces, breaks, result, count) in &STREAMS {
+        let octets = octets_of(rt.alloc(), pieces)?;
         for per_call in [1, 7, 4096] {
-            let mut source = Pieces::new(octets, per_call, None);
-            let mut written = Vec::new(alloc);
-            let mut sink = ToWrite::new(&mut written);
+            let how = (per_call, *breaks);
             assert!(rt;
-                normalise_stream(alloc, &mut source, &mut sink) == Ok(2),
+                comes_to(rt.alloc(), &octets, how, (*result, *count)),
                 "{name}"
             );
-            assert!(rt; written.as_slice() == two.as_slice(), "{name}");
         }
     }
     Ok(())
 }
 
-#[test]
-fn an_empty_stream_has_no_message(rt: HostRuntime) {
-    let mut source = Pieces::new(&[], 1, None);
-    let mut sink: Room<64> = Room::new(64, None);
-    assert!(rt; normalise_stream(rt.alloc(), &mut source, &mut sink) == Ok(0));
-    assert!(rt; sink.octets().is_empty());
-}
-
-#[test]
-fn a_stream_stops_at_a_refusal(rt: HostRuntime) -> Result<(), Fail> {
-    let octets = octets_of(
-        rt.alloc(),
-        format!(in rt.alloc(); "{EXPIRED_HEX} 75")?.as_str(),
-    )?;
-    let mut source = Pieces::new(&octets, 5, None);
-    let mut sink: Room<64> = Room::new(64, None);
-    let answer = normalise_stream(rt.alloc(), &mut source, &mut sink);
-    let refusal = Refusal {
-        at: 0,
-        cause: Cause::UnexpectedTag,
-    };
-    let want = StreamFailure {
-        whole: 1,
-        before: 33,
-        why: StreamCause::Normal(NormalFailure::Refused(refusal)),
-    };
-    assert!(rt; answer == Err(want), "stream-with-bad-second");
-    assert!(rt; sink.octets() == EXPIRED, "stream-with-bad-second");
-    Ok(())
-}
-
-/// The second message is the 33 octets after the first 47; three of its normal form are written.
-#[test]
-fn a_stream_stops_at_a_broken_sink(rt: HostRuntime) -> Result<(), Fail> {
-    let octets = octets_of(
-        rt.alloc(),
-        format!(in rt.alloc(); "{INDEFINITE_HEX} {EXPIRED_HEX}")?.as_str(),
-    )?;
-    let mut source = Pieces::new(&octets, 64, None);
-    let mut sink: Room<64> = Room::new(64, Some(36));
-    let answer = normalise_stream(rt.alloc(), &mut source, &mut sink);
-    let want = StreamFailure {
-        whole: 1,
-        before: 47,
-        why: StreamCause::Normal(NormalFailure::WriteFault(3)),
-    };
-    assert!(rt; answer == Err(want));
-    assert!(rt; sink.octets().len() == 36);
-    Ok(())
-}
-
-#[test]
-fn a_million_messages_are_normalised(rt: HostRuntime) {
-    let mut source = Expireds {
-        left: Some(33_000_000),
-        at: 0,
-    };
+/// What comes of EXPIRED over and over, of this number of octets, or for ever.
+fn repeated(alloc: Global, left: Option<usize>) -> (Result<u32, StreamFailure>, u64) {
+    let mut source = Expireds { left, at: 0 };
     let mut sink = Counter { octets: 0 };
-    let answer = normalise_stream(rt.alloc(), &mut source, &mut sink);
-    assert!(rt; answer == Ok(1_000_000), "stream-of-a-million");
-    assert!(rt; sink.octets == 33_000_000, "stream-of-a-million");
+    let result = normalise_stream(alloc, &mut source, &mut sink);
+    (result, sink.octets)
 }
 
 #[test]
-fn more_than_a_million_are_too_many(rt: HostRuntime) {
-    let rows: [(&str, Option<usize>); 2] = [
-        ("stream-of-a-million-and-an-octet", Some(33_000_001)),
-        ("stream-for-ever", None),
-    ];
-    for (name, left) in rows {
-        let mut source = Expireds { left, at: 0 };
-        let mut sink = Counter { octets: 0 };
-        let want = StreamFailure {
-            whole: 1_000_000,
-            before: 33_000_000,
-            why: StreamCause::TooManyMessages,
-        };
-        let answer = normalise_stream(rt.alloc(), &mut source, &mut sink);
-        assert!(rt; answer == Err(want), "{name}");
-        assert!(rt; sink.octets == 33_000_000, "{name}");
-    }
+fn a_million_messages_are_normalised_and_no_more(rt: HostRuntime) {
+    let alloc = rt.alloc();
+    let too_many = Err(StreamFailure {
+        whole: 1_000_000,
+        before: 33_000_000,
+        why: StreamCause::TooManyMessages,
+    });
+    assert!(rt;
+        repeated(alloc, Some(33_000_000)) == (Ok(1_000_000), 33_000_000),
+        "stream-of-a-million"
+    );
+    assert!(rt;
+        repeated(alloc, Some(33_000_001)) == (too_many, 33_000_000),
+        "stream-of-a-million-and-an-octet"
+    );
+    assert!(rt;
+        repeated(alloc, None) == (too_many, 33_000_000),
+        "stream-for-ever"
+    );
 }

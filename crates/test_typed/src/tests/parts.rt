@@ -1,148 +1,139 @@
 //! Values that are parts, and values that are not.
-use ber_leaf::{DateText, IllString, VisibleText};
+use ber_leaf::{IllString, VisibleText};
+use ill_apdu::Expired;
 use ill_parts::{
-    CostInfo, DateDue, Node, Part, SearchType, Symbol, SystemId, Typed, UnitsPerMedium,
+    CostInfo, DateDue, Node, Part, SearchType, Symbol, SystemId, TransactionId, Typed,
+    UnitsPerMedium,
 };
-use ill_schema::{NodeId, Value, equal};
-use std::alloc::{AllocError, Global};
+use ill_schema::{NodeId, equal};
+use std::alloc::Global;
 use std::test::Fail;
-use test_support::{date_text, general_string};
+use test_support::{date_text, general_string, value};
 
-fn day(alloc: Global, digits: &str) -> Result<DateText, Fail> {
-    date_text(Vec::from_slice(alloc, digits.as_bytes())?)
+/// Whether the words write a value that is no `T`.
+fn is_no<T: Typed>(alloc: Global, words: &str) -> Result<bool, Fail> {
+    let value = value(alloc, words)?;
+    Ok(T::from_value(alloc, &value)?.is_none())
 }
 
-fn visible(alloc: Global, letters: &str) -> Result<IllString, Fail> {
-    match VisibleText::new(Vec::from_slice(alloc, letters.as_bytes())?) {
+#[test]
+fn values_that_do_not_fit_are_no_parts(rt: HostRuntime) -> Result<(), Fail> {
+    let alloc = rt.alloc();
+    assert!(rt; SystemId::NODE == NodeId::SYSTEM_ID && is_no::<SystemId>(alloc, "true")?);
+    assert!(rt; is_no::<DateDue>(alloc, "date:20240229 seq:1")?);
+    assert!(rt; is_no::<CostInfo>(alloc, "none:2 3 - seq:4")?);
+    assert!(rt; is_no::<Expired>(alloc, "true")?);
+    assert!(rt; is_no::<Expired>(alloc, "head none:2 seq:7")?);
+    Ok(())
+}
+
+/// Whether the part has the value that the words write, and is read from it.
+fn is_written<T: Typed>(alloc: Global, part: &T, words: &str) -> Result<bool, Fail> {
+    let wanted = value(alloc, words)?;
+    let made = part.to_value(alloc)?;
+    match T::from_value(alloc, &wanted)? {
+        Some(read) => Ok(read == *part && equal(&made, &wanted)),
+        None => Ok(false),
+    }
+}
+
+#[test]
+fn dates_due_have_a_day_and_a_flag(rt: HostRuntime) -> Result<(), Fail> {
+    let alloc = rt.alloc();
+    let due = DateDue {
+        date_due_field: date_text(b"20240229".to_vec(alloc)?)?,
+        renewable: false,
+    };
+    assert!(rt; is_written(alloc, &due, "date:20240229 false seq:2")?);
+    Ok(())
+}
+
+#[test]
+fn absent_entries_have_their_places(rt: HostRuntime) -> Result<(), Fail> {
+    let alloc = rt.alloc();
+    let search = SearchType {
+        level_of_service: None,
+        need_before_date: None,
+        expiry_flag: 3,
+        expiry_date: None,
+    };
+    assert!(rt; is_written(alloc, &search, "none:2 3 - seq:4")?);
+    Ok(())
+}
+
+/// Group "G", qualifier "Q".
+pub fn transaction_id(alloc: Global) -> Result<TransactionId, Fail> {
+    let transaction_group_qualifier = general_string(alloc, "G")?;
+    Ok(TransactionId {
+        initial_requester_id: None,
+        transaction_group_qualifier,
+        transaction_qualifier: general_string(alloc, "Q")?,
+        sub_transaction_qualifier: None,
+    })
+}
+
+#[test]
+fn transactions_have_their_qualifiers(rt: HostRuntime) -> Result<(), Fail> {
+    let id = transaction_id(rt.alloc())?;
+    assert!(rt; is_written(rt.alloc(), &id, "- general:G general:Q - seq:4")?);
+    Ok(())
+}
+
+fn visible(alloc: Global, letters: &[u8]) -> Result<IllString, Fail> {
+    match VisibleText::new(letters.to_vec(alloc)?) {
         Ok(text) => Ok(IllString::Visible(text)),
         Err(_) => Err("no VisibleString")?,
     }
 }
 
-fn library(symbol: IllString) -> SystemId {
-    SystemId {
-        person_or_institution_symbol: Some(Symbol::InstitutionSymbol(symbol)),
-        name_of_person_or_institution: None,
+#[test]
+fn symbols_keep_their_alternative_and_that_of_their_text(rt: HostRuntime) -> Result<(), Fail> {
+    let alloc = rt.alloc();
+    let person = Symbol::PersonSymbol(general_string(alloc, "L")?);
+    let institution = Symbol::InstitutionSymbol(visible(alloc, b"L")?);
+    assert!(rt; is_written(alloc, &person, "general:L alt:0")? && person != institution);
+    assert!(rt; is_written(alloc, &institution, "visible:L alt:1")?);
+    Ok(())
+}
+
+/// Whether values that two lines of words write are equal as parts.
+fn are_equal<T: Typed>(alloc: Global, one: &str, other: &str) -> Result<bool, Fail> {
+    let one = value(alloc, one)?;
+    let other = value(alloc, other)?;
+    match (T::from_value(alloc, &one)?, T::from_value(alloc, &other)?) {
+        (Some(one), Some(other)) => Ok(one == other),
+        _ => Err("no part")?,
     }
 }
 
-/// A DateDue with as many of its entries.
-fn due_entries(alloc: Global, entries: usize) -> Result<Value, Fail> {
-    let mut found = Vec::new(alloc);
-    found.push(Some(Value::Date(day(alloc, "20240229")?)))?;
-    if entries > 1 {
-        found.push(Some(Value::Flag(false)))?;
-    }
-    Ok(Value::Seq(found))
-}
-
 #[test]
-fn system_id_from_a_flag(rt: HostRuntime) -> Result<(), Fail> {
-    assert!(rt; SystemId::from_value(rt.alloc(), &Value::Flag(true))?.is_none());
-    assert!(rt; SystemId::NODE == NodeId::SYSTEM_ID);
+fn parts_differ_where_their_texts_differ(rt: HostRuntime) -> Result<(), Fail> {
+    let alloc = rt.alloc();
+    let general = "general:L alt:1 - seq:2";
+    let visible = "visible:L alt:1 - seq:2";
+    assert!(rt; are_equal::<SystemId>(alloc, general, general)?);
+    assert!(rt; !are_equal::<SystemId>(alloc, general, visible)?);
     Ok(())
 }
 
 #[test]
-fn date_due_of_one_entry(rt: HostRuntime) -> Result<(), Fail> {
-    let short = due_entries(rt.alloc(), 1)?;
-    assert!(rt; DateDue::from_value(rt.alloc(), &short)?.is_none());
-    Ok(())
-}
-
-#[test]
-fn date_due_of_two_entries(rt: HostRuntime) -> Result<(), Fail> {
-    let whole = due_entries(rt.alloc(), 2)?;
-    let due = DateDue {
-        date_due_field: day(rt.alloc(), "20240229")?,
-        renewable: false,
-    };
-    assert!(rt; equal(&due.to_value(rt.alloc())?, &whole));
-    Ok(())
-}
-
-#[test]
-fn date_due_is_read_from_two_entries(rt: HostRuntime) -> Result<(), Fail> {
-    let whole = due_entries(rt.alloc(), 2)?;
-    let Some(due) = DateDue::from_value(rt.alloc(), &whole)? else {
-        return Err("no DateDue")?;
-    };
-    assert!(rt; due.date_due_field == day(rt.alloc(), "20240229")?);
-    assert!(rt; !due.renewable);
-    Ok(())
-}
-
-#[test]
-fn visible_differs_from_general(rt: HostRuntime) -> Result<(), Fail> {
-    let a = library(general_string(rt.alloc(), "L")?);
-    let b = library(visible(rt.alloc(), "L")?);
-    assert!(rt; a != b);
-    a.one_view(&b);
-    Ok(())
-}
-
-#[test]
-fn equal_texts_are_equal_symbols(rt: HostRuntime) -> Result<(), Fail> {
-    let a = library(general_string(rt.alloc(), "L")?);
-    let b = library(general_string(rt.alloc(), "L")?);
-    assert!(rt; a == b);
-    Ok(())
-}
-
-#[test]
-fn a_person_differs_from_an_institution(rt: HostRuntime) -> Result<(), Fail> {
-    let a = Symbol::InstitutionSymbol(general_string(rt.alloc(), "L")?);
-    let b = Symbol::PersonSymbol(general_string(rt.alloc(), "L")?);
-    assert!(rt; a != b);
-    Ok(())
-}
-
-#[test]
-fn lists_are_equal_item_by_item(rt: HostRuntime) -> Result<(), AllocError> {
+fn lists_are_equal_item_by_item(rt: HostRuntime) -> Result<(), Fail> {
     let units = |medium, no_of_units| UnitsPerMedium {
         medium,
         no_of_units,
     };
     let list = vec![in rt.alloc(); units(1, 2), units(3, -4)]?;
     let other = vec![in rt.alloc(); units(1, 2), units(3, 4)]?;
-    assert!(rt; list != other);
     let value = list.to_value(rt.alloc())?;
     let again = Vec::<UnitsPerMedium>::read(rt.alloc(), &value)?;
-    assert!(rt; again == list);
-    Ok(())
-}
-
-/// A SearchType with nothing but its default.
-const SEARCH: SearchType = SearchType {
-    level_of_service: None,
-    need_before_date: None,
-    expiry_flag: 3,
-    expiry_date: None,
-};
-
-#[test]
-fn defaults_hold_their_value(rt: HostRuntime) -> Result<(), Fail> {
-    let value = SEARCH.to_value(rt.alloc())?;
-    let read = SearchType::from_value(rt.alloc(), &value)?;
-    assert!(rt; read == Some(SEARCH));
-    Ok(())
-}
-
-#[test]
-fn a_search_type_is_no_cost(rt: HostRuntime) -> Result<(), Fail> {
-    let value = SEARCH.to_value(rt.alloc())?;
-    assert!(rt; CostInfo::from_value(rt.alloc(), &value)?.is_none());
+    assert!(rt; list != other && again == list);
     Ok(())
 }
 
 #[test]
 fn debug_text(rt: HostRuntime) -> Result<(), Fail> {
-    let one = library(general_string(rt.alloc(), "L")?);
-    let text = format!(in rt.alloc(); "{one:?}")?;
-    assert!(rt;
-        text.as_str().starts_with(
-            "SystemId { person_or_institution_symbol: Some(InstitutionSymbol(General("
-        )
-    );
+    let symbol = Symbol::InstitutionSymbol(general_string(rt.alloc(), "L")?);
+    let text = format!(in rt.alloc(); "{symbol:?}")?;
+    assert!(rt; text.as_str().starts_with("InstitutionSymbol(General("));
     Ok(())
 }

@@ -1,13 +1,14 @@
 //! Worked messages through the typed APDUs and back.
+use super::parts::transaction_id;
 use ber_leaf::IllString;
-use ill_apdu::{Apdu, Expired, Head, MessageApdu, MessageFault};
-use ill_parts::{DateTime, ItemId, Part, ServiceDateTime, TransactionId, Typed};
+use ill_apdu::{Apdu, Expired, Head, IllRequest, MessageApdu, MessageFault};
+use ill_parts::{DateTime, ItemId, ServiceDateTime, Typed};
 use ill_read::decode;
-use ill_schema::{Message, Value, equal};
+use ill_schema::{Message, equal};
 use ill_write::normal_bytes;
 use std::alloc::{AllocError, Global};
 use std::test::Fail;
-use test_support::{date_text, general_string, general_text, message, value};
+use test_support::{date_text, general_text, message, value};
 
 /// A message a line, of each APDU and with each result, in which every part is there: the APDU's number, and the
 /// parts of the body, as [`test_support::message`] reads them.
@@ -37,26 +38,13 @@ const WHOLE_MESSAGES: &str = "\
 4 whole 21 date:20241123 23 visible:v24 alt:0 general:g25 alt:0 seq:2 general:g26 visible:v27 seq:2 general:g28 seq:3 list:1 seq:3 alt:5 - - general:g29 alt:0 visible:v30 alt:0 seq:2 general:g31 general:g32 visible:v33 seq:2 seq:3 list:1 general:g34 alt:0 general:g35 alt:0 seq:2 list:1 false true 38 39 seq:4 general:g40 - seq:14
 4 whole 21 general:g22 general:g23 alt:0 visible:v24 alt:0 seq:2 general:g25 general:g26 seq:2 visible:v27 seq:3 list:1 seq:2 alt:6 - - general:g28 alt:0 general:g29 alt:0 seq:2 visible:v30 general:g31 general:g32 seq:2 seq:3 list:1 visible:v33 alt:0 general:g34 alt:0 seq:2 list:1 true false 37 38 seq:4 visible:v39 - seq:14";
 
-/// The body of ILL-Request `request-normal-form`, after its number.
-const REQUEST: &str =
-    "head 1 none:3 1 list:1 - false false 1 1 seq:4 none:2 3 - none:23 seq:23 none:4 false false none:3 seq:26";
-
-/// Group "G", qualifier "Q".
-fn transaction_id(alloc: Global) -> Result<TransactionId, Fail> {
-    Ok(TransactionId {
-        initial_requester_id: None,
-        transaction_group_qualifier: general_string(alloc, "G")?,
-        transaction_qualifier: general_string(alloc, "Q")?,
-        sub_transaction_qualifier: None,
-    })
-}
-
-/// Version 2, that transaction, 29 February 2024.
+/// Version 2, transaction "G" and "Q", 29 February 2024.
 fn head(alloc: Global) -> Result<Head, Fail> {
-    let day = date_text(Vec::from_slice(alloc, b"20240229")?)?;
+    let transaction_id = transaction_id(alloc)?;
+    let day = date_text(b"20240229".to_vec(alloc)?)?;
     Ok(Head {
         protocol_version_num: 2,
-        transaction_id: transaction_id(alloc)?,
+        transaction_id,
         service_date_time: ServiceDateTime {
             date_time_of_this_service: DateTime {
                 date: day,
@@ -90,63 +78,77 @@ fn note(alloc: Global, letters: usize) -> Result<Apdu, Fail> {
     }))
 }
 
-#[test]
-fn message_new_of_expired(rt: HostRuntime) -> Result<(), Fail> {
-    let made = sent(rt.alloc(), &expired(rt.alloc())?)?;
-    assert_eq!(rt; made.apdu(), 20);
-    assert_eq!(rt; made.octets(), 33);
-    assert!(rt; equal(made.body(), &value(rt.alloc(), "head - seq:6")?));
-    Ok(())
+/// Whether the message is of EXPIRED, and EXPIRED is read from it.
+fn is_of_expired(alloc: Global, message: &Message, expired: &Apdu) -> Result<bool, Fail> {
+    let body = value(alloc, "head - seq:6")?;
+    let read = Apdu::from_message(alloc, message)?;
+    read.one_view(expired);
+    Ok(
+        message.apdu() == 20
+            && message.octets() == 33
+            && equal(message.body(), &body)
+            && read == *expired,
+    )
 }
 
 #[test]
-fn expired_is_read_from_its_message(rt: HostRuntime) -> Result<(), Fail> {
-    let given = expired(rt.alloc())?;
-    let read = Apdu::from_message(rt.alloc(), &sent(rt.alloc(), &given)?)?;
-    assert!(rt; read == given);
-    read.one_view(&given);
+fn expired_is_sent_and_read(rt: HostRuntime) -> Result<(), Fail> {
+    let expired = expired(rt.alloc())?;
+    let message = sent(rt.alloc(), &expired)?;
+    assert!(rt; is_of_expired(rt.alloc(), &message, &expired)?);
     Ok(())
 }
 
-#[test]
-fn transaction_id_of_expired(rt: HostRuntime) -> Result<(), Fail> {
-    let id = transaction_id(rt.alloc())?;
-    let made = id.to_value(rt.alloc())?;
-    let expected = value(rt.alloc(), "- general:G general:Q - seq:4")?;
-    assert!(rt; equal(&made, &expected));
-    assert!(rt; TransactionId::from_value(rt.alloc(), &made)? == Some(id));
-    Ok(())
+/// The octets of a message whose note has this number of letters, None where it is too long.
+fn size_of_note(alloc: Global, letters: usize) -> Result<Option<u32>, Fail> {
+    let apdu = note(alloc, letters)?;
+    match apdu.to_message(alloc) {
+        Ok(message) => Ok(Some(message.octets())),
+        Err(MessageFault::TooLong) => Ok(None),
+        Err(MessageFault::OutOfMemory) => Err("out of memory")?,
+    }
 }
 
 #[test]
-fn note_within_the_second_limit(rt: HostRuntime) -> Result<(), Fail> {
-    let made = sent(rt.alloc(), &note(rt.alloc(), 65_490)?)?;
-    assert_eq!(rt; made.octets(), 65_536);
-    let longest = sent(rt.alloc(), &note(rt.alloc(), 1_048_526)?)?;
-    assert_eq!(rt; longest.octets(), 1_048_576);
-    let refused = note(rt.alloc(), 1_048_527)?.to_message(rt.alloc());
-    assert!(rt; matches!(refused, Err(MessageFault::TooLong)));
+fn notes_are_within_the_limit(rt: HostRuntime) -> Result<(), Fail> {
+    for (letters, octets) in [
+        (65_490, Some(65_536)),
+        (1_048_526, Some(1_048_576)),
+        (1_048_527, None),
+    ] {
+        assert!(rt; size_of_note(rt.alloc(), letters)? == octets, "{letters}");
+    }
     Ok(())
 }
 
+/// The body of ILL-Request `request-normal-form`, after its number.
+const REQUEST: &str =
+    "head 1 none:3 1 list:1 - false false 1 1 seq:4 none:2 3 - none:23 seq:23 none:4 false false none:3 seq:26";
+
+/// Whether these are the parts of that ILL-Request.
+fn is_the_least(request: &IllRequest, item: &ItemId) -> bool {
+    request.transaction_type == 1
+        && request.ill_service_type.as_slice() == [1].as_slice()
+        && request.place_on_hold == 3
+        && !request.retry_flag
+        && !request.forward_flag
+        && request.client_id.is_none()
+        && request.item_id == *item
+}
+
+fn has_the_least(alloc: Global, apdu: &Apdu) -> Result<bool, Fail> {
+    let nothing = value(alloc, "none:23 seq:23")?;
+    match (apdu, ItemId::from_value(alloc, &nothing)?) {
+        (Apdu::IllRequest(request), Some(item)) => Ok(is_the_least(request, &item)),
+        _ => Ok(false),
+    }
+}
+
 #[test]
-fn request_value(rt: HostRuntime) -> Result<(), Fail> {
-    let made = message(rt.alloc(), "1", REQUEST)?;
-    let apdu = Apdu::from_message(rt.alloc(), &made)?;
-    let Apdu::IllRequest(request) = &apdu else {
-        return Err(Fail::from("another APDU"));
-    };
-    assert_eq!(rt; request.transaction_type, 1);
-    assert!(rt; request.ill_service_type.as_slice() == [1].as_slice());
-    assert_eq!(rt; request.place_on_hold, 3);
-    assert!(rt; !request.retry_flag);
-    assert!(rt; !request.forward_flag);
-    assert!(rt; request.client_id.is_none());
-    let nothing = value(rt.alloc(), "none:23 seq:23")?;
-    let Some(item) = ItemId::from_value(rt.alloc(), &nothing)? else {
-        return Err(Fail::from("no item"));
-    };
-    assert!(rt; item == request.item_id);
+fn requests_have_their_parts(rt: HostRuntime) -> Result<(), Fail> {
+    let message = message(rt.alloc(), "1", REQUEST)?;
+    let apdu = Apdu::from_message(rt.alloc(), &message)?;
+    assert!(rt; has_the_least(rt.alloc(), &apdu)?);
     Ok(())
 }
 
@@ -155,38 +157,43 @@ fn read_back(alloc: Global, message: &Message) -> Result<Apdu, Fail> {
     let octets = normal_bytes(alloc, message)?;
     match decode(alloc, &octets) {
         Ok(read) => Ok(Apdu::from_message(alloc, &read)?),
-        Err(_) => Err(Fail::from("not read")),
+        Err(_) => Err("not read")?,
     }
 }
 
+/// Whether the APDU is sent as the message, and read back from its octets.
+fn is_sent_as(alloc: Global, apdu: &Apdu, message: &Message) -> Result<bool, Fail> {
+    let made = sent(alloc, apdu)?;
+    let again = read_back(alloc, &made)?;
+    Ok(
+        made.same_apdu(message)
+            && made.octets() == message.octets()
+            && apdu.number() == message.apdu()
+            && again == *apdu,
+    )
+}
+
+/// Whether the message of a line comes back from the APDU that is read from it.
+fn comes_back(alloc: Global, line: &str) -> Result<bool, Fail> {
+    let (number, parts) = line.split_once(' ').ok_or("a number")?;
+    let given = message(alloc, number, parts)?;
+    let apdu = Apdu::from_message(alloc, &given)?;
+    is_sent_as(alloc, &apdu, &given)
+}
+
 #[test]
-fn whole_messages(rt: HostRuntime) -> Result<(), Fail> {
-    let mut last = expired(rt.alloc())?;
+fn whole_messages_come_back(rt: HostRuntime) -> Result<(), Fail> {
     for line in WHOLE_MESSAGES.lines() {
-        let (number, parts) = line.split_once(' ').ok_or("a number")?;
-        let given = message(rt.alloc(), number, parts)?;
-        let apdu = Apdu::from_message(rt.alloc(), &given)?;
-        assert_eq!(rt; apdu.number(), given.apdu());
-        let made = sent(rt.alloc(), &apdu)?;
-        assert!(rt; made.same_apdu(&given), "{number}");
-        assert_eq!(rt; made.octets(), given.octets(), "{number}");
-        let again = read_back(rt.alloc(), &made)?;
-        assert!(rt; again == apdu, "{number}");
-        assert!(rt; last != apdu, "{number}");
-        last = again;
+        assert!(rt; comes_back(rt.alloc(), line)?, "{line}");
     }
     Ok(())
 }
 
-fn is_expired(alloc: Global, value: &Value) -> Result<bool, AllocError> {
-    Ok(Expired::from_value(alloc, value)?.is_some())
-}
-
 #[test]
-fn bodies_that_do_not_fit(rt: HostRuntime) -> Result<(), Fail> {
-    assert!(rt; !is_expired(rt.alloc(), &Value::Flag(true))?);
-    let cancel = value(rt.alloc(), "head none:2 seq:7")?;
-    assert!(rt; !is_expired(rt.alloc(), &cancel)?);
+fn different_apdus_are_not_equal(rt: HostRuntime) -> Result<(), Fail> {
+    let one = note(rt.alloc(), 1)?;
+    let other = note(rt.alloc(), 2)?;
+    assert!(rt; one != other);
     Ok(())
 }
 
@@ -199,7 +206,8 @@ fn debug_text_of_a_fault(rt: HostRuntime) -> Result<(), AllocError> {
 
 #[test]
 fn debug_text(rt: HostRuntime) -> Result<(), Fail> {
-    let text = format!(in rt.alloc(); "{:?}", expired(rt.alloc())?)?;
+    let expired = expired(rt.alloc())?;
+    let text = format!(in rt.alloc(); "{expired:?}")?;
     assert!(rt;
         text.as_str().starts_with(
             "Expired(Expired { head: Head { protocol_version_num: 2, transaction_id: TransactionId { initial_requester_id: None, "
