@@ -80,7 +80,8 @@ class Archive:
         return octets
 
     def summary(self):
-        return "illcanon: " + ", ".join(f"{self.counts[what]} {what}" for what in ("files", "messages", "normal", "not normal", "refused", "octets"))
+        parts = ("files", "messages", "normal", "not normal", "refused", "octets")
+        return "illcanon: " + ", ".join(f"{self.counts[part]} {part}" for part in parts)
 
     def run(self, *words):
         done = subprocess.run([PROGRAM, *words, *self.names], cwd=self.folder, capture_output=True, check=False)

@@ -141,6 +141,8 @@ row list-without-out 2 '' "$required-o <OUT>$two_forms" canonicalise --files-fro
 row a-third-word 2 '' "error: unexpected argument 'H' found$two_forms" canonicalise F G H
 row lines-and-keep-going 2 '' 'illcanon: --lines excludes --keep-going\n' check --lines --keep-going F
 row same-keeps-not-going 2 '' any same --keep-going F F
+row lines-and-summary 2 '' 'illcanon: --lines excludes --summary\n' check --lines --summary F
+row check-has-no-json 2 '' any check --json F
 row no-such-flag 2 '' any check --hexx F
 row version 0 'illcanon 0.1.0\n' '' --version
 for words in --help 'show --help' 'check --help' 'same --help' 'canonicalise --help' 'dump --help' 'help same'; do
@@ -194,6 +196,23 @@ octets in $EMPTY$EXPIRED$EMPTY
 row going-show 1 'message 2 Expired\nprotocol-version-num = 2\ntransaction-id.transaction-group-qualifier = general "G"\ntransaction-id.transaction-qualifier = general "Q"\nservice-date-time.date-time-of-this-service.date = 20240229\n' \
     "illcanon: refused at 2 in message 1: ${missing}illcanon: refused at 2 in message 3: $missing" show --keep-going -
 : >in
+
+# Numbers at the end. FIRST has 2, 33 and 47 octets; of ENDLESS those of the first message are known.
+numbers='1 file, 3 messages, 1 normal, 1 not normal, 1 refused, 82 octets\n'
+row summary-of-check 1 "message 2: ${normal}message 3: $not_normal" "illcanon: refused at 2 in message 1: ${missing}illcanon: $numbers" check --keep-going --summary FIRST
+row summary-of-digest 1 "$digest  FIRST:2\n$digest  FIRST:3\n" "illcanon: refused at 2 in message 1: ${missing}illcanon: $numbers" digest --keep-going --summary FIRST
+row summary-of-canonicalise 1 '' "illcanon: refused at 2 in message 1: ${missing}illcanon: $numbers" canonicalise --keep-going --summary FIRST OUT
+row summary-up-to-a-refusal 1 "message 1: $normal" "illcanon: refused at 2 in message 2: ${missing}illcanon: 1 file, 2 messages, 1 normal, 0 not normal, 1 refused, 33 octets\n" check --summary MIDDLE
+row summary-of-files 3 "GOOD: message 1: ${normal}ENDLESS: message 1: $normal" \
+    "illcanon: cannot open ABSENT\nillcanon: ENDLESS: ${unknown}illcanon: 2 files, 3 messages, 2 normal, 0 not normal, 1 refused, 66 octets\n" check --keep-going --summary GOOD ABSENT ENDLESS
+row summary-of-many-into-one 0 '' 'illcanon: 2 files, 2 messages, 2 normal, 0 not normal, 0 refused, 66 octets\n' canonicalise --summary -o OUT GOOD GOOD
+row summary-of-nothing 0 '' 'illcanon: 1 file, 0 messages, 0 normal, 0 not normal, 0 refused, 0 octets\n' show --summary NOTHING
+
+# Lines of JSON, by hand.
+value='"value":{"protocol-version-num":2,"transaction-id":{"transaction-group-qualifier":{"general":"G"},"transaction-qualifier":{"general":"Q"}},"service-date-time":{"date-time-of-this-service":{"date":"20240229"}}}}\n'
+row show-as-json 0 '{"number":1,"offset":0,"octets":33,"apdu":"Expired","normal":true,'"$value" '' show --json GOOD
+row show-many-as-json 1 '{"file":"FIRST","number":2,"offset":2,"octets":33,"apdu":"Expired","normal":true,'"$value"'{"file":"FIRST","number":3,"offset":35,"octets":47,"apdu":"Expired","normal":false,'"$value" \
+    "illcanon: FIRST: refused at 2 in message 1: ${missing}illcanon: 2 files, 3 messages, 1 normal, 1 not normal, 1 refused, 82 octets\n" show --json --keep-going --summary FIRST NOTHING
 
 # Many files into one. forms NAME COUNT: OUT holds the normal form this many times
 forms() {

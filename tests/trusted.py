@@ -244,7 +244,7 @@ PRODUCT = "ber_core ber_frame ber_leaf ill_schema ill_refusals ill_read ill_writ
 def document():
     run = [*contracts_of("ill_jobs", ("run", "run_same"))]
     text = ["# What must be believed", ""]
-    text += ["The definitions between a theorem and its reader. `tests/trusted.py` prints this list, and `tests/all.sh` fails where it is out of date. Each definition is named with the words that it cites, and so on to the end. The types that Rust code declares, and the definitions of std, of `jiff`, of `hex` and of `sha2`, are cited too, and not listed.", ""]
+    text += ["The definitions between a theorem and its reader. `tests/trusted.py` prints this list, and `tests/all.sh` fails where it is out of date. Each definition is named with the words that it cites, and so on to the end. The types that Rust code declares, and the definitions of std, of `jiff`, of `json`, of `hex` and of `sha2`, are cited too, and not listed.", ""]
     text += section("The theorem", "What the four claims of README.md say: which octets spell an APDU, what an input has at its front, what the normal form is, and what a stream is.", HEADLINE)
     text += section("The program's jobs", "All that the contracts of `ill_jobs::run` and `ill_jobs::run_same` say, with causes and offsets, text and hexadecimal digits.", run)
     text += section("Lines", "All that the contract of `ill_lines::run_lines` says.", contracts_of("ill_lines", ("run_lines",)))

@@ -81,9 +81,27 @@ impl fmt::Display for Summary {
             refused,
             octets,
         } = *self;
+        let files = Count(files, "file");
+        let messages = Count(messages, "message");
+        let octets = Count(octets, "octet");
         write!(
             f,
-            "{files} files, {messages} messages, {normal} normal, {not_normal} not normal, {refused} refused, {octets} octets"
+            "{files}, {messages}, {normal} normal, {not_normal} not normal, {refused} refused, {octets}"
         )
+    }
+}
+
+/// A number of things of this name: `1 file`, `2 files`.
+#[derive(Clone, Copy)]
+struct Count(u64, &'static str);
+
+impl fmt::Display for Count {
+    fn fmt<W: fmt::Write>(&self, f: &mut fmt::Formatter<W>) -> fmt::Result {
+        let Count(number, name) = *self;
+        if number == 1 {
+            write!(f, "1 {name}")
+        } else {
+            write!(f, "{number} {name}s")
+        }
     }
 }

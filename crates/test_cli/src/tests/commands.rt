@@ -5,7 +5,7 @@ use super::runs::{INDEFINITE, QUIET, Row, first_wrong};
 use std::test::Fail;
 
 /// Commands with no output of their own. O is absent.
-static ROWS: [Row; 31] = [
+static ROWS: [Row; 32] = [
     Row {
         words: "show A",
         output: Text(
@@ -150,6 +150,12 @@ static ROWS: [Row; 31] = [
         words: "check --lines --keep-going A",
         status: 2,
         errors: "illcanon: --lines excludes --keep-going\n",
+        ..QUIET
+    },
+    Row {
+        words: "check --lines --summary A",
+        status: 2,
+        errors: "illcanon: --lines excludes --summary\n",
         ..QUIET
     },
     Row {

@@ -24,6 +24,7 @@ fn orders_have_files_of_their_own(words: &[String], alloc: Global) {
     if let Ok(order) = order(alloc, words) {
         prove!(!order.lines || !order.hex);
         prove!(!order.lines || !order.keep_going);
+        prove!(!order.lines || !order.summary);
         match order.task {
             Task::Canonicalise { input, output } => {
                 prove!(input == "-" || input != output);

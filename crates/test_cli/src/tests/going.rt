@@ -1,10 +1,10 @@
 //! Work that goes on after a message that is refused.
 use super::runs::Octets::Text;
-use super::runs::{QUIET, Row, first_wrong};
+use super::runs::{EXPIRED, QUIET, Row, first_wrong};
 use std::test::Fail;
 
 /// Files with messages that are refused, and others.
-static ROWS: [Row; 12] = [
+static ROWS: [Row; 16] = [
     Row {
         words: "check --keep-going middle",
         status: 1,
@@ -94,6 +94,39 @@ static ROWS: [Row; 12] = [
         words: "check --keep-going --hex A",
         status: 1,
         errors: "illcanon: hex: odd number of digits\n",
+        ..QUIET
+    },
+    // `first` has 2, 33 and 47 octets; of `endless` those of its first message are known.
+    Row {
+        words: "check --keep-going --summary first O endless",
+        status: 3,
+        output: Text(
+            b"first: message 2: Expired, 33 octets, normal\nfirst: message 3: Expired, 47 octets, not normal, normal form 33 octets\nendless: message 1: Expired, 33 octets, normal\n",
+        ),
+        errors: "illcanon: first: refused at 2 in message 1: Missing Expired.protocol-version-num\nillcanon: cannot open O\nillcanon: endless: refused at 7 in message 2: Missing Expired.transaction-id; its end is unknown\nillcanon: 2 files, 5 messages, 2 normal, 1 not normal, 2 refused, 115 octets\n",
+        ..QUIET
+    },
+    Row {
+        words: "canonicalise --summary middle -",
+        status: 1,
+        output: Text(EXPIRED),
+        errors: "illcanon: refused at 2 in message 2: Missing Expired.protocol-version-num\nillcanon: 1 file, 2 messages, 1 normal, 0 not normal, 1 refused, 33 octets\n",
+        ..QUIET
+    },
+    Row {
+        words: "show --json --keep-going first",
+        status: 1,
+        output: Text(
+            b"{\"number\":2,\"offset\":2,\"octets\":33,\"apdu\":\"Expired\",\"normal\":true,\"value\":{\"protocol-version-num\":2,\"transaction-id\":{\"transaction-group-qualifier\":{\"general\":\"G\"},\"transaction-qualifier\":{\"general\":\"Q\"}},\"service-date-time\":{\"date-time-of-this-service\":{\"date\":\"20240229\"}}}}\n{\"number\":3,\"offset\":35,\"octets\":47,\"apdu\":\"Expired\",\"normal\":false,\"value\":{\"protocol-version-num\":2,\"transaction-id\":{\"transaction-group-qualifier\":{\"general\":\"G\"},\"transaction-qualifier\":{\"general\":\"Q\"}},\"service-date-time\":{\"date-time-of-this-service\":{\"date\":\"20240229\"}}}}\n",
+        ),
+        errors: "illcanon: refused at 2 in message 1: Missing Expired.protocol-version-num\n",
+        ..QUIET
+    },
+    Row {
+        words: "show --json A",
+        output: Text(
+            b"{\"number\":1,\"offset\":0,\"octets\":33,\"apdu\":\"Expired\",\"normal\":true,\"value\":{\"protocol-version-num\":2,\"transaction-id\":{\"transaction-group-qualifier\":{\"general\":\"G\"},\"transaction-qualifier\":{\"general\":\"Q\"}},\"service-date-time\":{\"date-time-of-this-service\":{\"date\":\"20240229\"}}}}\n",
+        ),
         ..QUIET
     },
 ];

@@ -46,6 +46,8 @@ const ROWS: [Row; 6] = [
         answer: Ok(Gone {
             messages: 3,
             refused: 1,
+            good: 1,
+            octets: 82,
             all_good: false,
         }),
     },
@@ -58,6 +60,8 @@ const ROWS: [Row; 6] = [
         answer: Ok(Gone {
             messages: 3,
             refused: 1,
+            good: 1,
+            octets: 82,
             all_good: false,
         }),
     },
@@ -70,6 +74,8 @@ const ROWS: [Row; 6] = [
         answer: Ok(Gone {
             messages: 3,
             refused: 1,
+            good: 2,
+            octets: 82,
             all_good: true,
         }),
     },
@@ -82,6 +88,8 @@ const ROWS: [Row; 6] = [
         answer: Ok(Gone {
             messages: 3,
             refused: 1,
+            good: 2,
+            octets: 82,
             all_good: true,
         }),
     },
@@ -117,13 +125,16 @@ fn refused_messages_are_reported_and_passed_over(rt: HostRuntime) -> Result<(), 
         let mut reported = Reported {
             reports: Vec::new(alloc),
         };
-        let answer = run_on(
+        let answer = match run_on(
             alloc,
             Work::new(row.job, row.hex),
             &mut source,
             &mut ToWrite::new(&mut written),
             &mut reported,
-        );
+        ) {
+            Ok(gone) => Ok(gone),
+            Err(halt) => Err(halt.fault),
+        };
         assert!(rt; answer == row.answer, "{}", row.name);
         assert!(rt; written.as_slice() == row.output.as_bytes(), "{}", row.name);
         let null = Report {

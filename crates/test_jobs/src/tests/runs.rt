@@ -1,6 +1,6 @@
 //! What `run` writes and answers, row by row.
-use ber_core::{Pieces, Room, ToWrite};
-use ill_jobs::{Job, RunFault, Verdict, Work, run};
+use ber_core::{Pieces, Room, ToWrite, Unseen};
+use ill_jobs::{Counts, Job, RunFault, Verdict, Work, run, run_by};
 use ill_normal::{Cause, Refusal};
 use std::alloc::Global;
 use std::test::Fail;
@@ -168,6 +168,7 @@ fn digests_name_the_input(rt: HostRuntime) -> Result<(), Fail> {
             hex: false,
             name: "a b.ber",
             is_named,
+            compares: false,
         };
         let (verdict, text) = written(alloc, work, TWICE)?;
         let want = format!(in alloc; "{DIGEST}  a b.ber:1\n{DIGEST}  a b.ber:2\n")?;
@@ -188,6 +189,7 @@ fn lines_begin_with_the_name(rt: HostRuntime) -> Result<(), Fail> {
         hex: false,
         name: "a b.ber",
         is_named: true,
+        compares: false,
     };
     let (verdict, text) = written(alloc, named(Job::Check), TWICE)?;
     let want =
@@ -218,6 +220,7 @@ fn a_sink_that_breaks_has_the_front_of_the_lines(rt: HostRuntime) -> Result<(), 
         hex: false,
         name: "a.ber",
         is_named: true,
+        compares: false,
     };
     let (_, whole) = written(alloc, work, OVERDUE)?;
     let input = octets_of(alloc, OVERDUE)?;
@@ -252,6 +255,41 @@ fn hexadecimal_text_has_a_limit(rt: HostRuntime) -> Result<(), Fail> {
         );
         assert!(rt; answer == wanted, "{name}");
         assert!(rt; written.is_empty(), "{name}");
+    }
+    Ok(())
+}
+
+#[test]
+fn messages_are_counted(rt: HostRuntime) -> Result<(), Fail> {
+    let alloc = rt.alloc();
+    let input = octets_of(alloc, TWICE)?;
+    for job in [Job::Show, Job::Json, Job::Check, Job::Digest, Job::Canonicalise] {
+        for compares in [false, true] {
+            let work = Work {
+                job,
+                hex: false,
+                name: "a b.ber",
+                is_named: false,
+                compares,
+            };
+            let mut written = Vec::new(alloc);
+            let mut sink = ToWrite::new(&mut written);
+            let mut source = Pieces::new(&input, 4096, None);
+            let ran = run_by::<Pieces<'_>, Unseen, _>(alloc, work, &mut source, &mut sink);
+            // 33 octets in normal form, and 47 that are not
+            let good = if compares || matches!(job, Job::Json | Job::Check) {
+                1
+            } else {
+                2
+            };
+            let counts = Counts {
+                messages: 2,
+                good,
+                octets: 80,
+            };
+            assert!(rt; ran.counts == counts, "{job:?}");
+            assert!(rt; ran.result.is_ok(), "{job:?}");
+        }
     }
     Ok(())
 }

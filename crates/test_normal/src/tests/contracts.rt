@@ -9,7 +9,7 @@ ghost use Rattle.ill_normal.specs.Messages.{AreSpelled, Spelling, spelling};
 
 use ber_core::{AtHand, FromSlice, Pieces, Room, Sink, Source, Unseen};
 use ill_normal::{
-    Checked, Failure, Maker, Message, Normal, NormalFailure, NormalForms, Passed, Piece,
+    Checked, Failure, Maker, Message, Normal, NormalFailure, NormalForms, Passed, Piece, Position,
     ReadFailure, Refusal, Side, Stopped, StreamFailure, check_one, check_one_in, decode,
     decode_normal, each_message, is_normal, normalise, normalise_stream, read_kept_normal_by,
     read_kept_normal_in, read_message, read_message_by, read_normal_by, read_normal_in,
@@ -157,18 +157,18 @@ fn kept_normal_forms_have_nothing_of_the_room(
 /// Nothing that stands in the room comes into what is written of a message, whatever is made of it.
 fn pieces_have_nothing_of_the_room<M: Maker>(
     maker: &M,
-    number: u32,
+    position: Position,
     source: &mut Pieces,
     room: M::Out,
     alloc: Global,
 ) -> Result<Option<Piece<M::Out>>, ReadFailure>
     ensures { (a : Apdu) (n : ℕ) → Accepts profile_two source.old.octets a n
         → IfOk result (λ found. elim found as (λ _. Type 0) [
-          | Some x ↦ M.Out.is x.text (M.text maker.now number (spelling a (take n source.old.octets))) × (x.octets ≡ n)
+          | Some x ↦ M.Out.is x.text (M.text maker.now position (spelling a (take n source.old.octets))) × (x.octets ≡ n)
           | None ↦ ⊥
         ]) }
 {
-    maker.next::<Pieces, Unseen>(alloc, number, source, room)
+    maker.next::<Pieces, Unseen>(alloc, position, source, room)
 }
 
 /// What is checked is the message at the front, and the result describes it.
@@ -266,6 +266,7 @@ fn messages_are_gone_through_to_their_end(
 ) -> Result<Passed, Stopped>
     ensures end { IfOk result (λ passed. (source.new.octets ≡ []) × ((messages : List Spelling) × (length messages ≡ passed.whole)
         × AreSpelled source.old.octets messages [])) }
+    ensures counts { IfOk result (λ passed. (passed.good ≡ passed.whole) × (passed.octets ≡ length source.old.octets)) }
     ensures before { IfErr result (λ stopped. (messages : List Spelling) × (length messages ≡ stopped.whole)
         × AreSpelled (take stopped.before source.old.octets) messages []) }
     ensures stop { IfErr result (λ stopped. length source.old.octets ≤ stopped.before + (1_048_576 + length source.new.octets)) }

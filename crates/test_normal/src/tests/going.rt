@@ -33,6 +33,8 @@ struct Row {
     written: usize,
     reports: &'static [Refused],
     messages: u32,
+    /// How many octets those have whose ends are known.
+    octets: u64,
 }
 
 /// A refused message: its number, the offset, the cause, and whether its end is known.
@@ -68,6 +70,7 @@ static ROWS: [Row; 12] = [
         written: 0,
         reports: &[],
         messages: 0,
+        octets: 0,
     },
     Row {
         name: "good ones",
@@ -75,6 +78,7 @@ static ROWS: [Row; 12] = [
         written: 2,
         reports: &[],
         messages: 2,
+        octets: 80,
     },
     Row {
         name: "a NULL between",
@@ -82,6 +86,7 @@ static ROWS: [Row; 12] = [
         written: 2,
         reports: &[(2, 0, Cause::UnexpectedTag, true)],
         messages: 3,
+        octets: 82,
     },
     Row {
         name: "without its time, and a sequence of indefinite form in which another is",
@@ -97,6 +102,7 @@ static ROWS: [Row; 12] = [
             (3, 0, Cause::UnexpectedTag, true),
         ],
         messages: 4,
+        octets: 99,
     },
     Row {
         name: "refused within, where its end mark is far off",
@@ -104,6 +110,7 @@ static ROWS: [Row; 12] = [
         written: 1,
         reports: &[(1, 4, Cause::UnexpectedTag, true)],
         messages: 2,
+        octets: 46,
     },
     Row {
         name: "an element passes the end of the one round it",
@@ -111,6 +118,7 @@ static ROWS: [Row; 12] = [
         written: 1,
         reports: &[(1, 2, Cause::Overrun, true)],
         messages: 2,
+        octets: 39,
     },
     Row {
         name: "an end mark where a message is due",
@@ -118,6 +126,7 @@ static ROWS: [Row; 12] = [
         written: 1,
         reports: &[(2, 0, Cause::BadTag, false)],
         messages: 2,
+        octets: 33,
     },
     Row {
         name: "a reserved length octet",
@@ -125,6 +134,7 @@ static ROWS: [Row; 12] = [
         written: 0,
         reports: &[(1, 0, Cause::BadLength, false)],
         messages: 1,
+        octets: 0,
     },
     Row {
         name: "a length of 4,294,967,296 in five octets",
@@ -132,6 +142,7 @@ static ROWS: [Row; 12] = [
         written: 0,
         reports: &[(1, 0, Cause::TooLong, false)],
         messages: 1,
+        octets: 0,
     },
     Row {
         name: "cut short in a length that is too great",
@@ -139,6 +150,7 @@ static ROWS: [Row; 12] = [
         written: 1,
         reports: &[(2, 5, Cause::Truncated, false)],
         messages: 2,
+        octets: 33,
     },
     Row {
         name: "half an end mark",
@@ -146,6 +158,7 @@ static ROWS: [Row; 12] = [
         written: 0,
         reports: &[(1, 2, Cause::BadEnd, false)],
         messages: 1,
+        octets: 0,
     },
     Row {
         name: "cut short",
@@ -153,6 +166,7 @@ static ROWS: [Row; 12] = [
         written: 1,
         reports: &[(2, 6, Cause::Truncated, false)],
         messages: 2,
+        octets: 33,
     },
 ];
 
@@ -229,6 +243,8 @@ fn comes_true(alloc: Global, row: &Row, octets: &[u8]) -> bool {
         result: Ok(Gone {
             messages: row.messages,
             refused: u32::try_from(row.reports.len()).unwrap_or(u32::MAX),
+            good: u32::try_from(row.written).unwrap_or(u32::MAX),
+            octets: row.octets,
             all_good: true,
         }),
         written: row.written,
@@ -277,14 +293,16 @@ fn has_the_first(alloc: Global, octets: &[u8], n: usize) -> bool {
         &mut sink,
         &mut reported,
     );
-    let (messages, reports, of_the_last) = if n < 33 {
-        (0, [].as_slice(), n)
+    let (messages, good, before, reports, of_the_last) = if n < 33 {
+        (0, 0, 0, [].as_slice(), n)
     } else {
-        (2, REFUSED, n - 33)
+        (2, 1, 35, REFUSED, n - 33)
     };
     let halted = Halted {
         messages,
         refused: reports.len() as u32,
+        good,
+        octets: before,
         written: n as u128,
         why: Why::WriteFault(of_the_last),
     };
@@ -307,15 +325,17 @@ fn a_broken_sink_has_the_first_octets(rt: HostRuntime) -> Result<(), Fail> {
 
 /// Whether a source that breaks after n octets leaves the normal forms of the messages that are whole in these.
 fn leaves_what_was_whole(alloc: Global, octets: &[u8], n: usize) -> bool {
-    let (messages, written, reports) = match n {
-        0..=32 => (0, 0, [].as_slice()),
-        33..=34 => (1, 1, [].as_slice()),
-        35..=67 => (2, 1, REFUSED),
-        _ => (3, 2, REFUSED),
+    let (messages, written, before, reports) = match n {
+        0..=32 => (0, 0, 0, [].as_slice()),
+        33..=34 => (1, 1, 33, [].as_slice()),
+        35..=67 => (2, 1, 35, REFUSED),
+        _ => (3, 2, 68, REFUSED),
     };
     let halted = Halted {
         messages,
         refused: reports.len() as u32,
+        good: written as u32,
+        octets: before,
         written: 33 * written as u128,
         why: Why::ReadFault,
     };
@@ -347,6 +367,8 @@ fn a_message_past_the_limit_is_passed_over(rt: HostRuntime) -> Result<(), Fail> 
         result: Ok(Gone {
             messages: 2,
             refused: 1,
+            good: 1,
+            octets: 2_097_191,
             all_good: true,
         }),
         written: 1,
@@ -416,6 +438,8 @@ fn a_million_refused_messages_are_enough(rt: HostRuntime) {
     let halted = Halted {
         messages: 1_000_000,
         refused: 1_000_000,
+        good: 0,
+        octets: 2_000_000,
         written: 0,
         why: Why::TooMany,
     };

@@ -73,6 +73,7 @@ three a b c d e f p q r = rw (p, q, r) refl
 
 named_is : (rows : List Row) (t : Task) → HasFiles rows t → named_by (verb t) rows ≡ named t
 named_is rows (Task.Each Job.Show inputs) h = three _ _ _ _ _ _ h.0 h.1 refl
+named_is rows (Task.Each Job.Json inputs) h = three _ _ _ _ _ _ h.0 h.1 refl
 named_is rows (Task.Each Job.Check inputs) h = three _ _ _ _ _ _ h.0 h.1 refl
 named_is rows (Task.Each Job.Digest inputs) h = three _ _ _ _ _ _ h.0 h.1 refl
 named_is rows (Task.Each Job.Canonicalise inputs) h = absurd h

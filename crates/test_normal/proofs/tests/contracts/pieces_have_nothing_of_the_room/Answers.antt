@@ -7,7 +7,7 @@ use Rattle.test_normal.proofs.tests.contracts.pieces_have_nothing_of_the_room.Go
 pub returns : goal.returns
 returns g c a n h =
     let s = c.args.source.now.octets in
-    let text = g.M.Maker.text c.args.maker.now c.args.number in
+    let text = g.M.Maker.text c.args.maker.now c.args.position in
     front (Makes _ text (g.M.Maker.is_good c.args.maker.now)) _ s c.next.new.source.octets _ _ a n c.next.result
     (λ x b is. (is.apdu, is.spells))
     (λ x is size rest. (rw (spells_once is.apdu a (take n s) is.spells h.1) at is.text, is.size ∙ size))
