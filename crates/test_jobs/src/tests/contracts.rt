@@ -2,13 +2,19 @@
 //! that returns anything else doesn't meet its contract. That memory was refused, and that a source or the sink broke, are the results
 //! that may come besides.
 ghost use Rattle.std.specs.Prelude.{◌≡◌, ◌≤◌, ◌+◌, ℕ, Bool, [], Ok, Err, true, false, IfOk, length};
+ghost use Rattle.ber_leaf.specs.Profile.{profile_two};
 ghost use Rattle.ill_jobs.specs.Ran.{IsFault};
+ghost use Rattle.ill_read.specs.Outline.{IsOutlineOf};
+ghost use Rattle.ill_schema.specs.Apdu.{Apdu, choice_of};
+ghost use Rattle.ill_schema.specs.Fits.{FitsApdu};
 ghost use Rattle.ill_schema.specs.Message.{apdu_of};
 
 use ber_core::{Pieces, Room};
 use ill_jobs::{RunFault, Verdict, Work, run, run_same};
+use ill_json::{Head, json_line};
 use ill_lines::{LineJob, LinesFault, run_lines};
 use ill_normal::{Refusal, Side};
+use ill_read::Outline;
 use ill_schema::Message;
 use ill_text::show_text;
 use std::alloc::{AllocError, Global};
@@ -26,6 +32,24 @@ fn apdus_are_shown_in_one_way(
     Ok((
         show_text(alloc, number, message)?,
         show_text(alloc, number, other)?,
+    ))
+}
+
+/// Two APDUs that fit the tables have one line of JSON only where they are one, whatever else it says of their messages.
+fn lines_of_json_are_of_one_apdu(
+    file: Option<&str>,
+    head: Head,
+    other_head: Head,
+    outline: &Outline,
+    other: &Outline,
+    alloc: Global,
+) -> Result<(Vec<u8>, Vec<u8>), AllocError>
+    ensures { (a b : Apdu) → IsOutlineOf outline.now a → IsOutlineOf other.now b → FitsApdu profile_two a → FitsApdu profile_two b
+        → IfOk result (λ lines. lines.0.items ≡ lines.1.items → choice_of a ≡ choice_of b) }
+{
+    Ok((
+        json_line(alloc, Vec::new(alloc), file, head, outline)?,
+        json_line(alloc, Vec::new(alloc), file, other_head, other)?,
     ))
 }
 

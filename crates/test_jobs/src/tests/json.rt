@@ -6,13 +6,15 @@ use std::alloc::Global;
 use std::test::Fail;
 use test_support::octets_of;
 
-/// The octets of a message; the name of its file, its number, its offset and whether it is in normal form; its line.
-const ROWS: [(&str, Option<&str>, u32, u64, bool, &str); 4] = [
+/// The octets of a message; the name of its file; its number, its offset, how many octets it has and whether it is in normal form;
+/// its line.
+const ROWS: [(&str, Option<&str>, u32, u64, u32, bool, &str); 4] = [
     (
         "741f301d800102a10aa1031b0147a2031b0151a20ca00a80083230323430323239",
         None,
         1,
         0,
+        33,
         true,
         "{\"number\":1,\"offset\":0,\"octets\":33,\"apdu\":\"Expired\",\"normal\":true,\"value\":{\"protocol-version-num\":2,\"transaction-id\":{\"transaction-group-qualifier\":{\"general\":\"G\"},\"transaction-qualifier\":{\"general\":\"Q\"}},\"service-date-time\":{\"date-time-of-this-service\":{\"date\":\"20240229\"}}}}\n",
     ),
@@ -22,6 +24,7 @@ const ROWS: [(&str, Option<&str>, u32, u64, bool, &str); 4] = [
         Some("a \"b\""),
         4_294_967_295,
         18_446_744_073_709_551_615,
+        65,
         false,
         "{\"file\":\"a \\\"b\\\"\",\"number\":4294967295,\"offset\":18446744073709551615,\"octets\":65,\"apdu\":\"Expired\",\"normal\":false,\"value\":{\"protocol-version-num\":9223372036854775807,\"transaction-id\":{\"initial-requester-id\":{\"person-or-institution-symbol\":{\"institution-symbol\":{\"visible\":\"L\"}}},\"transaction-group-qualifier\":{\"general\":\"\u{e9}\\\"\\\\\\n\\u0000\u{7f}\u{80}\u{ff}\"},\"transaction-qualifier\":{\"visible\":\"\"}},\"service-date-time\":{\"date-time-of-this-service\":{\"date\":\"20240229\",\"time\":\"235960\"}},\"requester-id\":{}}}\n",
     ),
@@ -31,6 +34,7 @@ const ROWS: [(&str, Option<&str>, u32, u64, bool, &str); 4] = [
         Some(""),
         3,
         12,
+        112,
         true,
         "{\"file\":\"\",\"number\":3,\"offset\":12,\"octets\":112,\"apdu\":\"ILL-Request\",\"normal\":true,\"value\":{\"protocol-version-num\":-1,\"transaction-id\":{\"transaction-group-qualifier\":{\"general\":\"G\"},\"transaction-qualifier\":{\"general\":\"Q\"}},\"service-date-time\":{\"date-time-of-this-service\":{\"date\":\"20240229\"}},\"transaction-type\":{\"number\":3,\"name\":\"partitioned\"},\"delivery-service\":{\"physical-delivery\":{\"general\":\"post\"}},\"ill-service-type\":[{\"number\":1,\"name\":\"loan\"},{\"number\":2,\"name\":\"copy-non-returnable\"},6],\"requester-optional-messages\":{\"can-send-received\":true,\"can-send-returned\":false,\"requester-shipped\":1,\"requester-checked-in\":2},\"search-type\":{\"need-before-date\":\"20240301\",\"expiry-flag\":3},\"supply-medium-info-type\":[],\"place-on-hold\":{\"number\":1,\"name\":\"yes\"},\"item-id\":{\"item-type\":{\"number\":2,\"name\":\"serial\"}},\"cost-info-type\":{\"maximum-cost\":{\"currency-code\":\"EUR\",\"monetary-value\":\"12.50\"},\"reciprocal-agreement\":false,\"will-pay-fee\":false,\"payment-provided\":false},\"third-party-info-type\":{\"permission-to-forward\":true,\"permission-to-chain\":false,\"permission-to-partition\":false,\"permission-to-change-send-to-list\":false,\"preference\":2},\"retry-flag\":false,\"forward-flag\":false}}\n",
     ),
@@ -39,6 +43,7 @@ const ROWS: [(&str, Option<&str>, u32, u64, bool, &str); 4] = [
         None,
         1,
         0,
+        60,
         true,
         "{\"number\":1,\"offset\":0,\"octets\":60,\"apdu\":\"ILL-Answer\",\"normal\":true,\"value\":{\"protocol-version-num\":2,\"transaction-id\":{\"transaction-group-qualifier\":{\"general\":\"G\"},\"transaction-qualifier\":{\"general\":\"Q\"}},\"service-date-time\":{\"date-time-of-this-service\":{\"date\":\"20240229\"}},\"transaction-results\":{\"number\":3,\"name\":\"unfilled\"},\"results-explanation\":{\"unfilled-results\":{\"reason-unfilled\":1,\"location-list\":[{\"location-id\":{\"person-or-institution-symbol\":{\"institution-symbol\":{\"general\":\"L\"}}}}]}}}}\n",
     ),
@@ -56,17 +61,16 @@ fn outline(alloc: Global, octets: &[u8]) -> Result<Outline, Fail> {
 #[test]
 fn each_line_of_json(rt: HostRuntime) -> Result<(), Fail> {
     let alloc = rt.alloc();
-    for (input, file, number, offset, is_normal, wanted) in &ROWS {
+    for (input, file, number, offset, count, is_normal, wanted) in &ROWS {
         let octets = octets_of(alloc, input)?;
         let outline = outline(alloc, &octets)?;
         let head = Head {
             number: *number,
             offset: *offset,
-            octets: octets.len() as u32,
+            octets: *count,
             is_normal: *is_normal,
         };
-        let room = octets;
-        let line = json_line(alloc, room, *file, head, &outline)?;
+        let line = json_line(alloc, octets, *file, head, &outline)?;
         assert!(rt; line.as_slice() == wanted.as_bytes(), "{input}");
     }
     Ok(())
