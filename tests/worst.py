@@ -14,8 +14,8 @@ from encoder import Writer
 from tables import CHOICES, LISTS, PROGRAM, ROWS, default_of
 
 LIMIT = 1_048_576
-# in kilobytes, beyond the input: of check and canonicalise, and of show
-LEAN, SHOWN = 8 * 1024, 16 * 1024
+# the commands, and how many kilobytes each may take beyond the input
+COMMANDS = {"check": 8 * 1024, "canonicalise": 8 * 1024, "show": 16 * 1024, "show --json": 48 * 1024}
 LEAST = {"Boolean": False, "Integer": 0, "Enumerated": 0, "IsoDate": "20240229", "IsoTime": "000000", "PrintableString": ""}
 
 
@@ -90,7 +90,7 @@ def smalls():
 def run(command, words, folder):
     """The seconds of processor time, the kilobytes and the status of a command on the file of the message."""
     outs = [folder / "out"] if command == "canonicalise" else []
-    call = ["/usr/bin/time", "-q", "-o", folder / "time", "-f", "%U %S %M", PROGRAM, command, *words, folder / "message", *outs]
+    call = ["/usr/bin/time", "-q", "-o", folder / "time", "-f", "%U %S %M", PROGRAM, *command.split(), *words, folder / "message", *outs]
     done = subprocess.run(call, stdout=subprocess.DEVNULL, stderr=subprocess.PIPE, text=True)
     user, system, kilobytes = (folder / "time").read_text().split()
     return float(user) + float(system), int(kilobytes), done.returncode, done.stderr
@@ -102,11 +102,10 @@ def main():
         folder = Path(name)
         for title, message, words in chain(smalls(), lists()):
             (folder / "message").write_bytes(message)
-            for command in ("check", "show", "canonicalise"):
+            for command, bound in COMMANDS.items():
                 seconds, kilobytes, status, said = run(command, words, folder)
                 most.append((kilobytes, title, command))
                 slow = seconds > max(1, len(message) / 1_000_000)
-                bound = SHOWN if command == "show" else LEAN
                 large = kilobytes > bound + len(message) // 1024
                 wrong = status not in ((0, 1) if command == "check" else (0,)) or said
                 failed += slow or large or bool(wrong)

@@ -11,6 +11,7 @@ use Rattle.ill_jobs.specs.declared.job.Job.{Job}
 pub has_two : (rows : List Row) (task : Task) → first_of (codes "output") rows ≡ None → verb task ≡ Verb.Canonicalise → HasFiles rows task
     → (length (files_in rows) ≡ 2) × (first_of (codes "files-from") rows ≡ None)
 has_two rows (Task.Each Job.Show inputs) n v h = absurd cc
+has_two rows (Task.Each Job.Json inputs) n v h = absurd cc
 has_two rows (Task.Each Job.Check inputs) n v h = absurd cc
 has_two rows (Task.Each Job.Digest inputs) n v h = absurd cc
 has_two rows (Task.Each Job.Canonicalise inputs) n v h = absurd h
@@ -27,4 +28,5 @@ not_two_fault found rows (LineFault.Missing error) e n h = (h.0, inr (rows, e, (
 not_two_fault found rows (LineFault.Unexpected error) e n h = (h.0, (rows, e, (n, h.1)))
 not_two_fault found rows LineFault.LinesAndHex e n h = absurd h
 not_two_fault found rows LineFault.LinesAndKeepGoing e n h = absurd h
+not_two_fault found rows LineFault.LinesAndSummary e n h = absurd h
 not_two_fault found rows LineFault.NotOneFile e n h = absurd h

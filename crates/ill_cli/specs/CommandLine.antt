@@ -32,9 +32,11 @@ each_file name = with_rule (with_rule (with_rule (new_app name) (flag_rule (code
 abbrev pub each_going : Text → App
 each_going name = with_rule (with_rule (with_rule (each_file name) (flag_rule (codes "keep-going"))) (flag_rule (codes "summary"))) (flag_rule (codes "json"))
 
+abbrev pub with_going : Text → App
+with_going name = with_rule (with_rule (with_rule (new_app name) (flag_rule (codes "hex"))) (flag_rule (codes "keep-going"))) (flag_rule (codes "summary"))
+
 abbrev pub with_lines : Text → App
-with_lines name = with_rule (with_rule (with_rule (with_rule (new_app name) (flag_rule (codes "hex"))) (flag_rule (codes "keep-going")))
-    (flag_rule (codes "summary"))) (flag_rule (codes "lines"))
+with_lines name = with_rule (with_going name) (flag_rule (codes "lines"))
 
 abbrev pub each_line : Text → App
 each_line name = with_rule (with_rule (with_lines name) list_rule) files_rule

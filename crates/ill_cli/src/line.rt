@@ -4,7 +4,7 @@ ghost use Rattle.std.specs.String.{string_bytes};
 ghost use Rattle.clap.specs.Words.{FailsBy, Text, app_of, fault_of, first_of, found_of, kind_of, rows_of, rule_of, subcommand_of, subcommand_rows_of};
 ghost use Rattle.clap.specs.declared.builder.command.Command.TheViews.{out-Command as fields_of};
 ghost use Rattle.clap.specs.declared.error.kind.ErrorKind.{ErrorKind};
-ghost use Rattle.ill_cli.specs.CommandLine.{each_file, each_going, each_line, file_rule, files_rule, flag_rule, into_one, list_rule, output_rule, program, topic, two_files, with_lines};
+ghost use Rattle.ill_cli.specs.CommandLine.{each_file, each_going, each_line, file_rule, files_rule, flag_rule, into_one, list_rule, output_rule, program, topic, two_files, with_going, with_lines};
 ghost use Rattle.ill_cli.specs.declared.orders.Inputs.{Inputs};
 ghost use Rattle.ill_cli.specs.declared.orders.Order.{Order};
 ghost use Rattle.ill_cli.specs.declared.orders.Task.{Task};
@@ -103,7 +103,24 @@ fn on_each<'a>(
         .arg(files(alloc, MESSAGES))
 }
 
-/// A command that goes on after a message that is refused, and reads lines, too.
+/// A command that goes on after a message that is refused, and counts messages.
+fn by_messages<'a>(
+    alloc: Global,
+    name: &'a str,
+    about: &'a str,
+    after: &'a str,
+) -> Result<Command<'a>, AllocError>
+    ensures { IfOk result (λ c. (app_of c ≡ with_going name.entry.now) × ((fields_of c).has_globals ≡ false)) }
+{
+    Command::new(alloc, name)
+        .about(about)
+        .after_help(after)
+        .arg(flag(alloc, "hex", HEX))?
+        .arg(flag(alloc, "keep-going", KEEP_GOING))?
+        .arg(flag(alloc, "summary", SUMMARY))
+}
+
+/// A command that goes on after a message that is refused, counts messages, and reads lines, too.
 fn by_lines<'a>(
     alloc: Global,
     name: &'a str,
@@ -112,13 +129,7 @@ fn by_lines<'a>(
 ) -> Result<Command<'a>, AllocError>
     ensures { IfOk result (λ c. (app_of c ≡ with_lines name.entry.now) × ((fields_of c).has_globals ≡ false)) }
 {
-    Command::new(alloc, name)
-        .about(about)
-        .after_help(after)
-        .arg(flag(alloc, "hex", HEX))?
-        .arg(flag(alloc, "keep-going", KEEP_GOING))?
-        .arg(flag(alloc, "summary", SUMMARY))?
-        .arg(flag(alloc, "lines", LINES))
+    by_messages(alloc, name, about, after)?.arg(flag(alloc, "lines", LINES))
 }
 
 fn on_each_or_lines<'a>(
