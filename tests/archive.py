@@ -110,8 +110,8 @@ def check_results(archive):
 
 
 def check_instructions(folder, chance):
-    """Each command takes so many times the instructions of `canonicalise`, start-up left out."""
-    archive = Archive(folder, chance, 20, 800, 0)
+    """How many times the instructions of `canonicalise` each command takes, start-up left out, with as many messages in a file."""
+    archive = Archive(folder, chance, 20, MESSAGES * 20 // FILES, 0)
     half, whole = archive.names[:10], archive.names
 
     def cost(*words):

@@ -171,7 +171,7 @@ def in_jq(output, lines):
         return
     done = subprocess.run(["jq", "-c", "."], input=output, capture_output=True, check=False)
     expect(done.returncode == 0, "jq:", done.stderr.decode())
-    found = [json.loads(line, parse_int=float) for line in done.stdout.decode().splitlines()]
+    found = [json.loads(line, parse_int=float) for line in done.stdout.decode().split("\n")[:-1]]
     expect(found == [json.loads(line, parse_int=float) for line in lines], "jq reads another text")
 
 

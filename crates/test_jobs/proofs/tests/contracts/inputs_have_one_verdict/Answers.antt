@@ -2,18 +2,19 @@ use Rattle.std.proofs.Common.{◌≡◌, ◌++◌, ℕ, Bool, true, false, List,
 use Rattle.ill_jobs.specs.Hexadecimal.{hex_octets}
 use Rattle.ill_jobs.specs.Ran.{AnswersVerdict, DoesMessages, RunDone}
 use Rattle.ill_jobs.specs.declared.fault.RunFault.{RunFault}
+use Rattle.ill_jobs.specs.declared.job.Counts.{Counts}
 use Rattle.ill_jobs.specs.declared.job.Verdict.{Verdict}
 use Rattle.ill_jobs.specs.declared.job.Work.{Work}
 use Rattle.ill_jobs.proofs.TextAnswers.{same_octets}
 use Rattle.test_jobs.proofs.tests.contracts.inputs_have_one_verdict.Goals as goal
 
-answered : (hex : Bool) (work : Work) (s t : List ℕ) (held held' : Option (List ℕ)) (v : Verdict) → RunDone hex work (Some s) (Some t) held held' v
+answered : (hex : Bool) (work : Work) (s t : List ℕ) (held held' : Option (List ℕ)) (n : Counts) (v : Verdict) → RunDone hex work (Some s) (Some t) held held' n v
     → (r : Result Verdict RunFault) → DoesMessages work.job hex s r → AnswersVerdict r v
-answered false work s t held held' v d r does =
+answered false work s t held held' n v d r does =
     let o = d.writes.octets in
     let e : s ≡ o = d.writes.taken ∙ ap (λ l. o ++ l) d.end ∙ append-nil o in
     subst (λ w. AnswersVerdict r w) (sym d.is_verdict) (does o d.messages (ap Ok e) d.writes.spelled d.few)
-answered true work s t held held' v d r does =
+answered true work s t held held' n v d r does =
     let i = d.2.1 in
     let o = i.writes.octets in
     let e : d.0 ≡ o = i.writes.taken ∙ ap (λ l. o ++ l) i.end ∙ append-nil o in
@@ -21,9 +22,10 @@ answered true work s t held held' v d r does =
     subst (λ w. AnswersVerdict r w) (sym i.is_verdict) (does o i.messages (h ∙ ap Ok e) i.writes.spelled i.few)
 
 once : (hex : Bool) (work : Work) (s s' t : List ℕ) (held held' : Option (List ℕ)) (q r : Result Verdict RunFault) (v : Verdict) → s ≡ s' → q ≡ Ok v
-    → IfOk q (RunDone hex work (Some s) (Some t) held held') → DoesMessages work.job hex s' r → AnswersVerdict r v
+    → IfOk q (λ v. (n : Counts) × RunDone hex work (Some s) (Some t) held held' n v) → DoesMessages work.job hex s' r → AnswersVerdict r v
 once hex work s s' t held held' q r v e p d does =
-    answered hex work s t held held' v (subst (λ x. IfOk x (RunDone hex work (Some s) (Some t) held held')) p d) r
+    let done = subst (λ x. IfOk x (λ v. (n : Counts) × RunDone hex work (Some s) (Some t) held held' n v)) p d in
+    answered hex work s t held held' done.0 v done.1 r
     (subst (λ x. DoesMessages work.job hex x r) (sym e) does)
 
 pub returns-clause-verdict : goal.returns-clause-verdict

@@ -2,6 +2,7 @@ use Rattle.std.proofs.Common.{◌≡◌, ◌++◌, ◌<◌, ℕ, Bool, false, Li
 use Rattle.ill_normal.specs.Calls.{taking, putting}
 use Rattle.ill_jobs.specs.Ran.{RunFails, StopsAfter}
 use Rattle.ill_jobs.specs.declared.fault.RunFault.{RunFault}
+use Rattle.ill_jobs.specs.declared.job.Counts.{Counts}
 use Rattle.ill_jobs.specs.declared.job.Work.{Work}
 use Rattle.test_jobs.proofs.tests.contracts.write_faults_count_what_the_sink_took.Goals as goal
 
@@ -9,9 +10,10 @@ length_of : (held new out : List ℕ) (n : ℕ) → held ≡ [] → new ≡ held
 length_of held new out n e w l = omega (arith, ap length e, ap length w, length-append held (take n out), length-take n out, l)
 
 counted : (work : Work) (left left' : Option (List ℕ)) (held new : List ℕ) (x y : Bool) (n : ℕ) → held ≡ []
-    → StopsAfter work (taking left left' x) (putting (Some held) (Some new) y) (RunFault.WriteFault n) → length new ≡ n
+    → (k : Counts) × StopsAfter work (taking left left' x) (putting (Some held) (Some new) y) k (RunFault.WriteFault n) → length new ≡ n
 counted work left left' held new x y n e h =
-    let b = h.stops.2 in
+    let stopped = h.1 in
+    let b = stopped.stops.2 in
     length_of held new _ n e b.written b.not_all
 
 pub returns : goal.returns
@@ -21,5 +23,5 @@ returns c n p =
     let x = c.run.new.source.broken in
     let y = c.run.new.sink.broken in
     counted c.args.work left left' c.args.sink.now.octets c.run.new.sink.octets x y n c.requires.empty
-    (subst (λ r. IfErr r (StopsAfter c.args.work (taking left left' x) (putting (Some c.args.sink.now.octets) (Some c.run.new.sink.octets) y))) p
-    (subst (λ (h : Bool). IfErr c.run.result (RunFails h c.args.work (taking left left' x) (putting (Some c.args.sink.now.octets) (Some c.run.new.sink.octets) y))) c.requires.plain c.run.ensures.fails))
+    (subst (λ r. IfErr r (λ e. (k : Counts) × StopsAfter c.args.work (taking left left' x) (putting (Some c.args.sink.now.octets) (Some c.run.new.sink.octets) y) k e)) p
+    (subst (λ (h : Bool). IfErr c.run.result (λ e. (k : Counts) × RunFails h c.args.work (taking left left' x) (putting (Some c.args.sink.now.octets) (Some c.run.new.sink.octets) y) k e)) c.requires.plain c.run.ensures.fails))
