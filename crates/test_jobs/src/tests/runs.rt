@@ -263,7 +263,13 @@ fn hexadecimal_text_has_a_limit(rt: HostRuntime) -> Result<(), Fail> {
 fn messages_are_counted(rt: HostRuntime) -> Result<(), Fail> {
     let alloc = rt.alloc();
     let input = octets_of(alloc, TWICE)?;
-    for job in [Job::Show, Job::Json, Job::Check, Job::Digest, Job::Canonicalise] {
+    for job in [
+        Job::Show,
+        Job::Json,
+        Job::Check,
+        Job::Digest,
+        Job::Canonicalise,
+    ] {
         for compares in [false, true] {
             let work = Work {
                 job,
