@@ -63,43 +63,55 @@ fn in_pieces(alloc: Global, octets: &[u8], most: usize) -> Result<Message, Failu
     at_end(octets.len(), decoder.finish()?)
 }
 
+/// The octets of a row in pieces, and the outcome.
+fn parts_of(row: &str) -> Option<(&str, &str)> {
+    let (_, row) = row.split_once('|')?;
+    row.split_once('|')
+}
+
+fn is_outcome(
+    alloc: Global,
+    answer: Result<Message, Failure>,
+    want: &str,
+) -> Result<bool, AllocError> {
+    Ok(outcome(alloc, answer)?.as_str() == want)
+}
+
+/// The octets of a row, and its outcome.
+fn octets_of_row(alloc: Global, row: &str) -> Result<(Vec<u8>, &str), Fail> {
+    match parts_of(row) {
+        Some((pieces, want)) => Ok((octets_of(alloc, pieces)?, want)),
+        None => Err("no row")?,
+    }
+}
+
+/// Whether a row has its outcome whole, and in pieces of up to 7 octets and of as many as are needed.
+fn comes_true(alloc: Global, row: &str) -> Result<bool, Fail> {
+    let (octets, want) = octets_of_row(alloc, row)?;
+    Ok(
+        is_outcome(alloc, decode(alloc, &octets), want)?
+            && is_outcome(alloc, in_pieces(alloc, &octets, 7), want)?
+            && is_outcome(alloc, in_pieces(alloc, &octets, 1_048_576), want)?,
+    )
+}
+
 #[test]
-fn answers_each_row_whole(rt: HostRuntime) -> Result<(), Fail> {
-    let alloc = rt.alloc();
-    for line in ROWS.lines() {
-        let (name, row) = line.split_once('|').ok_or("no name")?;
-        let (pieces, want) = row.split_once('|').ok_or("no outcome")?;
-        let octets = octets_of(alloc, pieces)?;
-        let answer = outcome(alloc, decode(alloc, &octets))?;
-        assert_eq!(rt; answer.as_str(), want, "{name}");
+fn each_row_has_its_outcome(rt: HostRuntime) -> Result<(), Fail> {
+    for row in ROWS.lines() {
+        assert!(rt; comes_true(rt.alloc(), row)?, "{row}");
     }
     Ok(())
 }
 
-#[test]
-fn answers_each_row_in_pieces(rt: HostRuntime) -> Result<(), Fail> {
-    let alloc = rt.alloc();
-    for line in ROWS.lines() {
-        let (name, row) = line.split_once('|').ok_or("no name")?;
-        let (pieces, want) = row.split_once('|').ok_or("no outcome")?;
-        let octets = octets_of(alloc, pieces)?;
-        for most in [7, 1_048_576] {
-            let answer = outcome(alloc, in_pieces(alloc, &octets, most))?;
-            assert_eq!(rt; answer.as_str(), want, "{name} in pieces of {most}");
-        }
-    }
-    Ok(())
+fn comes_true_octet_by_octet(alloc: Global, row: &str) -> Result<bool, Fail> {
+    let (octets, want) = octets_of_row(alloc, row)?;
+    Ok(is_outcome(alloc, in_pieces(alloc, &octets, 1), want)?)
 }
 
 #[test]
-fn answers_each_row_octet_by_octet(rt: HostRuntime) -> Result<(), Fail> {
-    let alloc = rt.alloc();
-    for line in ROWS.lines() {
-        let (name, row) = line.split_once('|').ok_or("no name")?;
-        let (pieces, want) = row.split_once('|').ok_or("no outcome")?;
-        let octets = octets_of(alloc, pieces)?;
-        let answer = outcome(alloc, in_pieces(alloc, &octets, 1))?;
-        assert_eq!(rt; answer.as_str(), want, "{name}");
+fn each_row_has_its_outcome_octet_by_octet(rt: HostRuntime) -> Result<(), Fail> {
+    for row in ROWS.lines() {
+        assert!(rt; comes_true_octet_by_octet(rt.alloc(), row)?, "{row}");
     }
     Ok(())
 }
@@ -130,65 +142,67 @@ fn needs(alloc: Global, octets: &[u8]) -> Result<Vec<u32>, Fail> {
     }
 }
 
+/// A name, a message, and what the decoder needs before each piece, and at the end.
+static NEEDS: [(&str, &str, &[u32]); 3] = [
+    (
+        "decoder-need-definite",
+        "741f301d800102a10aa1031b0147a2031b0151a20ca00a80083230323430323239",
+        &[1, 1, 31, 0],
+    ),
+    (
+        "decoder-need-length-of-four",
+        "74840000001f301d800102a10aa1031b0147a2031b0151a20ca00a80083230323430323239",
+        &[1, 1, 4, 31, 0],
+    ),
+    (
+        "decoder-need-length-of-126",
+        "74fe 00*125 1f301d800102a10aa1031b0147a2031b0151a20ca00a80083230323430323239",
+        &[1, 1, 126, 31, 0],
+    ),
+];
+
 #[test]
 fn needs_what_certainly_belongs(rt: HostRuntime) -> Result<(), Fail> {
-    let alloc = rt.alloc();
-    let rows: [(&str, &str, &[u32]); 3] = [
-        (
-            "decoder-need-definite",
-            "741f301d800102a10aa1031b0147a2031b0151a20ca00a80083230323430323239",
-            &[1, 1, 31, 0],
-        ),
-        (
-            "decoder-need-length-of-four",
-            "74840000001f301d800102a10aa1031b0147a2031b0151a20ca00a80083230323430323239",
-            &[1, 1, 4, 31, 0],
-        ),
-        (
-            "decoder-need-length-of-126",
-            "74fe 00*125 1f301d800102a10aa1031b0147a2031b0151a20ca00a80083230323430323239",
-            &[1, 1, 126, 31, 0],
-        ),
-    ];
-    for (name, pieces, want) in rows {
-        let found = needs(alloc, &octets_of(alloc, pieces)?)?;
-        assert!(rt; found.as_slice() == want, "{name}: {found:?}");
+    for (name, pieces, want) in &NEEDS {
+        let found = needs(rt.alloc(), &octets_of(rt.alloc(), pieces)?)?;
+        assert!(rt; found.as_slice() == *want, "{name}");
     }
-    let octets = octets_of(
-        alloc,
-        "74803080800102a180a1801b01470000a2801b015100000000a280a080800832303234303232390000000000000000",
-    )?;
-    let found = needs(alloc, &octets)?;
-    assert_eq!(rt; found.len(), 41, "decoder-need-indefinite");
-    assert_eq!(rt;
-        found.iter().filter(|need| **need == 8).count(),
-        1,
-        "decoder-need-indefinite"
-    );
-    assert_eq!(rt;
-        found.iter().filter(|need| **need == 1).count(),
-        39,
-        "decoder-need-indefinite"
-    );
+    Ok(())
+}
+
+/// An EXPIRED with indefinite lengths.
+const INDEFINITE: &str =
+    "74803080800102a180a1801b01470000a2801b015100000000a280a080800832303234303232390000000000000000";
+
+fn count_of(needs: &[u32], wanted: u32) -> u32 {
+    let mut count = 0u32;
+    for need in needs {
+        if *need == wanted {
+            count = count.saturating_add(1);
+        }
+    }
+    count
+}
+
+#[test]
+fn indefinite_lengths_need_one_octet_but_for_contents(rt: HostRuntime) -> Result<(), Fail> {
+    let found = needs(rt.alloc(), &octets_of(rt.alloc(), INDEFINITE)?)?;
+    assert!(rt; found.len() == 41 && count_of(&found, 8) == 1 && count_of(&found, 1) == 39);
     Ok(())
 }
 
 #[test]
-fn finishes_early(rt: HostRuntime) {
+fn what_ends_early_is_truncated(rt: HostRuntime) {
     let empty = Decoder::new(rt.alloc());
-    assert!(rt; empty.need() == 1);
-    assert!(rt; matches!(&empty.finish(), Ok(None)), "decoder-fed-nothing");
+    assert!(rt; empty.need() == 1 && matches!(empty.finish(), Ok(None)));
     let mut early = Decoder::new(rt.alloc());
-    assert!(rt; early.feed(&EXPIRED[..1]) == Ok(Progress::More));
-    assert!(rt; early.feed(&EXPIRED[1..2]) == Ok(Progress::More));
     let truncated = Failure::Refused(Refusal {
         at: 2,
         cause: Cause::Truncated,
     });
-    match early.finish() {
-        Err(failure) => assert!(rt; failure == truncated, "decoder-finished-early"),
-        Ok(_) => assert!(rt; false, "decoder-finished-early"),
-    }
+    assert!(rt;
+        early.feed(&EXPIRED[..2]) == Ok(Progress::More) && early.finish().err() == Some(truncated)
+    );
 }
 
 #[test]
@@ -198,41 +212,36 @@ fn stays_refused_and_stays_done(rt: HostRuntime) {
         at: 7,
         cause: Cause::UnexpectedTag,
     });
-    assert!(rt; decoder.feed(&EXPIRED[..1]) == Ok(Progress::More));
-    assert!(rt; decoder.feed(&EXPIRED[1..2]) == Ok(Progress::More));
-    assert!(rt; decoder.feed(&EXPIRED[2..7]) == Ok(Progress::More));
     assert!(rt;
-        decoder.feed(&[0xA2]) == Err(refusal),
-        "decoder-refused-at-tag"
+        decoder.feed(&EXPIRED[..7]) == Ok(Progress::More)
+            && decoder.feed(&[0xA2]) == Err(refusal)
+            && decoder.need() == 0
+            && decoder.feed(&[]) == Err(refusal)
     );
-    assert!(rt; decoder.need() == 0);
-    assert!(rt; decoder.feed(&[]) == Err(refusal));
-    match decoder.finish() {
-        Err(failure) => assert!(rt; failure == refusal),
-        Ok(_) => assert!(rt; false),
-    }
+    assert!(rt; decoder.finish().err() == Some(refusal));
     let mut done = Decoder::new(rt.alloc());
-    assert!(rt; done.feed(EXPIRED) == Ok(Progress::Done));
-    assert!(rt; done.need() == 0);
-    assert!(rt; done.feed(&[]) == Ok(Progress::Done));
+    assert!(rt;
+        done.feed(EXPIRED) == Ok(Progress::Done)
+            && done.need() == 0
+            && done.feed(&[]) == Ok(Progress::Done)
+    );
+}
+
+/// The size and the APDU of the next message of a source.
+fn read<S: Source>(alloc: Global, source: &mut S) -> Result<Option<(u32, u8)>, ReadFailure> {
+    let message = read_message(alloc, source)?;
+    Ok(message.map(|message| (message.octets(), message.apdu())))
 }
 
 #[test]
 fn reads_from_a_source(rt: HostRuntime) {
     let mut source = Pieces::new(EXPIRED, 5, None);
-    match read_message(rt.alloc(), &mut source) {
-        Ok(Some(message)) => assert!(rt; message.octets() == 33 && message.apdu() == 20),
-        _ => assert!(rt; false),
-    }
     assert!(rt;
-        matches!(&read_message(rt.alloc(), &mut source), Ok(None)),
-        "empty-input-reader"
+        read(rt.alloc(), &mut source) == Ok(Some((33, 20)))
+            && read(rt.alloc(), &mut source) == Ok(None)
     );
     let mut broken = Pieces::new(EXPIRED, 5, Some(7));
-    match read_message(rt.alloc(), &mut broken) {
-        Err(failure) => assert!(rt; failure == ReadFailure::ReadFault),
-        Ok(_) => assert!(rt; false),
-    }
+    assert!(rt; read(rt.alloc(), &mut broken) == Err(ReadFailure::ReadFault));
 }
 
 /// Octets, and then others for ever.
@@ -272,33 +281,35 @@ impl Source for Endless {
     }
 }
 
+/// A name, octets, those that follow for ever, and the refusal.
+static ENDLESS: [(&str, &[u8], &[u8], Refusal); 2] = [
+    (
+        "endless-segments-second-limit",
+        b"\x74\x80\x30\x80\x80\x01\x02\xa1\x80\xa1\x80\x3b\x80",
+        b"\x04\x00",
+        Refusal {
+            at: 1_048_575,
+            cause: Cause::TooLong,
+        },
+    ),
+    (
+        "endless-zeros",
+        b"",
+        b"\x00",
+        Refusal {
+            at: 0,
+            cause: Cause::BadTag,
+        },
+    ),
+];
+
 #[test]
 fn ends_at_endless_sources(rt: HostRuntime) {
-    let rows: [(&str, &'static [u8], &'static [u8], Refusal); 2] = [
-        (
-            "endless-segments-second-limit",
-            b"\x74\x80\x30\x80\x80\x01\x02\xa1\x80\xa1\x80\x3b\x80",
-            b"\x04\x00",
-            Refusal {
-                at: 1_048_575,
-                cause: Cause::TooLong,
-            },
-        ),
-        (
-            "endless-zeros",
-            b"",
-            b"\x00",
-            Refusal {
-                at: 0,
-                cause: Cause::BadTag,
-            },
-        ),
-    ];
-    for (name, front, over, refusal) in rows {
+    for (name, front, over, refusal) in &ENDLESS {
         let mut source = Endless { front, over, at: 0 };
-        match read_message(rt.alloc(), &mut source) {
-            Err(failure) => assert!(rt; failure == ReadFailure::Refused(refusal), "{name}"),
-            Ok(_) => assert!(rt; false, "{name}"),
-        }
+        assert!(rt;
+            read(rt.alloc(), &mut source) == Err(ReadFailure::Refused(*refusal)),
+            "{name}"
+        );
     }
 }

@@ -4,7 +4,7 @@ mod contracts;
 
 use ber_core::Class;
 use ill_schema::{
-    Kind, LIMIT, LeafKind, Message, Mode, NodeId, PartId, Presence, Unfit, Value, apdu_name,
+    Kind, LIMIT, LeafKind, Message, Mode, NodeId, PartId, Presence, Row, Unfit, Value, apdu_name,
     apdu_node, equal, fits, is_carried, is_default, kind, may_lack, normal_form_is_a_spelling,
     normal_form_is_no_longer, normal_form_is_one_to_one, normal_size, normal_tree_means_the_value,
     one_meaning, one_value, part_name, profile_two_extends_profile_one, replacement, row, rows,
@@ -68,95 +68,106 @@ fn refused(apdu: u8, body: Value) -> Result<Value, Fail> {
     }
 }
 
+/// Whether the body of a row is a message of its size, or none for its reason.
+fn comes_true(alloc: Global, row: &str) -> Result<bool, Fail> {
+    let (_, rest) = row.split_once(' ').ok_or("a name")?;
+    let (apdu, rest) = rest.split_once(' ').ok_or("a number")?;
+    let (expected, parts) = rest.split_once(' ').ok_or("an outcome")?;
+    let apdu = apdu.parse::<u8>()?;
+    let expected = expectation(expected)?;
+    Ok(new_size(apdu, value(alloc, parts)?) == expected)
+}
+
 #[test]
-fn message_new(rt: HostRuntime) -> Result<(), Fail> {
-    for line in ROWS.lines() {
-        let (name, rest) = line.split_once(' ').ok_or("a name")?;
-        let (apdu, rest) = rest.split_once(' ').ok_or("a number")?;
-        let (expected, parts) = rest.split_once(' ').ok_or("an outcome")?;
-        let body = value(rt.alloc(), parts)?;
-        let found = new_size(apdu.parse::<u8>()?, body);
-        assert_eq!(rt; found, expectation(expected)?, "{name}");
+fn messages_are_made_of_bodies_that_fit(rt: HostRuntime) -> Result<(), Fail> {
+    for row in ROWS.lines() {
+        assert!(rt; comes_true(rt.alloc(), row)?, "{row}");
     }
-    assert_eq!(rt; LIMIT, 1_048_576);
+    assert!(rt; new_size(20, Value::Flag(true)) == Err(Unfit::DoesNotFit));
+    assert!(rt; LIMIT == 1_048_576);
     Ok(())
 }
 
 #[test]
-fn message_new_of_a_flag(rt: HostRuntime) {
-    assert_eq!(rt; new_size(20, Value::Flag(true)), Err(Unfit::DoesNotFit));
-}
-
-#[test]
-fn refused_body_comes_back(rt: HostRuntime) -> Result<(), Fail> {
+fn a_refused_body_comes_back(rt: HostRuntime) -> Result<(), Fail> {
     let body = refused(21, expired(rt.alloc())?)?;
-    assert!(rt; equal(&body, &expired(rt.alloc())?));
+    let same = expired(rt.alloc())?;
+    assert!(rt; equal(&body, &same));
     Ok(())
 }
 
 #[test]
-fn system_id_from_a_flag(rt: HostRuntime) {
-    assert!(rt; !fits(&Value::Flag(true), NodeId::SYSTEM_ID));
-    assert!(rt; fits(&Value::Flag(true), NodeId::BOOLEAN));
-    assert!(rt; fits(&Value::Whole(-1), NodeId::ENUMERATED));
-}
-
-#[test]
-fn date_due_of_one_entry(rt: HostRuntime) -> Result<(), Fail> {
+fn values_fit_their_nodes(rt: HostRuntime) -> Result<(), Fail> {
+    let flag = Value::Flag(true);
+    let least = Value::Whole(-9_223_372_036_854_775_808);
+    assert!(rt; !fits(&flag, NodeId::SYSTEM_ID) && fits(&least, NodeId::ENUMERATED));
+    assert!(rt; fits(&flag, NodeId::BOOLEAN) && normal_size(&flag, NodeId::BOOLEAN) == Some(3));
+    assert!(rt; fits(&least, NodeId::INTEGER) && normal_size(&least, NodeId::INTEGER) == Some(10));
     let due = value(rt.alloc(), "date:20240229 seq:1")?;
     assert!(rt; !fits(&due, NodeId::DATE_DUE));
     Ok(())
 }
 
-#[test]
-fn sizes_of_nodes(rt: HostRuntime) {
-    let flag = Value::Flag(true);
-    assert!(rt; fits(&flag, NodeId::BOOLEAN));
-    assert_eq!(rt; normal_size(&flag, NodeId::BOOLEAN), Some(3));
-    let least = Value::Whole(-9_223_372_036_854_775_808);
-    assert!(rt; fits(&least, NodeId::INTEGER));
-    assert_eq!(rt; normal_size(&least, NodeId::INTEGER), Some(10));
-}
+/// An EXPIRED whose transaction has a group qualifier that is a VisibleString.
+const VISIBLE: &str = "2 - visible:G general:Q - seq:4 date:20240229 - seq:2 - seq:2 - - - seq:6";
 
 #[test]
 fn visible_differs_from_general(rt: HostRuntime) -> Result<(), Fail> {
-    let words = "2 - visible:G general:Q - seq:4 date:20240229 - seq:2 - seq:2 - - - seq:6";
-    let a = message(20, expired(rt.alloc())?)?;
-    let b = message(20, value(rt.alloc(), words)?)?;
-    assert!(rt; a.same_apdu(&a));
-    assert!(rt; !a.same_apdu(&b));
-    assert_eq!(rt; b.octets(), 33, "group-qualifier-visible");
+    let general = message(20, expired(rt.alloc())?)?;
+    let visible = message(20, value(rt.alloc(), VISIBLE)?)?;
+    assert!(rt;
+        general.same_apdu(&general) && !general.same_apdu(&visible) && visible.octets() == 33,
+        "group-qualifier-visible"
+    );
     Ok(())
 }
 
 #[test]
 fn a_message_keeps_its_parts(rt: HostRuntime) -> Result<(), Fail> {
     let made = message(20, expired(rt.alloc())?)?;
-    assert_eq!(rt; made.apdu(), 20);
-    assert!(rt; equal(made.body(), &expired(rt.alloc())?));
+    let body = expired(rt.alloc())?;
+    assert!(rt; made.apdu() == 20 && equal(made.body(), &body));
     let read = Message::of(20, made.into_body(), 47);
-    assert_eq!(rt; read.octets(), 47);
+    assert!(rt; read.octets() == 47);
     Ok(())
 }
 
 #[test]
-fn nodes_and_rows(rt: HostRuntime) {
-    assert_eq!(rt; kind(NodeId::SYMBOL), Kind::Choice);
-    assert_eq!(rt;
-        kind(NodeId::PRINTABLE_STRING),
-        Kind::Leaf(LeafKind::Printable)
+fn nodes_have_a_kind_and_rows(rt: HostRuntime) {
+    assert!(rt;
+        kind(NodeId::SYMBOL) == Kind::Choice
+            && kind(NodeId::PRINTABLE_STRING) == Kind::Leaf(LeafKind::Printable)
+            && kind(NodeId::LOCS) == Kind::SeqOf
     );
-    assert_eq!(rt; kind(NodeId::LOCS), Kind::SeqOf);
-    assert_eq!(rt; rows(NodeId::ITEM_ID), 23);
-    assert_eq!(rt; rows(NodeId::ILL_REQUEST), 26);
-    assert_eq!(rt; rows(NodeId::ILL_STRING), 0);
-    assert_eq!(rt; rows_of(NodeId::ILL_APDU).len(), 20);
+    assert!(rt;
+        rows(NodeId::ITEM_ID) == 23
+            && rows(NodeId::ILL_REQUEST) == 26
+            && rows(NodeId::ILL_STRING) == 0
+            && rows_of(NodeId::ILL_APDU).len() == 20
+    );
     let past_end = PartId {
         node: NodeId::CANCEL,
         row: 7,
     };
-    assert_eq!(rt; row(past_end), None);
-    assert_eq!(rt; part_name(past_end), None);
+    assert!(rt; row(past_end).is_none() && part_name(past_end).is_none());
+}
+
+/// Whether this is the row of the flag `renewable`.
+fn is_renewable(row: Row) -> bool {
+    row.tag == Some((Class::Context, 1))
+        && row.mode == Mode::Implicit
+        && row.presence == Presence::Default(1)
+        && row.node == NodeId::BOOLEAN
+}
+
+/// Whether its flag may be left out where it is TRUE, and its tag stands for that of the flag.
+fn holds_true_by_default(row: Row) -> bool {
+    is_default(row, &Value::Flag(true))
+        && !is_default(row, &Value::Flag(false))
+        && is_carried(row.presence)
+        && !may_lack(row.presence)
+        && wrapper(row).is_none()
+        && replacement(row) == Some((Class::Context, 1))
 }
 
 #[test]
@@ -165,37 +176,35 @@ fn rows_of_a_date_due(rt: HostRuntime) {
         node: NodeId::DATE_DUE,
         row: 1,
     });
-    match renewable {
-        Some(row) => {
-            assert_eq!(rt; row.tag, Some((Class::Context, 1)));
-            assert_eq!(rt; row.mode, Mode::Implicit);
-            assert_eq!(rt; row.presence, Presence::Default(1));
-            assert_eq!(rt; row.node, NodeId::BOOLEAN);
-            assert!(rt; is_default(row, &Value::Flag(true)));
-            assert!(rt; !is_default(row, &Value::Flag(false)));
-            assert!(rt; is_carried(row.presence));
-            assert!(rt; !may_lack(row.presence));
-            assert_eq!(rt; wrapper(row), None);
-            assert_eq!(rt; replacement(row), Some((Class::Context, 1)));
-        }
-        None => assert!(rt; false),
-    }
+    assert!(rt; matches!(renewable, Some(row) if is_renewable(row) && holds_true_by_default(row)));
 }
 
+/// Parts by their node and row, and their names.
+static NAMES: [(NodeId, u8, &str, &str); 6] = [
+    (NodeId::EXPIRED, 1, "Expired", "transaction-id"),
+    (NodeId::CANCEL, 6, "Cancel", "cancel-extensions"),
+    (NodeId::ILL_APDU, 1, "ILL-APDU", "Forward-Notification"),
+    (NodeId::ILL_APDU, 18, "ILL-APDU", "Status-Or-Error-Report"),
+    (NodeId::ESTIMATE, 0, "Estimate", "cost-estimate"),
+    (NodeId::ILL_SERVICE_TYPES, 0, "", "item"),
+];
+
 #[test]
-fn names(rt: HostRuntime) {
-    let name = |node, row| part_name(PartId { node, row });
-    assert!(rt; name(NodeId::EXPIRED, 1) == Some(("Expired", "transaction-id")));
-    assert!(rt; name(NodeId::CANCEL, 6) == Some(("Cancel", "cancel-extensions")));
-    assert!(rt; name(NodeId::ILL_APDU, 1) == Some(("ILL-APDU", "Forward-Notification")));
-    assert!(rt; name(NodeId::ILL_APDU, 18) == Some(("ILL-APDU", "Status-Or-Error-Report")));
-    assert!(rt; name(NodeId::ESTIMATE, 0) == Some(("Estimate", "cost-estimate")));
-    assert!(rt; name(NodeId::ILL_SERVICE_TYPES, 0) == Some(("", "item")));
-    assert!(rt; apdu_name(17) == Some("Message"));
-    assert!(rt; apdu_name(19) == None);
-    assert_eq!(rt; apdu_node(17), Some(NodeId::MESSAGE_APDU));
-    assert_eq!(rt; apdu_node(2), None);
-    assert_eq!(rt; apdu_node(0), None);
+fn parts_and_apdus_have_names(rt: HostRuntime) {
+    for (node, row, name, entry) in &NAMES {
+        let part = PartId {
+            node: *node,
+            row: *row,
+        };
+        assert!(rt; part_name(part) == Some((*name, *entry)), "{name}.{entry}");
+    }
+    assert!(rt;
+        apdu_name(17) == Some("Message")
+            && apdu_name(19).is_none()
+            && apdu_node(17) == Some(NodeId::MESSAGE_APDU)
+            && apdu_node(2).is_none()
+            && apdu_node(0).is_none()
+    );
 }
 
 #[test]

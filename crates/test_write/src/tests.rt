@@ -6,7 +6,7 @@ ghost use Rattle.std.specs.Prelude.{None, false};
 use ber_core::{Broken, Room, Sink};
 use ill_schema::Message;
 use ill_write::{Sizes, WriteFailure, normal_bytes, normal_size_counts_normal_forms, write_normal};
-use std::alloc::Global;
+use std::alloc::{AllocError, Global};
 use std::test::Fail;
 use test_support::{message, octets_of};
 
@@ -41,12 +41,28 @@ renew-with-date 13 6d2a3028800102a10aa1031b0147a2031b0151a20ca00a800832303234303
 message-of-the-largest-first-size 17 7182fffb3082fff7800102a10aa1031b0147a2031b0151a20ca00a80083230323430323239bf2e82ffd51b82ffd1..*65489 head letters:65489 - seq:7
 normal-form-of-the-largest-size 17 71830ffffb30830ffff6800102a10aa1031b0147a2031b0151a20ca00a80083230323430323239bf2e830fffd31b830fffce..*1048526 head letters:1048526 - seq:7";
 
-/// The sizes that the worked rows give.
-const TOTALS: &str = "\
-sizes-total-of-expired 33 20 head - seq:6
-sizes-total-of-request 54 1 head 1 none:3 1 list:1 - false false 1 1 seq:4 none:2 3 - none:23 seq:23 none:4 false false none:3 seq:26
-sizes-total-of-request-with-delivery 62 1 head 1 - general:mail alt:0 - 1 list:1 - false false 1 1 seq:4 none:2 3 - none:23 seq:23 none:4 false false none:3 seq:26
-sizes-total-of-deep-answer 60 4 head 3 1 general:L alt:1 - seq:2 none:2 seq:3 list:1 seq:2 alt:2 none:7 seq:14";
+/// A name, the total that the worked rows give, the APDU's number, and the parts of the body.
+static TOTALS: [(&str, u32, &str, &str); 4] = [
+    ("sizes-total-of-expired", 33, "20", "head - seq:6"),
+    (
+        "sizes-total-of-request",
+        54,
+        "1",
+        "head 1 none:3 1 list:1 - false false 1 1 seq:4 none:2 3 - none:23 seq:23 none:4 false false none:3 seq:26",
+    ),
+    (
+        "sizes-total-of-request-with-delivery",
+        62,
+        "1",
+        "head 1 - general:mail alt:0 - 1 list:1 - false false 1 1 seq:4 none:2 3 - none:23 seq:23 none:4 false false none:3 seq:26",
+    ),
+    (
+        "sizes-total-of-deep-answer",
+        60,
+        "4",
+        "head 3 1 general:L alt:1 - seq:2 none:2 seq:3 list:1 seq:2 alt:2 none:7 seq:14",
+    ),
+];
 
 const EXPIRED: &str = "head - seq:6";
 
@@ -85,43 +101,55 @@ impl Sink for Counter {
     }
 }
 
+/// Whether a message has this normal form, as octets and in a sink.
+fn has_normal_form(alloc: Global, message: &Message, normal: &[u8]) -> Result<bool, AllocError> {
+    let found = normal_bytes(alloc, message)?;
+    let mut counter = Counter {
+        octets: 0,
+        per_call: 4096,
+    };
+    let written = write_normal(alloc, message, &mut counter);
+    Ok(
+        found.as_slice() == normal
+            && written == Ok(message.octets())
+            && counter.octets == normal.len() as u64,
+    )
+}
+
+fn comes_true(alloc: Global, row: &str) -> Result<bool, Fail> {
+    let (_, rest) = row.split_once(' ').ok_or("a name")?;
+    let (apdu, rest) = rest.split_once(' ').ok_or("a number")?;
+    let (normal, parts) = rest.split_once(' ').ok_or("octets")?;
+    let normal = octets(alloc, normal)?;
+    let message = message(alloc, apdu, parts)?;
+    Ok(has_normal_form(alloc, &message, &normal)?)
+}
+
 #[test]
-fn normal_forms(rt: HostRuntime) -> Result<(), Fail> {
-    for line in ROWS.lines() {
-        let (name, rest) = line.split_once(' ').ok_or("a name")?;
-        let (apdu, rest) = rest.split_once(' ').ok_or("a number")?;
-        let (normal, parts) = rest.split_once(' ').ok_or("octets")?;
-        let message = message(rt.alloc(), apdu, parts)?;
-        let expected = octets(rt.alloc(), normal)?;
-        let found = normal_bytes(rt.alloc(), &message)?;
-        assert!(rt; found.as_slice() == expected.as_slice(), "{name}");
-        let mut counter = Counter {
-            octets: 0,
-            per_call: 4096,
-        };
-        let written = write_normal(rt.alloc(), &message, &mut counter);
-        assert!(rt; written == Ok(message.octets()), "{name}");
-        assert!(rt; counter.octets == expected.len() as u64, "{name}");
+fn each_row_has_its_normal_form(rt: HostRuntime) -> Result<(), Fail> {
+    for row in ROWS.lines() {
+        assert!(rt; comes_true(rt.alloc(), row)?, "{row}");
     }
     Ok(())
 }
 
+/// The total that is measured of a message.
+fn measured(alloc: Global, apdu: &str, parts: &str) -> Result<u32, Fail> {
+    let message = message(alloc, apdu, parts)?;
+    Ok(Sizes::measure(alloc, &message)?.total())
+}
+
 #[test]
-fn totals(rt: HostRuntime) -> Result<(), Fail> {
-    for line in TOTALS.lines() {
-        let (name, rest) = line.split_once(' ').ok_or("a name")?;
-        let (total, rest) = rest.split_once(' ').ok_or("a size")?;
-        let (apdu, parts) = rest.split_once(' ').ok_or("a number")?;
-        let message = message(rt.alloc(), apdu, parts)?;
-        let sizes = Sizes::measure(rt.alloc(), &message)?;
-        assert_eq!(rt; sizes.total(), total.parse::<u32>()?, "{name}");
+fn totals_are_the_sizes_of_normal_forms(rt: HostRuntime) -> Result<(), Fail> {
+    for (name, total, apdu, parts) in &TOTALS {
+        assert!(rt; measured(rt.alloc(), apdu, parts)? == *total, "{name}");
     }
     normal_size_counts_normal_forms();
     Ok(())
 }
 
 #[test]
-fn sizes_in_header_order(rt: HostRuntime) -> Result<(), Fail> {
+fn sizes_are_in_the_order_of_their_headers(rt: HostRuntime) -> Result<(), Fail> {
     let message = message(rt.alloc(), "20", EXPIRED)?;
     let sizes = Sizes::measure(rt.alloc(), &message)?;
     let text = format!(in rt.alloc(); "{sizes:?}")?;
@@ -129,69 +157,73 @@ fn sizes_in_header_order(rt: HostRuntime) -> Result<(), Fail> {
     Ok(())
 }
 
-/// What comes of an Expired in a sink that takes a number of octets in a call, and breaks after a number.
+/// What comes of a message in a sink that takes a number of octets in a call and breaks after a number: the result, whether the sink is
+/// broken, and how many octets it has, None where they are not the first of the normal form.
 fn written(
     alloc: Global,
     message: &Message,
-    per_call: usize,
-    breaks_after: usize,
-) -> Result<(Result<u32, WriteFailure>, Vec<u8>, bool), Fail> {
+    normal: &[u8],
+    (per_call, breaks_after): (usize, usize),
+) -> (Result<u32, WriteFailure>, bool, Option<usize>) {
     let mut sink = Room::<64>::new(per_call.max(1), Some(breaks_after));
     let result = write_normal(alloc, message, &mut sink);
-    let octets = Vec::from_slice(alloc, sink.octets())?;
-    Ok((result, octets, sink.broken()))
+    let octets = sink.octets();
+    let count = normal.starts_with(octets).then_some(octets.len());
+    (result, sink.broken(), count)
+}
+
+/// Whether a sink has the first octets wherever it breaks, and all where it doesn't.
+fn has_the_first(alloc: Global, message: &Message, normal: &[u8], per_call: usize) -> bool {
+    for n in 0..33u32 {
+        let breaks_after = n as usize;
+        let fault = Err(WriteFailure::WriteFault(n));
+        if written(alloc, message, normal, (per_call, breaks_after))
+            != (fault, true, Some(breaks_after))
+        {
+            return false;
+        }
+    }
+    written(alloc, message, normal, (per_call, 33)) == (Ok(33), false, Some(33))
 }
 
 /// The rows `sink-broken-after-0` to `sink-broken-after-32`, and `sink-of-seven-octets-per-call`.
 #[test]
-fn sink_broken_after(rt: HostRuntime) -> Result<(), Fail> {
+fn a_broken_sink_has_the_first_octets(rt: HostRuntime) -> Result<(), Fail> {
     let message = message(rt.alloc(), "20", EXPIRED)?;
     let normal = octets_of(rt.alloc(), EXPIRED_NORMAL_FORM)?;
     for per_call in [1, 7, 64] {
-        for n in 0..33usize {
-            let (result, octets, broken) = written(rt.alloc(), &message, per_call, n)?;
-            assert!(rt;
-                result == Err(WriteFailure::WriteFault(n as u32)),
-                "{n} of {per_call}"
-            );
-            assert!(rt;
-                octets.len() == n && normal.starts_with(&octets),
-                "{n} of {per_call}"
-            );
-            assert!(rt; broken, "{n} of {per_call}");
-        }
-        let (result, octets, broken) = written(rt.alloc(), &message, per_call, 33)?;
-        assert!(rt; result == Ok(33) && !broken, "whole, {per_call}");
-        assert!(rt; octets.as_slice() == normal.as_slice(), "whole, {per_call}");
+        assert!(rt;
+            has_the_first(rt.alloc(), &message, &normal, per_call),
+            "{per_call}"
+        );
     }
     Ok(())
 }
 
 /// The row `largest-message-one-octet-sink`.
 #[test]
-fn largest_message_one_octet_sink(rt: HostRuntime) -> Result<(), Fail> {
+fn the_largest_message_goes_octet_by_octet(rt: HostRuntime) -> Result<(), Fail> {
     let message = message(rt.alloc(), "17", "head letters:65489 - seq:7")?;
     let expected = octets(
         rt.alloc(),
         "7182fffb3082fff7800102a10aa1031b0147a2031b0151a20ca00a80083230323430323239bf2e82ffd51b82ffd1..*65489",
     )?;
     let mut sink = Room::<65_535>::new(1, None);
-    assert!(rt; write_normal(rt.alloc(), &message, &mut sink) == Ok(65_535));
-    assert!(rt; sink.octets() == expected.as_slice());
+    assert!(rt;
+        write_normal(rt.alloc(), &message, &mut sink) == Ok(65_535)
+            && sink.octets() == expected.as_slice()
+    );
     Ok(())
 }
 
 /// An answer with 32,744 empty system ids, whose list takes most of the octets.
 #[test]
-fn list_of_empty_system_ids(rt: HostRuntime) -> Result<(), Fail> {
+fn a_list_of_empty_system_ids(rt: HostRuntime) -> Result<(), Fail> {
     let message = message(rt.alloc(), "4", "head 2 none:4 empties:32744 none:3 seq:14")?;
-    let mut expected = octets_of(
+    let expected = octets_of(
         rt.alloc(),
-        "6482fffa3082fff6800102a10aa1031b0147a2031b0151a20ca00a800832303234303232399f1f0102bf2282ffd0",
+        "6482fffa3082fff6800102a10aa1031b0147a2031b0151a20ca00a800832303234303232399f1f0102bf2282ffd0 3000*32744",
     )?;
-    for _ in 0..32_744u32 {
-        expected.extend_from_slice(b"\x30\x00")?;
-    }
     let found = normal_bytes(rt.alloc(), &message)?;
     assert!(rt; found.as_slice() == expected.as_slice());
     Ok(())

@@ -42,7 +42,7 @@ pub struct Start<'a> {
     pub words: &'a [&'a [u8]],
     pub input: &'a [u8],
     /// The file that standard input and standard output are, where they are a file.
-    pub standard: Option<&'a str>,
+    pub standard: Option<&'static str>,
     pub faults: Faults,
 }
 

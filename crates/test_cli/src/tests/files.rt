@@ -90,7 +90,7 @@ fn is_refused_under_each_name(rt: &HostRuntime) -> Result<bool, Fail> {
     Ok(is_refused && fs::read(rt, "B")?.as_slice() == INDEFINITE)
 }
 
-fn is_refused(rt: &HostRuntime, input: &[u8], output: &[u8]) -> bool {
+fn is_refused<'n>(rt: &HostRuntime, input: &'n [u8], output: &'n [u8]) -> bool {
     let words: [&[u8]; 3] = [b"canonicalise", input, output];
     let ended = run(
         rt,

@@ -2,15 +2,11 @@
 //!
 //! `rt try` can't run it: what it watches memory with needs memory itself.
 use ill_apdu::{Apdu, MessageFault};
-use ill_parts::{Part, Symbol, SystemId, TransactionId, Typed, optional_value, required_value};
+use ill_parts::{Part, TransactionId, Typed, optional_value, required_value};
 use ill_schema::{Message, Value};
 use std::alloc::Global;
-use std::process::Abort;
 use std::test::Fail;
-use test_support::{Hoard, Outcome, general_string, message, value};
-
-/// A call's name, and what came of it.
-type Row = (&'static str, Outcome);
+use test_support::{Hoard, Outcome, message, value};
 
 /// A message of each APDU: its number, and the parts of its body, as [`test_support::message`] reads them.
 const EACH_APDU: &str = "\
@@ -33,145 +29,105 @@ const EACH_APDU: &str = "\
 18 head none:2 seq:7
 20 head - seq:6";
 
-/// What the calls are made on.
-#[derive(Drop)]
-struct Given {
-    transaction: TransactionId,
-    transaction_value: Value,
-    party: Option<SystemId>,
-    parties: Vec<SystemId>,
-    apdus: Vec<(Message, Apdu)>,
-}
-
-fn transaction(alloc: Global) -> Result<TransactionId, Fail> {
-    Ok(TransactionId {
-        initial_requester_id: None,
-        transaction_group_qualifier: general_string(alloc, "G")?,
-        transaction_qualifier: general_string(alloc, "Q")?,
-        sub_transaction_qualifier: None,
-    })
-}
-
-/// A party with nothing but a symbol.
-fn party(alloc: Global) -> Result<SystemId, Fail> {
-    Ok(SystemId {
-        person_or_institution_symbol: Some(Symbol::InstitutionSymbol(general_string(alloc, "L")?)),
-        name_of_person_or_institution: None,
-    })
-}
-
-fn apdus(alloc: Global) -> Result<Vec<(Message, Apdu)>, Fail> {
-    let mut apdus = Vec::new(alloc);
-    for line in EACH_APDU.lines() {
-        let (number, parts) = line.split_once(' ').ok_or("no number")?;
-        let message = message(alloc, number, parts)?;
-        let apdu = Apdu::from_message(alloc, &message)?;
-        apdus.push((message, apdu))?;
-    }
-    Ok(apdus)
-}
-
-impl Given {
-    fn new(alloc: Global) -> Result<Given, Fail> {
-        Ok(Given {
-            transaction: transaction(alloc)?,
-            transaction_value: value(alloc, "- general:G general:Q - seq:4")?,
-            party: Some(party(alloc)?),
-            parties: vec![in alloc; party(alloc)?]?,
-            apdus: apdus(alloc)?,
-        })
-    }
-}
-
-/// What came of each call on parts. Those of `ill_parts` that aren't called here take what only the types of these crates have, and are
-/// called by them.
-fn part_calls(alloc: Global, given: &Given) -> [Row; 5] {
-    let part = &given.transaction;
-    let value = &given.transaction_value;
+/// What comes of calls on parts: `to_value` of a part and of a list, `from_value`, `required_value` and `optional_value`. Those of `ill_parts`
+/// that aren't called here take what only the types of these crates have, and are called by them.
+fn part_calls<T: Typed>(
+    alloc: Global,
+    part: &Option<T>,
+    list: &Vec<T>,
+    value: &Value,
+) -> [Outcome; 5] {
+    let (of_part, required) = match part {
+        Some(part) => (
+            Outcome::of(part.to_value(alloc)),
+            Outcome::of(required_value(alloc, part)),
+        ),
+        None => (Outcome::NotBegun, Outcome::NotBegun),
+    };
     [
-        ("Part::to_value", Outcome::of(part.to_value(alloc))),
-        (
-            "Part::to_value of a list",
-            Outcome::of(given.parties.to_value(alloc)),
-        ),
-        (
-            "Typed::from_value",
-            Outcome::of(TransactionId::from_value(alloc, value)),
-        ),
-        ("required_value", Outcome::of(required_value(alloc, part))),
-        (
-            "optional_value",
-            Outcome::of(optional_value(alloc, &given.party)),
-        ),
+        of_part,
+        Outcome::of(list.to_value(alloc)),
+        Outcome::of(T::from_value(alloc, value)),
+        required,
+        Outcome::of(optional_value(alloc, part)),
     ]
 }
 
-/// Of each APDU its number, and what came of `to_message` and `from_message`.
-fn apdu_calls(alloc: Global, given: &Given) -> [(u8, Outcome, Outcome); 18] {
-    let mut rows = [(0, Outcome::Wrong, Outcome::Wrong); 18];
-    for (row, (message, apdu)) in rows.iter_mut().zip(given.apdus.iter()) {
-        *row = (
-            apdu.number(),
-            to_message(alloc, apdu),
-            Outcome::of(Apdu::from_message(alloc, message)),
-        );
+/// What comes of the calls on a part that words write, with memory and then without.
+fn part_calls_twice<T: Typed>(alloc: Global, words: &str) -> Result<[[Outcome; 5]; 2], Fail> {
+    let value = value(alloc, words)?;
+    let part = T::from_value(alloc, &value)?;
+    let mut list = Vec::new(alloc);
+    if let Some(item) = T::from_value(alloc, &value)? {
+        list.push(item)?;
     }
-    rows
-}
-
-fn to_message(alloc: Global, apdu: &Apdu) -> Outcome {
-    match apdu.to_message(alloc) {
-        Ok(message) => Outcome::right(message.apdu() == apdu.number()),
-        Err(fault) => Outcome::out_of_memory(fault == MessageFault::OutOfMemory),
+    let with = part_calls(alloc, &part, &list, &value);
+    let hoard = Hoard::of_all(alloc)?;
+    let is_empty_before = hoard.has_all();
+    let without = part_calls(alloc, &part, &list, &value);
+    let is_empty = is_empty_before && hoard.has_all();
+    drop(hoard);
+    if !is_empty {
+        return Err("memory was left")?;
     }
-}
-
-/// What came of each call.
-#[derive(Clone, Copy)]
-struct All {
-    parts: [Row; 5],
-    apdus: [(u8, Outcome, Outcome); 18],
-}
-
-fn call_all(alloc: Global, given: &Given) -> All {
-    All {
-        parts: part_calls(alloc, given),
-        apdus: apdu_calls(alloc, given),
-    }
-}
-
-/// Stops where one of the calls came to something else.
-fn want_all(rt: &impl Abort, all: &All, wanted: Outcome) {
-    for (name, outcome) in &all.parts {
-        assert!(rt;
-            *outcome == wanted,
-            "{name}: {outcome:?}, and not {wanted:?}"
-        );
-    }
-    for (number, to_message, from_message) in &all.apdus {
-        assert!(rt;
-            *to_message == wanted,
-            "to_message of {number}: {to_message:?}"
-        );
-        assert!(rt;
-            *from_message == wanted,
-            "from_message of {number}: {from_message:?}"
-        );
-    }
+    Ok([with, without])
 }
 
 #[test]
-fn always_out_of_memory(rt: HostRuntime) -> Result<(), Fail> {
-    let given = Given::new(rt.alloc())?;
-    let with_memory = call_all(rt.alloc(), &given);
-    let hoard = Hoard::of_all(rt.alloc())?;
+fn calls_on_parts_succeed_with_memory_alone(rt: HostRuntime) -> Result<(), Fail> {
+    let found = part_calls_twice::<TransactionId>(rt.alloc(), "- general:G general:Q - seq:4")?;
+    assert!(rt;
+        found == [[Outcome::Right; 5], [Outcome::OutOfMemory; 5]],
+        "{found:?}"
+    );
+    Ok(())
+}
+
+/// What comes of `to_message` and `from_message`.
+fn apdu_calls(alloc: Global, message: &Message, apdu: &Apdu) -> [Outcome; 2] {
+    let sent = match apdu.to_message(alloc) {
+        Ok(message) => Outcome::right(message.apdu() == apdu.number()),
+        Err(fault) => Outcome::out_of_memory(fault == MessageFault::OutOfMemory),
+    };
+    [sent, Outcome::of(Apdu::from_message(alloc, message))]
+}
+
+/// What comes of the calls on an APDU, with memory and then without.
+fn apdu_calls_twice(
+    alloc: Global,
+    message: &Message,
+    apdu: &Apdu,
+) -> Result<[[Outcome; 2]; 2], Fail> {
+    let with = apdu_calls(alloc, message, apdu);
+    let hoard = Hoard::of_all(alloc)?;
     let is_empty_before = hoard.has_all();
-    let without_memory = call_all(rt.alloc(), &given);
-    let is_empty_after = hoard.has_all();
-    // An assertion may want memory for its text.
+    let without = apdu_calls(alloc, message, apdu);
+    let is_empty = is_empty_before && hoard.has_all();
     drop(hoard);
-    assert!(rt; is_empty_before && is_empty_after, "memory was left");
-    want_all(&rt, &with_memory, Outcome::Right);
-    want_all(&rt, &without_memory, Outcome::OutOfMemory);
+    if !is_empty {
+        return Err("memory was left")?;
+    }
+    Ok([with, without])
+}
+
+fn message_calls(alloc: Global, message: &Message) -> Result<[[Outcome; 2]; 2], Fail> {
+    let apdu = Apdu::from_message(alloc, message)?;
+    apdu_calls_twice(alloc, message, &apdu)
+}
+
+fn row_calls(alloc: Global, row: &str) -> Result<[[Outcome; 2]; 2], Fail> {
+    let (number, parts) = row.split_once(' ').ok_or("no number")?;
+    message_calls(alloc, &message(alloc, number, parts)?)
+}
+
+#[test]
+fn calls_on_each_apdu_succeed_with_memory_alone(rt: HostRuntime) -> Result<(), Fail> {
+    for row in EACH_APDU.lines() {
+        let found = row_calls(rt.alloc(), row)?;
+        assert!(rt;
+            found == [[Outcome::Right; 2], [Outcome::OutOfMemory; 2]],
+            "{row}: {found:?}"
+        );
+    }
     Ok(())
 }

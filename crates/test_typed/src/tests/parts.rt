@@ -1,9 +1,9 @@
 //! Values that are parts, and values that are not.
 use ber_leaf::{IllString, VisibleText};
-use ill_apdu::Expired;
+use ill_apdu::{Expired, Head};
 use ill_parts::{
-    CostInfo, DateDue, Node, Part, SearchType, Symbol, SystemId, TransactionId, Typed,
-    UnitsPerMedium,
+    CostInfo, DateDue, DateTime, Node, Part, SearchType, ServiceDateTime, Symbol, SystemId,
+    TransactionId, Typed, UnitsPerMedium,
 };
 use ill_schema::{NodeId, equal};
 use std::alloc::Global;
@@ -62,7 +62,7 @@ fn absent_entries_have_their_places(rt: HostRuntime) -> Result<(), Fail> {
 }
 
 /// Group "G", qualifier "Q".
-pub fn transaction_id(alloc: Global) -> Result<TransactionId, Fail> {
+fn transaction_id(alloc: Global) -> Result<TransactionId, Fail> {
     let transaction_group_qualifier = general_string(alloc, "G")?;
     Ok(TransactionId {
         initial_requester_id: None,
@@ -72,10 +72,43 @@ pub fn transaction_id(alloc: Global) -> Result<TransactionId, Fail> {
     })
 }
 
+/// Version 2, that transaction, 29 February 2024.
+pub fn head(alloc: Global) -> Result<Head, Fail> {
+    let day = date_text(b"20240229".to_vec(alloc)?)?;
+    let transaction_id = transaction_id(alloc)?;
+    Ok(Head {
+        protocol_version_num: 2,
+        transaction_id,
+        service_date_time: ServiceDateTime {
+            date_time_of_this_service: DateTime {
+                date: day,
+                time: None,
+            },
+            date_time_of_original_service: None,
+        },
+        requester_id: None,
+        responder_id: None,
+    })
+}
+
 #[test]
-fn transactions_have_their_qualifiers(rt: HostRuntime) -> Result<(), Fail> {
-    let id = transaction_id(rt.alloc())?;
-    assert!(rt; is_written(rt.alloc(), &id, "- general:G general:Q - seq:4")?);
+fn heads_are_at_the_front_of_their_apdus(rt: HostRuntime) -> Result<(), Fail> {
+    let expired = Expired {
+        head: head(rt.alloc())?,
+    };
+    assert!(rt; is_written(rt.alloc(), &expired, "head - seq:6")?);
+    Ok(())
+}
+
+#[test]
+fn debug_text(rt: HostRuntime) -> Result<(), Fail> {
+    let head = head(rt.alloc())?;
+    let text = format!(in rt.alloc(); "{head:?}")?;
+    assert!(rt;
+        text.as_str().starts_with(
+            "Head { protocol_version_num: 2, transaction_id: TransactionId { initial_requester_id: None, transaction_group_qualifier: General("
+        )
+    );
     Ok(())
 }
 
@@ -86,21 +119,34 @@ fn visible(alloc: Global, letters: &[u8]) -> Result<IllString, Fail> {
     }
 }
 
+/// Whether these are the symbols "L" of a person, a GeneralString, and of an institution, a VisibleString.
+fn are_symbols(alloc: Global, person: &Symbol, institution: &Symbol) -> Result<bool, Fail> {
+    Ok(
+        is_written(alloc, person, "general:L alt:0")?
+            && is_written(alloc, institution, "visible:L alt:1")?
+            && person != institution,
+    )
+}
+
 #[test]
 fn symbols_keep_their_alternative_and_that_of_their_text(rt: HostRuntime) -> Result<(), Fail> {
-    let alloc = rt.alloc();
-    let person = Symbol::PersonSymbol(general_string(alloc, "L")?);
-    let institution = Symbol::InstitutionSymbol(visible(alloc, b"L")?);
-    assert!(rt; is_written(alloc, &person, "general:L alt:0")? && person != institution);
-    assert!(rt; is_written(alloc, &institution, "visible:L alt:1")?);
+    let person = Symbol::PersonSymbol(general_string(rt.alloc(), "L")?);
+    let institution = Symbol::InstitutionSymbol(visible(rt.alloc(), b"L")?);
+    assert!(rt; are_symbols(rt.alloc(), &person, &institution)?);
     Ok(())
 }
 
-/// Whether values that two lines of words write are equal as parts.
+/// The part that the words write.
+fn part<T: Typed>(alloc: Global, words: &str) -> Result<Option<T>, Fail> {
+    let value = value(alloc, words)?;
+    Ok(T::from_value(alloc, &value)?)
+}
+
+/// Whether the parts that two lines of words write are equal.
 fn are_equal<T: Typed>(alloc: Global, one: &str, other: &str) -> Result<bool, Fail> {
-    let one = value(alloc, one)?;
-    let other = value(alloc, other)?;
-    match (T::from_value(alloc, &one)?, T::from_value(alloc, &other)?) {
+    let one: Option<T> = part(alloc, one)?;
+    let other: Option<T> = part(alloc, other)?;
+    match (&one, &other) {
         (Some(one), Some(other)) => Ok(one == other),
         _ => Err("no part")?,
     }
@@ -127,13 +173,5 @@ fn lists_are_equal_item_by_item(rt: HostRuntime) -> Result<(), Fail> {
     let value = list.to_value(rt.alloc())?;
     let again = Vec::<UnitsPerMedium>::read(rt.alloc(), &value)?;
     assert!(rt; list != other && again == list);
-    Ok(())
-}
-
-#[test]
-fn debug_text(rt: HostRuntime) -> Result<(), Fail> {
-    let symbol = Symbol::InstitutionSymbol(general_string(rt.alloc(), "L")?);
-    let text = format!(in rt.alloc(); "{symbol:?}")?;
-    assert!(rt; text.as_str().starts_with("InstitutionSymbol(General("));
     Ok(())
 }

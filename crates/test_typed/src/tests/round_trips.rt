@@ -1,14 +1,14 @@
 //! Worked messages through the typed APDUs and back.
-use super::parts::transaction_id;
+use super::parts::head;
 use ber_leaf::IllString;
-use ill_apdu::{Apdu, Expired, Head, IllRequest, MessageApdu, MessageFault};
-use ill_parts::{DateTime, ItemId, ServiceDateTime, Typed};
+use ill_apdu::{Apdu, MessageApdu, MessageFault};
+use ill_parts::{ItemId, Typed};
 use ill_read::decode;
-use ill_schema::{Message, equal};
+use ill_schema::Message;
 use ill_write::normal_bytes;
 use std::alloc::{AllocError, Global};
 use std::test::Fail;
-use test_support::{date_text, general_text, message, value};
+use test_support::{general_text, message, value};
 
 /// A message a line, of each APDU and with each result, in which every part is there: the APDU's number, and the
 /// parts of the body, as [`test_support::message`] reads them.
@@ -38,25 +38,6 @@ const WHOLE_MESSAGES: &str = "\
 4 whole 21 date:20241123 23 visible:v24 alt:0 general:g25 alt:0 seq:2 general:g26 visible:v27 seq:2 general:g28 seq:3 list:1 seq:3 alt:5 - - general:g29 alt:0 visible:v30 alt:0 seq:2 general:g31 general:g32 visible:v33 seq:2 seq:3 list:1 general:g34 alt:0 general:g35 alt:0 seq:2 list:1 false true 38 39 seq:4 general:g40 - seq:14
 4 whole 21 general:g22 general:g23 alt:0 visible:v24 alt:0 seq:2 general:g25 general:g26 seq:2 visible:v27 seq:3 list:1 seq:2 alt:6 - - general:g28 alt:0 general:g29 alt:0 seq:2 visible:v30 general:g31 general:g32 seq:2 seq:3 list:1 visible:v33 alt:0 general:g34 alt:0 seq:2 list:1 true false 37 38 seq:4 visible:v39 - seq:14";
 
-/// Version 2, transaction "G" and "Q", 29 February 2024.
-fn head(alloc: Global) -> Result<Head, Fail> {
-    let transaction_id = transaction_id(alloc)?;
-    let day = date_text(b"20240229".to_vec(alloc)?)?;
-    Ok(Head {
-        protocol_version_num: 2,
-        transaction_id,
-        service_date_time: ServiceDateTime {
-            date_time_of_this_service: DateTime {
-                date: day,
-                time: None,
-            },
-            date_time_of_original_service: None,
-        },
-        requester_id: None,
-        responder_id: None,
-    })
-}
-
 /// The message of an APDU.
 fn sent(alloc: Global, apdu: &Apdu) -> Result<Message, Fail> {
     match apdu.to_message(alloc) {
@@ -65,38 +46,13 @@ fn sent(alloc: Global, apdu: &Apdu) -> Result<Message, Fail> {
     }
 }
 
-fn expired(alloc: Global) -> Result<Apdu, Fail> {
-    Ok(Apdu::Expired(Expired { head: head(alloc)? }))
-}
-
-/// A message whose note has `count` letters.
+/// A MESSAGE whose note has this number of letters.
 fn note(alloc: Global, letters: usize) -> Result<Apdu, Fail> {
     let text = general_text(vec![in alloc; b'A'; letters]?)?;
     Ok(Apdu::MessageApdu(MessageApdu {
         head: head(alloc)?,
         note: IllString::General(text),
     }))
-}
-
-/// Whether the message is of EXPIRED, and EXPIRED is read from it.
-fn is_of_expired(alloc: Global, message: &Message, expired: &Apdu) -> Result<bool, Fail> {
-    let body = value(alloc, "head - seq:6")?;
-    let read = Apdu::from_message(alloc, message)?;
-    read.one_view(expired);
-    Ok(
-        message.apdu() == 20
-            && message.octets() == 33
-            && equal(message.body(), &body)
-            && read == *expired,
-    )
-}
-
-#[test]
-fn expired_is_sent_and_read(rt: HostRuntime) -> Result<(), Fail> {
-    let expired = expired(rt.alloc())?;
-    let message = sent(rt.alloc(), &expired)?;
-    assert!(rt; is_of_expired(rt.alloc(), &message, &expired)?);
-    Ok(())
 }
 
 /// The octets of a message whose note has this number of letters, None where it is too long.
@@ -125,40 +81,49 @@ fn notes_are_within_the_limit(rt: HostRuntime) -> Result<(), Fail> {
 const REQUEST: &str =
     "head 1 none:3 1 list:1 - false false 1 1 seq:4 none:2 3 - none:23 seq:23 none:4 false false none:3 seq:26";
 
-/// Whether these are the parts of that ILL-Request.
-fn is_the_least(request: &IllRequest, item: &ItemId) -> bool {
-    request.transaction_type == 1
-        && request.ill_service_type.as_slice() == [1].as_slice()
-        && request.place_on_hold == 3
-        && !request.retry_flag
-        && !request.forward_flag
-        && request.client_id.is_none()
-        && request.item_id == *item
+/// Whether an APDU is that ILL-Request, with this item.
+fn is_the_least(apdu: &Apdu, item: &Option<ItemId>) -> bool {
+    match (apdu, item) {
+        (Apdu::IllRequest(request), Some(item)) => {
+            request.transaction_type == 1
+                && request.ill_service_type.as_slice() == [1].as_slice()
+                && request.place_on_hold == 3
+                && !request.retry_flag
+                && !request.forward_flag
+                && request.client_id.is_none()
+                && request.item_id == *item
+        }
+        _ => false,
+    }
 }
 
-fn has_the_least(alloc: Global, apdu: &Apdu) -> Result<bool, Fail> {
+/// Whether the least ILL-Request is read from its message. Its item has nothing in it.
+fn has_the_least(alloc: Global, message: &Message) -> Result<bool, Fail> {
     let nothing = value(alloc, "none:23 seq:23")?;
-    match (apdu, ItemId::from_value(alloc, &nothing)?) {
-        (Apdu::IllRequest(request), Some(item)) => Ok(is_the_least(request, &item)),
-        _ => Ok(false),
-    }
+    let item = ItemId::from_value(alloc, &nothing)?;
+    let apdu = Apdu::from_message(alloc, message)?;
+    Ok(is_the_least(&apdu, &item))
 }
 
 #[test]
 fn requests_have_their_parts(rt: HostRuntime) -> Result<(), Fail> {
     let message = message(rt.alloc(), "1", REQUEST)?;
-    let apdu = Apdu::from_message(rt.alloc(), &message)?;
-    assert!(rt; has_the_least(rt.alloc(), &apdu)?);
+    assert!(rt; has_the_least(rt.alloc(), &message)?);
     Ok(())
+}
+
+fn decoded(alloc: Global, octets: &[u8]) -> Result<Message, Fail> {
+    match decode(alloc, octets) {
+        Ok(message) => Ok(message),
+        Err(_) => Err("not decoded")?,
+    }
 }
 
 /// The APDU that a message's octets are read as.
 fn read_back(alloc: Global, message: &Message) -> Result<Apdu, Fail> {
     let octets = normal_bytes(alloc, message)?;
-    match decode(alloc, &octets) {
-        Ok(read) => Ok(Apdu::from_message(alloc, &read)?),
-        Err(_) => Err("not read")?,
-    }
+    let read = decoded(alloc, &octets)?;
+    Ok(Apdu::from_message(alloc, &read)?)
 }
 
 /// Whether the APDU is sent as the message, and read back from its octets.
@@ -173,27 +138,22 @@ fn is_sent_as(alloc: Global, apdu: &Apdu, message: &Message) -> Result<bool, Fai
     )
 }
 
-/// Whether the message of a line comes back from the APDU that is read from it.
-fn comes_back(alloc: Global, line: &str) -> Result<bool, Fail> {
-    let (number, parts) = line.split_once(' ').ok_or("a number")?;
-    let given = message(alloc, number, parts)?;
-    let apdu = Apdu::from_message(alloc, &given)?;
-    is_sent_as(alloc, &apdu, &given)
+/// Whether the message comes back from the APDU that is read from it.
+fn comes_back(alloc: Global, message: &Message) -> Result<bool, Fail> {
+    let apdu = Apdu::from_message(alloc, message)?;
+    is_sent_as(alloc, &apdu, message)
+}
+
+fn row_comes_back(alloc: Global, row: &str) -> Result<bool, Fail> {
+    let (number, parts) = row.split_once(' ').ok_or("a number")?;
+    comes_back(alloc, &message(alloc, number, parts)?)
 }
 
 #[test]
 fn whole_messages_come_back(rt: HostRuntime) -> Result<(), Fail> {
-    for line in WHOLE_MESSAGES.lines() {
-        assert!(rt; comes_back(rt.alloc(), line)?, "{line}");
+    for row in WHOLE_MESSAGES.lines() {
+        assert!(rt; row_comes_back(rt.alloc(), row)?, "{row}");
     }
-    Ok(())
-}
-
-#[test]
-fn different_apdus_are_not_equal(rt: HostRuntime) -> Result<(), Fail> {
-    let one = note(rt.alloc(), 1)?;
-    let other = note(rt.alloc(), 2)?;
-    assert!(rt; one != other);
     Ok(())
 }
 
@@ -201,17 +161,5 @@ fn different_apdus_are_not_equal(rt: HostRuntime) -> Result<(), Fail> {
 fn debug_text_of_a_fault(rt: HostRuntime) -> Result<(), AllocError> {
     let text = format!(in rt.alloc(); "{:?}", MessageFault::TooLong)?;
     assert!(rt; text.as_str() == "TooLong");
-    Ok(())
-}
-
-#[test]
-fn debug_text(rt: HostRuntime) -> Result<(), Fail> {
-    let expired = expired(rt.alloc())?;
-    let text = format!(in rt.alloc(); "{expired:?}")?;
-    assert!(rt;
-        text.as_str().starts_with(
-            "Expired(Expired { head: Head { protocol_version_num: 2, transaction_id: TransactionId { initial_requester_id: None, "
-        )
-    );
     Ok(())
 }
