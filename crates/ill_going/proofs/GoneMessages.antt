@@ -243,12 +243,12 @@ module _ (text : Position → Spelling → List ℕ) (is_good : Spelling → Boo
           rest = left';
           reported = new;
           goes = record {
-        octets = r.goes.octets;
-        are = r.goes.are;
-        taken = r.goes.taken;
-        written = subst (λ (z : Option (List ℕ)). Appends held z (written_from text first r.items)) h r.goes.written;
-        reported = r.goes.reported;
-      };
+            octets = r.goes.octets;
+            are = r.goes.are;
+            taken = r.goes.taken;
+            written = subst (λ (z : Option (List ℕ)). Appends held z (written_from text first r.items)) h r.goes.written;
+            reported = r.goes.reported;
+          };
           ends = inr (
             record { octets = b; refusal = refusal; taken = c; no_end = no_end; refused = is; reported = subst (λ (n : ℕ). Adds new next (report n refusal false ∷ [])) number a },
             number,
