@@ -62,15 +62,42 @@ const PLAIN: Dump<'static> = Dump {
     is_named: false,
 };
 
+/// How octets come from a source, and go into a sink.
+#[derive(Clone, Copy)]
+struct How {
+    /// As many octets a call of the source, and of the sink.
+    per_call: (usize, usize),
+    source_breaks: Option<usize>,
+    sink_breaks: Option<usize>,
+}
+
+/// In pieces of up to 64 octets, and nothing breaks.
+const SOUND: How = How {
+    per_call: (64, 2048),
+    source_breaks: None,
+    sink_breaks: None,
+};
+
+/// What comes of a dump: the result, and how many octets the sink has, None where they are not the first of the text.
 fn dumped(
     alloc: Global,
     dump: Dump<'_>,
-    source: &mut Pieces<'_>,
-    sink: &mut Room<2048>,
-) -> Result<(), RunFault> {
-    run_dump::<Pieces<'_>, Unseen, Room<2048>>(alloc, dump, source, sink)
+    octets: &[u8],
+    text: &str,
+    how: How,
+) -> (Result<(), RunFault>, Option<usize>) {
+    let mut source = Pieces::new(octets, how.per_call.0.max(1), how.source_breaks);
+    let mut sink: Room<2048> = Room::new(how.per_call.1.max(1), how.sink_breaks);
+    let result = run_dump::<Pieces<'_>, Unseen, Room<2048>>(alloc, dump, &mut source, &mut sink);
+    let written = sink.octets();
+    let count = text
+        .as_bytes()
+        .starts_with(written)
+        .then_some(written.len());
+    (result, count)
 }
 
+/// Whether the second message is refused at 7.
 fn is_refused(done: &Result<(), RunFault>) -> bool {
     match done {
         Err(RunFault::Refused { message, refusal }) => *message == 2 && refusal.at == 7,
@@ -80,78 +107,85 @@ fn is_refused(done: &Result<(), RunFault>) -> bool {
 
 #[test]
 fn a_dump_is_the_same_in_pieces_of_any_size(rt: HostRuntime) -> Result<(), Fail> {
-    let alloc = rt.alloc();
-    let octets = octets_of(alloc, REFUSED)?;
+    let octets = octets_of(rt.alloc(), REFUSED)?;
     for size in [1, 2, 7, 64] {
-        let mut source = Pieces::new(&octets, size, None);
-        let mut sink: Room<2048> = Room::new(2048, None);
-        let result = dumped(alloc, PLAIN, &mut source, &mut sink);
-        assert!(rt; is_refused(&result), "{size}");
-        assert!(rt; sink.octets() == LINES.as_bytes(), "{size}");
+        let how = How {
+            per_call: (size, 2048),
+            ..SOUND
+        };
+        let (result, count) = dumped(rt.alloc(), PLAIN, &octets, LINES, how);
+        assert!(rt; is_refused(&result) && count == Some(LINES.len()), "{size}");
     }
-    let named = Dump {
-        hex: true,
-        name: "a b",
-        is_named: true,
-    };
+    Ok(())
+}
+
+/// A dump of hexadecimal text from a file whose name is printed.
+const NAMED: Dump<'static> = Dump {
+    hex: true,
+    name: "a b",
+    is_named: true,
+};
+
+#[test]
+fn a_dump_of_a_named_file_names_it(rt: HostRuntime) {
     let mut source = Pieces::new(REFUSED.as_bytes(), 64, None);
     let mut sink: Room<2048> = Room::new(2048, None);
-    let result = dumped(alloc, named, &mut source, &mut sink);
-    assert!(rt; is_refused(&result));
+    let result = run_dump::<Pieces<'_>, Unseen, Room<2048>>(
+        rt.alloc(),
+        NAMED,
+        &mut source,
+        &mut sink,
+    );
     let head = b"a b: message 1: Expired, 33 octets, normal\n";
-    assert!(rt; sink.octets().starts_with(head));
-    Ok(())
+    assert!(rt; is_refused(&result) && sink.octets().starts_with(head));
 }
 
 #[test]
 fn what_is_not_normal_is_noted(rt: HostRuntime) -> Result<(), Fail> {
-    let alloc = rt.alloc();
-    let octets = octets_of(alloc, SPELLED)?;
-    let mut source = Pieces::new(&octets, 64, None);
-    let mut sink: Room<2048> = Room::new(2048, None);
-    let result = dumped(alloc, PLAIN, &mut source, &mut sink);
-    assert!(rt; result == Ok(()));
-    assert!(rt; sink.octets() == NOTED.as_bytes());
+    let octets = octets_of(rt.alloc(), SPELLED)?;
+    let found = dumped(rt.alloc(), PLAIN, &octets, NOTED, SOUND);
+    assert!(rt; found == (Ok(()), Some(NOTED.len())));
     Ok(())
 }
 
 #[test]
 fn a_broken_sink_has_the_first_octets(rt: HostRuntime) -> Result<(), Fail> {
-    let alloc = rt.alloc();
-    let octets = octets_of(alloc, REFUSED)?;
+    let octets = octets_of(rt.alloc(), REFUSED)?;
     for n in [0, 1, 37, 38, 500, LINES.len() - 1] {
-        let mut source = Pieces::new(&octets, 64, None);
-        let mut sink: Room<2048> = Room::new(64, Some(n));
-        let result = dumped(alloc, PLAIN, &mut source, &mut sink);
-        assert!(rt; result == Err(RunFault::WriteFault(n as u128)), "{n}");
-        assert!(rt; LINES.as_bytes().get(..n) == Some(sink.octets()), "{n}");
+        let how = How {
+            per_call: (64, 64),
+            sink_breaks: Some(n),
+            ..SOUND
+        };
+        let fault = Err(RunFault::WriteFault(n as u128));
+        assert!(rt;
+            dumped(rt.alloc(), PLAIN, &octets, LINES, how) == (fault, Some(n)),
+            "{n}"
+        );
     }
     Ok(())
 }
 
 #[test]
 fn a_broken_source_is_a_read_fault(rt: HostRuntime) -> Result<(), Fail> {
-    let alloc = rt.alloc();
-    let octets = octets_of(alloc, REFUSED)?;
-    for breaks_at in [0, 1, 32, 33, 39] {
-        let mut source = Pieces::new(&octets, 64, Some(breaks_at));
-        let mut sink: Room<2048> = Room::new(2048, None);
-        let result = dumped(alloc, PLAIN, &mut source, &mut sink);
-        assert!(rt; result == Err(RunFault::ReadFault), "{breaks_at}");
+    let octets = octets_of(rt.alloc(), REFUSED)?;
+    for n in [0, 1, 32, 33, 39] {
+        let how = How {
+            source_breaks: Some(n),
+            ..SOUND
+        };
+        let (result, _) = dumped(rt.alloc(), PLAIN, &octets, LINES, how);
+        assert!(rt; result == Err(RunFault::ReadFault), "{n}");
     }
     Ok(())
 }
 
 #[test]
 fn without_memory_nothing_is_written(rt: HostRuntime) -> Result<(), Fail> {
-    let alloc = rt.alloc();
-    let octets = octets_of(alloc, REFUSED)?;
-    let mut source = Pieces::new(&octets, 64, None);
-    let mut sink: Room<2048> = Room::new(2048, None);
-    let hoard = Hoard::of_all(alloc)?;
-    let result = dumped(alloc, PLAIN, &mut source, &mut sink);
+    let octets = octets_of(rt.alloc(), REFUSED)?;
+    let hoard = Hoard::of_all(rt.alloc())?;
+    let found = dumped(rt.alloc(), PLAIN, &octets, LINES, SOUND);
     drop(hoard);
-    assert!(rt; result == Err(RunFault::OutOfMemory));
-    assert!(rt; sink.octets().is_empty());
+    assert!(rt; found == (Err(RunFault::OutOfMemory), Some(0)));
     Ok(())
 }

@@ -6,4 +6,19 @@ mod json;
 mod runs;
 mod sames;
 mod shows;
-mod texts;
+
+use ber_core::{Pieces, ToWrite};
+use ill_jobs::{RunFault, Verdict, Work, run};
+use std::alloc::Global;
+
+/// Whether a job with the messages of a source has this answer and writes this.
+fn gives(
+    alloc: Global,
+    work: Work<'_>,
+    source: &mut Pieces<'_>,
+    (answer, output): (Result<Verdict, RunFault>, &[u8]),
+) -> bool {
+    let mut written = Vec::new(alloc);
+    let found = run(alloc, work, source, &mut ToWrite::new(&mut written));
+    found == answer && written.as_slice() == output
+}

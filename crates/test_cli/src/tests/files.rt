@@ -1,5 +1,5 @@
 //! Outputs that are files with a mode, with more than one name, or with another file beside them.
-use super::fake::{NO_FAULTS, Start, run};
+use super::fake::{Ended, NO_FAULTS, Start, run};
 use super::runs::Octets::Repeated;
 use super::runs::{EXPIRED, INDEFINITE, enter, holds, leave};
 use std::alloc::AllocError;
@@ -7,10 +7,9 @@ use std::fs::{self, Permissions};
 use std::os::unix::fs::{MetadataExt, PermissionsExt, symlink};
 use std::test::Fail;
 
-/// Whether the normal form of B goes to the file of this name, without a word.
-fn goes_to(rt: &HostRuntime, name: &str) -> Result<bool, Fail> {
-    let words: [&[u8]; 3] = [b"canonicalise", b"B", name.as_bytes()];
-    let ended = run(
+fn canonicalise<'n>(rt: &HostRuntime, input: &'n [u8], output: &'n [u8]) -> Ended {
+    let words: [&[u8]; 3] = [b"canonicalise", input, output];
+    run(
         rt,
         Start {
             words: &words,
@@ -18,7 +17,12 @@ fn goes_to(rt: &HostRuntime, name: &str) -> Result<bool, Fail> {
             standard: None,
             faults: NO_FAULTS,
         },
-    );
+    )
+}
+
+/// Whether the normal form of B goes to the file of this name, without a word.
+fn goes_to(rt: &HostRuntime, name: &str) -> Result<bool, Fail> {
+    let ended = canonicalise(rt, b"B", name.as_bytes());
     let is_quiet = ended.status == 0 && ended.output.is_empty() && ended.errors.is_empty();
     Ok(is_quiet && has_form(rt, name)?)
 }
@@ -91,16 +95,7 @@ fn is_refused_under_each_name(rt: &HostRuntime) -> Result<bool, Fail> {
 }
 
 fn is_refused<'n>(rt: &HostRuntime, input: &'n [u8], output: &'n [u8]) -> bool {
-    let words: [&[u8]; 3] = [b"canonicalise", input, output];
-    let ended = run(
-        rt,
-        Start {
-            words: &words,
-            input: b"",
-            standard: None,
-            faults: NO_FAULTS,
-        },
-    );
+    let ended = canonicalise(rt, input, output);
     ended.status == 2
         && ended.output.is_empty()
         && ended.errors.as_slice() == b"illcanon: IN and OUT are the same file\n".as_slice()

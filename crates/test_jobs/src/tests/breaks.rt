@@ -1,6 +1,8 @@
 //! Where a source or a sink breaks.
-use ber_core::{Pieces, Room, ToWrite};
+use super::gives;
+use ber_core::{Pieces, Room};
 use ill_jobs::{Job, RunFault, Verdict, Work, run, run_same};
+use std::alloc::Global;
 use std::test::Fail;
 use test_support::octets_of;
 
@@ -12,44 +14,54 @@ const TWICE: &str =
 const LINES: &str =
     "message 1: Expired, 33 octets, normal\nmessage 2: Expired, 33 octets, normal\n";
 
+/// What comes of `check` where a sink takes as many octets a call and breaks after a number: the answer, and how many octets it has, None where
+/// they are not the first of the lines.
+fn checked(
+    alloc: Global,
+    octets: &[u8],
+    per_call: usize,
+    breaks: Option<usize>,
+) -> (Result<Verdict, RunFault>, Option<usize>) {
+    let mut source = Pieces::new(octets, 64, None);
+    let mut sink: Room<128> = Room::new(per_call.max(1), breaks);
+    let answer = run(alloc, Work::new(Job::Check, false), &mut source, &mut sink);
+    let written = sink.octets();
+    let count = LINES
+        .as_bytes()
+        .starts_with(written)
+        .then_some(written.len());
+    (answer, count)
+}
+
 #[test]
 fn a_broken_sink_has_the_first_octets(rt: HostRuntime) -> Result<(), Fail> {
-    let alloc = rt.alloc();
-    let octets = octets_of(alloc, TWICE)?;
+    let octets = octets_of(rt.alloc(), TWICE)?;
     for n in 0..LINES.len() {
-        let mut source = Pieces::new(&octets, 64, None);
-        let mut sink: Room<128> = Room::new(64, Some(n));
-        let answer = run(alloc, Work::new(Job::Check, false), &mut source, &mut sink);
-        assert!(rt; answer == Err(RunFault::WriteFault(n as u128)), "{n}");
-        assert!(rt; LINES.as_bytes().get(..n) == Some(sink.octets()), "{n}");
+        let fault = Err(RunFault::WriteFault(n as u128));
+        assert!(rt;
+            checked(rt.alloc(), &octets, 64, Some(n)) == (fault, Some(n)),
+            "{n}"
+        );
     }
-    let mut source = Pieces::new(&octets, 64, None);
-    let mut sink: Room<128> = Room::new(7, None);
-    let answer = run(alloc, Work::new(Job::Check, false), &mut source, &mut sink);
-    assert!(rt; answer == Ok(Verdict::Good));
-    assert!(rt; sink.octets() == LINES.as_bytes());
+    assert!(rt; checked(rt.alloc(), &octets, 7, None) == (Ok(Verdict::Good), Some(LINES.len())));
     Ok(())
 }
 
 #[test]
 fn a_broken_source_leaves_the_output_of_whole_messages(rt: HostRuntime) -> Result<(), Fail> {
-    let alloc = rt.alloc();
-    let octets = octets_of(alloc, TWICE)?;
-    for breaks_at in 0..66 {
-        let mut source = Pieces::new(&octets, 64, Some(breaks_at));
-        let mut written = Vec::new(alloc);
-        let mut sink = ToWrite::new(&mut written);
-        let answer = run(
-            alloc,
-            Work::new(Job::Canonicalise, false),
-            &mut source,
-            &mut sink,
-        );
-        let whole = if breaks_at < 33 { 0 } else { 33 };
-        assert!(rt; answer == Err(RunFault::ReadFault), "{breaks_at}");
+    let octets = octets_of(rt.alloc(), TWICE)?;
+    let work = Work::new(Job::Canonicalise, false);
+    for n in 0..66 {
+        let mut source = Pieces::new(&octets, 64, Some(n));
+        let whole = &octets[..if n < 33 { 0 } else { octets.len().min(33) }];
         assert!(rt;
-            octets.get(..whole) == Some(written.as_slice()),
-            "{breaks_at}"
+            gives(
+                rt.alloc(),
+                work,
+                &mut source,
+                (Err(RunFault::ReadFault), whole)
+            ),
+            "{n}"
         );
     }
     Ok(())
@@ -57,27 +69,33 @@ fn a_broken_source_leaves_the_output_of_whole_messages(rt: HostRuntime) -> Resul
 
 #[test]
 fn nothing_is_written_where_a_text_breaks(rt: HostRuntime) {
-    let alloc = rt.alloc();
     let mut source = Pieces::new(TWICE.as_bytes(), 64, Some(100));
-    let mut written = Vec::new(alloc);
-    let mut sink = ToWrite::new(&mut written);
-    let answer = run(alloc, Work::new(Job::Show, true), &mut source, &mut sink);
-    assert!(rt; answer == Err(RunFault::ReadFault));
-    assert!(rt; written.is_empty());
+    let work = Work::new(Job::Show, true);
+    assert!(rt;
+        gives(
+            rt.alloc(),
+            work,
+            &mut source,
+            (Err(RunFault::ReadFault), b"")
+        )
+    );
+}
+
+/// Whether a comparison of a message with itself breaks after n octets of its line.
+fn breaks_after(alloc: Global, message: &[u8], n: usize) -> bool {
+    let mut first = Pieces::new(message, 64, None);
+    let mut second = Pieces::new(message, 64, None);
+    let mut sink: Room<8> = Room::new(8, Some(n));
+    let answer = run_same(alloc, false, &mut first, &mut second, &mut sink);
+    answer == Err(RunFault::WriteFault(n as u128)) && b"same\n".get(..n) == Some(sink.octets())
 }
 
 #[test]
 fn a_comparison_breaks_within_its_line(rt: HostRuntime) -> Result<(), Fail> {
-    let alloc = rt.alloc();
-    let octets = octets_of(alloc, TWICE)?;
-    let message = octets.get(..33).ok_or("33 octets")?;
+    let octets = octets_of(rt.alloc(), TWICE)?;
+    let message = &octets[..octets.len().min(33)];
     for n in 0..5 {
-        let mut first = Pieces::new(message, 64, None);
-        let mut second = Pieces::new(message, 64, None);
-        let mut sink: Room<8> = Room::new(8, Some(n));
-        let answer = run_same(alloc, false, &mut first, &mut second, &mut sink);
-        assert!(rt; answer == Err(RunFault::WriteFault(n as u128)), "{n}");
-        assert!(rt; b"same\n".get(..n) == Some(sink.octets()), "{n}");
+        assert!(rt; breaks_after(rt.alloc(), message, n), "{n}");
     }
     Ok(())
 }

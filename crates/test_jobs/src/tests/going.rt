@@ -2,6 +2,7 @@
 use ber_core::{Pieces, ToWrite};
 use ill_jobs::{Gone, Job, Report, Reports, RunFault, Work, run_on};
 use ill_normal::{Cause, Refusal};
+use std::alloc::Global;
 use std::test::Fail;
 use test_support::octets_of;
 
@@ -36,7 +37,7 @@ struct Row {
 const BETWEEN: &str =
     "741f301d800102a10aa1031b0147a2031b0151a20ca00a80083230323430323239050074803080800102a180a1801b01470000a2801b015100000000a280a080800832303234303232390000000000000000";
 
-const ROWS: [Row; 6] = [
+static ROWS: [Row; 6] = [
     Row {
         name: "check",
         job: Job::Check,
@@ -111,49 +112,50 @@ const ROWS: [Row; 6] = [
     },
 ];
 
+/// What is reported of the second message.
+const NULL: Report = Report {
+    message: 2,
+    refusal: Refusal {
+        at: 0,
+        cause: Cause::UnexpectedTag,
+    },
+    ends: true,
+};
+
+/// Whether a row comes true of these octets. The second message is reported, if all are gone through.
+fn comes_true(alloc: Global, row: &Row, octets: &[u8]) -> bool {
+    let mut source = Pieces::new(octets, 64, None);
+    let mut written = Vec::new(alloc);
+    let mut reported = Reported {
+        reports: Vec::new(alloc),
+    };
+    let answer = match run_on(
+        alloc,
+        Work::new(row.job, row.hex),
+        &mut source,
+        &mut ToWrite::new(&mut written),
+        &mut reported,
+    ) {
+        Ok(gone) => Ok(gone),
+        Err(halt) => Err(halt.fault),
+    };
+    answer == row.answer
+        && written.as_slice() == row.output.as_bytes()
+        && match answer {
+            Ok(_) => reported.reports.as_slice() == [NULL].as_slice(),
+            Err(_) => reported.reports.is_empty(),
+        }
+}
+
 #[test]
 fn refused_messages_are_reported_and_passed_over(rt: HostRuntime) -> Result<(), Fail> {
-    let alloc = rt.alloc();
     for row in &ROWS {
         let octets = if row.hex {
-            row.input.as_bytes().to_vec(alloc)?
+            row.input.as_bytes().to_vec(rt.alloc())?
         } else {
-            octets_of(alloc, row.input)?
+            octets_of(rt.alloc(), row.input)?
         };
-        let mut source = Pieces::new(&octets, 64, None);
-        let mut written = Vec::new(alloc);
-        let mut reported = Reported {
-            reports: Vec::new(alloc),
-        };
-        let answer = match run_on(
-            alloc,
-            Work::new(row.job, row.hex),
-            &mut source,
-            &mut ToWrite::new(&mut written),
-            &mut reported,
-        ) {
-            Ok(gone) => Ok(gone),
-            Err(halt) => Err(halt.fault),
-        };
-        assert!(rt; answer == row.answer, "{}", row.name);
-        assert!(rt; written.as_slice() == row.output.as_bytes(), "{}", row.name);
-        let null = Report {
-            message: 2,
-            refusal: Refusal {
-                at: 0,
-                cause: Cause::UnexpectedTag,
-            },
-            ends: true,
-        };
-        if row.answer.is_ok() {
-            assert!(rt;
-                reported.reports.as_slice() == [null].as_slice(),
-                "{}",
-                row.name
-            );
-        } else {
-            assert!(rt; reported.reports.is_empty(), "{}", row.name);
-        }
+        assert!(rt; comes_true(rt.alloc(), row, &octets), "{}", row.name);
     }
     Ok(())
 }

@@ -1,23 +1,44 @@
 //! What `run` writes and answers, row by row.
+use super::gives;
 use ber_core::{Pieces, Room, ToWrite, Unseen};
 use ill_jobs::{Counts, Job, RunFault, Verdict, Work, run, run_by};
 use ill_normal::{Cause, Refusal};
-use std::alloc::Global;
+use std::alloc::{AllocError, Global};
 use std::test::Fail;
 use test_support::octets_of;
 
-/// SHA-256 of the EXPIRED's normal form, by `sha256sum`.
-const DIGEST: &str = "41b0dca84b6db1db587880995cae8f2ae640c5af026d4d9745a5bc56ba11a782";
-
-/// A run. The input is text where `hex` says so, and otherwise octets, here in hexadecimal.
+/// A run. The input is text where `work.hex` says so, and otherwise octets, here in hexadecimal.
 struct Row {
     name: &'static str,
-    job: Job,
-    hex: bool,
+    work: Work<'static>,
     input: &'static str,
-    output: &'static str,
+    output: &'static [u8],
     answer: Result<Verdict, RunFault>,
 }
+
+/// A job with octets of standard input, whose name no line begins with.
+const SHOW: Work<'static> = Work {
+    job: Job::Show,
+    hex: false,
+    name: "-",
+    is_named: false,
+    compares: false,
+};
+
+const CHECK: Work<'static> = Work {
+    job: Job::Check,
+    ..SHOW
+};
+
+const DIGEST: Work<'static> = Work {
+    job: Job::Digest,
+    ..SHOW
+};
+
+const CANONICALISE: Work<'static> = Work {
+    job: Job::Canonicalise,
+    ..SHOW
+};
 
 const REFUSED_SECOND: RunFault = RunFault::Refused {
     message: 2,
@@ -27,275 +48,272 @@ const REFUSED_SECOND: RunFault = RunFault::Refused {
     },
 };
 
-const ROWS: [Row; 10] = [
-    Row {
-        name: "check-line-not-normal",
-        job: Job::Check,
-        hex: false,
-        input: "74803080800102a180a1801b01470000a2801b015100000000a280a080800832303234303232390000000000000000",
-        output: "message 1: Expired, 47 octets, not normal, normal form 33 octets\n",
-        answer: Ok(Verdict::NotGood),
-    },
-    Row {
-        name: "check-line-normal",
-        job: Job::Check,
-        hex: false,
-        input: "741f301d800102a10aa1031b0147a2031b0151a20ca00a80083230323430323239",
-        output: "message 1: Expired, 33 octets, normal\n",
-        answer: Ok(Verdict::Good),
-    },
-    Row {
-        name: "show-overdue-as-given",
-        job: Job::Show,
-        hex: false,
-        input: "6c2f302d800102a10aa1031b0147a2031b0151a20ca00a80083230323430323239bf290d80083230323430323239810107",
-        output: "message 1 Overdue\nprotocol-version-num = 2\ntransaction-id.transaction-group-qualifier = general \"G\"\ntransaction-id.transaction-qualifier = general \"Q\"\nservice-date-time.date-time-of-this-service.date = 20240229\ndate-due.date-due-field = 20240229\ndate-due.renewable = TRUE\n",
-        answer: Ok(Verdict::Good),
-    },
-    Row {
-        name: "show-overdue-normal-form",
-        job: Job::Show,
-        hex: false,
-        input: "6c2c302a800102a10aa1031b0147a2031b0151a20ca00a80083230323430323239bf290a80083230323430323239",
-        output: "message 1 Overdue\nprotocol-version-num = 2\ntransaction-id.transaction-group-qualifier = general \"G\"\ntransaction-id.transaction-qualifier = general \"Q\"\nservice-date-time.date-time-of-this-service.date = 20240229\ndate-due.date-due-field = 20240229\ndate-due.renewable = TRUE\n",
-        answer: Ok(Verdict::Good),
-    },
-    Row {
-        name: "hex-odd-number-of-digits",
-        job: Job::Canonicalise,
-        hex: true,
-        input: "74 1",
-        output: "",
-        answer: Err(RunFault::OddHex),
-    },
-    Row {
-        name: "hex-bad-digit",
-        job: Job::Canonicalise,
-        hex: true,
-        input: "7G",
-        output: "",
-        answer: Err(RunFault::BadHex(1)),
-    },
-    Row {
-        name: "hex-upper-case-with-blanks",
-        job: Job::Canonicalise,
-        hex: true,
-        input: "74 1F 30 1D 80 01 02\tA1 0A A1 03 1B 01 47\r\nA2 03 1B 01 51 A2 0C A0 0A 80 08 32 30 32 34 30 32 32 39\n",
-        output: "741f301d800102a10aa1031b0147a2031b0151a20ca00a80083230323430323239\n",
-        answer: Ok(Verdict::Good),
-    },
-    Row {
-        name: "check-stream-of-two",
-        job: Job::Check,
-        hex: false,
-        input: "741f301d800102a10aa1031b0147a2031b0151a20ca00a80083230323430323239741f301d800102a10aa1031b0147a2031b0151a20ca00a80083230323430323239",
-        output: "message 1: Expired, 33 octets, normal\nmessage 2: Expired, 33 octets, normal\n",
-        answer: Ok(Verdict::Good),
-    },
-    Row {
-        name: "check-stream-with-bad-second",
-        job: Job::Check,
-        hex: false,
-        input: "741f301d800102a10aa1031b0147a2031b0151a20ca00a8008323032343032323975",
-        output: "message 1: Expired, 33 octets, normal\n",
-        answer: Err(REFUSED_SECOND),
-    },
-    Row {
-        name: "hex-stream-of-two",
-        job: Job::Canonicalise,
-        hex: true,
-        input: "741F301D800102A10AA1031B0147A2031B0151A20CA00A80083230323430323239741F301D800102A10AA1031B0147A2031B0151A20CA00A80083230323430323239",
-        output: "741f301d800102a10aa1031b0147a2031b0151a20ca00a80083230323430323239\n741f301d800102a10aa1031b0147a2031b0151a20ca00a80083230323430323239\n",
-        answer: Ok(Verdict::Good),
-    },
-];
-
-#[test]
-fn each_run(rt: HostRuntime) -> Result<(), Fail> {
-    let alloc = rt.alloc();
-    for row in &ROWS {
-        let input = if row.hex {
-            row.input.as_bytes().to_vec(alloc)?
-        } else {
-            octets_of(alloc, row.input)?
-        };
-        for per_call in [1, 7, 4096] {
-            let mut source = Pieces::new(&input, per_call, None);
-            let mut written = Vec::new(alloc);
-            let mut sink = ToWrite::new(&mut written);
-            let answer = run(alloc, Work::new(row.job, row.hex), &mut source, &mut sink);
-            assert!(rt; answer == row.answer, "{}", row.name);
-            assert!(rt; written.as_slice() == row.output.as_bytes(), "{}", row.name);
-        }
-    }
-    Ok(())
-}
-
 /// An EXPIRED in its normal form, and then in indefinite lengths.
 const TWICE: &str =
     "741f301d800102a10aa1031b0147a2031b0151a20ca00a8008323032343032323974803080800102a180a1801b01470000a2801b015100000000a280a080800832303234303232390000000000000000";
 
-/// The normal form of both.
-const FORMS: &str =
-    "741f301d800102a10aa1031b0147a2031b0151a20ca00a80083230323430323239741f301d800102a10aa1031b0147a2031b0151a20ca00a80083230323430323239";
-
-/// An OVERDUE as it is shown, but for its first line.
+/// An OVERDUE.
 const OVERDUE: &str =
     "6c2c302a800102a10aa1031b0147a2031b0151a20ca00a80083230323430323239bf290a80083230323430323239";
 
-const OVERDUE_LINES: &str =
-    "protocol-version-num = 2\ntransaction-id.transaction-group-qualifier = general \"G\"\ntransaction-id.transaction-qualifier = general \"Q\"\nservice-date-time.date-time-of-this-service.date = 20240229\ndate-due.date-due-field = 20240229\ndate-due.renewable = TRUE\n";
+/// As it is shown.
+const OVERDUE_SHOWN: &[u8] =
+    b"message 1 Overdue\nprotocol-version-num = 2\ntransaction-id.transaction-group-qualifier = general \"G\"\ntransaction-id.transaction-qualifier = general \"Q\"\nservice-date-time.date-time-of-this-service.date = 20240229\ndate-due.date-due-field = 20240229\ndate-due.renewable = TRUE\n";
 
-/// What a job writes of an input, and its verdict.
-fn written(
-    alloc: Global,
-    work: Work<'_>,
-    digits: &str,
-) -> Result<(Option<Verdict>, Vec<u8>), Fail> {
-    let input = octets_of(alloc, digits)?;
-    let mut written = Vec::new(alloc);
-    let mut sink = ToWrite::new(&mut written);
-    let answer = run(alloc, work, &mut Pieces::new(&input, 4096, None), &mut sink);
-    Ok((answer.ok(), written))
-}
-
-#[test]
-fn digests_name_the_input(rt: HostRuntime) -> Result<(), Fail> {
-    let alloc = rt.alloc();
-    for is_named in [false, true] {
-        let work = Work {
-            job: Job::Digest,
-            hex: false,
+/// The digests are by `sha256sum`.
+static ROWS: [Row; 15] = [
+    Row {
+        name: "check-line-not-normal",
+        work: CHECK,
+        input: "74803080800102a180a1801b01470000a2801b015100000000a280a080800832303234303232390000000000000000",
+        output: b"message 1: Expired, 47 octets, not normal, normal form 33 octets\n",
+        answer: Ok(Verdict::NotGood),
+    },
+    Row {
+        name: "check-line-normal",
+        work: CHECK,
+        input: "741f301d800102a10aa1031b0147a2031b0151a20ca00a80083230323430323239",
+        output: b"message 1: Expired, 33 octets, normal\n",
+        answer: Ok(Verdict::Good),
+    },
+    Row {
+        name: "show-overdue-as-given",
+        work: SHOW,
+        input: "6c2f302d800102a10aa1031b0147a2031b0151a20ca00a80083230323430323239bf290d80083230323430323239810107",
+        output: OVERDUE_SHOWN,
+        answer: Ok(Verdict::Good),
+    },
+    Row {
+        name: "show-overdue-normal-form",
+        work: SHOW,
+        input: OVERDUE,
+        output: OVERDUE_SHOWN,
+        answer: Ok(Verdict::Good),
+    },
+    Row {
+        name: "hex-odd-number-of-digits",
+        work: Work {
+            hex: true,
+            ..CANONICALISE
+        },
+        input: "74 1",
+        output: b"",
+        answer: Err(RunFault::OddHex),
+    },
+    Row {
+        name: "hex-bad-digit",
+        work: Work {
+            hex: true,
+            ..CANONICALISE
+        },
+        input: "7G",
+        output: b"",
+        answer: Err(RunFault::BadHex(1)),
+    },
+    Row {
+        name: "hex-upper-case-with-blanks",
+        work: Work {
+            hex: true,
+            ..CANONICALISE
+        },
+        input: "74 1F 30 1D 80 01 02\tA1 0A A1 03 1B 01 47\r\nA2 03 1B 01 51 A2 0C A0 0A 80 08 32 30 32 34 30 32 32 39\n",
+        output: b"741f301d800102a10aa1031b0147a2031b0151a20ca00a80083230323430323239\n",
+        answer: Ok(Verdict::Good),
+    },
+    Row {
+        name: "check-stream-of-two",
+        work: CHECK,
+        input: "741f301d800102a10aa1031b0147a2031b0151a20ca00a80083230323430323239741f301d800102a10aa1031b0147a2031b0151a20ca00a80083230323430323239",
+        output: b"message 1: Expired, 33 octets, normal\nmessage 2: Expired, 33 octets, normal\n",
+        answer: Ok(Verdict::Good),
+    },
+    Row {
+        name: "check-stream-with-bad-second",
+        work: CHECK,
+        input: "741f301d800102a10aa1031b0147a2031b0151a20ca00a8008323032343032323975",
+        output: b"message 1: Expired, 33 octets, normal\n",
+        answer: Err(REFUSED_SECOND),
+    },
+    Row {
+        name: "hex-stream-of-two",
+        work: Work {
+            hex: true,
+            ..CANONICALISE
+        },
+        input: "741F301D800102A10AA1031B0147A2031B0151A20CA00A80083230323430323239741F301D800102A10AA1031B0147A2031B0151A20CA00A80083230323430323239",
+        output: b"741f301d800102a10aa1031b0147a2031b0151a20ca00a80083230323430323239\n741f301d800102a10aa1031b0147a2031b0151a20ca00a80083230323430323239\n",
+        answer: Ok(Verdict::Good),
+    },
+    Row {
+        name: "digests-of-standard-input",
+        work: DIGEST,
+        input: TWICE,
+        output: b"41b0dca84b6db1db587880995cae8f2ae640c5af026d4d9745a5bc56ba11a782  -:1\n41b0dca84b6db1db587880995cae8f2ae640c5af026d4d9745a5bc56ba11a782  -:2\n",
+        answer: Ok(Verdict::Good),
+    },
+    Row {
+        name: "digests-name-the-input",
+        work: Work {
             name: "a b.ber",
-            is_named,
-            compares: false,
-        };
-        let (verdict, text) = written(alloc, work, TWICE)?;
-        let want = format!(in alloc; "{DIGEST}  a b.ber:1\n{DIGEST}  a b.ber:2\n")?;
-        assert!(rt; verdict == Some(Verdict::Good));
-        assert!(rt; text.as_slice() == want.as_bytes());
+            ..DIGEST
+        },
+        input: TWICE,
+        output: b"41b0dca84b6db1db587880995cae8f2ae640c5af026d4d9745a5bc56ba11a782  a b.ber:1\n41b0dca84b6db1db587880995cae8f2ae640c5af026d4d9745a5bc56ba11a782  a b.ber:2\n",
+        answer: Ok(Verdict::Good),
+    },
+    Row {
+        name: "digests-name-the-input-once",
+        work: Work {
+            name: "a b.ber",
+            is_named: true,
+            ..DIGEST
+        },
+        input: TWICE,
+        output: b"41b0dca84b6db1db587880995cae8f2ae640c5af026d4d9745a5bc56ba11a782  a b.ber:1\n41b0dca84b6db1db587880995cae8f2ae640c5af026d4d9745a5bc56ba11a782  a b.ber:2\n",
+        answer: Ok(Verdict::Good),
+    },
+    Row {
+        name: "lines-begin-with-the-name",
+        work: Work {
+            name: "a b.ber",
+            is_named: true,
+            ..CHECK
+        },
+        input: TWICE,
+        output: b"a b.ber: message 1: Expired, 33 octets, normal\na b.ber: message 2: Expired, 47 octets, not normal, normal form 33 octets\n",
+        answer: Ok(Verdict::NotGood),
+    },
+    Row {
+        name: "normal-forms-have-no-name",
+        work: Work {
+            name: "a b.ber",
+            is_named: true,
+            ..CANONICALISE
+        },
+        input: TWICE,
+        output: b"\x74\x1f\x30\x1d\x80\x01\x02\xa1\x0a\xa1\x03\x1b\x01\x47\xa2\x03\x1b\x01\x51\xa2\x0c\xa0\x0a\x80\x0820240229\x74\x1f\x30\x1d\x80\x01\x02\xa1\x0a\xa1\x03\x1b\x01\x47\xa2\x03\x1b\x01\x51\xa2\x0c\xa0\x0a\x80\x0820240229",
+        answer: Ok(Verdict::Good),
+    },
+];
+
+/// Whether a row comes true, with as many octets a call.
+fn comes_true(alloc: Global, row: &Row) -> Result<bool, AllocError> {
+    let input = if row.work.hex {
+        row.input.as_bytes().to_vec(alloc)?
+    } else {
+        octets_of(alloc, row.input)?
+    };
+    for per_call in [1, 7, 4096] {
+        let mut source = Pieces::new(&input, per_call, None);
+        if !gives(alloc, row.work, &mut source, (row.answer, row.output)) {
+            return Ok(false);
+        }
     }
-    let (_, text) = written(alloc, Work::new(Job::Digest, false), TWICE)?;
-    let want = format!(in alloc; "{DIGEST}  -:1\n{DIGEST}  -:2\n")?;
-    assert!(rt; text.as_slice() == want.as_bytes());
-    Ok(())
+    Ok(true)
 }
 
 #[test]
-fn lines_begin_with_the_name(rt: HostRuntime) -> Result<(), Fail> {
-    let alloc = rt.alloc();
-    let named = |job| Work {
-        job,
-        hex: false,
-        name: "a b.ber",
-        is_named: true,
-        compares: false,
-    };
-    let (verdict, text) = written(alloc, named(Job::Check), TWICE)?;
-    let want =
-        "a b.ber: message 1: Expired, 33 octets, normal\na b.ber: message 2: Expired, 47 octets, not normal, normal form 33 octets\n";
-    assert!(rt; verdict == Some(Verdict::NotGood));
-    assert!(rt; text.as_slice() == want.as_bytes());
-
-    let mut two = String::from_str(alloc, OVERDUE)?;
-    two.push_str(OVERDUE)?;
-    let (verdict, text) = written(alloc, named(Job::Show), &two)?;
-    let want = format!(in alloc;
-        "a b.ber: message 1 Overdue\n{OVERDUE_LINES}a b.ber: message 2 Overdue\n{OVERDUE_LINES}"
-    )?;
-    assert!(rt; verdict == Some(Verdict::Good));
-    assert!(rt; text.as_slice() == want.as_bytes());
-
-    let (_, text) = written(alloc, named(Job::Canonicalise), TWICE)?;
-    let forms = octets_of(alloc, FORMS)?;
-    assert!(rt; text.as_slice() == forms.as_slice());
+fn each_run_writes_and_answers_what_it_must(rt: HostRuntime) -> Result<(), Fail> {
+    for row in &ROWS {
+        assert!(rt; comes_true(rt.alloc(), row)?, "{}", row.name);
+    }
     Ok(())
+}
+
+/// A job that shows messages of a file, whose name is in their first lines.
+const SHOW_NAMED: Work<'static> = Work {
+    name: "a.ber",
+    is_named: true,
+    ..SHOW
+};
+
+/// What two OVERDUEs are shown as, up to their second first line.
+const SHOWN: &[u8] =
+    b"a.ber: message 1 Overdue\nprotocol-version-num = 2\ntransaction-id.transaction-group-qualifier = general \"G\"\ntransaction-id.transaction-qualifier = general \"Q\"\nservice-date-time.date-time-of-this-service.date = 20240229\ndate-due.date-due-field = 20240229\ndate-due.renewable = TRUE\na.ber: message 2 Overdue\n";
+
+/// Whether a sink that breaks after n octets has these.
+fn has_the_first(alloc: Global, octets: &[u8], n: usize) -> bool {
+    let mut source = Pieces::new(octets, 4096, None);
+    let mut sink: Room<512> = Room::new(512, Some(n));
+    run(alloc, SHOW_NAMED, &mut source, &mut sink) == Err(RunFault::WriteFault(n as u128))
+        && SHOWN.get(..n) == Some(sink.octets())
 }
 
 #[test]
 fn a_sink_that_breaks_has_the_front_of_the_lines(rt: HostRuntime) -> Result<(), Fail> {
-    let alloc = rt.alloc();
-    let work = Work {
-        job: Job::Show,
-        hex: false,
-        name: "a.ber",
-        is_named: true,
-        compares: false,
-    };
-    let (_, whole) = written(alloc, work, OVERDUE)?;
-    let input = octets_of(alloc, OVERDUE)?;
-    for room in 0..60usize {
-        let mut sink: Room<64> = Room::new(64, Some(room));
-        let answer = run(alloc, work, &mut Pieces::new(&input, 4096, None), &mut sink);
-        assert!(rt; answer == Err(RunFault::WriteFault(room as u128)), "{room}");
-        assert!(rt; whole.get(..room) == Some(sink.octets()), "{room}");
+    let mut octets = octets_of(rt.alloc(), OVERDUE)?;
+    octets.extend_from_slice(&octets_of(rt.alloc(), OVERDUE)?)?;
+    for n in 0..=SHOWN.len() {
+        assert!(rt; has_the_first(rt.alloc(), &octets, n), "{n}");
     }
     Ok(())
 }
 
 const MOST_HEX: usize = 4_194_304;
 
+/// Whether hexadecimal text of this many blanks has this answer, and nothing is written.
+fn answers(
+    alloc: Global,
+    blanks: usize,
+    answer: Result<Verdict, RunFault>,
+) -> Result<bool, AllocError> {
+    let text = vec![in alloc; b' '; blanks]?;
+    let work = Work {
+        hex: true,
+        ..CANONICALISE
+    };
+    Ok(gives(
+        alloc,
+        work,
+        &mut Pieces::new(&text, 65_536, None),
+        (answer, b""),
+    ))
+}
+
 #[test]
 fn hexadecimal_text_has_a_limit(rt: HostRuntime) -> Result<(), Fail> {
-    let alloc = rt.alloc();
-    let blanks = vec![in alloc; b' '; MOST_HEX + 1]?;
-    for (name, size, wanted) in [
-        ("hex-text-of-blanks", MOST_HEX, Ok(Verdict::Good)),
-        ("hex-text-too-long", MOST_HEX + 1, Err(RunFault::HexTooLong)),
-    ] {
-        let text = blanks.get(..size).ok_or("fewer blanks")?;
-        let mut source = Pieces::new(text, 65_536, None);
-        let mut written = Vec::new(alloc);
-        let mut sink = ToWrite::new(&mut written);
-        let answer = run(
-            alloc,
-            Work::new(Job::Canonicalise, true),
-            &mut source,
-            &mut sink,
-        );
-        assert!(rt; answer == wanted, "{name}");
-        assert!(rt; written.is_empty(), "{name}");
-    }
+    assert!(rt;
+        answers(rt.alloc(), MOST_HEX, Ok(Verdict::Good))?,
+        "hex-text-of-blanks"
+    );
+    assert!(rt;
+        answers(rt.alloc(), MOST_HEX + 1, Err(RunFault::HexTooLong))?,
+        "hex-text-too-long"
+    );
     Ok(())
+}
+
+/// Jobs on TWICE, whose messages have 33 octets in normal form and 47 that are not, and how many of them count as good.
+static COUNTED: [(Work<'static>, u32); 8] = [
+    (SHOW, 2),
+    (Work { compares: true, ..SHOW }, 1),
+    (CHECK, 1),
+    (DIGEST, 2),
+    (Work { compares: true, ..DIGEST }, 1),
+    (CANONICALISE, 2),
+    (Work { compares: true, ..CANONICALISE }, 1),
+    (Work { job: Job::Json, ..SHOW }, 1),
+];
+
+/// Whether the messages are counted so.
+fn counts(alloc: Global, octets: &[u8], work: Work<'_>, good: u32) -> bool {
+    let mut source = Pieces::new(octets, 4096, None);
+    let mut written = Vec::new(alloc);
+    let mut sink = ToWrite::new(&mut written);
+    let ran = run_by::<Pieces<'_>, Unseen, _>(alloc, work, &mut source, &mut sink);
+    let counts = Counts {
+        messages: 2,
+        good,
+        octets: 80,
+    };
+    ran.counts == counts && ran.result.is_ok()
 }
 
 #[test]
 fn messages_are_counted(rt: HostRuntime) -> Result<(), Fail> {
-    let alloc = rt.alloc();
-    let input = octets_of(alloc, TWICE)?;
-    for job in [
-        Job::Show,
-        Job::Json,
-        Job::Check,
-        Job::Digest,
-        Job::Canonicalise,
-    ] {
-        for compares in [false, true] {
-            let work = Work {
-                job,
-                hex: false,
-                name: "a b.ber",
-                is_named: false,
-                compares,
-            };
-            let mut written = Vec::new(alloc);
-            let mut sink = ToWrite::new(&mut written);
-            let mut source = Pieces::new(&input, 4096, None);
-            let ran = run_by::<Pieces<'_>, Unseen, _>(alloc, work, &mut source, &mut sink);
-            // 33 octets in normal form, and 47 that are not
-            let good = if compares || matches!(job, Job::Json | Job::Check) {
-                1
-            } else {
-                2
-            };
-            let counts = Counts {
-                messages: 2,
-                good,
-                octets: 80,
-            };
-            assert!(rt; ran.counts == counts, "{job:?}");
-            assert!(rt; ran.result.is_ok(), "{job:?}");
-        }
+    let octets = octets_of(rt.alloc(), TWICE)?;
+    for (work, good) in &COUNTED {
+        assert!(rt; counts(rt.alloc(), &octets, *work, *good), "{:?}", work.job);
     }
     Ok(())
 }

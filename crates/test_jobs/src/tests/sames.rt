@@ -2,10 +2,11 @@
 use ber_core::{Pieces, ToWrite};
 use ill_jobs::{RunFault, Verdict, run_same};
 use ill_normal::{Cause, Refusal, Side};
+use std::alloc::{AllocError, Global};
 use std::test::Fail;
 use test_support::octets_of;
 
-const ROWS: [(&str, &str, &str, Result<Verdict, RunFault>); 9] = [
+static ROWS: [(&str, &str, &str, Result<Verdict, RunFault>); 9] = [
     (
         "indefinite-same-as-definite",
         "74803080800102a180a1801b01470000a2801b015100000000a280a080800832303234303232390000000000000000",
@@ -88,40 +89,46 @@ fn line_of(answer: &Result<Verdict, RunFault>) -> &'static [u8] {
     }
 }
 
+/// Whether a comparison has this answer and writes its line.
+fn is_compared(
+    alloc: Global,
+    hex: bool,
+    (first, second): (&[u8], &[u8]),
+    wanted: &Result<Verdict, RunFault>,
+) -> bool {
+    let mut first = Pieces::new(first, 5, None);
+    let mut second = Pieces::new(second, 4096, None);
+    let mut written = Vec::new(alloc);
+    let mut sink = ToWrite::new(&mut written);
+    let answer = run_same(alloc, hex, &mut first, &mut second, &mut sink);
+    answer == *wanted && written.as_slice() == line_of(wanted)
+}
+
+fn comes_true(
+    alloc: Global,
+    one: &str,
+    other: &str,
+    wanted: &Result<Verdict, RunFault>,
+) -> Result<bool, AllocError> {
+    let first = octets_of(alloc, one)?;
+    let second = octets_of(alloc, other)?;
+    Ok(
+        is_compared(alloc, false, (&first, &second), wanted)
+            && is_compared(alloc, true, (one.as_bytes(), other.as_bytes()), wanted),
+    )
+}
+
+/// As octets, and as hexadecimal text.
 #[test]
-fn each_comparison(rt: HostRuntime) -> Result<(), Fail> {
-    let alloc = rt.alloc();
+fn each_comparison_has_its_answer(rt: HostRuntime) -> Result<(), Fail> {
     for (name, one, other, wanted) in &ROWS {
-        let octets = (octets_of(alloc, one)?, octets_of(alloc, other)?);
-        let mut first = Pieces::new(&octets.0, 5, None);
-        let mut second = Pieces::new(&octets.1, 4096, None);
-        let mut written = Vec::new(alloc);
-        let mut sink = ToWrite::new(&mut written);
-        let answer = run_same(alloc, false, &mut first, &mut second, &mut sink);
-        assert!(rt; answer == *wanted, "{name}");
-        assert!(rt; written.as_slice() == line_of(wanted), "{name}");
-        // The same rows as hexadecimal text.
-        let mut first = Pieces::new(one.as_bytes(), 4096, None);
-        let mut second = Pieces::new(other.as_bytes(), 3, None);
-        let mut written = Vec::new(alloc);
-        let mut sink = ToWrite::new(&mut written);
-        let answer = run_same(alloc, true, &mut first, &mut second, &mut sink);
-        assert!(rt; answer == *wanted, "{name} in hexadecimal");
-        assert!(rt;
-            written.as_slice() == line_of(wanted),
-            "{name} in hexadecimal"
-        );
+        assert!(rt; comes_true(rt.alloc(), one, other, wanted)?, "{name}");
     }
     Ok(())
 }
 
 #[test]
 fn a_fault_of_the_second_text_comes_before_a_refusal_of_the_first(rt: HostRuntime) {
-    let mut first = Pieces::new(b"75", 4096, None);
-    let mut second = Pieces::new(b"7 G", 4096, None);
-    let mut written = Vec::new(rt.alloc());
-    let mut sink = ToWrite::new(&mut written);
-    let answer = run_same(rt.alloc(), true, &mut first, &mut second, &mut sink);
-    assert!(rt; answer == Err(RunFault::BadHex(1)));
-    assert!(rt; written.is_empty());
+    let wanted = Err(RunFault::BadHex(1));
+    assert!(rt; is_compared(rt.alloc(), true, (b"75", b"7 G"), &wanted));
 }

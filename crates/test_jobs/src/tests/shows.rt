@@ -1,8 +1,9 @@
-//! What `show_text` says, row by row.
+//! What `show_text` says of messages.
 use ill_normal::decode;
 use ill_text::show_text;
+use std::alloc::Global;
 use std::test::Fail;
-use test_support::octets_of;
+use test_support::{message, octets_of};
 
 /// The whole text, or one of its lines.
 enum Wanted {
@@ -10,7 +11,7 @@ enum Wanted {
     Line(&'static str),
 }
 
-const ROWS: [(&str, &str, Wanted); 7] = [
+static ROWS: [(&str, &str, Wanted); 7] = [
     (
         "expired-shown-value",
         "741f301d800102a10aa1031b0147a2031b0151a20ca00a80083230323430323239",
@@ -58,22 +59,53 @@ const ROWS: [(&str, &str, Wanted); 7] = [
     ),
 ];
 
-#[test]
-fn each_text(rt: HostRuntime) -> Result<(), Fail> {
-    let alloc = rt.alloc();
-    for (name, input, wanted) in &ROWS {
-        let octets = octets_of(alloc, input)?;
-        let Ok(message) = decode(alloc, &octets) else {
-            return Err(Fail::from("not decoded"));
-        };
-        let text = show_text(alloc, 1, &message)?;
-        match wanted {
-            Wanted::Text(all) => assert!(rt; text.as_slice() == all.as_bytes(), "{name}"),
-            Wanted::Line(line) => {
-                let text = str::from_utf8(&text)?;
-                assert!(rt; text.lines().any(|found| found == *line), "{name}");
+/// Whether a text is the whole, or has the line.
+fn is_shown(text: &[u8], wanted: &Wanted) -> bool {
+    match wanted {
+        Wanted::Text(all) => text == all.as_bytes(),
+        Wanted::Line(line) => {
+            for found in text.split(|octet| *octet == b'\n') {
+                if found == line.as_bytes() {
+                    return true;
+                }
             }
+            false
         }
     }
+}
+
+fn comes_true(alloc: Global, input: &str, wanted: &Wanted) -> Result<bool, Fail> {
+    let octets = octets_of(alloc, input)?;
+    let Ok(message) = decode(alloc, &octets) else {
+        return Err("not decoded")?;
+    };
+    let text = show_text(alloc, 1, &message)?;
+    Ok(is_shown(&text, wanted))
+}
+
+#[test]
+fn each_message_has_its_text(rt: HostRuntime) -> Result<(), Fail> {
+    for (name, input, wanted) in &ROWS {
+        assert!(rt; comes_true(rt.alloc(), input, wanted)?, "{name}");
+    }
+    Ok(())
+}
+
+/// The text of a message that is made of its values.
+const MADE: &str = r#"message 7 Expired
+protocol-version-num = -5
+transaction-id.transaction-group-qualifier = general "a\"b\\c\x7f\x00 ~"
+transaction-id.transaction-qualifier = visible ""
+service-date-time.date-time-of-this-service.date = 20240229
+requester-id = {}
+"#;
+
+#[test]
+fn a_message_is_shown_leaf_by_leaf(rt: HostRuntime) -> Result<(), Fail> {
+    let parts =
+        "-5 - hex:6122625c637f00207e visible: - seq:4 date:20240229 - seq:2 - seq:2 none:2 seq:2 none:2 seq:6";
+    let message = message(rt.alloc(), "20", parts)?;
+    let text = show_text(rt.alloc(), 7, &message)?;
+    assert!(rt; text.as_slice() == MADE.as_bytes());
     Ok(())
 }
