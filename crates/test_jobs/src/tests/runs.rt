@@ -286,13 +286,37 @@ fn hexadecimal_text_has_a_limit(rt: HostRuntime) -> Result<(), Fail> {
 /// Jobs on TWICE, whose messages have 33 octets in normal form and 47 that are not, and how many of them count as good.
 static COUNTED: [(Work<'static>, u32); 8] = [
     (SHOW, 2),
-    (Work { compares: true, ..SHOW }, 1),
+    (
+        Work {
+            compares: true,
+            ..SHOW
+        },
+        1,
+    ),
     (CHECK, 1),
     (DIGEST, 2),
-    (Work { compares: true, ..DIGEST }, 1),
+    (
+        Work {
+            compares: true,
+            ..DIGEST
+        },
+        1,
+    ),
     (CANONICALISE, 2),
-    (Work { compares: true, ..CANONICALISE }, 1),
-    (Work { job: Job::Json, ..SHOW }, 1),
+    (
+        Work {
+            compares: true,
+            ..CANONICALISE
+        },
+        1,
+    ),
+    (
+        Work {
+            job: Job::Json,
+            ..SHOW
+        },
+        1,
+    ),
 ];
 
 /// Whether the messages are counted so.
