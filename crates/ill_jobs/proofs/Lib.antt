@@ -5,3 +5,4 @@ pub mod JobAnswers
 pub mod TextAnswers
 pub mod PairAnswers
 pub mod TakenOctets
+pub mod PlainTexts

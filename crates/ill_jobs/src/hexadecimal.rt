@@ -1,6 +1,7 @@
 //! Hexadecimal text as an input.
 ghost use Rattle.std.specs.Prelude.{◌≡◌, ◌⊎◌, Ok, Err, IfOk, IfErr, IsTrue};
-ghost use Rattle.ill_jobs.specs.Hexadecimal.{hex_octets, is_blank, without_blanks};
+ghost use Rattle.hex.specs.Hex.{decode_of};
+ghost use Rattle.ill_jobs.specs.Hexadecimal.{hex_octets, is_blank, with_fault, without_blanks};
 ghost use Rattle.ill_jobs.specs.declared.fault.RunFault.{RunFault};
 ghost use Rattle.ill_jobs.specs.Ran.{TextOf, FailsText};
 
@@ -55,6 +56,18 @@ pub fn text_octets(alloc: Global, text: &[u8]) -> Result<Vec<u8>, RunFault>
     if text.len() > MOST {
         return Err(RunFault::HexTooLong);
     }
+    // A text of digits alone needs no copy.
+    match hex::decode(alloc, text) {
+        Ok(octets) => Ok(octets),
+        Err(_) => spaced_octets(alloc, text),
+    }
+}
+
+/// The octets that the digits of a text stand for.
+fn spaced_octets(alloc: Global, text: &[u8]) -> Result<Vec<u8>, RunFault>
+    ensures octets { IfOk result (λ octets. with_fault (decode_of (without_blanks text.now)) ≡ Ok octets.items) }
+    ensures fails { IfErr result (λ fault. (with_fault (decode_of (without_blanks text.now)) ≡ Err fault) ⊎ (fault ≡ RunFault.OutOfMemory)) }
+{
     let Ok(digits) = without_blanks(alloc, text) else {
         return Err(RunFault::OutOfMemory);
     };
