@@ -1,4 +1,10 @@
 //! The contents of primitive elements and strings: which octets hold which value.
+//!
+//! A text can't be made of octets outside its alphabet, and a day is one of the calendar:
+//!
+//! ```
+//! let day = DateText::new(b"20240229".to_vec(alloc)?)?;
+//! ```
 #![tactic(auto)]
 
 mod boolean;

@@ -1,5 +1,10 @@
 //! Typed ILL APDUs: those from the shipment of an item on, and those of any time; [`Apdu`], the choice of the 18
 //! carried APDUs; and messages of them.
+//!
+//! ```
+//! let message = Apdu::Expired(Expired { head }).to_message(alloc)?;
+//! let apdu = Apdu::from_message(alloc, &message)?;
+//! ```
 #![tactic(auto)]
 
 mod apdu;

@@ -1,4 +1,8 @@
 //! Digests of messages: SHA-256 (FIPS 180-4) of the normal form. So a message has one digest, however it is spelled.
+//!
+//! ```
+//! let digest = message_digest(alloc, octets)?;
+//! ```
 #![tactic(auto)]
 
 ghost use Rattle.std.specs.Prelude.{◌≡◌, IfOk, IfErr};

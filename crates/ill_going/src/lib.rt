@@ -1,4 +1,10 @@
 //! The messages of an input one after another, where a message that is refused doesn't end the work.
+//!
+//! The normal forms of all messages that are not refused:
+//!
+//! ```
+//! let gone = keep_going::<NormalForms, R, Unseen, W, T>(alloc, &NormalForms, &mut source, &mut sink, &mut reports)?;
+//! ```
 #![tactic(auto)]
 
 mod going;

@@ -1,4 +1,8 @@
 //! The jobs of the program, over sources and sinks: to show, check, digest, canonicalise and compare.
+//!
+//! ```
+//! let verdict = run(alloc, Work::new(Job::Check, false), &mut source, &mut sink)?;
+//! ```
 #![tactic(auto)]
 
 mod fault;

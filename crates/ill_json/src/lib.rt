@@ -1,4 +1,10 @@
 //! Messages as JSON: a line for each.
+//!
+//! ```
+//! let head = Head { number: 1, offset: 0, octets: 33, is_normal: true };
+//! // {"number":1,"offset":0,"octets":33,"apdu":"Expired","normal":true,"value":{..}}
+//! let line = json_line(alloc, Vec::new(alloc), None, head, &outline)?;
+//! ```
 #![tactic(auto)]
 
 mod leaf;

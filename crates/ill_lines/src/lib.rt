@@ -1,4 +1,8 @@
 //! A message in each line of an input, in hexadecimal, and a line with its result for each.
+//!
+//! ```
+//! let all_good = run_lines(alloc, LineJob::Check, &mut source, &mut sink)?;
+//! ```
 #![tactic(auto)]
 
 mod job;

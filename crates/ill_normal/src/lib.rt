@@ -1,4 +1,11 @@
 //! The canonical form of ILL messages.
+//!
+//! ```
+//! // whether both are spellings of one APDU
+//! let same = same_message(alloc, sent, received)?;
+//! // the normal forms of all messages of a source, and how many they are
+//! let count = normalise_stream(alloc, &mut source, &mut sink)?;
+//! ```
 #![tactic(auto)]
 
 mod check;

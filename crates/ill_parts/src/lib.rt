@@ -2,6 +2,12 @@
 //!
 //! [`Part::to_value`] gives the value that a part stands for, and [`Typed::from_value`] the part that stands for a
 //! value.
+//!
+//! ```
+//! let value = transaction.to_value(alloc)?;
+//! // None where the value doesn't fit
+//! let again = TransactionId::from_value(alloc, &value)?;
+//! ```
 #![tactic(auto)]
 
 mod address;

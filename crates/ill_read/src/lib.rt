@@ -1,4 +1,12 @@
 //! Reads ILL messages: the decoder, and the exact refusal of every other input.
+//!
+//! ```
+//! match decode(alloc, octets) {
+//!     Ok(message) => use_it(message),
+//!     Err(Failure::Refused(Refusal { at, cause })) => refuse(at, cause),
+//!     Err(Failure::OutOfMemory) => give_up(),
+//! }
+//! ```
 #![tactic(auto)]
 
 mod decoder;

@@ -1,4 +1,12 @@
 //! The tables of ILL messages, their values, what octets mean by them, and the normal form.
+//!
+//! A part of a message has the names of the tables:
+//!
+//! ```
+//! let part = PartId { node: NodeId::EXPIRED, row: 2 };
+//! // Some(("Expired", "service-date-time"))
+//! let names = part_name(part);
+//! ```
 #![tactic(auto)]
 
 mod entry;

@@ -1,4 +1,10 @@
 //! Messages as text that people read: a line for each leaf.
+//!
+//! ```
+//! // message 1 Expired
+//! // protocol-version-num = 2
+//! let text = show_text(alloc, 1, &message)?;
+//! ```
 #![tactic(auto)]
 
 mod leaf;

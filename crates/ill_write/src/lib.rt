@@ -1,4 +1,8 @@
 //! Writes the normal form of messages: measured first, and then forward in one pass to any sink.
+//!
+//! ```
+//! let octets = normal_bytes(alloc, &message)?;
+//! ```
 #![tactic(auto)]
 
 mod bytes;
