@@ -53,7 +53,7 @@ kept_stands text =
       λ le. drop_of_length-le text {i = 4_194_305} (omega (arith, le, length-take 4_194_305 text)),
     ))
 
-none_of : (l : List ℕ) → length l ≡ 0 → l ≡ []
+pub none_of : (l : List ℕ) → length l ≡ 0 → l ≡ []
 none_of [] e = refl
 none_of (c ∷ l) e = absurd (omega (arith, e))
 
