@@ -1,11 +1,14 @@
--- What each octet changes.
-use Rattle.std.proofs.Common.{◌≡◌, ◌==◌, ◌&&◌, ℕ, ◌<◌, ◌≤◌, Bool, true, false, List, [], ◌∷◌, ◌++◌, codes, length, map, take, refl, sym, ap, subst, ◌∙◌, arith, append_assoc, append-nil, drop, length-append, length-take, Some}
-use Rattle.std.proofs.lemmas.List.{map-append, take_all, take-append-drop, take-append-le}
+-- What octets change.
+use Rattle.std.proofs.Common.{◌≡◌, ◌==◌, ◌&&◌, ℕ, ◌+◌, ◌-◌, ◌<◌, ◌≤◌, Bool, true, false, List, [], ◌∷◌, ◌++◌, codes, length, map, take, refl, sym, ap, subst, ◌∙◌, arith, append_assoc, append-nil, drop, length-append, length-take, Some, inl, inr, slice_index, Result, Ok, Err, OnOk}
+use Rattle.std.specs.Prelude.{if◌then◌else◌, is_ok}
+use Rattle.std.proofs.lemmas.List.{length-drop, map-append, take_all, take_more, take-append-drop, take-append-le}
 use Rattle.std.proofs.Math.ListN.{drop_of_length-le}
+use Rattle.std.proofs.Math.Seq.{take-add, take-append-add}
+use Rattle.std.proofs.lemmas.Bool.{cases_lt}
 use Rattle.ill_jobs.specs.Hexadecimal.{hex_octets}
 use Rattle.ill_jobs.proofs.TextAnswers.{same_octets}
-use Rattle.ill_lines.proofs.PartEnds.{no_end_more, part_ended}
-use Rattle.ill_lines.specs.Lines.{Answer, AreAnswers, IsResult, all_good, lines, output}
+use Rattle.ill_lines.proofs.PartEnds.{no_end_join, no_end_more, part_ended}
+use Rattle.ill_lines.specs.Lines.{Answer, AreAnswers, IsResult, all_good, has_line_end, lines, output}
 use Rattle.ill_lines.specs.code.After.{Answers, IsSame, StandsAfter}
 use Rattle.ill_lines.specs.declared.job.LineJob.{LineJob}
 use Rattle.ill_lines.specs.declared.lines.Lines.{Lines}
@@ -50,13 +53,52 @@ kept_stands text =
       λ le. drop_of_length-le text {i = 4_194_305} (omega (arith, le, length-take 4_194_305 text)),
     ))
 
-pub keeps_more : (kept rest : List ℕ) (c : ℕ) → kept ≡ take 4_194_305 rest → length kept ≤ 4_194_304 → kept ++ c ∷ [] ≡ take 4_194_305 (rest ++ c ∷ [])
-keeps_more kept rest c e le =
-    let few : length rest ≤ 4_194_304 = omega (arith, le, ap length e, length-take 4_194_305 rest) in
-    ap (λ l. l ++ c ∷ []) (e ∙ take_all 4_194_305 rest (omega (arith, few))) ∙ sym (take_all 4_194_305 (rest ++ c ∷ []) (omega (arith, few, length-append rest (c ∷ []))))
+pub none_of : (l : List ℕ) → length l ≡ 0 → l ≡ []
+none_of [] e = refl
+none_of (c ∷ l) e = absurd (omega (arith, e))
 
-pub keeps_all : (kept rest : List ℕ) (c : ℕ) → kept ≡ take 4_194_305 rest → 4_194_304 < length kept → kept ≡ take 4_194_305 (rest ++ c ∷ [])
-keeps_all kept rest c e lt = e ∙ sym (take-append-le 4_194_305 rest (c ∷ []) (omega (arith, lt, ap length e, length-take 4_194_305 rest)))
+pub keeps_whole : (kept rest octets : List ℕ) → kept ≡ take 4_194_305 rest → length octets ≤ 4_194_305 - length kept → kept ++ octets ≡ take 4_194_305 (rest ++ octets)
+keeps_whole kept rest octets e le = elim (cases_lt 4_194_305 (length rest)) [
+  | inl lt ↦
+      let none : length octets ≡ 0 = omega (arith, lt, le, ap length e, length-take 4_194_305 rest) in
+      rw (none_of octets none) (append-nil kept ∙ e ∙ ap (take 4_194_305) (sym (append-nil rest)))
+  | inr few ↦
+      ap (λ l. l ++ octets) (e ∙ take_all 4_194_305 rest few)
+      ∙ sym (take_all 4_194_305 (rest ++ octets) (omega (arith, few, le, ap length e, length-take 4_194_305 rest, length-append rest octets)))
+]
+
+pub keeps_first : (kept rest octets : List ℕ) → kept ≡ take 4_194_305 rest → kept ++ take (4_194_305 - length kept) octets ≡ take 4_194_305 (rest ++ octets)
+keeps_first kept rest octets e = elim (cases_lt 4_194_305 (length rest)) [
+  | inl lt ↦
+      let full : 4_194_305 - length kept ≡ 0 = omega (arith, lt, ap length e, length-take 4_194_305 rest) in
+      ap (λ n. kept ++ take n octets) full ∙ append-nil kept ∙ e ∙ sym (take-append-le 4_194_305 rest octets (omega (arith, lt)))
+  | inr few ↦
+      let all : kept ≡ rest = e ∙ take_all 4_194_305 rest few in
+      let room : length rest + (4_194_305 - length rest) ≡ 4_194_305 = omega (arith, few) in
+      ap (λ l. l ++ take (4_194_305 - length l) octets) all ∙ sym (take-append-add rest octets (4_194_305 - length rest)) ∙ ap (λ n. take n (rest ++ octets)) room
+]
+
+-- a whole list or none was added
+pub extended : {T E : Type 0} (r : Result T E) (new old more all : List ℕ) → new ≡ (if is_ok r then old ++ more else old) → old ++ more ≡ all → OnOk r (new ≡ all)
+extended (Ok t) new old more all e k = e ∙ k
+extended (Err t) new old more all e k = tt
+
+pub no_end_next : (octets : List ℕ) (i : ℕ) → i < length octets → has_line_end (take i octets) ≡ false → (slice_index octets i == 10) ≡ false → has_line_end (take (i + 1) octets) ≡ false
+no_end_next octets i lt h k = subst (λ l. has_line_end l ≡ false) (sym (take_more octets i 0 lt)) (no_end_more 10 (take i octets) (slice_index octets i) h k)
+
+-- a line and its end
+pub line_whole : (s octets : List ℕ) (i : ℕ) → i < length octets → slice_index octets i ≡ 10 → (s ++ take i octets) ++ 0x0A ∷ [] ≡ s ++ take (i + 1) octets
+line_whole s octets i lt is =
+    append_assoc s (take i octets) (0x0A ∷ []) ∙ ap (λ l. s ++ l) (ap (λ (c : ℕ). take i octets ++ c ∷ []) (sym is) ∙ sym (take_more octets i 0 lt))
+
+-- the slice from i on
+pub from_place : (octets : List ℕ) (i : ℕ) → take (length octets - i) (drop i octets) ≡ drop i octets
+from_place octets i = take_all (length octets - i) (drop i octets) (omega (arith, length-drop i octets))
+
+pub parts_whole : (s octets : List ℕ) (i n : ℕ) → (s ++ take i octets) ++ take n (take (length octets - i) (drop i octets)) ≡ s ++ take (i + n) octets
+parts_whole s octets i n =
+    append_assoc s (take i octets) (take n (take (length octets - i) (drop i octets)))
+    ∙ ap (λ l. s ++ l) (ap (λ l. take i octets ++ take n l) (from_place octets i) ∙ sym (take-add i n octets))
 
 -- ---- steps
 
@@ -73,13 +115,13 @@ module _ (job : LineJob) (s put : List ℕ) (old new : Lines) (h : StandsAfter j
     is_good = k.2 ∙ h.is_good;
   }
 
-  pub step_keep : (c : ℕ) → (c == 0x0A) ≡ false → new.part.items ≡ take 4_194_305 (h.rest ++ c ∷ []) → new.ready.items ≡ old.ready.items → new.is_good ≡ old.is_good
-      → StandsAfter job (s ++ c ∷ []) put new
-  step_keep c e kept ready good = record {
+  pub step_keep : (octets : List ℕ) → has_line_end octets ≡ false → new.part.items ≡ take 4_194_305 (h.rest ++ octets) → new.ready.items ≡ old.ready.items → new.is_good ≡ old.is_good
+      → StandsAfter job (s ++ octets) put new
+  step_keep octets e kept ready good = record {
     answers = h.answers;
-    rest = h.rest ++ c ∷ [];
-    of = λ more. ap lines (append_assoc s (c ∷ []) more) ∙ h.of (c ∷ more) ∙ ap (λ l. texts h.answers ++ lines l) (sym (append_assoc h.rest (c ∷ []) more));
-    unended = no_end_more 0x0A h.rest c h.unended e;
+    rest = h.rest ++ octets;
+    of = λ more. ap lines (append_assoc s octets more) ∙ h.of (octets ++ more) ∙ ap (λ l. texts h.answers ++ lines l) (sym (append_assoc h.rest octets more));
+    unended = no_end_join 0x0A h.rest octets h.unended e;
     is_kept = kept;
     are = h.are;
     is_made = ap (λ l. put ++ l) ready ∙ h.is_made;

@@ -11,7 +11,7 @@ use Rattle.ill_lines.specs.declared.job.LineJob.{LineJob}
 use Rattle.ill_lines.specs.declared.job.LinesFault.{LinesFault}
 use Rattle.ill_lines.specs.declared.lines.Lines.{Lines}
 use Rattle.ill_lines.proofs.PartEnds.{last_part}
-use Rattle.ill_lines.proofs.LineEnds.{answer, more_good, more_made, push_are, result_of_line, texts}
+use Rattle.ill_lines.proofs.LineEnds.{answer, more_good, more_made, none_of, push_are, result_of_line, texts}
 
 -- these are the results of the first lines
 pub record Made (job : LineJob) (s rest made : List ℕ) (good : Bool) : Type 0 where
@@ -97,10 +97,6 @@ module _ (job : LineJob) (s rest : List ℕ) (good x y : Bool) (first held : Opt
       }
 
 -- ---- the end of the input
-
-pub none_of : (rest : List ℕ) → length rest ≡ 0 → rest ≡ []
-none_of [] e = refl
-none_of (c ∷ rest) e = absurd (omega (arith, e))
 
 -- the line that has no end is answered
 pub made_last : (job : LineJob) (s put : List ℕ) (old new : Lines) → StandsAfter job s put old → 0 < length old.part.items → Answers job old.part.items old new → Made job s [] (put ++ new.ready.items) new.is_good

@@ -1,5 +1,6 @@
 -- How the parts of a text are found octet by octet.
-use Rattle.std.proofs.Common.{◌≡◌, ◌==◌, ◌||◌, ℕ, ◌<◌, Bool, true, false, List, [], ◌∷◌, ◌++◌, length, refl, ap, arith, if◌then◌else◌}
+use Rattle.std.proofs.Common.{◌≡◌, ◌==◌, ◌||◌, ℕ, ◌<◌, Bool, true, false, List, [], ◌∷◌, ◌++◌, length, refl, ap, ◌∙◌, arith, if◌then◌else◌}
+use Rattle.std.proofs.lemmas.List.Folds.{list_any-append}
 use Rattle.ill_lines.specs.Parts.{has_end, parts_by, put_first}
 
 or_right : (x y : Bool) → (x || y) ≡ false → y ≡ false
@@ -43,3 +44,10 @@ module _ (e : ℕ) where
   pub no_end_more : (part : List ℕ) (c : ℕ) → has_end e part ≡ false → (c == e) ≡ false → has_end e (part ++ c ∷ []) ≡ false
   no_end_more [] c h k = ap (λ (x : Bool). x || false) k
   no_end_more (d ∷ part) c h k = more_step (d == e) part c h (λ n. no_end_more part c n k)
+
+  or_false : (x y : Bool) → x ≡ false → y ≡ false → (x || y) ≡ false
+  or_false true y h k = absurd cc
+  or_false false y h k = k
+
+  pub no_end_join : (part more : List ℕ) → has_end e part ≡ false → has_end e more ≡ false → has_end e (part ++ more) ≡ false
+  no_end_join part more h k = list_any-append (λ c. c == e) part more ∙ or_false (has_end e part) (has_end e more) h k

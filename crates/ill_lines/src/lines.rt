@@ -1,5 +1,6 @@
-//! Lines that are read octet by octet, and the results that wait to be written.
-ghost use Rattle.std.specs.Prelude.{◌≡◌, ◌++◌, ◌≤◌, ℕ, List, [], ◌∷◌, length, take, true, OnOk, OnErr};
+//! The line that is being read, and the results that wait to be written.
+ghost use Rattle.std.specs.Prelude.{◌≡◌, ◌++◌, ◌<◌, ◌≤◌, ℕ, List, [], length, take, slice_index, true, false, IfOk, OnOk, OnErr};
+ghost use Rattle.ill_lines.specs.Lines.{has_line_end};
 ghost use Rattle.ill_lines.specs.code.After.{Answers, IsSame, StandsAfter};
 
 use crate::job::LineJob;
@@ -43,36 +44,44 @@ impl Lines {
         ensures all { (s put : List ℕ) → StandsAfter job s put self.old → OnOk result (StandsAfter job (s ++ octets.now) put self.new) }
         ensures some { (s put : List ℕ) → StandsAfter job s put self.old → OnErr result ((n : ℕ) × StandsAfter job (s ++ take n octets.now) put self.new) }
     {
-        for octet in octets {
-            self.feed_one(alloc, job, *octet)?;
+        let mut at = 0;
+        'lines: while at < octets.len() {
+            at += self.feed_line(alloc, job, &octets[at..])?;
         }
         Ok(())
     }
 
+    /// Reads the octets up to the first line feed, and returns how many it read.
     #[inline(always)]
-    fn feed_one(&mut self, alloc: Global, job: LineJob, octet: u8) -> Result<(), AllocError>
-        ensures done { (s put : List ℕ) → StandsAfter job s put self.old → OnOk result (StandsAfter job (s ++ octet ∷ []) put self.new) }
-        ensures same { (s put : List ℕ) → StandsAfter job s put self.old → OnErr result (StandsAfter job s put self.new) }
+    fn feed_line(&mut self, alloc: Global, job: LineJob, octets: &[u8]) -> Result<usize, AllocError>
+        ensures bound { IfOk result (λ n. n ≤ length octets.now) }
+        ensures more { 0 < length octets.now → IfOk result (λ n. 0 < n) }
+        ensures done { (s put : List ℕ) → StandsAfter job s put self.old → IfOk result (λ n. StandsAfter job (s ++ take n octets.now) put self.new) }
+        ensures some { (s put : List ℕ) → StandsAfter job s put self.old → OnErr result ((n : ℕ) × StandsAfter job (s ++ take n octets.now) put self.new) }
     {
-        if octet == b'\n' {
-            self.end_line(alloc, job)
-        } else {
-            self.keep(octet)
+        let size = line_size(octets);
+        self.keep(&octets[..size])?;
+        if size == octets.len() {
+            return Ok(size);
         }
+        self.end_line(alloc, job)?;
+        Ok(size + 1)
     }
 
-    /// Keeps an octet of the line, unless more are there than it may have.
+    /// Keeps octets of the line, unless more are there than it may have.
     #[inline(always)]
-    fn keep(&mut self, octet: u8) -> Result<(), AllocError>
-        ensures kept { (rest : List ℕ) → self.old.part.items ≡ take 4_194_305 rest → OnOk result (self.new.part.items ≡ take 4_194_305 (rest ++ octet ∷ [])) }
+    fn keep(&mut self, octets: &[u8]) -> Result<(), AllocError>
+        ensures kept { (rest : List ℕ) → self.old.part.items ≡ take 4_194_305 rest → OnOk result (self.new.part.items ≡ take 4_194_305 (rest ++ octets.now)) }
         ensures same { OnErr result (self.new.part.items ≡ self.old.part.items) }
         ensures ready { self.new.ready.items ≡ self.old.ready.items }
         ensures good { self.new.is_good ≡ self.old.is_good }
     {
-        if self.part.len() <= MOST {
-            self.part.push(octet)?;
+        let room = (MOST + 1).saturating_sub(self.part.len());
+        if octets.len() <= room {
+            self.part.extend_from_slice(octets)
+        } else {
+            self.part.extend_from_slice(&octets[..room])
         }
-        Ok(())
     }
 
     /// Makes the result of the line that was read.
@@ -84,11 +93,30 @@ impl Lines {
         ensures answers { OnOk result (Answers job self.old.part.items self.old self.new) }
         ensures same { OnErr result (IsSame self.old self.new) }
     {
-        let mut found = result_of(alloc, job, &self.part)?;
-        found.words.push(b'\n')?;
+        let found = result_of(alloc, job, &self.part)?;
+        let before = self.ready.len();
         self.ready.extend_from_slice(&found.words)?;
+        if self.ready.push(b'\n').is_err() {
+            self.ready.truncate(before);
+            return Err(AllocError);
+        }
         self.is_good = self.is_good && found.is_good;
         self.part.clear();
         Ok(())
     }
+}
+
+/// How many octets stand before the first line feed, or all where there is none.
+#[inline(always)]
+fn line_size(octets: &[u8]) -> usize
+    ensures bound { result ≤ length octets.now }
+    ensures clean { has_line_end (take result octets.now) ≡ false }
+    ensures stops { result < length octets.now → slice_index octets.now result ≡ 10 }
+{
+    'octets: for i in 0..octets.len() {
+        if octets[i] == b'\n' {
+            return i;
+        }
+    }
+    octets.len()
 }

@@ -2,7 +2,8 @@ use Rattle.std.proofs.Common.{◌++◌, ◌∙◌, ◌<◌, [], length, subst, s
 use Rattle.std.proofs.KnownBytes.{Appends-trans}
 use Rattle.std.proofs.lemmas.Result.{err_from_is_err_and}
 use Rattle.ill_lines.specs.Lines.{LinesDone}
-use Rattle.ill_lines.proofs.MadeResults.{Made, ends_memory, ends_write, is_some, is_zero, lines_done, made_last, made_none, made_written, none_of}
+use Rattle.ill_lines.proofs.LineEnds.{none_of}
+use Rattle.ill_lines.proofs.MadeResults.{Made, ends_memory, ends_write, is_some, is_zero, lines_done, made_last, made_none, made_written}
 use Rattle.ill_lines.proofs.run.finish.Goals as goal
 
 pub returns-then-is_empty-clause-done : goal.returns-then-is_empty-clause-done
