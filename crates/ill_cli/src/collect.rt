@@ -1,45 +1,49 @@
 //! The normal forms of the messages of several files, in one file.
-use crate::commands::{How, canonicalise, end, put_all};
+use crate::commands::{How, canonicalise, put_all};
 use crate::each::{is_dash_twice, list_of, names_of, text_of, worse};
-use crate::fault::{Fault, LineFault, RunLine, print, print_of, status_of};
+use crate::fault::{Fault, LineFault, RunLine, status_of};
 use crate::input::open;
 use crate::names::printed;
 use crate::orders::Inputs;
 use crate::output::{self, Output, OutputOf, begin};
+use crate::progress::Console;
 use crate::same_file::FileId;
-use crate::summary::Summary;
+use crate::tally::Tally;
 use ill_jobs::{Job, RunFault, Verdict};
 use std::rt::Files;
 use std::str;
 
 /// Writes the normal forms of the messages of each file to one output, prints the line of each fault, and returns the exit status. The
 /// output is opened after the first of the files, and only if it is not one of the files.
-pub fn collect<R: Print + Eprint + Input + Files + AllocGlobal>(
+pub fn collect<R: Print + Eprint + Input + Files + AllocGlobal + Console>(
     rt: &R,
     how: How,
     inputs: &Inputs<'_>,
     output: &str,
-    summary: &mut Summary,
+    tally: &mut Tally<'_>,
 ) -> u8 {
     let alloc = rt.alloc();
     // If standard output is closed, an input may be opened in its place: so this is asked first.
     let written = FileId::of_output(rt, output);
     let (list, read) = match list_of(rt, inputs.list) {
         Ok(found) => found,
-        Err(fault) => return end(rt, &Err(fault)),
+        Err(fault) => return tally.end(rt, &Err(fault)),
     };
     let Ok(names) = names_of(alloc, &inputs.files, &list) else {
-        return end(rt, &Err(Fault::out_of_memory()));
+        return tally.end(rt, &Err(Fault::out_of_memory()));
     };
     if is_dash_twice(&names, inputs.list) {
-        return end(rt, &Err(Fault::from(LineFault::SameWord)));
+        return tally.end(rt, &Err(Fault::from(LineFault::SameWord)));
     }
     if written.is_some() && (read == written || is_one_of(rt, &names, written)) {
-        return end(rt, &Err(Fault::SameFile));
+        return tally.end(rt, &Err(Fault::SameFile));
     }
     match names.as_slice() {
-        [name] => end(rt, &one_into(rt, how, name, output, summary)),
-        names => each_into(rt, how, names, output, summary),
+        [name] => {
+            let done = one_into(rt, how, name, output, tally);
+            tally.end(rt, &done)
+        }
+        names => each_into(rt, how, names, output, tally),
     }
 }
 
@@ -56,16 +60,16 @@ fn is_one_of<R: Files>(rt: &R, names: &[&[u8]], file: Option<FileId>) -> bool {
 }
 
 /// Writes the normal forms of the messages of one file.
-fn one_into<R: Print + Eprint + Input + Files + AllocGlobal>(
+fn one_into<R: Print + Eprint + Input + Files + AllocGlobal + Console>(
     rt: &R,
     how: How,
     name: &[u8],
     output: &str,
-    summary: &mut Summary,
+    tally: &mut Tally<'_>,
 ) -> Result<Verdict, Fault> {
     let name = text_of(rt.alloc(), name)?;
     let doing = how.doing(Job::Canonicalise, "-", false);
-    canonicalise(rt, doing, name, output, summary)
+    canonicalise(rt, doing, name, output, tally)
 }
 
 /// An output that was opened: the name of the new file that is written in its place, if there is one.
@@ -75,24 +79,21 @@ struct Begun {
 }
 
 /// Writes the normal forms of the messages of several files.
-fn each_into<R: Print + Eprint + Input + Files + AllocGlobal>(
+fn each_into<R: Print + Eprint + Input + Files + AllocGlobal + Console>(
     rt: &R,
     how: How,
     names: &[&[u8]],
     name_of_output: &str,
-    summary: &mut Summary,
+    tally: &mut Tally<'_>,
 ) -> u8 {
     let output = Output::new();
     let mut begun = None;
     let mut status = 0;
     let mut lost = Ok(Verdict::Good);
     for name in names {
-        match next_into(rt, how, name, &output, name_of_output, &mut begun, summary) {
+        match next_into(rt, how, name, &output, name_of_output, &mut begun, tally) {
             Ok(done) => {
-                if let Err(fault) = &done {
-                    // Where standard error is closed, the status alone reports it.
-                    let _ = print_of(rt, name, fault);
-                }
+                tally.print_of(rt, name, &done);
                 status = worse(status, status_of(&done));
             }
             Err(fault) => {
@@ -105,7 +106,7 @@ fn each_into<R: Print + Eprint + Input + Files + AllocGlobal>(
         Some(Begun { part }) => output::end(rt, &output, part, name_of_output, lost),
         None => lost,
     };
-    worse(status, end(rt, &ended))
+    worse(status, tally.end(rt, &ended))
 }
 
 /// Writes the normal forms of the messages of the next file.
@@ -113,21 +114,21 @@ fn each_into<R: Print + Eprint + Input + Files + AllocGlobal>(
 /// # Errors
 ///
 /// The output can't be opened or written.
-fn next_into<'r, R: Print + Eprint + Input + Files + AllocGlobal>(
+fn next_into<'r, R: Print + Eprint + Input + Files + AllocGlobal + Console>(
     rt: &'r R,
     how: How,
     name: &[u8],
     output: &OutputOf<'r, R>,
     name_of_output: &str,
     begun: &mut Option<Begun>,
-    summary: &mut Summary,
+    tally: &mut Tally<'_>,
 ) -> Result<Result<Verdict, Fault>, Fault> {
     let alloc = rt.alloc();
     let file = match text_of(alloc, name) {
         Ok(file) => file,
         Err(fault) => return Ok(Err(fault)),
     };
-    let mut source = match open(rt, file, output) {
+    let mut source = match open(rt, file, output, tally.progress) {
         Ok(source) => source,
         Err(fault) => return Ok(Err(fault)),
     };
@@ -140,7 +141,7 @@ fn next_into<'r, R: Print + Eprint + Input + Files + AllocGlobal>(
         });
     }
     let doing = how.doing(Job::Canonicalise, &name, true);
-    match put_all(rt, doing, &mut source, output, summary) {
+    match put_all(rt, doing, &mut source, output, tally) {
         Err(Fault::Run(RunLine(RunFault::WriteFault(count)))) => {
             Err(Fault::from(RunFault::WriteFault(count)))
         }

@@ -1,18 +1,18 @@
 //! The commands: what is opened, and what is done with it.
 ghost use Rattle.std.specs.Prelude.{◌≡◌};
 ghost use Rattle.ill_cli.specs.code.Lined.{line_job_of};
-ghost use Rattle.ill_cli.specs.Status.{status_is};
 
 use crate::collect::collect;
 use crate::each::{Each, each_input};
-use crate::fault::{Fault, LineFault, print, status_of};
+use crate::fault::{Fault, LineFault};
 use crate::going::Printed;
 use crate::input::{Shared, open, open_alone, open_and_identify};
 use crate::line::order;
 use crate::orders::{Order, Task};
 use crate::output::{self, Output, ToOutput, begin, begin_standard};
+use crate::progress::{Console, Progress};
 use crate::same_file::FileId;
-use crate::summary::Summary;
+use crate::tally::{Tally, end};
 use crate::words::words_of;
 use ber_core::{AtHand, ToWrite};
 use ill_dump::{Dump, run_dump};
@@ -23,7 +23,7 @@ use std::rt::{Env, Files};
 
 /// Does what the process's words say, prints the line of each fault, and returns the exit status: 0, 1, 2 or 3, as [`status_of`] says.
 /// Of several files it is 3 if one gave 3, else 1 if one gave 1.
-pub fn run_program<R: Print + Eprint + Input + Files + Env + AllocGlobal>(rt: &R) -> u8 {
+pub fn run_program<R: Print + Eprint + Input + Files + Env + AllocGlobal + Console>(rt: &R) -> u8 {
     let words = match words_of(rt) {
         Ok(words) => words,
         Err(fault) => return end(rt, &Err(fault)),
@@ -35,7 +35,10 @@ pub fn run_program<R: Print + Eprint + Input + Files + Env + AllocGlobal>(rt: &R
 }
 
 /// Does what an order says, prints the line of each fault and that of the summary, and returns the exit status.
-pub fn obey<R: Print + Eprint + Input + Files + AllocGlobal>(rt: &R, order: Order<'_>) -> u8 {
+pub fn obey<R: Print + Eprint + Input + Files + AllocGlobal + Console>(
+    rt: &R,
+    order: Order<'_>,
+) -> u8 {
     let Order {
         hex,
         lines,
@@ -50,13 +53,20 @@ pub fn obey<R: Print + Eprint + Input + Files + AllocGlobal>(rt: &R, order: Orde
         compares: is_counted,
         json,
     };
-    let mut summary = Summary::NONE;
-    let status = if lines {
-        each_line(rt, &task)
+    let progress = if is_counted {
+        Progress::begin(rt)
     } else {
-        do_task(rt, &task, how, &mut summary)
+        Progress::none()
+    };
+    let mut tally = Tally::new(&progress);
+    let status = if lines {
+        each_line(rt, &task, &mut tally)
+    } else {
+        do_task(rt, &task, how, &mut tally)
     };
     if is_counted {
+        progress.clear(rt);
+        let summary = tally.summary;
         // Where standard error is closed, the status alone reports what happened.
         let _ = eprintln!(rt; "illcanon: {summary}");
     }
@@ -64,42 +74,46 @@ pub fn obey<R: Print + Eprint + Input + Files + AllocGlobal>(rt: &R, order: Orde
 }
 
 /// Does what a command does with messages, prints the line of each fault, and returns the exit status.
-fn do_task<R: Print + Eprint + Input + Files + AllocGlobal>(
+fn do_task<R: Print + Eprint + Input + Files + AllocGlobal + Console>(
     rt: &R,
     task: &Task<'_>,
     how: How,
-    summary: &mut Summary,
+    tally: &mut Tally<'_>,
 ) -> u8 {
     match task {
         Task::Each {
             job: Job::Show,
             inputs,
-        } if how.json => each_input(rt, Each::Job(Job::Json), how, inputs, summary),
-        Task::Each { job, inputs } => each_input(rt, Each::Job(*job), how, inputs, summary),
-        Task::Dump { inputs } => each_input(rt, Each::Dump, how, inputs, summary),
+        } if how.json => each_input(rt, Each::Job(Job::Json), how, inputs, tally),
+        Task::Each { job, inputs } => each_input(rt, Each::Job(*job), how, inputs, tally),
+        Task::Dump { inputs } => each_input(rt, Each::Dump, how, inputs, tally),
         Task::Canonicalise { input, output } => {
             let doing = how.doing(Job::Canonicalise, "-", false);
-            end(rt, &canonicalise(rt, doing, input, output, summary))
+            let done = canonicalise(rt, doing, input, output, tally);
+            tally.end(rt, &done)
         }
-        Task::Collect { inputs, output } => collect(rt, how, inputs, output, summary),
+        Task::Collect { inputs, output } => collect(rt, how, inputs, output, tally),
         Task::Compare { first, second } => end(rt, &compare(rt, how.hex, first, second)),
     }
 }
 
 /// Writes the result of each line of the one file of a command, prints the line of a fault, and returns the exit status.
-fn each_line<R: Print + Eprint + Input + Files + AllocGlobal>(rt: &R, task: &Task<'_>) -> u8 {
+fn each_line<R: Print + Eprint + Input + Files + AllocGlobal + Console>(
+    rt: &R,
+    task: &Task<'_>,
+    tally: &mut Tally<'_>,
+) -> u8 {
     let canonical = Doing::Lines(LineJob::Canonicalise);
-    let mut summary = Summary::NONE;
     let done = match task {
         Task::Each { job, inputs } => match (line_job(*job), inputs.files.as_slice()) {
-            (Some(job), [input]) => print_lines(rt, job, input),
+            (Some(job), [input]) => print_lines(rt, job, input, tally),
             _ => Err(Fault::from(LineFault::NotOneFile)),
         },
         Task::Canonicalise { input, output } => {
-            canonicalise(rt, canonical, input, output, &mut summary)
+            canonicalise(rt, canonical, input, output, tally)
         }
         Task::Collect { inputs, output } => match inputs.files.as_slice() {
-            [input] => canonicalise(rt, canonical, input, output, &mut summary),
+            [input] => canonicalise(rt, canonical, input, output, tally),
             _ => Err(Fault::from(LineFault::NotOneFile)),
         },
         Task::Dump { .. } | Task::Compare { .. } => Err(Fault::from(LineFault::NotOneFile)),
@@ -162,28 +176,17 @@ fn line_job(job: Job) -> Option<LineJob>
 }
 
 /// Writes the result of each line of an input to standard output.
-fn print_lines<R: Print + Eprint + Input + Files + AllocGlobal>(
+fn print_lines<R: Print + Eprint + Input + Files + AllocGlobal + Console>(
     rt: &R,
     job: LineJob,
     input: &str,
+    tally: &mut Tally<'_>,
 ) -> Result<Verdict, Fault> {
     let output = Output::new();
-    let mut source = open(rt, input, &output)?;
+    let mut source = open(rt, input, &output, tally.progress)?;
     begin_standard(rt, &output)?;
-    let mut summary = Summary::NONE;
-    let done = put_all(rt, Doing::Lines(job), &mut source, &output, &mut summary);
+    let done = put_all(rt, Doing::Lines(job), &mut source, &output, tally);
     output.finish(done)
-}
-
-/// Prints the line of a fault, and returns the exit status.
-pub(crate) fn end<R: Print + Eprint>(rt: &R, done: &Result<Verdict, Fault>) -> u8
-    ensures { result ≡ status_is done.now }
-{
-    if let Err(fault) = done {
-        // Where standard error is closed, the status alone reports it.
-        let _ = print(rt, fault);
-    }
-    status_of(done)
 }
 
 /// Compares two inputs. Both are opened before either is read.
@@ -220,22 +223,22 @@ fn flushed<W: Write + Drop>(
 }
 
 /// Writes normal forms. The output is opened only once the input is, and only if it isn't the same file.
-pub(crate) fn canonicalise<R: Print + Eprint + Input + Files + AllocGlobal>(
+pub(crate) fn canonicalise<R: Print + Eprint + Input + Files + AllocGlobal + Console>(
     rt: &R,
     doing: Doing<'_>,
     input: &str,
     name: &str,
-    summary: &mut Summary,
+    tally: &mut Tally<'_>,
 ) -> Result<Verdict, Fault> {
     // If standard output is closed, the input may be opened in its place: so this is asked first.
     let written = FileId::of_output(rt, name);
     let output = Output::new();
-    let (mut source, read) = open_and_identify(rt, input, &output)?;
+    let (mut source, read) = open_and_identify(rt, input, &output, tally.progress)?;
     if read.is_some() && read == written {
         return Err(Fault::SameFile);
     }
     let part = begin(rt, &output, name)?;
-    let done = put_all(rt, doing, &mut source, &output, summary);
+    let done = put_all(rt, doing, &mut source, &output, tally);
     output::end(rt, &output, part, name, done)
 }
 
@@ -245,12 +248,12 @@ pub(crate) fn put_all<'o, R, I: Read, J: Read, S: Write + Drop, F: Write + Drop>
     doing: Doing<'_>,
     source: &mut Shared<'o, I, J, S, F>,
     output: &'o Output<S, F>,
-    summary: &mut Summary,
+    tally: &mut Tally<'_>,
 ) -> Result<Verdict, Fault>
 where
     R: Eprint + AllocGlobal,
 {
-    summary.add_file();
+    tally.add_file();
     let alloc = rt.alloc();
     let mut sink = ToWrite::new(ToOutput {
         output,
@@ -260,18 +263,19 @@ where
     match doing {
         Doing::Messages(work) => {
             let ran = run_by::<Shared<'o, I, J, S, F>, AtHand, _>(alloc, work, source, &mut sink);
-            summary.add(ran.counts);
+            tally.summary.add(ran.counts);
             match ran.result {
                 Ok(verdict) => Ok(verdict),
                 Err(fault) => {
-                    summary.add_fault(fault);
+                    tally.summary.add_fault(fault);
                     Err(Fault::from(fault))
                 }
             }
         }
         Doing::Going(work) => {
             let name = work.is_named.then_some(work.name);
-            let mut reports = Printed { rt, name };
+            let progress = tally.progress;
+            let mut reports = Printed { rt, name, progress };
             match run_on_by::<Shared<'o, I, J, S, F>, AtHand, _, _>(
                 alloc,
                 work,
@@ -280,11 +284,11 @@ where
                 &mut reports,
             ) {
                 Ok(gone) => {
-                    summary.add_gone(gone);
+                    tally.summary.add_gone(gone);
                     Ok(verdict_of(work.job, gone))
                 }
                 Err(halt) => {
-                    summary.add_gone(halt.before);
+                    tally.summary.add_gone(halt.before);
                     Err(Fault::from(halt.fault))
                 }
             }

@@ -3,14 +3,15 @@ ghost use Rattle.std.specs.Prelude.{◌≡◌, ◌<◌, ◌++◌, [], ◌∷◌,
 ghost use Rattle.ill_cli.specs.code.Listed.{names_in};
 ghost use Rattle.ill_cli.specs.Status.{IsStatusOfEach, worst};
 
-use crate::commands::{Doing, How, end, put_all};
-use crate::fault::{Fault, LineFault, is_output_lost, print_of, status_of};
+use crate::commands::{Doing, How, put_all};
+use crate::fault::{Fault, LineFault, is_output_lost, status_of};
 use crate::input::{open, read_whole};
 use crate::names::{Name, printed};
 use crate::orders::Inputs;
 use crate::output::{Output, begin_standard};
+use crate::progress::Console;
 use crate::same_file::FileId;
-use crate::summary::Summary;
+use crate::tally::Tally;
 use ill_dump::Dump;
 use ill_jobs::{Job, Verdict};
 use std::alloc::{AllocError, Global};
@@ -41,27 +42,30 @@ impl Each {
 }
 
 /// Does a job with each input, prints the line of each fault, and returns the exit status. Of several files each line names its file.
-pub fn each_input<R: Print + Eprint + Input + Files + AllocGlobal>(
+pub fn each_input<R: Print + Eprint + Input + Files + AllocGlobal + Console>(
     rt: &R,
     each: Each,
     how: How,
     inputs: &Inputs<'_>,
-    summary: &mut Summary,
+    tally: &mut Tally<'_>,
 ) -> u8 {
     let alloc = rt.alloc();
     let list = match list_of(rt, inputs.list) {
         Ok((list, _)) => list,
-        Err(fault) => return end(rt, &Err(fault)),
+        Err(fault) => return tally.end(rt, &Err(fault)),
     };
     let Ok(names) = names_of(alloc, &inputs.files, &list) else {
-        return end(rt, &Err(Fault::out_of_memory()));
+        return tally.end(rt, &Err(Fault::out_of_memory()));
     };
     if is_dash_twice(&names, inputs.list) {
-        return end(rt, &Err(Fault::from(LineFault::SameWord)));
+        return tally.end(rt, &Err(Fault::from(LineFault::SameWord)));
     }
     match names.as_slice() {
-        [name] => end(rt, &one_file(rt, each, how, name, false, summary)),
-        names => each_file(rt, each, how, names, summary),
+        [name] => {
+            let done = one_file(rt, each, how, name, false, tally);
+            tally.end(rt, &done)
+        }
+        names => each_file(rt, each, how, names, tally),
     }
 }
 
@@ -129,22 +133,19 @@ pub fn is_dash_twice(names: &[&[u8]], list: Option<&str>) -> bool {
 
 /// Does a job with each file, prints the line of each fault, and returns the status of all that were done. Once output is lost, no
 /// file more is done.
-fn each_file<R: Print + Eprint + Input + Files + AllocGlobal>(
+fn each_file<R: Print + Eprint + Input + Files + AllocGlobal + Console>(
     rt: &R,
     each: Each,
     how: How,
     names: &[&[u8]],
-    summary: &mut Summary,
+    tally: &mut Tally<'_>,
 ) -> u8
     ensures { IsStatusOfEach (length names.now) result }
 {
     let mut status = 0;
     for name in names {
-        let done = one_file(rt, each, how, name, true, summary);
-        if let Err(fault) = &done {
-            // Where standard error is closed, the status alone reports it.
-            let _ = print_of(rt, name, fault);
-        }
+        let done = one_file(rt, each, how, name, true, tally);
+        tally.print_of(rt, name, &done);
         status = worse(status, status_of(&done));
         if is_output_lost(&done) {
             return status;
@@ -167,22 +168,22 @@ pub fn worse(before: u8, next: u8) -> u8
 }
 
 /// Does a job with the file of this name, and writes to standard output.
-fn one_file<R: Print + Eprint + Input + Files + AllocGlobal>(
+fn one_file<R: Print + Eprint + Input + Files + AllocGlobal + Console>(
     rt: &R,
     each: Each,
     how: How,
     name: &[u8],
     is_named: bool,
-    summary: &mut Summary,
+    tally: &mut Tally<'_>,
 ) -> Result<Verdict, Fault> {
     let alloc = rt.alloc();
     let file = text_of(alloc, name)?;
     let output = Output::new();
-    let mut source = open(rt, file, &output)?;
+    let mut source = open(rt, file, &output, tally.progress)?;
     let name = printed(alloc, file).map_err(|_| Fault::out_of_memory())?;
     begin_standard(rt, &output)?;
     let doing = each.doing(how, &name, is_named);
-    let done = put_all(rt, doing, &mut source, &output, summary);
+    let done = put_all(rt, doing, &mut source, &output, tally);
     output.finish(done)
 }
 

@@ -1,5 +1,6 @@
 //! The lines of messages that are refused, where the work goes on after them.
 use crate::fault::RunLine;
+use crate::progress::Progress;
 use ill_jobs::{Report, Reports, RunFault};
 use std::fmt;
 
@@ -30,6 +31,7 @@ impl fmt::Display for ReportLine {
 pub struct Printed<'a, R> {
     pub rt: &'a R,
     pub name: Option<&'a str>,
+    pub progress: &'a Progress,
 }
 
 impl<R: Eprint> Reports for Printed<'_, R> {
@@ -39,6 +41,7 @@ impl<R: Eprint> Reports for Printed<'_, R> {
 
     fn report(&mut self, report: Report) {
         let line = ReportLine(report);
+        self.progress.clear(self.rt);
         // Where standard error is closed, the status alone reports it.
         let _ = match self.name {
             Some(name) => eprintln!(self.rt; "illcanon: {name}: {line}"),

@@ -25,6 +25,7 @@ next one is read, where the end of the refused one is known.
 
 With --summary a line on standard error at the end says how many files, messages and
 octets were read, and how many messages are in normal form, are not, and are refused.
+On a terminal, a line says how far the work is, where it takes more than two seconds.
 
 Example: illcanon show messages.ber
          illcanon show --keep-going messages.ber 2> refused.txt
@@ -43,6 +44,7 @@ next one is read, where the end of the refused one is known.
 
 With --summary a line on standard error at the end says how many files, messages and
 octets were read, and how many messages are in normal form, are not, and are refused.
+On a terminal, a line says how far the work is, where it takes more than two seconds.
 
 Example: illcanon check messages.ber | grep 'not normal'
          illcanon check --keep-going archive/*.ber > lines.txt 2> refused.txt
@@ -64,6 +66,7 @@ next one is read, where the end of the refused one is known.
 
 With --summary a line on standard error at the end says how many files, messages and
 octets were read, and how many messages are in normal form, are not, and are refused.
+On a terminal, a line says how far the work is, where it takes more than two seconds.
 
 Example: illcanon digest *.ber | sort | uniq -w 64 -D    # copies
          illcanon digest --keep-going archive/*.ber > digests.txt 2> refused.txt
@@ -118,6 +121,7 @@ next one is read, where the end of the refused one is known.
 
 With --summary a line on standard error at the end says how many files, messages and
 octets were read, and how many messages are in normal form, are not, and are refused.
+On a terminal, a line says how far the work is, where it takes more than two seconds.
 
 With --lines each line of OUT is the normal form of the message in this line of IN, or
 why the line is not a message, as `refused at 0: Truncated` or `hex: odd number of digits`.

@@ -4,6 +4,7 @@ ghost use Rattle.ill_cli.specs.Opened.{left_of, is_broken_of};
 
 use crate::fault::Fault;
 use crate::output::{Flushing, Output, OutputOf};
+use crate::progress::{Console, Progress, Watched};
 use crate::same_file::FileId;
 use ber_core::{Ahead, Broken, FromBuffer, Source};
 use ill_jobs::{RunFault, read_most};
@@ -65,11 +66,11 @@ pub type Shared<'o, I, J, S, F> = Opened<
     FromBuffer<Flushing<'o, J, S, F>>,
 >;
 
-/// The source of an input under the runtime `R`, which shares the output.
+/// The source of an input under the runtime `R`, which shares the output, and shows how far it is.
 pub type InputSource<'o, 'r, R> = Shared<
     'o,
-    <R as Input>::Reader,
-    <R as Files>::File,
+    Watched<'o, R, <R as Input>::Reader>,
+    Watched<'o, R, <R as Files>::File>,
     Printer<'r, R>,
     <R as Files>::File,
 >;
@@ -79,12 +80,13 @@ pub type InputSource<'o, 'r, R> = Shared<
 /// # Errors
 ///
 /// There is no file of this name that can be read, or memory ran out.
-pub fn open<'o, 'r: 'o, R: Print + Input + Files + AllocGlobal>(
+pub fn open<'o, 'r: 'o, R: Print + Eprint + Input + Files + AllocGlobal + Console>(
     rt: &'r R,
     name: &str,
     output: &'o OutputOf<'r, R>,
+    progress: &'o Progress,
 ) -> Result<InputSource<'o, 'r, R>, Fault> {
-    let (source, _) = open_and_identify(rt, name, output)?;
+    let (source, _) = open_and_identify(rt, name, output, progress)?;
     Ok(source)
 }
 
@@ -125,20 +127,39 @@ pub fn open_alone<R: Input + Files + AllocGlobal>(
 }
 
 /// Opens an input as [`open`] does, and returns which regular file it is, None where it is not one.
-pub fn open_and_identify<'o, 'r: 'o, R: Print + Input + Files + AllocGlobal>(
+pub fn open_and_identify<'o, 'r: 'o, R: Print + Eprint + Input + Files + AllocGlobal + Console>(
     rt: &'r R,
     name: &str,
     output: &'o OutputOf<'r, R>,
+    progress: &'o Progress,
 ) -> Result<(InputSource<'o, 'r, R>, Option<FileId>), Fault> {
     let alloc = rt.alloc();
     if name == "-" {
         let file = FileId::of_standard_input(rt);
-        let source = buffered(alloc, rt.reader(), output)?;
+        let inner = rt.reader();
+        let source = buffered(
+            alloc,
+            Watched {
+                rt,
+                inner,
+                progress,
+            },
+            output,
+        )?;
         return Ok((Opened::Standard(source), file));
     }
-    let opened = fs::open(rt, name).map_err(|_| Fault::cannot_open(alloc, name))?;
-    let file = FileId::of(opened.metadata());
-    Ok((Opened::File(buffered(alloc, opened, output)?), file))
+    let inner = fs::open(rt, name).map_err(|_| Fault::cannot_open(alloc, name))?;
+    let file = FileId::of(inner.metadata());
+    let source = buffered(
+        alloc,
+        Watched {
+            rt,
+            inner,
+            progress,
+        },
+        output,
+    )?;
+    Ok((Opened::File(source), file))
 }
 
 /// A reader as a source, which has the output written before it reads.

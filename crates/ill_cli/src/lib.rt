@@ -21,9 +21,11 @@ mod line;
 mod names;
 mod orders;
 mod output;
+mod progress;
 mod replacement;
 mod same_file;
 mod summary;
+mod tally;
 mod topics;
 mod words;
 
@@ -34,4 +36,5 @@ pub use input::Opened;
 pub use line::order;
 pub use names::Name;
 pub use orders::{Inputs, Order, Task, Verb};
+pub use progress::Console;
 pub use summary::Summary;

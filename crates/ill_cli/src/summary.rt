@@ -93,7 +93,7 @@ impl fmt::Display for Summary {
 
 /// A number of things of this name: `1 file`, `2 files`.
 #[derive(Clone, Copy)]
-struct Count(u64, &'static str);
+pub(crate) struct Count(pub u64, pub &'static str);
 
 impl fmt::Display for Count {
     fn fmt<W: fmt::Write>(&self, f: &mut fmt::Formatter<W>) -> fmt::Result {

@@ -8,5 +8,6 @@ mod lines;
 mod lists;
 mod names;
 mod outputs;
+mod progress;
 mod reports;
 mod runs;

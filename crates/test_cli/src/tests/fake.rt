@@ -2,9 +2,9 @@
 //! files can be made to fail.
 ghost use Rattle.std.specs.Prelude.{◌≤◌, length, IfOk};
 
-use ill_cli::run_program;
+use ill_cli::{Console, run_program};
 use std::alloc::{Alloc, Allocator, Global};
-use std::cell::RefCell;
+use std::cell::{Cell, RefCell};
 use std::env::FillError;
 use std::fmt::Display;
 use std::fs::{self, File, FileTimes, Files, Metadata, OpenFile, OpenOptions, Permissions};
@@ -12,6 +12,7 @@ use std::io::{self, BufRead, ErrorKind, Lines, Read, Seek, SeekFrom, Write};
 use std::process;
 use std::rt::Env;
 use std::test::Fail;
+use std::time::{Clock, Duration};
 
 /// Which calls fail.
 #[derive(Clone, Copy)]
@@ -44,6 +45,8 @@ pub struct Start<'a> {
     /// The file that standard input and standard output are, where they are a file.
     pub standard: Option<&'static str>,
     pub faults: Faults,
+    /// Standard error is a terminal, and this number of milliseconds goes by until the clock is read the next time.
+    pub terminal: Option<u64>,
 }
 
 pub struct Fake<'a> {
@@ -51,6 +54,7 @@ pub struct Fake<'a> {
     start: Start<'a>,
     output: RefCell<Vec<u8>>,
     errors: RefCell<Vec<u8>>,
+    milliseconds: Cell<u64>,
 }
 
 /// What the program left.
@@ -68,6 +72,7 @@ pub fn run(host: &HostRuntime, start: Start<'_>) -> Ended {
         start,
         output: RefCell::new(Vec::new(host.alloc())),
         errors: RefCell::new(Vec::new(host.alloc())),
+        milliseconds: Cell::new(0),
     };
     let status = run_program(&fake);
     let Fake {
@@ -75,6 +80,7 @@ pub fn run(host: &HostRuntime, start: Start<'_>) -> Ended {
         start: _,
         output,
         errors,
+        milliseconds: _,
     } = fake;
     Ended {
         status,
@@ -149,6 +155,25 @@ impl Eprint for Fake<'_> {
     fn eprintln<D: Display + Drop>(&self, value: D) -> io::Result<()> {
         let text = format!(in self.alloc(); "{value}\n").map_err(|_| fails())?;
         append(&self.errors, text.as_bytes())
+    }
+}
+
+impl Clock for Fake<'_> {
+    fn monotonic(&self) -> io::Result<Duration> {
+        let step = self.start.terminal.unwrap_or(0);
+        let now = self.milliseconds.get().saturating_add(step);
+        self.milliseconds.set(now);
+        Ok(Duration::from_millis(now))
+    }
+
+    fn since_1970(&self) -> io::Result<Duration> {
+        Err(fails())
+    }
+}
+
+impl Console for Fake<'_> {
+    fn is_terminal(&self) -> bool {
+        self.start.terminal.is_some()
     }
 }
 

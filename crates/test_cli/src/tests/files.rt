@@ -16,6 +16,7 @@ fn canonicalise<'n>(rt: &HostRuntime, input: &'n [u8], output: &'n [u8]) -> Ende
             input: b"",
             standard: None,
             faults: NO_FAULTS,
+            terminal: None,
         },
     )
 }

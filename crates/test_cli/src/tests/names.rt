@@ -42,6 +42,7 @@ fn check_absent(rt: &HostRuntime, name: &[u8]) -> (u8, usize) {
             input: b"",
             standard: None,
             faults: NO_FAULTS,
+            terminal: None,
         },
     );
     (ended.status, ended.errors.len())

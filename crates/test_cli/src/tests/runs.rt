@@ -34,6 +34,8 @@ pub struct Row {
     /// The file that standard input and output are, where they are a file.
     pub standard: Option<&'static str>,
     pub faults: Faults,
+    /// Standard error is a terminal, and this number of milliseconds goes by until the clock is read the next time.
+    pub terminal: Option<u64>,
     pub status: u8,
     pub output: Octets,
     pub errors: &'static str,
@@ -47,6 +49,7 @@ pub const QUIET: Row = Row {
     input: b"",
     standard: None,
     faults: NO_FAULTS,
+    terminal: None,
     status: 0,
     output: Text(b""),
     errors: "",
@@ -193,6 +196,7 @@ pub fn run_line(rt: &HostRuntime, line: &'static str, input: &[u8]) -> Result<En
             input,
             standard: None,
             faults: NO_FAULTS,
+            terminal: None,
         },
     ))
 }
@@ -207,6 +211,7 @@ fn ends_right(rt: &HostRuntime, row: &Row) -> Result<bool, Fail> {
             input: row.input,
             standard: row.standard,
             faults: row.faults,
+            terminal: row.terminal,
         },
     );
     Ok(

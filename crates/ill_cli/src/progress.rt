@@ -1,0 +1,144 @@
+//! The line on a terminal that says how far the work is.
+use crate::summary::Count;
+use std::cell::Cell;
+use std::io::{self, IsTerminal, Read};
+use std::time::{Clock, Duration, Instant};
+
+/// How many milliseconds the work goes on before its line is shown.
+const PATIENCE: u64 = 2_000;
+
+/// How many milliseconds a line stays as it is.
+const PAUSE: u64 = 200;
+
+/// Goes to the front of the line on a terminal, and erases it (ECMA-48, 8.3.15 and 8.3.41).
+const ERASE: &str = "\r\x1b[K";
+
+/// A runtime whose standard error may be a terminal.
+pub trait Console: Clock {
+    /// Whether standard error is a terminal.
+    fn is_terminal(&self) -> bool;
+}
+
+impl Console for HostRuntime {
+    fn is_terminal(&self) -> bool {
+        self.stderr().is_terminal()
+    }
+}
+
+/// How far the work is: how many files were opened, and how many octets were read. A line on a terminal says so while the work takes
+/// more than two seconds.
+#[derive(Drop)]
+pub struct Progress {
+    state: Cell<State>,
+}
+
+#[derive(Clone, Copy)]
+struct State {
+    files: u64,
+    octets: u64,
+    /// When the next line is due; None where no line is wanted.
+    due: Option<Instant>,
+    /// Whether a line is on the terminal.
+    is_shown: bool,
+}
+
+impl Progress {
+    /// Shows no line.
+    pub fn none() -> Progress {
+        Progress::due_at(None)
+    }
+
+    /// Shows a line if standard error is a terminal.
+    pub fn begin<R: Console>(rt: &R) -> Progress {
+        if rt.is_terminal() {
+            Progress::due_at(time_in(rt, PATIENCE))
+        } else {
+            Progress::none()
+        }
+    }
+
+    fn due_at(due: Option<Instant>) -> Progress {
+        Progress {
+            state: Cell::new(State {
+                files: 0,
+                octets: 0,
+                due,
+                is_shown: false,
+            }),
+        }
+    }
+
+    /// Counts a file that was opened.
+    pub fn add_file(&self) {
+        let mut state = self.state.get();
+        state.files = state.files.saturating_add(1);
+        self.state.set(state);
+    }
+
+    /// Counts octets that were read.
+    fn add_octets(&self, count: usize) {
+        let mut state = self.state.get();
+        state.octets = state.octets.saturating_add(count as u64);
+        self.state.set(state);
+    }
+
+    /// Shows how far the work is, if a line is due.
+    fn show<R: Eprint + Console>(&self, rt: &R) {
+        let state = self.state.get();
+        let Some(due) = state.due else {
+            return;
+        };
+        match Instant::now(rt) {
+            Ok(now) if now >= due => {}
+            _ => return,
+        }
+        let files = Count(state.files, "file");
+        let octets = Count(state.octets, "octet");
+        // Where standard error is closed, nothing is shown.
+        let _ = eprint!(rt; "{ERASE}illcanon: {files}, {octets}");
+        self.state.set(State {
+            due: time_in(rt, PAUSE),
+            is_shown: true,
+            ..state
+        });
+    }
+
+    /// Erases the line, so that another can come in its place.
+    pub fn clear<R: Eprint>(&self, rt: &R) {
+        let state = self.state.get();
+        if !state.is_shown {
+            return;
+        }
+        // Where standard error is closed, nothing was shown.
+        let _ = eprint!(rt; "{ERASE}");
+        self.state.set(State {
+            is_shown: false,
+            ..state
+        });
+    }
+}
+
+/// The time in this number of milliseconds; None where the clock can't be read.
+fn time_in<R: Console>(rt: &R, milliseconds: u64) -> Option<Instant> {
+    match Instant::now(rt) {
+        Ok(now) => now.checked_add(Duration::from_millis(milliseconds)),
+        Err(_) => None,
+    }
+}
+
+/// A reader that shows how far the work is before it reads, since that may wait.
+#[derive(Drop)]
+pub struct Watched<'o, R, I> {
+    pub rt: &'o R,
+    pub inner: I,
+    pub progress: &'o Progress,
+}
+
+impl<R: Eprint + Console, I: Read> Read for Watched<'_, R, I> {
+    fn read(&mut self, buf: &mut [u8]) -> io::Result<usize> {
+        self.progress.show(self.rt);
+        let count = self.inner.read(buf)?;
+        self.progress.add_octets(count);
+        Ok(count)
+    }
+}

@@ -1,0 +1,58 @@
+//! The line on a terminal that says how far the work is.
+use super::runs::Octets::{Repeated, Text};
+use super::runs::{QUIET, Row, first_wrong};
+use std::test::Fail;
+
+/// Each file is read twice, its octets and then its end. A second goes by between two readings of the clock, so the first line is due
+/// at the second reading after the work begins. A has 33 octets, `first` 82.
+static ROWS: [Row; 5] = [
+    Row {
+        words: "check --summary --keep-going A first",
+        terminal: Some(1000),
+        status: 1,
+        output: Text(
+            b"A: message 1: Expired, 33 octets, normal\nfirst: message 2: Expired, 33 octets, normal\nfirst: message 3: Expired, 47 octets, not normal, normal form 33 octets\n",
+        ),
+        errors: "\r\x1b[Killcanon: 1 file, 33 octets\r\x1b[Killcanon: 2 files, 33 octets\r\x1b[Killcanon: first: refused at 2 in message 1: Missing Expired.protocol-version-num\n\r\x1b[Killcanon: 2 files, 115 octets\r\x1b[Killcanon: 2 files, 4 messages, 2 normal, 1 not normal, 1 refused, 115 octets\n",
+        ..QUIET
+    },
+    // A fault has its own line.
+    Row {
+        words: "check --summary A O",
+        terminal: Some(1000),
+        status: 3,
+        output: Text(b"A: message 1: Expired, 33 octets, normal\n"),
+        errors: "\r\x1b[Killcanon: 1 file, 33 octets\r\x1b[Killcanon: cannot open O\nillcanon: 1 file, 1 message, 1 normal, 0 not normal, 0 refused, 33 octets\n",
+        ..QUIET
+    },
+    // Work of less than two seconds has no line.
+    Row {
+        words: "check --summary A",
+        terminal: Some(999),
+        output: Text(b"message 1: Expired, 33 octets, normal\n"),
+        errors: "illcanon: 1 file, 1 message, 1 normal, 0 not normal, 0 refused, 33 octets\n",
+        ..QUIET
+    },
+    // A line stays for 200 milliseconds: the one that is due when the sixth file is read first is still there when its end is read.
+    Row {
+        words: "check --summary A A A A A A",
+        terminal: Some(199),
+        output: Repeated(b"A: message 1: Expired, 33 octets, normal\n", 246),
+        errors: "\r\x1b[Killcanon: 6 files, 165 octets\r\x1b[Killcanon: 6 files, 6 messages, 6 normal, 0 not normal, 0 refused, 198 octets\n",
+        ..QUIET
+    },
+    // Only with --summary.
+    Row {
+        words: "check A",
+        terminal: Some(1000),
+        output: Text(b"message 1: Expired, 33 octets, normal\n"),
+        ..QUIET
+    },
+];
+
+#[test]
+fn a_terminal_shows_how_far_the_work_is(rt: HostRuntime) -> Result<(), Fail> {
+    let wrong = first_wrong(&rt, &ROWS)?;
+    assert!(rt; wrong.is_none(), "{wrong:?}");
+    Ok(())
+}
