@@ -43,7 +43,7 @@ class Element:
     def __init__(self, kind, node=None, part=None):
         self.kind, self.node, self.part = kind, node, part
         self.position, self.start, self.end, self.text = 0, None, None, bytearray()
-        # alternatives of choices, outermost first, and the row of the sequence in which it stands
+        # alternatives of choices, outermost first, and the row of the sequence in which it is
         self.chosen, self.row = [], None
         self.entries, self.items, self.inner = {}, [], None
 

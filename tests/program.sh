@@ -23,7 +23,7 @@ compare() {
     fi
 }
 
-# row NAME STATUS STDOUT STDERR WORD..: STDERR is any where clap's text stands there
+# row NAME STATUS STDOUT STDERR WORD..: STDERR is any where clap's text is there
 row() {
     name=$1 wanted=$2 lines=$3
     printf "$lines" >want-out
@@ -104,7 +104,7 @@ row canonicalise-into-a-file 0 '' '' canonicalise F OUT
 octets G $EXPIRED
 cmp -s G OUT || { failed=$((failed + 1)) && echo 'failed: OUT is not the normal form'; }
 { cat F && printf u; } >TWO
-row refused-behind-what-goes-into-a-file 1 '' 'illcanon: refused at 0 in message 2: UnexpectedTag\n' canonicalise TWO OUT
+row refused-after-what-goes-into-a-file 1 '' 'illcanon: refused at 0 in message 2: UnexpectedTag\n' canonicalise TWO OUT
 cmp -s G OUT || { failed=$((failed + 1)) && echo 'failed: OUT is not the normal form of the message before'; }
 printf %s $EXPIRED | tr a-f A-F >TEXT
 printf '%s\n' $INDEFINITE >OTHER
@@ -305,9 +305,9 @@ cat MANY | "$program" canonicalise - - | cmp -s - MANY
 status=$?
 : >out && : >err && : >want-out && : >want-err
 compare pipe-to-pipe 0
-# A message is refused behind others, which are written.
+# A message is refused after others, which are written.
 { cat F; printf u; } >TWO
-row refused-behind-a-message 1 'message 1: Expired, 33 octets, normal\n' 'illcanon: refused at 0 in message 2: UnexpectedTag\n' check TWO
+row refused-after-a-message 1 'message 1: Expired, 33 octets, normal\n' 'illcanon: refused at 0 in message 2: UnexpectedTag\n' check TWO
 "$program" check MANY | grep -c 'normal' >out
 status=$?
 echo 400 >want-out

@@ -159,7 +159,7 @@ def exported(crate):
 
 
 def functions_of(lines):
-    """Each function with a contract: what it stands in (an `impl` or a trait, or nothing), whether it is `pub`, its name, its contract."""
+    """Each function with a contract: what it is in (an `impl` or a trait, or nothing), whether it is `pub`, its name, its contract."""
     block = ""
     for i, line in enumerate(lines):
         if re.match(r"(pub )?(impl|trait)\b", line):
@@ -172,7 +172,7 @@ def functions_of(lines):
 
 
 def ghosts_of(lines):
-    """Each ghost member of an `impl` or a trait, with what it stands in."""
+    """Each ghost member of an `impl` or a trait, with what it is in."""
     block = ""
     for line in lines:
         if re.match(r"(pub )?(impl|trait)\b", line):

@@ -38,7 +38,7 @@ def leasts(node, deep=True):
 
 
 def holding(node, wanted):
-    """The smallest value of a node in which the list stands, or None."""
+    """The smallest value of a node in which the list is, or None."""
     if node == wanted:
         return []
     for i, row in enumerate(ROWS.get(node, [])):

@@ -129,7 +129,7 @@ static void normal_is(struct octets octets, uint32_t wanted) {
     EXPECT(normal == wanted && is_untouched(&refusal));
 }
 
-/* Each message of a file, whose normal forms stand one after another in another file. */
+/* Each message of a file, whose normal forms are one after another in another file. */
 static void file_is(const char *name, const char *forms_name) {
     struct octets messages[MESSAGES], forms[MESSAGES];
     size_t count = read_messages(name, messages, MESSAGES);

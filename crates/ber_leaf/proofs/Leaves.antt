@@ -25,7 +25,7 @@ pub no_fault : (l : Leaf) (o : List ℕ) → IsContent l o → content_fault pro
 unfolding IsContent
 no_fault l o h = h.1.1
 
--- None is the answer exactly at a content
+-- the fault is None exactly at a content
 pub exact : (l : Leaf) (o : List ℕ) (r : Option LeafFault) → IsTrue (are_octets o) → r ≡ content_fault profile_two l o → IsNone r ↔ IsContent l o
 exact l o None h e = (λ n. content l o h (sym e), λ k. refl)
 exact l o (Some f) h e = (λ n. absurd cc, λ k. let none : Some f ≡ None = e ∙ no_fault l o k in cc)

@@ -1,4 +1,4 @@
--- What stands at the front of octets.
+-- What is at the front of octets.
 use Rattle.std.proofs.Common.{◌≡◌, ℕ, List, [], Some, refl, sym, ap₂, subst, ◌∙◌, inl}
 use Rattle.std.specs.Io.KnownBytes.{Consumes, IsAtEnd}
 use Rattle.ber_leaf.specs.Profile.{profile_two}

@@ -19,7 +19,7 @@ IsMade make s octets = (a : Apdu) × SpellsApdu profile_two a s × (octets ≡ m
 abbrev pub digest : Apdu → List ℕ
 digest a = sha256 (normal_form a)
 
--- what is made of the message that s is stands in the buffer, or the buffer is too short, or s is refused; where memory ran out, nothing changed
+-- what is made of the message that s is, is in the buffer, or the buffer is too short, or s is refused; where memory ran out, nothing changed
 abbrev pub Writes : (Apdu → List ℕ) → List ℕ → Change (List ℕ) → Change ℕ → Change IllcanonRefusal → Status → Type 0
 Writes make s buffer size refusal Status.Done = ((octets : List ℕ) × IsMade make s octets × Fills octets buffer size) × Stays refusal
 Writes make s buffer size refusal Status.NoRoom = ((octets : List ℕ) × IsMade make s octets × Lacks octets buffer size) × Stays refusal
@@ -51,7 +51,7 @@ Finds s size refusal Status.Refused = Reports (λ f. OnlyRefuses profile_two s f
 Finds s size refusal Status.OutOfMemory = Stays size × Stays refusal
 Finds s size refusal _ = ⊥
 
--- the normal form of the message at the front of s stands in the buffer, or the buffer is too short, and where the message ends is reported; or s may go on to be one, or is refused
+-- the normal form of the message at the front of s is in the buffer, or the buffer is too short, and where the message ends is reported; or s may go on to be one, or is refused
 -- whatever follows it
 abbrev pub WritesFront : List ℕ → Change ℕ → Change (List ℕ) → Change ℕ → Change IllcanonRefusal → Status → Type 0
 WritesFront s read buffer size refusal Status.Done = ((a : Apdu) × Accepts profile_two s a read.after × Fills (normal_form a) buffer size) × Stays refusal

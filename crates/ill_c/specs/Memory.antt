@@ -4,7 +4,7 @@ use Rattle.ill_refusals.specs.Fault.{Fault}
 use Rattle.ill_c.specs.declared.refusal.IllcanonRefusal.{IllcanonRefusal}
 use Rattle.ill_c.specs.Refusals.{reported}
 
--- what stands somewhere before and after the call
+-- what is somewhere in memory before and after the call
 pub record Change (T : Type 0) : Type 0 where
   pub before : T
   pub after : T
@@ -15,7 +15,7 @@ change before after = record { before = before; after = after }
 abbrev pub Stays : {T : Type 0} → Change T → Type 0
 Stays x = x.after ≡ x.before
 
--- the octets stand at the front of the buffer, what follows them is as it was, and their number is reported
+-- the octets are at the front of the buffer, what follows them is as it was, and their number is reported
 pub record Fills (octets : List ℕ) (buffer : Change (List ℕ)) (size : Change ℕ) : Type 0 where
   pub fits : length octets ≤ length buffer.before
   pub written : buffer.after ≡ octets ++ drop (length octets) buffer.before

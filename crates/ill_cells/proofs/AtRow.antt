@@ -29,7 +29,7 @@ pub row-number : (position : ℕ) → position - 1 ≡ row_before position
 row-number zero = refl
 row-number (suc row) = omega arith
 
--- what stands in a row is due at it
+-- what is in a row is due at it
 pub row-of : (p : PartId) (node : NodeId) (position : ℕ) (s : Slot) (e : Element) → IsTrue (is_placed (kind_of node) position s)
     → IsTrue (row_there s position (components profile_two node)) → s ≡ slot.Row → IsAtRow node (row_before position) (due_at p node position s e)
 row-of p node position s e h t is =

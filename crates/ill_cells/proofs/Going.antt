@@ -133,7 +133,7 @@ first-kind what.Wrapper p node k cs e h = wrapper-first p node k h
 first-kind what.LooseWrapper p node k cs e h = loose-first p node k h
 first-kind what.LeftOut p node k cs e h = empty-first p node k cs e h
 
--- where an element that may stand in its node begins inside
+-- where an element that may be in its node begins inside
 pub first-opens : (w : What) (p : PartId) (node : NodeId) → IsTrue (opens_in w node) → next_from p node (first_position w) ≡ opening profile_two (element_in p node w)
 first-opens w p node h = first-kind w p node (kind_of node) (components profile_two node) refl h
 

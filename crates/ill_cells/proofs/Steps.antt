@@ -51,7 +51,7 @@ scan-skip t p node i cs c h f s =
 pub scan-end : (t : Tag) (p : PartId) (node : NodeId) (i : ℕ) (cs : List Cell) → length cs ≤ i → scan t p node i (drop i (cells_meant cs)) ≡ None
 scan-end t p node i cs h = ap (scan t p node i) (cells-end i cs h)
 
--- whether something is missing stands in the cell
+-- the cell has whether something is missing
 pub lacking-all : (p : PartId) (node : NodeId) (i : ℕ) (cs : List Cell) → cells_meant cs ≡ node_meant node
     → is_some (missing profile_two (next_from p node i)) ≡ lacking (drop i (cells_meant cs))
 lacking-all p node i cs e = sym (lacking-node p node i) ∙ ap (λ ms. lacking (drop i ms)) (sym e)

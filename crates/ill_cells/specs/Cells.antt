@@ -17,7 +17,7 @@ use Rattle.ill_cells.specs.declared.cell.What.TheVariants as what
 use Rattle.ill_cells.specs.declared.cell.Slot.{Slot}
 use Rattle.ill_cells.specs.declared.cell.Slot.TheVariants as slot
 
--- what an explicit tag of a part stands round
+-- what an explicit tag of a part is round
 abbrev pub wrapped : PartId → NodeId → Component
 wrapped p node = record { part = p; presence = Presence.Must; tagging = untagged; node = node }
 
@@ -88,7 +88,7 @@ abbrev pub is_list : Kind → Bool
 is_list Kind.SeqOf = true
 is_list _ = false
 
--- where an element may stand at a position of a node of this kind: in the wrapper round it at 0, from 1 on in the node itself
+-- where an element may be at a position of a node of this kind: in the wrapper round it at 0, from 1 on in the node itself
 abbrev pub is_placed : Kind → ℕ → Slot → Bool
 is_placed k (suc row) slot.Row = is_sequence k
 is_placed k zero slot.Inner = true

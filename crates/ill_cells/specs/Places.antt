@@ -37,7 +37,7 @@ where_of at = record { part = part_in at; node = node_in at; position = at.posit
 abbrev pub next_at : At → Next
 next_at at = next_from (part_in at) (node_in at) at.position
 
--- the part, the node and the alternative of an element that is found, and where it stands
+-- the part, the node and the alternative of an element that is found, and where it is
 abbrev pub part_of : Found → PartId
 part_of f = f.begun.now.part
 

@@ -8,7 +8,7 @@ use Rattle.ill_cli.specs.declared.fault.LineFault.{LineFault}
 use Rattle.ill_cli.specs.declared.fault.LineFault.TheVariants.{Line, SameWord, Missing, Unexpected, LinesAndHex, LinesAndKeepGoing, LinesAndSummary, NotOneFile}
 use Rattle.ill_cli.specs.Orders.{files_in, IsBoth, IsOrderOf, IsTwice, LinesAreCounted, LinesGoOn, NamesNotOne, NamesNothing}
 
--- words of `canonicalise` that are fewer than IN and OUT, or stand with a list of files, and have no `-o`
+-- words of `canonicalise` that are fewer than IN and OUT, or come with a list of files, and have no `-o`
 abbrev pub LacksTwo : List Row → Type 0
 LacksTwo rows = (first_of (codes "output") rows ≡ None) × ((length (files_in rows) < 2) ⊎ IsTrue (is_some (first_of (codes "files-from") rows)))
 

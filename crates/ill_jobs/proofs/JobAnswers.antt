@@ -1,4 +1,4 @@
--- Which answer an input has.
+-- Which result an input has.
 use Rattle.std.proofs.Common.{◌≡◌, ◌⊎◌, ℕ, ◌+◌, ◌<◌, ◌≤◌, Bool, List, [], ◌∷◌, map, length, take, Option, Some, None, Result, Ok, Err, IfSome, refl, sym, ap, subst, ◌∙◌, inl, inr, arith}
 use Rattle.std.specs.Prelude.{IfOk, IfErr}
 use Rattle.std.proofs.lemmas.List.{length-map}
@@ -144,7 +144,7 @@ module _ (work : Work) (s : List ℕ) (left' held held' : Option (List ℕ)) (co
     stop_many (RunFault.BadHex n) h r ns k many some = absurd h
     stop_many RunFault.HexTooLong h r ns k many some = absurd h
 
-  -- the answer to messages of which s is made
+  -- the result of messages of which s is made
   module _ (x y : Bool) where
     pub does : (answer : Result Verdict RunFault) → IfOk answer (Done work (Some s) left' held held' counts) → IfErr answer (StopsAfter work (taking (Some s) left' x) (putting held held' y) counts)
         → (ms : List Spelling) → AreSpelled s ms [] → length ms ≤ 1_000_000 → AnswersVerdict answer (verdict_of work.job ms)

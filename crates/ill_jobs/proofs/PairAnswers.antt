@@ -1,4 +1,4 @@
--- Which answer two inputs have.
+-- Which result two inputs have.
 use Rattle.std.proofs.Common.{◌≡◌, ◌⊎◌, ◌↔◌, ℕ, Bool, true, false, List, [], ◌++◌, length, take, Option, Some, None, Result, Ok, Err, IfSome, refl, sym, ap, subst, ◌∙◌, inl, inr, arith, append-nil}
 use Rattle.std.specs.Io.KnownBytes.{IsAtEnd}
 use Rattle.std.proofs.lemmas.Bool.{cases_lt}
@@ -35,7 +35,7 @@ side_is false s left' o h =
 pub no_text : (s : List ℕ) (left' : Option (List ℕ)) (e : RunFault) → NoHex (Some s) left' e → hex_octets s ≡ Err e
 no_text s left' e h = same_octets s left' h.text h.taken ∙ h.stands
 
--- the answer where a side was not read
+-- the result where a side was not read
 unread_fault : (hex x : Bool) (s : List ℕ) (left' : Option (List ℕ)) (e fault : RunFault) → SideFails hex (Some s) left' x e → side_octets hex s ≡ Err fault → (e ≡ fault) ⊎ IsFault e
 unread_fault true x s left' e fault (inl h) k = inl (same_err (hex_octets s) e fault (no_text s left' e h) k)
 unread_fault true x s left' e fault (inr u) k = inr (is_fault 4_194_305 (Some s) left' x e u)

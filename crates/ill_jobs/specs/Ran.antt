@@ -105,7 +105,7 @@ RunFails true work source sink counts fault =
     (FailsText source.left source.left' source.broken fault × Keeps sink.held sink.held' × (counts ≡ counts_of work [] []))
     ⊎ ((octets : List ℕ) × TextOf source.left source.left' octets × ((rest : List ℕ) × StopsAfter work (taking (Some octets) (Some rest) false) sink counts fault))
 
--- ---- which answer an input has
+-- ---- which result an input has
 
 -- memory, the source or the sink failed
 abbrev pub IsFault : RunFault → Type 0

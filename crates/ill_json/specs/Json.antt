@@ -62,7 +62,7 @@ abbrev pub with_file : Option (List ℕ) → Members → Members
 with_file None ms = ms
 with_file (Some name) ms = member (codes "file") (string name) ms
 
--- the APDU stands in the row of ILL-APDU that its number, from 1, says
+-- the APDU is in the row of ILL-APDU that its number, from 1, says
 abbrev pub line_json : Option (List ℕ) → Head → Apdu → Json
 line_json file head a = object (with_file file
     (member (codes "number") (number (decimal head.number))

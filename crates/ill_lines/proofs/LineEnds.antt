@@ -19,7 +19,7 @@ texts answers = map (λ a. a.text) answers
 abbrev pub answer : List ℕ → List ℕ → Bool → Answer
 answer text result good = record { text = text; result = result; is_good = good }
 
--- ---- answers
+-- ---- results
 
 pub push_are : (job : LineJob) (answers : List Answer) (a : Answer) → AreAnswers job answers → IsResult job (hex_octets a.text) a.result a.is_good → AreAnswers job (answers ++ a ∷ [])
 push_are job [] a h k = (k, tt)

@@ -82,7 +82,7 @@ few [] n row e = absurd cc
 few (x ∷ rows) zero row e = omega arith
 few (x ∷ rows) (suc n) row e = omega (arith, few rows n row e)
 
--- under an explicit tag stands one tree
+-- under an explicit tag is one tree
 tagged : (c : Content) (node : NodeId) (t : Tag) → (ts : Trees) × (normal_tree c node (explicit_or_bare t) ≡ constructed t ts)
 tagged (simple v) node t = (_, refl)
 tagged (sequence es) node t = (_, refl)

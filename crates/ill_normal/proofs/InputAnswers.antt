@@ -1,4 +1,4 @@
--- Which answer an input has.
+-- Which result an input has.
 use Rattle.std.proofs.Common.{◌≡◌, ◌<◌, ℕ, Bool, List, [], ◌++◌, length, Option, Some, None, Err, IfSome, refl, ap, ◌∙◌, arith}
 use Rattle.std.specs.Io.KnownBytes.{Consumes, IsAtEnd}
 use Rattle.ill_schema.specs.Apdu.{Apdu, Accepts, normal_form}
@@ -12,7 +12,7 @@ use Rattle.ill_normal.specs.declared.failure.NormalFailure.{NormalFailure}
 use Rattle.ill_normal.specs.Calls.{taking, putting}
 use Rattle.ill_normal.specs.Normalised.{Forwards, Fails, Answers, AnswersRefused}
 
--- what stands in front of what is left now
+-- what comes before what is left now
 pub front : (s : List ℕ) (new : Option (List ℕ)) (b : List ℕ) → Consumes (Some s) new b → (t : List ℕ) × (s ≡ b ++ t) × (new ≡ Some t)
 front s None b h = absurd h
 front s (Some t) b h = (t, h, refl)

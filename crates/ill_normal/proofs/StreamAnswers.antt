@@ -1,4 +1,4 @@
--- Which answer a stream has.
+-- Which result a stream has.
 use Rattle.std.proofs.Common.{◌≡◌, ℕ, ◌<◌, ◌≤◌, Bool, List, [], ◌∷◌, length, Option, Some, None, Err, IfSome, refl, ap, subst, arith}
 use Rattle.std.specs.Io.KnownBytes.{Consumes, IsAtEnd}
 use Rattle.ill_schema.specs.Apdu.{Apdu, IsStream}

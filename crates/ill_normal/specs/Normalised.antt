@@ -34,12 +34,12 @@ abbrev pub IsFault : NormalFailure → Type 0
 IsFault (NormalFailure.Refused refusal) = ⊥
 IsFault _ = Unit {0}
 
--- the answer is this one, or a fault
+-- the result is this one, or a fault
 abbrev pub Answers : {T : Type 0} → Result T NormalFailure → T → Type 0
 Answers (Ok x) y = x ≡ y
 Answers (Err failure) y = IsFault failure
 
--- the answer is this refusal, or a fault
+-- the result is this refusal, or a fault
 abbrev pub AnswersRefused : {T : Type 0} → Result T NormalFailure → Fault → Type 0
 AnswersRefused (Ok x) f = ⊥
 AnswersRefused (Err (NormalFailure.Refused refusal)) f = fault_of refusal ≡ f

@@ -36,7 +36,7 @@ pub record StopsAfter (source : Taking) (sink : Putting) (failure : StreamFailur
   pub taken : TakesFront rest source.left'
   pub stops : Stops (taking rest source.left' source.broken) (putting grown sink.held' sink.broken) failure.whole failure.why
 
--- a stream's answer is this number, or a fault
+-- a stream's result is this number, or a fault
 abbrev pub AnswersCount : Result ℕ StreamFailure → ℕ → Type 0
 AnswersCount (Ok m) n = m ≡ n
 AnswersCount (Err e) n = elim e.why as (λ _. Type 0) [ StreamCause.Normal failure ↦ IsFault failure | StreamCause.TooManyMessages ↦ ⊥ ]
@@ -54,7 +54,7 @@ AnswersRefusedAfter (Err e) n f = elim e.why as (λ _. Type 0) [
   | StreamCause.TooManyMessages ↦ ⊥
 ]
 
--- a stream's answer is that there are too many messages, or a fault
+-- a stream's result is that there are too many messages, or a fault
 abbrev pub AnswersTooMany : Result ℕ StreamFailure → Type 0
 AnswersTooMany (Ok m) = ⊥
 AnswersTooMany (Err e) = elim e.why as (λ _. Type 0) [ StreamCause.Normal failure ↦ IsFault failure | StreamCause.TooManyMessages ↦ Unit {0} ]

@@ -1,4 +1,4 @@
--- How a typed part stands to the content that it is written as.
+-- A typed part and the content that it is written as.
 use Rattle.std.specs.Prelude.{◌≡◌, ◌⊎◌, ℕ, suc, ℤ, Bool, List, [], ◌∷◌, map, take, drop, Option, Some, None, option_map, slice_get, Result, IfOk}
 use Rattle.std.specs.Global.{Vec}
 use Rattle.std.specs.declared.alloc.AllocError.{AllocError}
@@ -60,7 +60,7 @@ unfoldable pub IsListOf : (Content → Type 0) → Content → Type 0
 IsListOf P (list is) = EachItem P is
 IsListOf P _ = ⊥
 
--- what stands at a node that is no list; both kinds of numbers are alike
+-- what is at a node that is no list; both kinds of numbers are alike
 abbrev pub Single : NodeId → Content → Type 0
 Single node = elim (kind_of node) as (λ _. Content → Type 0) [ Kind.Leaf k ↦ elim k as (λ _. Content → Type 0) [ LeafKind.Enumerated ↦ Is Integer | LeafKind.Integer ↦ Is Integer | _ ↦ Is node ] | _ ↦ Is node ]
 

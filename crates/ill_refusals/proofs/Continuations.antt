@@ -22,7 +22,7 @@ use Rattle.ill_refusals.proofs.TreeRuns.{step_is}
 pub due_at : (p : Profile) (path : List Open) (u rest : List ℕ) → IsPlace p u path → IsDue p (u ++ rest) (length u) path
 due_at p path u rest h = (omega (arith, length-append u rest), subst (λ z. IsPlace p z path) (sym (take-all u rest)) h)
 
--- a fault at the place where the decoder stands is the one outcome
+-- a fault at the place where the decoder is, is the one outcome
 pub refused_at : (p : Profile) (path : List Open) (u rest : List ℕ) (f : Fault) → IsPlace p u path → judge p path (length u) rest ≡ faulty f → OnlyRefuses p (u ++ rest) f
 refused_at p path u rest f h e =
     let d = due_at p path u rest h in

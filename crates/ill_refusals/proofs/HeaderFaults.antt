@@ -36,7 +36,7 @@ bad_tag_read b ok h = go (read_identifier b) refl
         }))
     go (identified t f r) e = let q = read_is_identifier b t f r ok e in absurd (h.1 (id_of t f q.0, (r, q.1)))
 
--- BadLength is what is judged where an identifier stands, and no length begins after it
+-- BadLength is what is judged where an identifier is, and no length begins after it
 pub bad_length_read : (b : List ℕ) → IsTrue (are_octets b) → IsFault BadLength b → ((h : Header) (c x : List ℕ) → IsHeader h c → b ≡ c ++ x → ⊥)
     → (t : Tag) × (f : Bool) × (r : List ℕ) × (read_identifier b ≡ identified t f r) × (read_length f r ≡ no_length)
 bad_length_read b ok h none =

@@ -1,4 +1,4 @@
--- What may stand in an open element, one tree after another, and what it is when it ends.
+-- What may be in an open element, one tree after another, and what it is when it ends.
 use Rattle.std.proofs.Common.{◌≡◌, ℕ, ℤ, pos, ◌+◌, Bool, true, false, ◌||◌, List, [], ◌∷◌, Option, Some, None, IsTrue, refl, sym, ap, ap₂, subst, ◌∙◌, inl, inr, map, slice_get}
 use Rattle.std.specs.Prelude.{flat_map, if◌then◌else◌}
 use Rattle.std.specs.List.{list_all}
@@ -324,7 +324,7 @@ all_items _ = refl
 items_carried : (node : NodeId) → kind_of node ≡ Kind.SeqOf → IsTrue (list_all (λ (row : Row). is_carried row.presence) (rows_of node))
 items_carried node e = subst (λ k. IsTrue (are_items k (rows_of node))) e (all_items node)
 
--- what an explicit tag stands round begins by the tags of its node
+-- what an explicit tag is round begins by the tags of its node
 abbrev untagged_component : PartId → Presence → Tagging → NodeId → Component
 untagged_component x pr g node = record { part = x; presence = pr; tagging = g; node = node }
 

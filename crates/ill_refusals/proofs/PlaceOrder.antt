@@ -1,4 +1,4 @@
--- The places of one input stand in one order, and only the last can have a fault.
+-- The places of one input are in one order, and only the last can have a fault.
 use Rattle.std.proofs.Common.{◌≡◌, ◌⊎◌, ℕ, zero, suc, ◌+◌, ◌-◌, ◌<◌, ◌≤◌, true, false, List, [], ◌∷◌, length, take, drop, Some, IsTrue, refl, sym, ap, subst, ◌∙◌, inl, inr, arith}
 use Rattle.ber_core.specs.Tree.{Tree}
 use Rattle.ill_refusals.specs.Fault.{Fault, fault_at}

@@ -1,4 +1,4 @@
--- Trees that match the rows of a sequence may stand in it one after another, with nothing missing at its end.
+-- Trees that match the rows of a sequence may be in it one after another, with nothing missing at its end.
 use Rattle.std.proofs.Common.{◌≡◌, ◌⊎◌, ℕ, ℤ, pos, ◌+◌, Bool, true, false, ◌&&◌, List, [], ◌∷◌, Option, Some, None, IsTrue, refl, sym, ap, ap₂, subst, ◌∙◌, inl, inr, arith, map, true≢false}
 use Rattle.std.specs.Prelude.{flat_map, find, nat_eq}
 use Rattle.std.specs.List.{list_all}

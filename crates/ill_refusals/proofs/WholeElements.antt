@@ -123,7 +123,7 @@ implicit_element p (content.list is) node t T ok h =
     subst (λ k. IsElement p (element_at k node (tag_of T).number) T) (sym h.0) (t, h.1.0, h.1.1, (is, h.1.2))
 implicit_element p (alternative m w) node t T ok h = absurd (improper_choice t (kind_of node) ok h.1.0)
 
--- the tag of an element of a kind where no other stands in its place
+-- the tag of an element of a kind where no other is in its place
 unfoldable pub own_of : Kind → ℕ → Tag
 own_of Kind.Seq n = sequence_tag
 own_of Kind.SeqOf n = sequence_tag
@@ -201,7 +201,7 @@ implicit_value : (p : Profile) (node : NodeId) (t : Tag) (T : Tree) → IsTrue (
     → IsElement p (element_at (kind_of node) node (tag_of T).number) T → (v : Content) × Means p v node (implicit t) T
 implicit_value p node t T ok e h = kind_value p node (implicit t) T (kind_of node) refl (λ k. improper_choice t (kind_of node) ok k) (λ E x. subst (λ u. E u T) (sym e) x) h
 
--- an explicit tag stands round what means the value
+-- an explicit tag is round what means the value
 pub explicit_means : (p : Profile) (v : Content) (node : NodeId) (t : Tag) (T : Tree) → Means p v node (explicit t) T ↔ ((U : Tree) × (T ≡ constructed t (more U none)) × Means p v node untagged U)
 explicit_means p (simple v) node t T = ((λ h. (h.2.0, h.2.1, (h.0, h.1, h.2.2))), (λ h. (h.2.0, h.2.1, (h.0, h.1, h.2.2))))
 explicit_means p (content.sequence es) node t T = ((λ h. (h.1.0, h.1.1, (h.0, h.1.2))), (λ h. (h.2.0, (h.0, h.1, h.2.1))))

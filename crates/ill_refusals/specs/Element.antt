@@ -1,4 +1,4 @@
--- The elements that may stand in an open element, by their tags (X.690, 8.9, 8.10, 8.13 and 8.14).
+-- The elements that may be in an open element, by their tags (X.690, 8.9, 8.10, 8.13 and 8.14).
 use Rattle.std.specs.Prelude.{ℕ, ◌+◌, List, [], ◌∷◌, ◌++◌, flat_map}
 use Rattle.ber_core.specs.Identifier.{Tag}
 use Rattle.ill_schema.specs.declared.node.Kind.{Kind}
@@ -28,18 +28,18 @@ components_from p node n (row ∷ rows) =
 abbrev pub components : Profile → NodeId → List Component
 components p node = components_from p node 0 (rows_of node)
 
--- what an explicit tag stands round (8.14.2): the component without its tag
+-- what an explicit tag is round (8.14.2): the component without its tag
 abbrev pub inner : Component → Component
 inner c = record c { presence = Presence.Must; tagging = untagged }
 
--- what an element is, by what was due where it stands
+-- what an element is, by what was due where it is
 pub data Element : Type 0 where
   leaf : Leaf → Element
   sequence : NodeId → Element
   list : NodeId → Element
   -- an explicit tag round the component
   wrapper : Component → Element
-  -- the same, which may also stand round the components of its node
+  -- the same, which may also be round the components of its node
   loose_wrapper : Component → Element
   -- an OCTET STRING in a string (8.7.3.2, 8.23.6)
   segment : Element

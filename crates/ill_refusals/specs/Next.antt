@@ -86,7 +86,7 @@ abbrev pub IsWhole : Profile → Due → Tree → Type 0
 IsWhole p (part c e n) T = IsCarried c.presence × ((v : Content) × Means p v c.node c.tagging T)
 IsWhole p octets T = IsString T
 
--- the trees may stand there, one after another
+-- the trees may be there, one after another
 abbrev pub AreWhole : Profile → Next → Trees → Type 0
 AreWhole p n none = Unit {0}
 AreWhole p n (more T ts) = (d : Due) × (due p (tag_of T) n ≡ Some d) × IsWhole p d T × AreWhole p (next_of d) ts

@@ -20,7 +20,7 @@ use Rattle.ill_schema.specs.Meaning.{Means, Matches, MatchItems, MeansSimple, Ho
 use Rattle.ill_schema.specs.Normal.{normal_tree, normal_trees, normal_items}
 use Rattle.ill_schema.specs.Table.{rows_of}
 
--- the tree of an element stands under its tagging
+-- the tree of an element is under its tagging
 in_tagging : (g : Tagging) (own : Tag) (E : Tag → Tree → Type 0) (f : Tag → Tree) → ((t : Tag) → E t (f t)) → Tagged g own E (tag_tree g own f)
 in_tagging untagged own E f h = h own
 in_tagging (implicit t) own E f h = h t

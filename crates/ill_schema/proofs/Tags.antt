@@ -109,7 +109,7 @@ mem-rows f t [] n row e m = absurd cc
 mem-rows f t (r ∷ rows) zero row e m = mem-left t (f r) (flat_map f rows) (let h : row ≡ r = cc in subst (λ y. Mem t (f y)) h m)
 mem-rows f t (r ∷ rows) (suc n) row e m = mem-right t (f r) (flat_map f rows) (mem-rows f t rows n row e m)
 
--- two rows that begin by one tag stand at one place
+-- two rows that begin by one tag are at one place
 pub same_place : (f : Row → List Tag) (t : Tag) (rows : List Row) (m n : ℕ) (q r : Row) → Distinct (flat_map f rows)
     → slice_get rows m ≡ Some q → slice_get rows n ≡ Some r → Mem t (f q) → Mem t (f r) → (m ≡ n) × (q ≡ r)
 same_place f t [] m n q r d e g x y = absurd cc

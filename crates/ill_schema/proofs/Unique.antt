@@ -45,7 +45,7 @@ leaf_is Kind.IllString (general _) l e = let h : general_string ≡ l = cc in su
 leaf_is Kind.IllString (visible _) l e = let h : visible_string ≡ l = cc in subst (λ x. x ≡ leaf_at Kind.IllString (leaf_tag x).number) h refl
 leaf_is k v l e = absurd cc
 
--- where a tag stands in place of a leaf's own, the kind says the leaf
+-- where a tag is in place of a leaf's own, the kind says the leaf
 pub kind_says : (t : Tag) (k : Kind) (m n : ℕ) → IsTrue (is_proper (implicit t) k) → (v : Simple) (l : Leaf) → leaf_of k v ≡ Some l → leaf_at k m ≡ leaf_at k n
 unfolding leaf_at
 kind_says t (Kind.Leaf LeafKind.Boolean) m n h v l e = refl

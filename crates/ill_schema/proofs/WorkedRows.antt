@@ -188,7 +188,7 @@ expired_without_sequence = record {
   normal_short = lit≤ tt;
 }
 
--- the answer to retry, whose result stands without its inner SEQUENCE
+-- the answer to retry, whose result is without its inner SEQUENCE
 abbrev result_tree : Tree
 result_tree = constructed (tag Class.Context 32) (more (constructed (tag Class.Context 2) none) none)
 

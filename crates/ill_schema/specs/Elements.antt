@@ -25,7 +25,7 @@ replacement_at _ tag = None
 abbrev pub wrapper : Row → Option (Class × ℕ)
 wrapper row = wrapper_at row.mode row.tag
 
--- the tag that stands in place of an element's own
+-- the tag in place of an element's own
 abbrev pub replacement : Row → Option (Class × ℕ)
 replacement row = replacement_at row.mode row.tag
 
@@ -55,12 +55,12 @@ abbrev pub own_number : Kind → Content → ℕ
 own_number kind (simple v) = elim (leaf_of kind v) as (λ _. ℕ) [ Some leaf ↦ (leaf_tag leaf).number | None ↦ 16 ]
 own_number kind _ = 16
 
--- an element's tag, where this one stands in place of its own
+-- an element's tag, where this one is in place of its own
 abbrev pub element_tag : Option (Class × ℕ) → Kind → Content → Tag
 element_tag None kind c = universal (own_number kind c)
 element_tag (Some t) kind c = tag_at t
 
--- the normal tree of a value where this tag stands in place of its own
+-- the normal tree of a value where this tag is in place of its own
 abbrev pub element_tree : Option (Class × ℕ) → NodeId → Content → Tree
 element_tree replaced node c = normal_tree c node (replacing replaced)
 

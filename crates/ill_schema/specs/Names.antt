@@ -4,7 +4,7 @@ use Rattle.ill_schema.specs.declared.{node.NodeId.NodeId, part.PartId.PartId, pa
 use Rattle.ill_schema.specs.declared.node.NodeId.TheVariants.{Symbol, Name, SystemId, TransactionId, DateTime, ServiceDateTime, PostalAddress, SystemAddress, DeliveryAddress, ClientId, DeliveryService, RequesterOptionalMessages, ResponderOptionalMessages, SearchType, SupplyMediumInfo, ItemId, Amount, CostInfo, SendTo, SendToList, AlreadyTriedList, ThirdPartyInfo, UnitsPerMedium, UnitsPerMediumList, DateDue, ShippedVia, SupplyDetails, IllServiceTypes, SupplyMediumInfos, IllRequest, Shipped, LocationInfo, Locs, Conditional, Retry, Unfilled, Locations, WillSupply, HoldPlaced, Estimate, Results, IllAnswer, ConditionalReply, Cancel, CancelReply, Received, Recall, Returned, CheckedIn, Overdue, Renew, RenewAnswer, Lost, Damaged, MessageApdu, StatusQuery, Expired, IllApdu}
 use Rattle.ill_schema.specs.Table.{rows_of}
 
--- the letter stands before the first word
+-- the letter comes before the first word
 abbrev before_first : ℕ → List (List ℕ) → List (List ℕ)
 before_first letter [] = (letter ∷ []) ∷ []
 before_first letter (word ∷ words) = (letter ∷ word) ∷ words
@@ -21,7 +21,7 @@ named node rows = (node, words_of rows)
 abbrev headed : List ℕ → List ℕ → List ℕ × List (List ℕ)
 headed node rows = named node (codes "protocol-version-num transaction-id service-date-time requester-id responder-id " ++ rows)
 
--- a list that stands inside a row has the empty name
+-- a list inside a row has the empty name
 abbrev pub names_of : NodeId → List ℕ × List (List ℕ)
 names_of Symbol = named (codes "Symbol") (codes "person-symbol institution-symbol")
 names_of Name = named (codes "Name") (codes "name-of-person name-of-institution")

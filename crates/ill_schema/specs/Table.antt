@@ -53,11 +53,11 @@ left_out number = component Presence.LeftOut number LeftOut
 abbrev untagged : Presence → NodeId → Row
 untagged presence node = record { tag = None; mode = Mode.Untagged; presence = presence; node = node }
 
--- a result, which may stand bare where the profile allows it
+-- a result, which may be bare where the profile allows it
 abbrev result : ℕ → NodeId → Row
 result = tagged Class.Context Mode.ExplicitOrBare Presence.Must
 
--- an APDU, which may stand bare likewise
+-- an APDU, which may be bare, too
 abbrev apdu : ℕ → NodeId → Row
 apdu = tagged Class.Application Mode.ExplicitOrBare Presence.Must
 

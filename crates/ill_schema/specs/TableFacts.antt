@@ -7,7 +7,7 @@ use Rattle.ill_schema.specs.declared.{node.Kind.Kind, node.LeafKind.LeafKind, no
 use Rattle.ill_schema.specs.Table.{kind_of, rows_of}
 use Rattle.ill_schema.specs.Tagging.{Tagging, untagged, implicit, explicit, explicit_or_bare, tagging, universal, sequence_tag, same_tag}
 
--- the tags by which elements of this kind begin, where no other stands in their place
+-- the tags by which elements of this kind begin, where no other is in their place
 abbrev pub own_tags : Kind → List Tag
 own_tags Kind.Seq = sequence_tag ∷ []
 own_tags Kind.SeqOf = sequence_tag ∷ []
@@ -50,7 +50,7 @@ are_distinct (t ∷ ts) = not (list_any (same_tag t) ts) && are_distinct ts
 abbrev pub has_different_tags : Profile → NodeId → Bool
 has_different_tags p node = are_distinct (flat_map (row_tags p) (rows_of node))
 
--- how many levels of nodes stand below a node, up to n
+-- how many levels of nodes are below a node, up to n
 abbrev levels : ℕ → NodeId → ℕ
 levels zero node = 0
 levels (suc n) node = fold (λ most row. max most (1 + levels n row.node)) 0 (rows_of node)

@@ -1,4 +1,4 @@
--- Tags, and how a row's tag stands to the tag of its type (X.690, 8.14; X.680, 31.2).
+-- Tags, and the tag of a row beside that of its type (X.690, 8.14; X.680, 31.2).
 use Rattle.std.specs.Prelude.{◌≡◌, ◌⊎◌, ℕ, Bool, ◌&&◌, nat_eq, Option, Some, None, if◌then◌else◌}
 use Rattle.ber_core.specs.declared.id.Class.{Class}
 use Rattle.ber_core.specs.Identifier.{Tag, class_bits}
@@ -19,7 +19,7 @@ same_tag s t = nat_eq (class_bits s.class) (class_bits t.class) && nat_eq s.numb
 abbrev pub sequence_tag : Tag
 sequence_tag = universal 16
 
--- the tag of a leaf where no other stands in its place (X.680, 18 to 20 and 41); ISO-Date and ISO-Time of ISO 10161-1 are VisibleStrings
+-- the tag of a leaf where no other is in its place (X.680, 18 to 20 and 41); ISO-Date and ISO-Time of ISO 10161-1 are VisibleStrings
 abbrev pub leaf_tag : Leaf → Tag
 leaf_tag boolean = universal 1
 leaf_tag integer = universal 2
@@ -49,7 +49,7 @@ pub data Tagging : Type 0 where
   implicit : Tag → Tagging
   -- EXPLICIT: round the whole element (X.690, 8.14.2)
   explicit : Tag → Tagging
-  -- of the rows that the profile lets stand bare: round the SEQUENCE, or directly round its components
+  -- of the rows that the profile lets be bare: round the SEQUENCE, or directly round its components
   explicit_or_bare : Tag → Tagging
 
 -- the tagging that a row's mode and tag say

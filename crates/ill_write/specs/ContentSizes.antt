@@ -1,4 +1,4 @@
--- The sizes that stand in the headers of a normal form.
+-- The sizes in the headers of a normal form.
 use Rattle.std.specs.Prelude.{ℕ, List, [], ◌∷◌, ◌++◌}
 use Rattle.ber_core.specs.Der.{sizes}
 use Rattle.ber_core.specs.Tree.{Tree, Trees, primitive, constructed, none, more}

@@ -11,7 +11,7 @@ use ber_core::{Pieces, ToWrite};
 use ill_jobs::{RunFault, Verdict, Work, run};
 use std::alloc::Global;
 
-/// Whether a job with the messages of a source has this answer and writes this.
+/// Whether a job with the messages of a source has this result and writes this.
 fn gives(
     alloc: Global,
     work: Work<'_>,

@@ -1,4 +1,4 @@
--- Where the lines stand between two octets.
+-- How far the lines are between two octets.
 use Rattle.std.specs.Prelude.{◌≡◌, ◌++◌, ◌&&◌, ℕ, Bool, false, List, [], codes, map, take, Option}
 use Rattle.std.specs.Io.KnownBytes.{Appends}
 use Rattle.ill_jobs.specs.Hexadecimal.{hex_octets}

@@ -1,4 +1,4 @@
--- What measuring an element answers and pushes.
+-- What measuring an element returns and pushes.
 use Rattle.std.specs.Prelude.{◌≡◌, ℕ, List, ◌++◌}
 use Rattle.ber_core.specs.Der.{size, sizes}
 use Rattle.ber_core.specs.Tree.{Tree, Trees}

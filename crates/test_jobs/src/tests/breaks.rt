@@ -14,7 +14,7 @@ const TWICE: &str =
 const LINES: &str =
     "message 1: Expired, 33 octets, normal\nmessage 2: Expired, 33 octets, normal\n";
 
-/// What comes of `check` where a sink takes as many octets a call and breaks after a number: the answer, and how many octets it has, None where
+/// What comes of `check` where a sink takes as many octets a call and breaks after a number: the result, and how many octets it has, None where
 /// they are not the first of the lines.
 fn checked(
     alloc: Global,

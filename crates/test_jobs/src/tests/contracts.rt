@@ -72,7 +72,7 @@ fn inputs_have_one_verdict(
     )
 }
 
-/// Equal inputs have one output of lines, and one answer to whether all are good.
+/// Equal inputs have one output of lines, and one result of whether all are good.
 fn lines_have_one_output(
     job: LineJob,
     source: &mut Pieces,

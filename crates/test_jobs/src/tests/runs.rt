@@ -1,4 +1,4 @@
-//! What `run` writes and answers, row by row.
+//! What `run` writes and returns, row by row.
 use super::gives;
 use ber_core::{Pieces, Room, ToWrite, Unseen};
 use ill_jobs::{Counts, Job, RunFault, Verdict, Work, run, run_by};
@@ -251,7 +251,7 @@ fn a_sink_that_breaks_has_the_front_of_the_lines(rt: HostRuntime) -> Result<(), 
 
 const MOST_HEX: usize = 4_194_304;
 
-/// Whether hexadecimal text of this many blanks has this answer, and nothing is written.
+/// Whether hexadecimal text of this many blanks has this result, and nothing is written.
 fn answers(
     alloc: Global,
     blanks: usize,

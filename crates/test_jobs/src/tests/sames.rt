@@ -1,4 +1,4 @@
-//! What `run_same` writes and answers, row by row.
+//! What `run_same` writes and returns, row by row.
 use ber_core::{Pieces, ToWrite};
 use ill_jobs::{RunFault, Verdict, run_same};
 use ill_normal::{Cause, Refusal, Side};
@@ -89,7 +89,7 @@ fn line_of(answer: &Result<Verdict, RunFault>) -> &'static [u8] {
     }
 }
 
-/// Whether a comparison has this answer and writes its line.
+/// Whether a comparison has this result and writes its line.
 fn is_compared(
     alloc: Global,
     hex: bool,

@@ -17,7 +17,7 @@ use ill_normal::{
 };
 use std::alloc::Global;
 
-/// A slice has one answer: one message, or one refusal.
+/// A slice has one result: one message, or one refusal.
 fn slices_have_one_answer(
     octets: &[u8],
     alloc: Global,
@@ -122,7 +122,7 @@ fn normal_forms_at_hand_are_taken_whole(
     read_normal_by::<FromSlice, AtHand>(alloc, source)
 }
 
-/// Nothing that stands in the room comes into a normal form.
+/// Nothing that is in the room comes into a normal form.
 fn normal_forms_have_nothing_of_the_room(
     source: &mut FromSlice,
     room: Vec<u8>,
@@ -137,7 +137,7 @@ fn normal_forms_have_nothing_of_the_room(
     read_normal_in::<FromSlice, AtHand>(alloc, source, room)
 }
 
-/// Nothing that stands in the room comes into a normal form, or among the octets that are kept.
+/// Nothing that is in the room comes into a normal form, or among the octets that are kept.
 fn kept_normal_forms_have_nothing_of_the_room(
     source: &mut Pieces,
     room: Vec<u8>,
@@ -154,7 +154,7 @@ fn kept_normal_forms_have_nothing_of_the_room(
     read_kept_normal_in::<Pieces, Unseen>(alloc, source, room, kept)
 }
 
-/// Nothing that stands in the room comes into what is written of a message, whatever is made of it.
+/// Nothing that is in the room comes into what is written of a message, whatever is made of it.
 fn pieces_have_nothing_of_the_room<M: Maker>(
     maker: &M,
     position: Position,
@@ -186,7 +186,7 @@ fn checks_describe_what_they_took(
     check_one(alloc, source)
 }
 
-/// What is checked is the message at the front, and nothing that stands in the room comes into its normal form.
+/// What is checked is the message at the front, and nothing that is in the room comes into its normal form.
 fn checks_have_nothing_of_the_room(
     source: &mut Pieces,
     room: Vec<u8>,

@@ -23,7 +23,7 @@ fn tables_say_one_thing(node: NodeId, part: PartId, number: u8) {
     prove!(apdu_name(number) == apdu_name(number));
 }
 
-/// A node has as many rows as are counted, and each stands at its number.
+/// A node has as many rows as are counted, and each is at its number.
 fn rows_stand_at_their_numbers(part: PartId) -> (Option<Row>, u8, &'static [Row])
     ensures row { result.0 ≡ slice_get result.2.now part.row }
     ensures rows { result.1 ≡ length result.2.now }

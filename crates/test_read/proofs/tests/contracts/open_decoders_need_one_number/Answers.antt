@@ -44,7 +44,7 @@ place_of fed n x =
       ends = ap (fault_at profile_two x.place (length x.before)) d ∙ x.ends;
     }
 
--- where the same octets stand last they stand at one offset, with as many elements open
+-- where the same octets are last they are at one offset, with as many elements open
 same_offset : (k l a b : ℕ) → (l < k) ⊎ ((l ≡ k) × (a ≤ b)) → (k < l) ⊎ ((k ≡ l) × (b ≤ a)) → (k ≡ l) × (a ≡ b)
 same_offset k l a b (inl p) (inl q) = absurd (let z : ⊥ = omega (arith, p, q) in z)
 same_offset k l a b (inl p) (inr q) = absurd (let z : ⊥ = omega (arith, p, q.0) in z)
