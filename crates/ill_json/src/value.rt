@@ -3,7 +3,7 @@ ghost use Rattle.std.specs.Prelude.{◌≡◌, ◌<◌, ◌≤◌, ℕ, List, []
 ghost use Rattle.ber_leaf.specs.Content.{IsContent};
 ghost use Rattle.ber_leaf.specs.Leaf.{value};
 ghost use Rattle.ill_schema.specs.Content.{Content, Entries, Items, alternative, list, sequence};
-ghost use Rattle.ill_read.specs.LeafTypes.{leaf_is};
+ghost use Rattle.ill_elements.specs.LeafTypes.{leaf_is};
 ghost use Rattle.ill_read.specs.Outline.{AreEntries, AreItems, IsMarked, IsPassed};
 ghost use Rattle.ill_read.specs.declared.mark.Mark.{Mark};
 ghost use Rattle.ill_text.specs.code.Marks.{IsEntry};

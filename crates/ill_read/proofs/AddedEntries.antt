@@ -7,22 +7,24 @@ use Rattle.ill_schema.specs.Content.{Content}
 use Rattle.ill_schema.specs.Meaning.{Matches, MatchItems}
 use Rattle.ill_schema.specs.Table.{rows_of}
 use Rattle.ill_schema.specs.Value.{entries_of, items_of}
-use Rattle.ill_read.specs.Elements.{component_of, component_at, element_is, found_is}
-use Rattle.ill_read.specs.DueCode.{IsDueIn, IsRowDue, IsInnerDue, IsItemDue, behind}
-use Rattle.ill_read.specs.code.Drafts.{due_with, rows_before}
-use Rattle.ill_read.specs.Standing.{with_alternative, absent_content, IsValueOf, HoldsPart, IsHeld}
+use Rattle.ill_elements.specs.Elements.{component_of, component_at, element_is, found_is}
+use Rattle.ill_elements.specs.Due.{IsDueIn, IsRowDue, IsInnerDue, IsItemDue, behind}
+use Rattle.ill_read.specs.code.Drafts.{rows_before}
+use Rattle.ill_elements.specs.Due.{due_with}
+use Rattle.ill_read.specs.Standing.{HoldsPart, IsHeld}
+use Rattle.ill_elements.specs.Contents.{with_alternative, absent_content, IsValueOf}
 use Rattle.ill_refusals.specs.code.Step.{snoc}
-use Rattle.ill_read.specs.DueCode.{Due}
-use Rattle.ill_read.specs.declared.due.Next.{Next}
-use Rattle.ill_read.specs.declared.due.Next.TheVariants.{Rows, Inner, Items, Either, Segments, Nothing}
-use Rattle.ill_read.specs.declared.due.Slot.{Slot}
-use Rattle.ill_read.specs.declared.due.Slot.TheVariants.{Row as AtRow, Item, Inner as Inside, Segment as InString}
-use Rattle.ill_read.specs.declared.element.Element.{Element as CodeElement}
-use Rattle.ill_read.specs.declared.element.Element.TheVariants.{Leaf, Sequence, List as ListOf, Wrapper, LooseWrapper, Segment}
-use Rattle.ill_read.specs.Found.{Found}
-use Rattle.ill_read.specs.declared.element.Wrapped.{Wrapped}
-use Rattle.ill_read.proofs.Entries.{row_added, item_added}
-use Rattle.ill_read.proofs.Meanings.{begun_means, row_means}
+use Rattle.ill_elements.specs.Due.{Due}
+use Rattle.ill_elements.specs.declared.due.Next.{Next}
+use Rattle.ill_elements.specs.declared.due.Next.TheVariants.{Rows, Inner, Items, Either, Segments, Nothing}
+use Rattle.ill_elements.specs.declared.due.Slot.{Slot}
+use Rattle.ill_elements.specs.declared.due.Slot.TheVariants.{Row as AtRow, Item, Inner as Inside, Segment as InString}
+use Rattle.ill_elements.specs.declared.element.Element.{Element as CodeElement}
+use Rattle.ill_elements.specs.declared.element.Element.TheVariants.{Leaf, Sequence, List as ListOf, Wrapper, LooseWrapper, Segment}
+use Rattle.ill_elements.specs.Found.{Found}
+use Rattle.ill_elements.specs.declared.element.Wrapped.{Wrapped}
+use Rattle.ill_elements.proofs.Entries.{row_added, item_added}
+use Rattle.ill_elements.proofs.Meanings.{begun_means, row_means}
 use Rattle.ill_refusals.proofs.OpenElements.{inner_proper, row_proper}
 
 -- in the rows of a sequence

@@ -15,15 +15,17 @@ use Rattle.ill_refusals.specs.Place.{Open, next_in}
 use Rattle.ill_refusals.specs.code.Judge.{Judgement, closes, or_faulty}
 use Rattle.ill_refusals.specs.code.Step.{moved, refused, with_tree}
 use Rattle.ill_cells.specs.Places.{alternative_of, where_of}
-use Rattle.ill_read.specs.Elements.{element_is}
-use Rattle.ill_read.specs.code.Drafts.{ChecksText, HasClosed, IsRightText, due_with, with_entry}
+use Rattle.ill_elements.specs.Elements.{element_is}
+use Rattle.ill_read.specs.code.Drafts.{ChecksText, HasClosed, IsRightText, with_entry}
+use Rattle.ill_elements.specs.Due.{due_with}
 use Rattle.ill_read.specs.code.Judged.{IsEnd, IsStep}
 use Rattle.ill_read.specs.code.Stepping.{GoesOn}
-use Rattle.ill_read.specs.Standing.{Level, level_of, pushed, next_at, text_so_far, with_alternative, IsHeld, IsFrame, AreFrames, HoldsAt}
-use Rattle.ill_read.specs.declared.due.Next.{Next}
-use Rattle.ill_read.specs.declared.due.Next.TheVariants.{Segments}
-use Rattle.ill_read.specs.declared.element.Element.{Element as CodeElement}
-use Rattle.ill_read.specs.declared.element.Element.TheVariants.{Leaf, Sequence, List as ListOf, Wrapper, LooseWrapper, Segment}
+use Rattle.ill_read.specs.Standing.{Level, level_of, pushed, next_at, text_so_far, IsHeld, IsFrame, AreFrames, HoldsAt}
+use Rattle.ill_elements.specs.Contents.{with_alternative}
+use Rattle.ill_elements.specs.declared.due.Next.{Next}
+use Rattle.ill_elements.specs.declared.due.Next.TheVariants.{Segments}
+use Rattle.ill_elements.specs.declared.element.Element.{Element as CodeElement}
+use Rattle.ill_elements.specs.declared.element.Element.TheVariants.{Leaf, Sequence, List as ListOf, Wrapper, LooseWrapper, Segment}
 use Rattle.ill_read.specs.declared.failure.Failure.{Failure}
 use Rattle.ill_read.specs.declared.frame.Frame.{Frame}
 use Rattle.ill_read.specs.declared.path.Path.{Path}
@@ -34,7 +36,7 @@ use Rattle.ill_read.proofs.OpenedElements.{only_segment}
 use Rattle.ill_read.proofs.Segments.{segment_due, text_with}
 use Rattle.ill_read.proofs.Strings.{segment_added}
 use Rattle.ill_cells.specs.declared.at.At.{At}
-use Rattle.ill_read.specs.DueCode.{shape, shape_at, read_as, slot_in, next_place}
+use Rattle.ill_elements.specs.Due.{shape, shape_at, read_as, slot_in, next_place}
 
 -- the frames without the last one
 record IsPopped (levels : List Level) (frames : List Frame) (f : Frame) (o : Open) (path : List Open) : Type 0 where

@@ -7,25 +7,27 @@ use Rattle.ill_schema.specs.Content.{Content}
 use Rattle.ill_refusals.specs.Element.{segment}
 use Rattle.ill_refusals.specs.Place.{Open}
 use Rattle.ill_refusals.specs.code.Step.{with_tree}
-use Rattle.ill_read.specs.Elements.{component_of, element_is}
+use Rattle.ill_elements.specs.Elements.{component_of, element_is}
 use Rattle.ill_cells.specs.declared.at.At.{At}
-use Rattle.ill_read.specs.DueCode.{IsDueIn, behind, shape, read_as}
-use Rattle.ill_read.specs.code.Drafts.{IsDueAt, due_with, with_entry}
+use Rattle.ill_elements.specs.Due.{IsDueIn, behind, shape, read_as}
+use Rattle.ill_read.specs.code.Drafts.{IsDueAt, with_entry}
+use Rattle.ill_elements.specs.Due.{due_with}
 use Rattle.ill_read.specs.code.Judged.{IsStep}
 use Rattle.ill_read.specs.code.Stepping.{GoesOn}
-use Rattle.ill_read.specs.Standing.{Level, level_of, pushed, top_level, top_part, next_at, text_so_far, top, with_alternative, IsValueOf, IsHeld, IsFrame, AreFrames}
-use Rattle.ill_read.specs.declared.due.Next.{Next}
-use Rattle.ill_read.specs.declared.due.Next.TheVariants.{Rows, Inner, Items, Either, Segments, Nothing}
-use Rattle.ill_read.specs.declared.due.Slot.{Slot}
-use Rattle.ill_read.specs.declared.element.Element.{Element as CodeElement}
-use Rattle.ill_read.specs.declared.element.Element.TheVariants.{Leaf, Sequence, List as ListOf, Wrapper, LooseWrapper, Segment}
-use Rattle.ill_read.specs.Found.{Found}
+use Rattle.ill_read.specs.Standing.{Level, level_of, pushed, top_level, top_part, next_at, text_so_far, top, IsHeld, IsFrame, AreFrames}
+use Rattle.ill_elements.specs.Contents.{with_alternative, IsValueOf}
+use Rattle.ill_elements.specs.declared.due.Next.{Next}
+use Rattle.ill_elements.specs.declared.due.Next.TheVariants.{Rows, Inner, Items, Either, Segments, Nothing}
+use Rattle.ill_elements.specs.declared.due.Slot.{Slot}
+use Rattle.ill_elements.specs.declared.element.Element.{Element as CodeElement}
+use Rattle.ill_elements.specs.declared.element.Element.TheVariants.{Leaf, Sequence, List as ListOf, Wrapper, LooseWrapper, Segment}
+use Rattle.ill_elements.specs.Found.{Found}
 use Rattle.ill_read.specs.declared.frame.Frame.{Frame}
 use Rattle.ill_read.specs.declared.path.Path.{Path}
 use Rattle.ill_read.proofs.AddedEntries.{held_added}
 use Rattle.ill_read.proofs.OpenFrames.{next_behind}
 use Rattle.ill_read.proofs.MoreTrees.{with_one, frame_added}
-use Rattle.ill_read.proofs.Meanings.{begun_means}
+use Rattle.ill_elements.proofs.Meanings.{begun_means}
 use Rattle.ill_refusals.proofs.OpenElements.{inner_proper}
 use Rattle.ill_read.proofs.Segments.{due_segment, text_with, text_apart}
 

@@ -12,18 +12,19 @@ use Rattle.ill_schema.specs.declared.node.NodeId.{NodeId}
 use Rattle.ill_refusals.specs.Fault.{element_fault}
 use Rattle.ill_refusals.specs.Next.{missing}
 use Rattle.ill_refusals.specs.Place.{Open, next_in}
-use Rattle.ill_read.specs.DueCode.{next_is, shape, read_as}
-use Rattle.ill_read.specs.Elements.{element_is}
-use Rattle.ill_read.specs.LeafTypes.{leaf_is}
+use Rattle.ill_elements.specs.Due.{next_is, shape, read_as}
+use Rattle.ill_elements.specs.Elements.{element_is}
+use Rattle.ill_elements.specs.LeafTypes.{leaf_is}
 use Rattle.ill_read.specs.code.Drafts.{IsContentOf, IsRightText, rows_left}
-use Rattle.ill_read.specs.Standing.{text_so_far, absent_content, IsValueOf, IsHeld, IsFrame}
-use Rattle.ill_read.specs.declared.due.Next.{Next}
-use Rattle.ill_read.specs.declared.due.Next.TheVariants.{Rows, Inner, Items, Either, Segments, Nothing}
-use Rattle.ill_read.specs.declared.element.Element.{Element as CodeElement}
-use Rattle.ill_read.specs.declared.element.Element.TheVariants.{Leaf, Sequence, List as ListOf, Wrapper, LooseWrapper, Segment}
-use Rattle.ill_read.specs.declared.element.Wrapped.{Wrapped}
+use Rattle.ill_read.specs.Standing.{text_so_far, IsHeld, IsFrame}
+use Rattle.ill_elements.specs.Contents.{absent_content, IsValueOf}
+use Rattle.ill_elements.specs.declared.due.Next.{Next}
+use Rattle.ill_elements.specs.declared.due.Next.TheVariants.{Rows, Inner, Items, Either, Segments, Nothing}
+use Rattle.ill_elements.specs.declared.element.Element.{Element as CodeElement}
+use Rattle.ill_elements.specs.declared.element.Element.TheVariants.{Leaf, Sequence, List as ListOf, Wrapper, LooseWrapper, Segment}
+use Rattle.ill_elements.specs.declared.element.Wrapped.{Wrapped}
 use Rattle.ill_read.specs.declared.frame.Frame.{Frame}
-use Rattle.ill_read.proofs.Entries.{rows_ended}
+use Rattle.ill_elements.proofs.Entries.{rows_ended}
 use Rattle.ill_read.proofs.Segments.{text_with}
 
 -- the rows of a node as the entries have them

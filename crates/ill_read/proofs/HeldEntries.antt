@@ -9,7 +9,7 @@ use Rattle.ill_schema.specs.Value.{content_of}
 use Rattle.ill_schema.specs.declared.part.Row.{Row}
 use Rattle.ill_schema.specs.declared.value.Value.{Value}
 use Rattle.ill_read.specs.code.Held.{HasPassed}
-use Rattle.ill_read.specs.Standing.{absent_content}
+use Rattle.ill_elements.specs.Contents.{absent_content}
 
 abbrev pub somes : List (Option Value) → List Value
 somes [] = []

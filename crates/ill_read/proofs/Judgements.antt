@@ -10,11 +10,11 @@ use Rattle.ber_core.specs.declared.id.Id.{Id}
 use Rattle.ber_leaf.specs.Profile.{profile_two}
 use Rattle.ill_schema.specs.declared.part.PartId.{PartId}
 use Rattle.ill_schema.specs.declared.refusal.Cause.{Cause}
-use Rattle.ill_read.specs.Elements.{element_is, found_is}
+use Rattle.ill_elements.specs.Elements.{element_is, found_is}
 use Rattle.ill_cells.specs.Places.{alternative_of, first_place, node_of, part_of, what_of}
 use Rattle.ill_cells.specs.declared.at.At.{At}
 use Rattle.ill_cells.specs.declared.at.Found.{Found as CellFound}
-use Rattle.ill_read.specs.DueCode.{BeginsAt, IsComing, IsDueIn, behind, due_as, next_is, read_as, read_due, shape, slot_in}
+use Rattle.ill_elements.specs.Due.{BeginsAt, IsComing, IsDueIn, behind, due_as, next_is, read_as, read_due, shape, slot_in}
 use Rattle.ill_refusals.specs.Element.{Element}
 use Rattle.ill_refusals.specs.Fault.{Fault, fault, element_fault, ends_at, is_indefinite, wanting}
 use Rattle.ill_refusals.specs.code.Judge.{Judgement, faulty, closes, or_faulty, judge_end, judge_size, judge_length, judge_form, judge_tag, judge_element, judge_mark, judge_octets, judge}
@@ -24,11 +24,11 @@ use Rattle.ill_refusals.specs.Next.{Due, due, element_of, missing}
 use Rattle.ill_refusals.specs.Place.{Open, next_in, bound}
 use Rattle.ill_refusals.specs.Reading.{IdentifierRead, identified, part_identifier, no_identifier, read_identifier, definite, read_length}
 use Rattle.ill_read.specs.Standing.{StandsAt, next_at}
-use Rattle.ill_read.specs.DueCode.{Due as CodeDue}
-use Rattle.ill_read.specs.Found.{Found}
+use Rattle.ill_elements.specs.Due.{Due as CodeDue}
+use Rattle.ill_elements.specs.Found.{Found}
 use Rattle.ill_read.specs.declared.frames.Frames.{Frames}
-use Rattle.ill_read.proofs.DueCells.{begins-at}
-use Rattle.ill_read.proofs.DueElements.{due_element_is}
+use Rattle.ill_elements.proofs.DueCells.{begins-at}
+use Rattle.ill_elements.proofs.DueElements.{due_element_is}
 use Rattle.ill_read.proofs.OpenFrames.{next_open}
 use Rattle.ill_refusals.proofs.Judgements.{form_judged, length_body}
 use Rattle.ill_refusals.proofs.Headers.{read_is_length}

@@ -1,4 +1,3 @@
-pub mod Enumerated
 pub mod HeadersRead
 pub mod OpenFrames
 pub mod HeldEntries
@@ -11,10 +10,6 @@ pub mod Strings
 pub mod ClosedElements
 pub mod OpenedElements
 pub mod PrimitiveElements
-pub mod DueCells
-pub mod DueElements
-pub mod Entries
-pub mod Meanings
 pub mod MovedOctets
 pub mod Bodies
 pub mod MessageEnds
@@ -26,10 +21,5 @@ pub mod NextRead
 pub mod LookedOctets
 pub mod ValueDrafts
 pub mod WrittenElements
-pub mod DueTags
-pub mod Defaults
 pub mod OctetDrafts
-pub mod NormalLeaves
-pub mod NormalElements
-pub mod NormalEntries
 pub mod Outlines

@@ -5,16 +5,16 @@ use Rattle.std.proofs.lemmas.List.{set_at, get_or_at}
 use Rattle.ber_core.specs.Tree.{Tree, Trees, none, more, tag_of}
 use Rattle.ber_leaf.specs.Profile.{profile_two}
 use Rattle.ill_schema.specs.Content.{Content}
-use Rattle.ill_read.specs.DueCode.{IsDueIn, behind, next_is, shape, read_as}
+use Rattle.ill_elements.specs.Due.{IsDueIn, behind, next_is, shape, read_as}
 use Rattle.ill_cells.specs.declared.at.At.{At}
 use Rattle.ill_refusals.specs.Next.{due, next_of, next_after, opening}
 use Rattle.ill_refusals.specs.Next as following
 use Rattle.ill_refusals.specs.Place.{Open}
 use Rattle.ill_read.specs.Standing.{AreDue, IsHeld, IsFrame}
 use Rattle.ill_refusals.specs.code.Step.{snoc}
-use Rattle.ill_read.specs.DueCode.{Due}
+use Rattle.ill_elements.specs.Due.{Due}
 use Rattle.ill_read.specs.declared.frame.Frame.{Frame}
-use Rattle.ill_read.proofs.DueElements.{due_element_is}
+use Rattle.ill_elements.proofs.DueElements.{due_element_is}
 use Rattle.ill_refusals.proofs.Rows.{next_after-more}
 
 pub next-added : (n : following.Next) (ts : Trees) (T : Tree) (d : following.Due) → AreDue n ts → due profile_two (tag_of T) (next_after profile_two n ts) ≡ Some d

@@ -12,26 +12,28 @@ use Rattle.ber_leaf.specs.Profile.{profile_two}
 use Rattle.ill_schema.specs.Content.{Content, simple}
 use Rattle.ill_refusals.specs.Element.{segment}
 use Rattle.ill_cells.specs.Places.{alternative_of}
-use Rattle.ill_read.specs.DueCode.{IsDueIn, shape, first_of, read_as, slot_in}
-use Rattle.ill_read.specs.Elements.{element_is}
-use Rattle.ill_read.specs.LeafTypes.{leaf_is}
-use Rattle.ill_read.specs.Standing.{Level, level_of, with_alternative, IsValueOf, IsHeld}
-use Rattle.ill_read.specs.code.Drafts.{HasOpened, IsContentOf, IsDueAt, IsRightText, due_with, with_entry}
+use Rattle.ill_elements.specs.Due.{IsDueIn, shape, first_of, read_as, slot_in}
+use Rattle.ill_elements.specs.Elements.{element_is}
+use Rattle.ill_elements.specs.LeafTypes.{leaf_is}
+use Rattle.ill_read.specs.Standing.{Level, level_of, IsHeld}
+use Rattle.ill_elements.specs.Contents.{with_alternative, IsValueOf}
+use Rattle.ill_read.specs.code.Drafts.{HasOpened, IsContentOf, IsDueAt, IsRightText, with_entry}
+use Rattle.ill_elements.specs.Due.{due_with}
 use Rattle.ill_read.specs.code.OctetDrafts.{AreOctets, AreWritten, IsApartAs, enclosed, form_of, unless_left, written}
-use Rattle.ill_read.specs.code.Written.{normal_element}
-use Rattle.ill_read.specs.declared.due.Next.{Next}
-use Rattle.ill_read.specs.declared.due.Next.TheVariants.{Segments}
-use Rattle.ill_read.specs.declared.due.Slot.{Slot}
-use Rattle.ill_read.specs.declared.element.Element.{Element as CodeElement}
-use Rattle.ill_read.specs.declared.element.Element.TheVariants.{Leaf as LeafElement, Sequence, List as ListOf, Wrapper, LooseWrapper, Segment}
+use Rattle.ill_elements.specs.Written.{normal_element}
+use Rattle.ill_elements.specs.declared.due.Next.{Next}
+use Rattle.ill_elements.specs.declared.due.Next.TheVariants.{Segments}
+use Rattle.ill_elements.specs.declared.due.Slot.{Slot}
+use Rattle.ill_elements.specs.declared.element.Element.{Element as CodeElement}
+use Rattle.ill_elements.specs.declared.element.Element.TheVariants.{Leaf as LeafElement, Sequence, List as ListOf, Wrapper, LooseWrapper, Segment}
 use Rattle.ill_read.specs.declared.frame.Frame.{Frame}
 use Rattle.ill_read.specs.declared.judge.Opening.{Opening}
 use Rattle.ill_read.specs.declared.judge.Reading.{Reading}
-use Rattle.ill_read.specs.declared.leaf_type.LeafType.{LeafType}
+use Rattle.ill_elements.specs.declared.leaf_type.LeafType.{LeafType}
 use Rattle.ill_read.specs.declared.octets.Octets.{Octets}
 use Rattle.ill_read.proofs.DeliveredEntries.{pushed_apart}
-use Rattle.ill_read.proofs.DueTags.{MayOpen, due_apart, kept}
-use Rattle.ill_read.proofs.NormalLeaves.{normal_as_read}
+use Rattle.ill_elements.proofs.DueTags.{MayOpen, due_apart, kept}
+use Rattle.ill_elements.proofs.NormalLeaves.{normal_as_read}
 use Rattle.ill_read.proofs.OpenedElements.{only_segment}
 use Rattle.ill_read.proofs.WrittenElements.{entry_written, ended_written}
 

@@ -1,7 +1,7 @@
 -- The last of the frames, and how many there are.
 use Rattle.std.proofs.Common.{◌≡◌, ℕ, suc, ◌-◌, List, [], ◌∷◌, ◌++◌, length, length-append, Option, Some, None, is_some, refl, sym, ap, ◌∙◌, arith, slice_get}
 use Rattle.ber_leaf.specs.Profile.{profile_two}
-use Rattle.ill_read.specs.DueCode.{next_is, shape}
+use Rattle.ill_elements.specs.Due.{next_is, shape}
 use Rattle.ill_read.specs.code.JudgeCode.{outermost_end}
 use Rattle.ill_read.specs.Need.{outermost}
 use Rattle.ill_refusals.specs.Place.{Open, next_in, innermost_end, bound}

@@ -5,17 +5,18 @@ use Rattle.ber_core.specs.Identifier.{Tag}
 use Rattle.ber_core.specs.Tree.{none}
 use Rattle.ber_leaf.specs.Profile.{profile_two}
 use Rattle.ill_cells.specs.Places.{alternative_of}
-use Rattle.ill_read.specs.Elements.{element_is}
-use Rattle.ill_read.specs.DueCode.{IsDueIn, behind, first_of, next_is, shape, shape_at, read_as, slot_in, next_place}
+use Rattle.ill_elements.specs.Elements.{element_is}
+use Rattle.ill_elements.specs.Due.{IsDueIn, behind, first_of, next_is, shape, shape_at, read_as, slot_in, next_place}
 use Rattle.ill_refusals.specs.Element.{segment}
 use Rattle.ill_refusals.specs.Next.{opening}
 use Rattle.ill_refusals.specs.Place.{Open, allows, bound}
 use Rattle.ill_read.specs.Standing.{Level, level_of, pushed, next_at, text_so_far, IsHeld, IsFrame, HoldsAt}
 use Rattle.ill_refusals.specs.code.Step.{opened}
-use Rattle.ill_read.specs.code.Drafts.{HasOpened, due_with}
-use Rattle.ill_read.specs.declared.due.Next.{Next}
-use Rattle.ill_read.specs.declared.element.Element.{Element as CodeElement}
-use Rattle.ill_read.specs.declared.element.Element.TheVariants.{Leaf, Sequence, List as ListOf, Wrapper, LooseWrapper, Segment}
+use Rattle.ill_read.specs.code.Drafts.{HasOpened}
+use Rattle.ill_elements.specs.Due.{due_with}
+use Rattle.ill_elements.specs.declared.due.Next.{Next}
+use Rattle.ill_elements.specs.declared.element.Element.{Element as CodeElement}
+use Rattle.ill_elements.specs.declared.element.Element.TheVariants.{Leaf, Sequence, List as ListOf, Wrapper, LooseWrapper, Segment}
 use Rattle.ill_read.specs.declared.frame.Frame.{Frame}
 use Rattle.ill_read.specs.declared.judge.Opening.{Opening}
 use Rattle.ill_read.specs.declared.path.Path.{Path}

@@ -20,23 +20,24 @@ use Rattle.ill_schema.specs.declared.part.PartId.{PartId}
 use Rattle.ill_schema.specs.declared.part.Presence.{Presence}
 use Rattle.ill_schema.specs.declared.part.Row.{Row}
 use Rattle.ill_cells.specs.Places.{alternative_of}
-use Rattle.ill_read.specs.DueCode.{shape, first_of, read_as, slot_in}
-use Rattle.ill_read.specs.LeafTypes.{leaf_is}
+use Rattle.ill_elements.specs.Due.{shape, first_of, read_as, slot_in}
+use Rattle.ill_elements.specs.LeafTypes.{leaf_is}
 use Rattle.ill_read.specs.Outline.{AreEntries, AreItems, IsMarked, leaf_marks}
-use Rattle.ill_read.specs.Standing.{Level, with_alternative, absent_content, pushed, IsHeld}
+use Rattle.ill_read.specs.Standing.{Level, pushed, IsHeld}
+use Rattle.ill_elements.specs.Contents.{with_alternative, absent_content}
 use Rattle.ill_read.specs.code.Drafts.{HasOpened, HasText, HasClosed, HasLeaf, HoldsApdu, HasEnded, IsContentOf, IsRightText, rows_before, rows_left, with_entry}
 use Rattle.ill_read.specs.code.OctetDrafts.{AreNormal, AreOctets}
 use Rattle.ill_read.specs.code.Outlines.{AreFronts, AreOutlined, ArePassed, HasEndedRows, HasFront, HasOutline, HasPassed, HasRear, alternative_marks, first_marks, last_marks, last_rows}
-use Rattle.ill_read.specs.declared.due.Next.{Next}
-use Rattle.ill_read.specs.declared.due.Next.TheVariants.{Rows, Inner, Items, Either, Segments, Nothing}
-use Rattle.ill_read.specs.declared.due.Slot.{Slot}
-use Rattle.ill_read.specs.declared.element.Element.{Element as CodeElement}
-use Rattle.ill_read.specs.declared.element.Element.TheVariants.{Leaf, Sequence, List as ListOf, Wrapper, LooseWrapper, Segment}
-use Rattle.ill_read.specs.declared.element.Wrapped.{Wrapped}
+use Rattle.ill_elements.specs.declared.due.Next.{Next}
+use Rattle.ill_elements.specs.declared.due.Next.TheVariants.{Rows, Inner, Items, Either, Segments, Nothing}
+use Rattle.ill_elements.specs.declared.due.Slot.{Slot}
+use Rattle.ill_elements.specs.declared.element.Element.{Element as CodeElement}
+use Rattle.ill_elements.specs.declared.element.Element.TheVariants.{Leaf, Sequence, List as ListOf, Wrapper, LooseWrapper, Segment}
+use Rattle.ill_elements.specs.declared.element.Wrapped.{Wrapped}
 use Rattle.ill_read.specs.declared.frame.Frame.{Frame}
 use Rattle.ill_read.specs.declared.judge.Opening.{Opening}
 use Rattle.ill_read.specs.declared.judge.Reading.{Reading}
-use Rattle.ill_read.specs.declared.leaf_type.LeafType.{LeafType}
+use Rattle.ill_elements.specs.declared.leaf_type.LeafType.{LeafType}
 use Rattle.ill_read.specs.declared.mark.Mark.{Mark}
 use Rattle.ill_read.specs.declared.mark.Mark.TheVariants as mark
 use Rattle.ill_read.specs.declared.outline.Outlining.{Outlining}

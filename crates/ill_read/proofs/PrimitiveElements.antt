@@ -16,21 +16,22 @@ use Rattle.ill_refusals.specs.Place.{Open, allows}
 use Rattle.ill_refusals.specs.code.Judge.{Judgement, or_faulty, reads}
 use Rattle.ill_refusals.specs.code.Step.{Step, moved}
 use Rattle.ill_cells.specs.Places.{alternative_of, where_of}
-use Rattle.ill_read.specs.Elements.{element_is}
+use Rattle.ill_elements.specs.Elements.{element_is}
 use Rattle.ill_cells.specs.declared.at.At.{At}
-use Rattle.ill_read.specs.DueCode.{IsDueIn, read_as, shape_at, slot_in, next_place}
-use Rattle.ill_read.specs.LeafTypes.{leaf_is}
-use Rattle.ill_read.specs.code.Drafts.{HasLeaf, HasText, due_with}
+use Rattle.ill_elements.specs.Due.{IsDueIn, read_as, shape_at, slot_in, next_place}
+use Rattle.ill_elements.specs.LeafTypes.{leaf_is}
+use Rattle.ill_read.specs.code.Drafts.{HasLeaf, HasText}
+use Rattle.ill_elements.specs.Due.{due_with}
 use Rattle.ill_read.specs.code.Judged.{IsBegin, IsJudgement, IsStep, content_in}
 use Rattle.ill_read.specs.code.Stepping.{GoesOn, ReadsExactly}
 use Rattle.ill_read.specs.Standing.{Level, next_at, text_so_far, AreFrames, HoldsAt}
-use Rattle.ill_read.specs.declared.due.Next.TheVariants.{Segments}
-use Rattle.ill_read.specs.declared.element.Element.{Element as CodeElement}
-use Rattle.ill_read.specs.declared.element.Element.TheVariants.{Leaf, Sequence, List as ListOf, Wrapper, LooseWrapper, Segment}
+use Rattle.ill_elements.specs.declared.due.Next.TheVariants.{Segments}
+use Rattle.ill_elements.specs.declared.element.Element.{Element as CodeElement}
+use Rattle.ill_elements.specs.declared.element.Element.TheVariants.{Leaf, Sequence, List as ListOf, Wrapper, LooseWrapper, Segment}
 use Rattle.ill_read.specs.declared.failure.Failure.{Failure}
 use Rattle.ill_read.specs.code.Progress.{Reads}
 use Rattle.ill_read.specs.declared.judge.Reading.{Reading}
-use Rattle.ill_read.specs.declared.leaf_type.LeafType.{LeafType}
+use Rattle.ill_elements.specs.declared.leaf_type.LeafType.{LeafType}
 use Rattle.ill_read.specs.declared.path.Path.{Path}
 use Rattle.ill_read.proofs.DeliveredEntries.{entry_added}
 use Rattle.ill_read.proofs.Segments.{segment_due, due_segment, no_text}

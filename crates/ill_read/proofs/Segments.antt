@@ -10,18 +10,19 @@ use Rattle.ill_schema.specs.declared.part.Presence.{Presence}
 use Rattle.ill_schema.specs.Content.{Content}
 use Rattle.ill_schema.specs.Table.{kind_of}
 use Rattle.ill_schema.specs.Tagging.{Tagging, untagged, implicit, explicit, explicit_or_bare, same_tag}
-use Rattle.ill_read.specs.Elements.{component_of, element_is, element_with, found_is}
-use Rattle.ill_read.specs.DueCode.{Begins, IsDueIn, IsDueInRows, IsRowDue, shape, read_as}
+use Rattle.ill_elements.specs.Elements.{component_of, element_is, element_with, found_is}
+use Rattle.ill_elements.specs.Due.{Begins, IsDueIn, IsDueInRows, IsRowDue, shape, read_as}
 use Rattle.ill_refusals.specs.Element.{Component, Element, leaf, segment, Start, own_starts, retag, leave_out, tagged_starts, component_starts}
 use Rattle.ill_refusals.specs.Place.{Open}
-use Rattle.ill_read.specs.Standing.{Level, next_at, text_so_far, IsValueOf, IsHeld, IsFrame, AreFrames}
-use Rattle.ill_read.specs.DueCode.{Due}
-use Rattle.ill_read.specs.declared.due.Next.{Next}
-use Rattle.ill_read.specs.declared.due.Next.TheVariants.{Rows, Inner, Items, Either, Segments, Nothing}
-use Rattle.ill_read.specs.declared.due.Slot.{Slot}
-use Rattle.ill_read.specs.declared.due.Slot.TheVariants.{Row as AtRow, Item, Inner as Inside, Segment as InString}
-use Rattle.ill_read.specs.declared.element.Element.{Element as CodeElement}
-use Rattle.ill_read.specs.declared.element.Element.TheVariants.{Leaf, Sequence, List as ListOf, Wrapper, LooseWrapper, Segment}
+use Rattle.ill_read.specs.Standing.{Level, next_at, text_so_far, IsHeld, IsFrame, AreFrames}
+use Rattle.ill_elements.specs.Contents.{IsValueOf}
+use Rattle.ill_elements.specs.Due.{Due}
+use Rattle.ill_elements.specs.declared.due.Next.{Next}
+use Rattle.ill_elements.specs.declared.due.Next.TheVariants.{Rows, Inner, Items, Either, Segments, Nothing}
+use Rattle.ill_elements.specs.declared.due.Slot.{Slot}
+use Rattle.ill_elements.specs.declared.due.Slot.TheVariants.{Row as AtRow, Item, Inner as Inside, Segment as InString}
+use Rattle.ill_elements.specs.declared.element.Element.{Element as CodeElement}
+use Rattle.ill_elements.specs.declared.element.Element.TheVariants.{Leaf, Sequence, List as ListOf, Wrapper, LooseWrapper, Segment}
 use Rattle.ill_read.specs.declared.frame.Frame.{Frame}
 use Rattle.ill_read.proofs.OpenFrames.{next_behind}
 use Rattle.ill_refusals.proofs.Rows.{two_cases}

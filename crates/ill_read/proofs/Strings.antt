@@ -4,21 +4,21 @@ use Rattle.ber_core.specs.Identifier.{Tag}
 use Rattle.ber_core.specs.Tree.{Tree, Trees, none, more, tag_of, octet_string, IsString, text, text_all, AreSegments}
 use Rattle.ber_leaf.specs.Profile.{profile_two}
 use Rattle.ill_schema.specs.Content.{Content}
-use Rattle.ill_read.specs.Elements.{element_is}
-use Rattle.ill_read.specs.DueCode.{IsDueIn, next_is, behind, shape, read_as}
+use Rattle.ill_elements.specs.Elements.{element_is}
+use Rattle.ill_elements.specs.Due.{IsDueIn, next_is, behind, shape, read_as}
 use Rattle.ill_read.specs.code.Judged.{IsStep}
 use Rattle.ill_refusals.specs.Next.{due, next_after, opening}
 use Rattle.ill_refusals.specs.Place.{Open}
 use Rattle.ill_read.specs.Standing.{Level, next_at, top, text_so_far, IsHeld, IsFrame, AreFrames}
 use Rattle.ill_refusals.specs.code.Step.{snoc, with_tree}
-use Rattle.ill_read.specs.DueCode.{Due}
-use Rattle.ill_read.specs.declared.due.Next.{Next}
-use Rattle.ill_read.specs.declared.due.Next.TheVariants.{Segments}
-use Rattle.ill_read.specs.declared.element.Element.{Element as CodeElement}
-use Rattle.ill_read.specs.declared.element.Element.TheVariants.{Leaf, Sequence, List as ListOf, Wrapper, LooseWrapper, Segment}
+use Rattle.ill_elements.specs.Due.{Due}
+use Rattle.ill_elements.specs.declared.due.Next.{Next}
+use Rattle.ill_elements.specs.declared.due.Next.TheVariants.{Segments}
+use Rattle.ill_elements.specs.declared.element.Element.{Element as CodeElement}
+use Rattle.ill_elements.specs.declared.element.Element.TheVariants.{Leaf, Sequence, List as ListOf, Wrapper, LooseWrapper, Segment}
 use Rattle.ill_read.specs.declared.frame.Frame.{Frame}
 use Rattle.ill_read.specs.declared.path.Path.{Path}
-use Rattle.ill_read.proofs.DueElements.{due_element_is}
+use Rattle.ill_elements.proofs.DueElements.{due_element_is}
 use Rattle.ill_read.proofs.OpenFrames.{next_behind}
 use Rattle.ill_read.proofs.MoreTrees.{next-added, with_one}
 use Rattle.ill_read.proofs.Segments.{text_with}

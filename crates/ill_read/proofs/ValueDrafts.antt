@@ -16,23 +16,24 @@ use Rattle.ill_schema.specs.declared.node.NodeId.{NodeId}
 use Rattle.ill_schema.specs.declared.refusal.Refusal.{Refusal}
 use Rattle.ill_schema.specs.declared.value.Value.{Value}
 use Rattle.ill_refusals.specs.Fault.{fault, element_fault, fault_of}
-use Rattle.ill_read.specs.Elements.{element_is}
-use Rattle.ill_read.specs.LeafTypes.{leaf_is}
+use Rattle.ill_elements.specs.Elements.{element_is}
+use Rattle.ill_elements.specs.LeafTypes.{leaf_is}
 use Rattle.ill_read.specs.code.Drafts.{HasOpened, IsContentOf, IsRightText, rows_before, rows_left, with_entry}
 use Rattle.ill_read.specs.code.Held.{EndsExactly, HasAdded, IsFound, IsLast, IsList, IsSequence}
-use Rattle.ill_read.specs.Standing.{Level, level_of, whole_level, absent_content, AreHeld, AreValues, IsHeld}
-use Rattle.ill_read.specs.declared.due.Next.{Next}
-use Rattle.ill_read.specs.declared.due.Next.TheVariants.{Rows, Inner, Items, Either, Segments, Nothing}
-use Rattle.ill_read.specs.declared.due.Slot.{Slot}
-use Rattle.ill_read.specs.declared.element.Element.{Element as CodeElement}
-use Rattle.ill_read.specs.declared.element.Element.TheVariants.{Leaf, Sequence, List as ListOf, Wrapper, LooseWrapper, Segment}
-use Rattle.ill_read.specs.declared.element.Wrapped.{Wrapped}
+use Rattle.ill_read.specs.Standing.{Level, level_of, whole_level, AreHeld, AreValues, IsHeld}
+use Rattle.ill_elements.specs.Contents.{absent_content}
+use Rattle.ill_elements.specs.declared.due.Next.{Next}
+use Rattle.ill_elements.specs.declared.due.Next.TheVariants.{Rows, Inner, Items, Either, Segments, Nothing}
+use Rattle.ill_elements.specs.declared.due.Slot.{Slot}
+use Rattle.ill_elements.specs.declared.element.Element.{Element as CodeElement}
+use Rattle.ill_elements.specs.declared.element.Element.TheVariants.{Leaf, Sequence, List as ListOf, Wrapper, LooseWrapper, Segment}
+use Rattle.ill_elements.specs.declared.element.Wrapped.{Wrapped}
 use Rattle.ill_read.specs.declared.failure.Failure.{Failure}
 use Rattle.ill_read.specs.declared.frame.Frame.{Frame}
 use Rattle.ill_read.specs.declared.judge.Opening.{Opening}
-use Rattle.ill_read.specs.declared.leaf_type.LeafType.{LeafType}
+use Rattle.ill_elements.specs.declared.leaf_type.LeafType.{LeafType}
 use Rattle.ill_read.specs.declared.values.Values.{Values}
-use Rattle.ill_read.specs.DueCode.{shape, first_of, read_as}
+use Rattle.ill_elements.specs.Due.{shape, first_of, read_as}
 
 -- an element that opens has no entries
 pub values_opened : (v : Values) (opening : Opening) (base : ℕ) → base ≡ length v.held.entries.items → HasOpened AreValues v opening base v

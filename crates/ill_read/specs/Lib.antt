@@ -1,7 +1,3 @@
-pub mod LeafTypes
-pub mod Found
-pub mod Elements
-pub mod DueCode
 pub mod Failures
 pub mod HeaderCode
 pub mod Standing

@@ -1,36 +1,33 @@
 -- How the decoder's path stands for the elements that are open at a place.
-use Rattle.std.specs.Prelude.{◌≡◌, ◌⊎◌, ℕ, List, [], ◌∷◌, ◌++◌, length, take, map, Option, Some, None, IsTrue, option_map}
-use Rattle.ber_core.specs.Tree.{Tree, Trees, constructed, none, more, tag_of, text, text_all, AreSegments}
+use Rattle.std.specs.Prelude.{◌≡◌, ℕ, List, [], ◌∷◌, ◌++◌, length, take, map, Option, Some, IsTrue, option_map}
+use Rattle.ber_core.specs.Tree.{Tree, Trees, none, more, tag_of, text, text_all, AreSegments}
 use Rattle.ber_core.specs.Identifier.{Tag}
 use Rattle.ber_core.specs.Octets.{are_octets}
-use Rattle.ber_leaf.specs.Leaf.{is_string, value, content_fault}
+use Rattle.ber_leaf.specs.Leaf.{is_string}
 use Rattle.ber_leaf.specs.Profile.{profile_two}
 use Rattle.ill_schema.specs.declared.node.NodeId.TheVariants.{IllApdu}
-use Rattle.ill_schema.specs.declared.part.Presence.{Presence}
-use Rattle.ill_schema.specs.declared.part.Row.{Row}
-use Rattle.ill_schema.specs.Meaning.{Means, Matches, MatchItems, IsLeaf}
-use Rattle.ill_schema.specs.Presence.{default_value}
-use Rattle.ill_schema.specs.Table.{kind_of, rows_of}
+use Rattle.ill_schema.specs.Meaning.{Means, Matches, MatchItems}
+use Rattle.ill_schema.specs.Table.{rows_of}
 use Rattle.ill_schema.specs.Tagging.{untagged, sequence_tag}
 use Rattle.ill_schema.specs.Apdu.{Apdu}
 use Rattle.ill_schema.specs.Message.{apdu_of, octets_of}
 use Rattle.ill_schema.specs.declared.message.Message.{Message}
 use Rattle.ill_schema.specs.declared.value.Value.{Value}
 use Rattle.ill_schema.specs.Value.{content_of, entries_of, items_of}
-use Rattle.ill_schema.specs.Content.{Content, simple, alternative, Entries, Items as Contents}
+use Rattle.ill_schema.specs.Content.{Content}
 use Rattle.ill_schema.specs.Content as content
-use Rattle.ill_refusals.specs.Element.{Element, leaf, sequence, list, wrapper, loose_wrapper, segment, left_out}
+use Rattle.ill_refusals.specs.Element.{leaf, wrapper, segment}
 use Rattle.ill_refusals.specs.Next.{due, next_of, opening}
 use Rattle.ill_refusals.specs.Next as following
 use Rattle.ill_refusals.specs.Place.{Open, next_in, bound, IsPlace}
-use Rattle.ill_read.specs.Elements.{element_is}
-use Rattle.ill_read.specs.DueCode.{next_is, IsDueIn, behind, shape, shape_at, read_as, read_due, slot_in, next_place}
-use Rattle.ill_read.specs.LeafTypes.{leaf_is}
-use Rattle.ill_read.specs.declared.due.Next.{Next}
-use Rattle.ill_read.specs.declared.due.Next.TheVariants.{Rows, Inner, Items, Either, Segments, Nothing}
-use Rattle.ill_read.specs.declared.element.Element.{Element as CodeElement}
-use Rattle.ill_read.specs.declared.element.Element.TheVariants.{Leaf, Sequence, List as ListOf, Wrapper, LooseWrapper, Segment}
-use Rattle.ill_read.specs.declared.element.Wrapped.{Wrapped}
+use Rattle.ill_elements.specs.Elements.{element_is}
+use Rattle.ill_elements.specs.Due.{next_is, IsDueIn, behind, shape, shape_at, read_as, read_due, slot_in, next_place}
+use Rattle.ill_elements.specs.LeafTypes.{leaf_is}
+use Rattle.ill_elements.specs.declared.due.Next.{Next}
+use Rattle.ill_elements.specs.declared.due.Next.TheVariants.{Rows, Inner, Items, Either, Segments, Nothing}
+use Rattle.ill_elements.specs.declared.element.Element.{Element as CodeElement}
+use Rattle.ill_elements.specs.declared.element.Element.TheVariants.{Leaf, Sequence, List as ListOf, Wrapper, LooseWrapper, Segment}
+use Rattle.ill_elements.specs.declared.element.Wrapped.{Wrapped}
 use Rattle.ill_read.specs.declared.frame.Frame.{Frame}
 use Rattle.ill_read.specs.declared.frames.Frames.{Frames}
 use Rattle.ill_read.specs.declared.path.Path.{Path}
@@ -58,27 +55,6 @@ top = Inner top_part
 abbrev pub next_at : List Frame → Next
 next_at [] = top
 next_at (f ∷ fs) = elim fs as (λ _. Next) [ [] ↦ (shape f.place) | _ ↦ next_at fs ]
-
--- the content is what the tree means as a whole element
-abbrev pub IsValueOf : Element → Content → Tree → Type 0
-IsValueOf (leaf l) c T = IsLeaf l T × IsTrue (are_octets (text T)) × (content_fault profile_two l (text T) ≡ None) × (c ≡ simple (value l (text T)))
-IsValueOf (sequence node) c T = (tag : Tag) × (ts : Trees) × (es : Entries) × (T ≡ constructed tag ts) × (c ≡ content.sequence es) × Matches profile_two es (rows_of node) ts
-IsValueOf (list node) c T = (tag : Tag) × (ts : Trees) × (is : Contents) × (T ≡ constructed tag ts) × (c ≡ content.list is) × MatchItems profile_two is (rows_of node) ts
-IsValueOf (wrapper w) c T = (tag : Tag) × (U : Tree) × (T ≡ constructed tag (more U none)) × Means profile_two c w.node untagged U
-IsValueOf (loose_wrapper w) c T =
-    ((tag : Tag) × (U : Tree) × (T ≡ constructed tag (more U none)) × Means profile_two c w.node untagged U)
-    ⊎ ((tag : Tag) × (ts : Trees) × (es : Entries) × (T ≡ constructed tag ts) × (c ≡ content.sequence es) × Matches profile_two es (rows_of w.node) ts)
-IsValueOf segment c T = ⊥
-IsValueOf (left_out part) c T = ⊥
-
--- a value with the number of the alternative that it is
-abbrev pub with_alternative : Option ℕ → Content → Content
-with_alternative None c = c
-with_alternative (Some n) c = alternative n c
-
--- the entry of a row that has no element
-abbrev pub absent_content : Row → Option Content
-absent_content row = elim row.presence as (λ _. Option Content) [ Presence.Default d ↦ Some (simple (default_value (kind_of row.node) d)) | _ ↦ None ]
 
 -- what an open element has in it, in a draft of the message: its tag, what may come next, where its contents begin in the draft, and the entries
 pub record Level : Type 0 where

@@ -6,6 +6,5 @@ pub mod Stepping
 pub mod ReaderCode
 pub mod JudgeCode
 pub mod Filling
-pub mod Written
 pub mod OctetDrafts
 pub mod Outlines

@@ -1,8 +1,8 @@
 //! The open elements of a message.
 ghost use Rattle.std.specs.Prelude.{◌≡◌, ◌≤◌};
 
-use crate::due::Next;
 use ill_cells::{At, Found};
+use ill_elements::Next;
 
 /// An open element: a constructed one whose header has been read.
 #[derive(Clone, Copy)]
@@ -23,7 +23,7 @@ pub struct Frame {
 }
 
 impl Frame {
-    ghost use Rattle.ill_read.specs.DueCode.{shape};
+    ghost use Rattle.ill_elements.specs.Due.{shape};
     ghost use Rattle.ill_read.specs.code.JudgeCode.{end_at};
 
     /// What may come next in it.

@@ -1,12 +1,12 @@
 //! The open elements of a message, innermost last.
 ghost use Rattle.std.specs.Prelude.{◌≡◌, ◌≤◌, ◌++◌, List, [], ◌∷◌, length};
-ghost use Rattle.ill_read.specs.DueCode.{shape};
+ghost use Rattle.ill_elements.specs.Due.{shape};
 ghost use Rattle.ill_read.specs.Standing.{next_at};
 ghost use Rattle.ill_read.specs.declared.frame.Frame.{Frame};
 
-use crate::due::Next;
 use crate::frame::Frame;
 use ill_cells::At;
+use ill_elements::Next;
 use ill_schema::{Cause, LIMIT};
 use std::alloc::{AllocError, Global};
 

@@ -6,9 +6,9 @@ ghost use Rattle.ill_schema.specs.Table.{kind_of, rows_of};
 ghost use Rattle.ill_schema.specs.Value.{content_of};
 ghost use Rattle.ill_read.specs.code.Held.{HasPassed, HasAdded, IsSequence, IsList, IsLast};
 ghost use Rattle.ill_read.specs.code.Drafts.{rows_before, rows_left};
-ghost use Rattle.ill_read.specs.Standing.{absent_content};
+ghost use Rattle.ill_elements.specs.Contents.{absent_content};
 
-use crate::due::{Next, Slot};
+use ill_elements::{Next, Slot};
 use ill_schema::{Kind, LeafKind, NodeId, PartId, Presence, Row, Value, kind, row, rows, rows_of};
 use std::alloc::{AllocError, Global};
 

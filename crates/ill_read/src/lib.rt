@@ -11,8 +11,6 @@
 
 mod decoder;
 mod draft;
-mod due;
-mod element;
 mod failure;
 mod frame;
 mod frames;
@@ -21,7 +19,6 @@ mod held;
 mod judge;
 mod keep;
 mod laws;
-mod leaf_type;
 mod mark;
 mod need;
 mod normal;
@@ -36,11 +33,11 @@ mod whole;
 
 pub use decoder::{Decoder, Progress};
 pub use failure::{Failure, ReadFailure};
+pub use ill_elements::LeafType;
 pub use ill_refusals::{
     one_outcome, one_place, refusals_stay, truncated_at_the_end, values_are_small,
 };
 pub use laws::decoders_are_apart;
-pub use leaf_type::LeafType;
 pub use mark::Mark;
 pub use normal::{
     Normal, decode_normal, read_kept_normal_by, read_kept_normal_in, read_normal_by, read_normal_in,

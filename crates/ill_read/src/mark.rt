@@ -1,5 +1,5 @@
 //! The marks that the outline of a message is made of.
-use crate::leaf_type::LeafType;
+use ill_elements::LeafType;
 use ill_schema::PartId;
 
 /// A mark in the outline of a value. Together they say what the value is, in reading order.

@@ -7,15 +7,13 @@ ghost use Rattle.ill_read.specs.declared.mark.Mark.{Mark};
 ghost use Rattle.ill_read.specs.code.Outlines.{AreOutlined, HasEndedRows, HasFront, HasOutline, HasPassed, HasRear, alternative_marks};
 
 use crate::draft::Draft;
-use crate::due::{Next, Slot};
-use crate::element::Element;
 use crate::failure::Failure;
 use crate::frame::Frame;
 use crate::judge::{Opening, Reading};
-use crate::leaf_type::LeafType;
 use crate::mark::Mark;
 use crate::octets::Octets;
 use ill_cells::At;
+use ill_elements::{Element, LeafType, Next, Slot};
 use ill_schema::{NodeId, PartId, row, rows};
 use std::alloc::{AllocError, Global};
 

@@ -3,12 +3,12 @@ ghost use Rattle.std.specs.Prelude.{◌≡◌, ◌+◌, ◌<◌, ◌≤◌, [], 
 ghost use Rattle.ill_read.specs.Standing.{HoldsAt, top_level};
 
 use crate::draft::Draft;
-use crate::element::Element;
 use crate::failure::Failure;
 use crate::frame::Frame;
 use crate::frames::Frames;
 use crate::judge::{Opening, Reading};
 use ill_cells::At;
+use ill_elements::Element;
 use ill_schema::Cause;
 use std::alloc::{AllocError, Global};
 

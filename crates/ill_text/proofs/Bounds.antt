@@ -26,11 +26,11 @@ use Rattle.ill_schema.specs.Content.{Content, simple, sequence, list, alternativ
 use Rattle.ill_schema.specs.Names.{names_of}
 use Rattle.ill_schema.specs.Presence.{default_value}
 use Rattle.ill_schema.specs.Table.{kind_of, rows_of}
-use Rattle.ill_read.specs.LeafTypes.{leaf_is}
+use Rattle.ill_elements.specs.LeafTypes.{leaf_is}
 use Rattle.ill_read.specs.Outline.{AreEntries, AreItems, IsMarked, IsPassed, leaf_marks}
-use Rattle.ill_read.specs.Standing.{absent_content}
-use Rattle.ill_read.specs.declared.leaf_type.LeafType.{LeafType}
-use Rattle.ill_read.specs.declared.leaf_type.LeafType.TheVariants as code
+use Rattle.ill_elements.specs.Contents.{absent_content}
+use Rattle.ill_elements.specs.declared.leaf_type.LeafType.{LeafType}
+use Rattle.ill_elements.specs.declared.leaf_type.LeafType.TheVariants as code
 use Rattle.ill_read.specs.declared.mark.Mark.{Mark}
 use Rattle.ill_read.specs.declared.mark.Mark.TheVariants as mark
 use Rattle.ill_text.proofs.Lines.{marks_length}

@@ -18,14 +18,14 @@ use Rattle.ill_schema.specs.declared.part.Row.{Row as TableRow}
 use Rattle.ill_schema.specs.Presence.{default_value}
 use Rattle.ill_schema.specs.Table.{kind_of}
 use Rattle.ill_schema.specs.Content.{Content, simple, sequence, list, alternative, Entries, no_entries, absent, present, Items, no_items, item}
-use Rattle.ill_read.specs.LeafTypes.{leaf_is}
+use Rattle.ill_elements.specs.LeafTypes.{leaf_is}
 use Rattle.ill_read.specs.Outline.{AreEntries, AreItems, IsMarked, IsPassed, leaf_marks}
 use Rattle.ill_read.specs.declared.mark.Mark.{Mark}
 use Rattle.ill_read.specs.declared.mark.Mark.TheVariants as mark
 use Rattle.ill_text.specs.Shown.{Place, entry_lines, is_empty, item_lines, item_of, line, lines_of, part, within}
 use Rattle.ill_text.specs.code.Marks.{IsEntry, entry_text, front_octets, is_at_end, is_there, octets_in, passed_in}
 use Rattle.ill_schema.specs.declared.part.PartId.{PartId}
-use Rattle.ill_read.specs.declared.leaf_type.LeafType.{LeafType}
+use Rattle.ill_elements.specs.declared.leaf_type.LeafType.{LeafType}
 use Rattle.ill_text.specs.Shown.{row_name, row_node}
 use Rattle.ill_text.specs.code.Trails.{head_line, place_at}
 use Rattle.ill_text.specs.Shown.{shown_text}

@@ -10,7 +10,7 @@ ghost use Rattle.ill_schema.specs.Content.{Content};
 ghost use Rattle.ill_schema.specs.Presence.{default_value};
 ghost use Rattle.ill_schema.specs.Table.{kind_of};
 ghost use Rattle.ill_schema.specs.declared.node.NodeId.{NodeId};
-ghost use Rattle.ill_read.specs.LeafTypes.{leaf_is};
+ghost use Rattle.ill_elements.specs.LeafTypes.{leaf_is};
 ghost use Rattle.ill_read.specs.Outline.{IsPassed};
 ghost use Rattle.ill_text.specs.Numbers.{number_name};
 ghost use Rattle.ill_text.specs.Shown.{escaped, in_brackets, leaf_text, line};

@@ -9,7 +9,7 @@ ghost use Rattle.ill_text.specs.code.Trails.{path_of, place_at};
 ghost use Rattle.ill_text.specs.Shown.{item_of, leaf_text, line, lines_of, part};
 ghost use Rattle.ber_leaf.specs.Content.{IsContent};
 ghost use Rattle.ber_leaf.specs.Leaf.{value};
-ghost use Rattle.ill_read.specs.LeafTypes.{leaf_is};
+ghost use Rattle.ill_elements.specs.LeafTypes.{leaf_is};
 
 use crate::leaf::{put_default, put_leaf};
 use crate::outgoing::Out;

@@ -16,22 +16,23 @@ use Rattle.ill_schema.specs.Value.{entries_of, items_of}
 use Rattle.ill_schema.specs.declared.part.Row.{Row}
 use Rattle.ill_refusals.specs.Fault.{fault, element_fault, fault_of}
 use Rattle.ill_cells.specs.Places.{alternative_of}
-use Rattle.ill_read.specs.DueCode.{Due, IsDueIn, behind, first_of, next_place, shape, shape_at, read_as, slot_in}
-use Rattle.ill_read.specs.Elements.{element_is}
-use Rattle.ill_read.specs.LeafTypes.{leaf_is}
-use Rattle.ill_read.specs.Standing.{Level, IsHeld, IsValueOf, absent_content, level_of, pushed, whole_level, with_alternative}
-use Rattle.ill_read.specs.declared.due.Next.{Next}
-use Rattle.ill_read.specs.declared.due.Next.TheVariants.{Rows, Either, Nothing}
-use Rattle.ill_read.specs.declared.due.Slot.{Slot}
-use Rattle.ill_read.specs.declared.due.Slot.TheVariants.{Row as AtRow}
-use Rattle.ill_read.specs.declared.element.Element.{Element as CodeElement}
-use Rattle.ill_read.specs.declared.element.Element.TheVariants.{Leaf, Sequence, List as ListOf, Wrapper, LooseWrapper, Segment}
-use Rattle.ill_read.specs.Found as found
+use Rattle.ill_elements.specs.Due.{IsDueIn, behind, first_of, next_place, shape, shape_at, read_as, slot_in}
+use Rattle.ill_elements.specs.Elements.{element_is}
+use Rattle.ill_elements.specs.LeafTypes.{leaf_is}
+use Rattle.ill_read.specs.Standing.{Level, IsHeld, level_of, pushed, whole_level}
+use Rattle.ill_elements.specs.Contents.{IsValueOf, absent_content, with_alternative}
+use Rattle.ill_elements.specs.declared.due.Next.{Next}
+use Rattle.ill_elements.specs.declared.due.Next.TheVariants.{Rows, Either, Nothing}
+use Rattle.ill_elements.specs.declared.due.Slot.{Slot}
+use Rattle.ill_elements.specs.declared.due.Slot.TheVariants.{Row as AtRow}
+use Rattle.ill_elements.specs.declared.element.Element.{Element as CodeElement}
+use Rattle.ill_elements.specs.declared.element.Element.TheVariants.{Leaf, Sequence, List as ListOf, Wrapper, LooseWrapper, Segment}
+use Rattle.ill_elements.specs.Found as found
 use Rattle.ill_read.specs.declared.failure.Failure.{Failure}
 use Rattle.ill_read.specs.declared.frame.Frame.{Frame}
 use Rattle.ill_read.specs.declared.judge.Opening.{Opening}
 use Rattle.ill_read.specs.declared.judge.Reading.{Reading}
-use Rattle.ill_read.specs.declared.leaf_type.LeafType.{LeafType}
+use Rattle.ill_elements.specs.declared.leaf_type.LeafType.{LeafType}
 
 -- the rows between a position and the row of an element
 abbrev pub rows_before : Next → Slot → List Row
@@ -44,9 +45,6 @@ abbrev pub rows_left : Next → List Row
 rows_left (Rows node n) = drop n (rows_of node)
 rows_left (Either w) = rows_of w.node
 rows_left _ = []
-
-abbrev pub due_with : Slot → Option ℕ → CodeElement → Due
-due_with slot alternative element = record { slot = slot; alternative = alternative; found = found.Element element }
 
 -- the content of an element that has ended, by what it had in it
 abbrev pub IsContentOf : CodeElement → Next → List (Option Content) → List ℕ → Content → Type 0

@@ -7,17 +7,17 @@ use Rattle.ber_core.specs.declared.id.Id.{Id}
 use Rattle.ber_leaf.specs.Profile.{Profile, profile_two}
 use Rattle.ill_schema.specs.declared.refusal.Cause.{Cause}
 use Rattle.ill_schema.specs.declared.refusal.Refusal.{Refusal}
-use Rattle.ill_read.specs.Elements.{element_is, found_is}
+use Rattle.ill_elements.specs.Elements.{element_is, found_is}
 use Rattle.ill_refusals.specs.Fault.{Fault, element_fault, fault, fault_of}
 use Rattle.ill_refusals.specs.code.Judge.{Judgement, faulty, opens, or_faulty, reads, judge_end, judge_form, judge_tag}
 use Rattle.ill_cells.specs.declared.at.Found.{Found}
 use Rattle.ill_cells.specs.declared.cell.What.{What}
 use Rattle.ill_cells.specs.declared.cell.What.TheVariants as what
-use Rattle.ill_read.specs.DueCode.{found_in, read_as}
+use Rattle.ill_elements.specs.Due.{found_in, read_as}
 use Rattle.ill_read.specs.code.Judged.{IsBegin, IsEnd, content_in}
 use Rattle.ill_refusals.specs.Place.{Open, bound, allows}
 use Rattle.ill_read.specs.Standing.{StandsAt}
-use Rattle.ill_read.specs.Found as found
+use Rattle.ill_elements.specs.Found as found
 use Rattle.ill_read.specs.declared.frame.Frame.{Frame}
 use Rattle.ill_read.specs.declared.judge.Extent.{Extent}
 use Rattle.ill_read.specs.declared.judge.Extent.TheVariants.{Opens, Reads}

@@ -14,8 +14,8 @@ use Rattle.ill_refusals.specs.Fault.{fault_of, element_fault}
 use Rattle.ill_refusals.specs.code.Judge.{Judgement, closes, opens, reads, or_faulty}
 use Rattle.ill_cells.specs.Places.{first_place}
 use Rattle.ill_cells.specs.declared.at.Found.{Found as CellFound}
-use Rattle.ill_read.specs.Elements.{element_is}
-use Rattle.ill_read.specs.DueCode.{IsDueIn, behind, first_of, shape_at, read_as, read_due, slot_in, next_place}
+use Rattle.ill_elements.specs.Elements.{element_is}
+use Rattle.ill_elements.specs.Due.{IsDueIn, behind, first_of, shape_at, read_as, read_due, slot_in, next_place}
 use Rattle.ill_read.specs.Standing.{Level, whole_level, next_at, HoldsAt}
 use Rattle.ill_read.specs.code.Progress.{size_of}
 use Rattle.ill_refusals.specs.code.Step.{Step, refused, goes, whole}

@@ -1,30 +1,24 @@
 -- What a draft of octets holds of the elements that have been read.
-use Rattle.std.specs.Prelude.{◌≡◌, ℕ, ℤ, pos, Bool, true, false, List, [], ◌∷◌, ◌++◌, length, Option, Some, None, slice_get}
-use Rattle.std.specs.Ordering.{int_eq}
+use Rattle.std.specs.Prelude.{◌≡◌, ℕ, Bool, true, false, List, [], ◌∷◌, ◌++◌, length, Option, Some, None}
 use Rattle.ber_core.specs.Der.{encoding, encodings}
 use Rattle.ber_core.specs.Id.{tag_of_id}
 use Rattle.ber_core.specs.Identifier.{identifier}
 use Rattle.ber_core.specs.declared.id.Class.TheVariants.{Universal}
 use Rattle.ber_core.specs.Length.{shortest_length}
-use Rattle.ber_leaf.specs.Leaf.{Leaf as LeafKind, boolean, value}
-use Rattle.ber_leaf.specs.Simple.{flag, whole}
 use Rattle.ill_schema.specs.Apdu.{Apdu, normal_form}
 use Rattle.ill_schema.specs.Content.{Content}
 use Rattle.ill_schema.specs.Normal.{normal_tree, normal_trees, normal_items}
-use Rattle.ill_schema.specs.Presence.{is_default, same_value}
 use Rattle.ill_schema.specs.Table.{rows_of}
 use Rattle.ill_schema.specs.Tagging.{untagged, sequence_tag}
 use Rattle.ill_schema.specs.Value.{entries_of, items_of}
-use Rattle.ill_schema.specs.declared.part.Row.{Row}
-use Rattle.ill_read.specs.DueCode.{read_as}
+use Rattle.ill_elements.specs.Due.{read_as}
 use Rattle.ill_read.specs.Standing.{Level}
-use Rattle.ill_read.specs.declared.due.Next.{Next}
-use Rattle.ill_read.specs.declared.due.Next.TheVariants.{Rows, Either, Nothing}
-use Rattle.ill_read.specs.declared.due.Slot.{Slot}
-use Rattle.ill_read.specs.declared.due.Slot.TheVariants.{Row as AtRow}
-use Rattle.ill_read.specs.declared.element.Element.{Element as CodeElement}
-use Rattle.ill_read.specs.declared.element.Element.TheVariants.{Leaf, Sequence, List as ListOf, Wrapper, LooseWrapper}
-use Rattle.ill_read.specs.declared.element.Wrapped.{Wrapped}
+use Rattle.ill_elements.specs.declared.due.Next.{Next}
+use Rattle.ill_elements.specs.declared.due.Next.TheVariants.{Rows, Nothing}
+use Rattle.ill_elements.specs.declared.due.Slot.{Slot}
+use Rattle.ill_elements.specs.declared.element.Element.{Element as CodeElement}
+use Rattle.ill_elements.specs.declared.element.Element.TheVariants.{Leaf, Sequence, List as ListOf, Wrapper, LooseWrapper}
+use Rattle.ill_elements.specs.declared.element.Wrapped.{Wrapped}
 use Rattle.ill_read.specs.declared.judge.Opening.{Opening}
 use Rattle.ill_read.specs.declared.octets.Octets.{Octets}
 
@@ -48,21 +42,6 @@ written (Wrapper w) n es = part_octets w es
 written (LooseWrapper w) (Rows own k) es = encodings (normal_trees (entries_of es) (rows_of w.node))
 written (LooseWrapper w) n es = part_octets w es
 written _ n es = []
-
--- the row of an element at a slot
-abbrev pub row_slot : Next → Slot → Option Row
-row_slot (Rows node k) (AtRow r) = slice_get (rows_of node) r
-row_slot (Either w) (AtRow r) = slice_get (rows_of w.node) r
-row_slot _ _ = None
-
--- an entry that has no octets, since it is its row's default
-abbrev pub left_away : Next → Slot → Content → Bool
-left_away n slot c = elim (row_slot n slot) as (λ _. Bool) [ Some row ↦ is_default row c | None ↦ false ]
-
--- the octets hold the value that a default's number stands for
-abbrev pub is_number : LeafKind → ℤ → List ℕ → Bool
-is_number boolean d octets = same_value (value boolean octets) (flag (int_eq d (pos 1)))
-is_number l d octets = same_value (value l octets) (whole d)
 
 abbrev pub unless_left : Next → Slot → Content → List ℕ → List ℕ
 unless_left n slot c octets = elim (left_away n slot c) as (λ _. List ℕ) [ true ↦ [] | false ↦ octets ]

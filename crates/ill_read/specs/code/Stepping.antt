@@ -6,8 +6,8 @@ use Rattle.ill_refusals.specs.Place.{Open}
 use Rattle.ill_refusals.specs.Fault.{element_fault}
 use Rattle.ill_refusals.specs.code.Judge.{Judgement, or_faulty, reads}
 use Rattle.ill_refusals.specs.code.Step.{moved, opened}
-use Rattle.ill_read.specs.DueCode.{read_as}
-use Rattle.ill_read.specs.Elements.{element_is}
+use Rattle.ill_elements.specs.Due.{read_as}
+use Rattle.ill_elements.specs.Elements.{element_is}
 use Rattle.ill_cells.specs.declared.at.At.{At}
 use Rattle.ill_read.specs.code.Judged.{IsEnd, IsBegin, IsStep}
 use Rattle.ill_read.specs.Standing.{Level, HoldsAt}

@@ -1,7 +1,7 @@
 use Rattle.std.proofs.Common.{◌≡◌, ◌+◌, ◌-◌, ◌∙◌, ap, sym, subst, ℕ, length, take, drop, arith}
 use Rattle.ber_leaf.specs.Content.{IsContent}
 use Rattle.ber_leaf.specs.Leaf.{value}
-use Rattle.ill_read.specs.LeafTypes.{leaf_is}
+use Rattle.ill_elements.specs.LeafTypes.{leaf_is}
 use Rattle.ill_text.proofs.Lines.{leaf_parts, whole_rest}
 use Rattle.json.specs.Tree.{json_tokens}
 use Rattle.ill_json.specs.Json.{leaf_json}

@@ -2,9 +2,9 @@ use Rattle.std.proofs.Common.{◌∙◌, ap, is_some, sym, rules, FitsSigned, w6
 use Rattle.std.proofs.lemmas.Int.{to_z-of_z}
 use Rattle.ill_cells.specs.Cells.{default_due}
 use Rattle.ill_cells.specs.Places.{alternative_of, due_of, slot_of}
-use Rattle.ill_read.specs.LeafTypes.{leaf_is}
-use Rattle.ill_read.specs.code.OctetDrafts.{is_number}
-use Rattle.ill_read.proofs.Defaults.{found_left, is_left, left_row}
+use Rattle.ill_elements.specs.LeafTypes.{leaf_is}
+use Rattle.ill_elements.specs.Written.{is_number}
+use Rattle.ill_elements.proofs.Defaults.{found_left, is_left, left_row}
 use Rattle.ill_read.proofs.octets.is_left_away.Goals as goal
 
 pub returns-in_default : goal.returns-in_default

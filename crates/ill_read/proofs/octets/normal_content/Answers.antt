@@ -2,10 +2,10 @@ use Rattle.std.proofs.Common.{rules, arith, ◌≡◌, ℕ, [], ◌∷◌, Bool,
 use Rattle.ber_leaf.specs.Leaf.{boolean, content_fault, normal_content, value}
 use Rattle.ber_leaf.specs.Profile.{profile_two}
 use Rattle.ber_leaf.proofs.Leaves.{content_holds}
-use Rattle.ill_read.specs.LeafTypes.{leaf_is}
-use Rattle.ill_read.specs.declared.leaf_type.LeafType.{LeafType}
-use Rattle.ill_read.specs.declared.leaf_type.LeafType.TheVariants as code
-use Rattle.ill_read.proofs.NormalLeaves.{normal_as_read, normal_boolean}
+use Rattle.ill_elements.specs.LeafTypes.{leaf_is}
+use Rattle.ill_elements.specs.declared.leaf_type.LeafType.{LeafType}
+use Rattle.ill_elements.specs.declared.leaf_type.LeafType.TheVariants as code
+use Rattle.ill_elements.proofs.NormalLeaves.{normal_as_read, normal_boolean}
 use Rattle.ill_read.proofs.octets.normal_content.Goals as goal
 
 only_boolean : (l : LeafType) → leaf_is l ≡ boolean → l ≡ code.Boolean

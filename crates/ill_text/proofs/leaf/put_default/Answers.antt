@@ -1,7 +1,7 @@
 use Rattle.std.proofs.Common.{◌≡◌, ◌∙◌, ap, sym, subst, None, Option}
 use Rattle.ill_schema.specs.Content.{Content}
 use Rattle.ill_schema.specs.declared.part.Row.{Row}
-use Rattle.ill_read.specs.Standing.{absent_content}
+use Rattle.ill_elements.specs.Contents.{absent_content}
 use Rattle.ill_read.specs.Outline.{IsPassed}
 use Rattle.ill_text.specs.code.Marks.{entry_text, is_there}
 use Rattle.ill_text.specs.code.Trails.{place_at}

@@ -3,7 +3,7 @@ use Rattle.std.proofs.lemmas.Int.{to_z-of_z}
 use Rattle.ber_leaf.specs.Content.{IsContent}
 use Rattle.ber_leaf.specs.Leaf.{value}
 use Rattle.ber_leaf.specs.Simple.{whole}
-use Rattle.ill_read.specs.LeafTypes.{leaf_is}
+use Rattle.ill_elements.specs.LeafTypes.{leaf_is}
 use Rattle.ill_text.specs.Shown.{leaf_text, line}
 use Rattle.ill_text.specs.code.Marks.{octets_in}
 use Rattle.ill_text.specs.code.Trails.{path_of}

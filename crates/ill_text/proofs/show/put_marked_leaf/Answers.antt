@@ -1,7 +1,7 @@
 use Rattle.std.proofs.Common.{◌≡◌, ◌+◌, ◌-◌, ◌∙◌, ap, sym, subst, ℕ, List, length, take, drop, min, arith}
 use Rattle.ber_leaf.specs.Content.{IsContent}
 use Rattle.ber_leaf.specs.Leaf.{value}
-use Rattle.ill_read.specs.LeafTypes.{leaf_is}
+use Rattle.ill_elements.specs.LeafTypes.{leaf_is}
 use Rattle.ill_text.specs.Shown.{leaf_text, line}
 use Rattle.ill_text.specs.code.Trails.{path_of}
 use Rattle.ill_text.proofs.Lines.{leaf_parts, whole_rest}

@@ -2,10 +2,10 @@ use Rattle.std.proofs.Common.{◌≡◌, ◌<◌, ℕ, false, Option, Some, None
 use Rattle.std.specs.Prelude.{is_some}
 use Rattle.ill_schema.specs.declared.part.PartId.{PartId}
 use Rattle.ber_leaf.specs.Profile.{profile_two}
-use Rattle.ill_read.specs.DueCode.{next_is}
+use Rattle.ill_elements.specs.Due.{next_is}
 use Rattle.ill_refusals.specs.Next.{missing}
 use Rattle.ill_refusals.specs.Place.{next_in}
-use Rattle.ill_read.proofs.DueCells.{shape-next}
+use Rattle.ill_elements.proofs.DueCells.{shape-next}
 use Rattle.ill_read.proofs.OpenFrames.{frames_open, next_open}
 use Rattle.ill_read.proofs.Judgements.{end_missing, end_complete}
 use Rattle.ill_read.proofs.frames.Frames.end_fault.Goals as goal

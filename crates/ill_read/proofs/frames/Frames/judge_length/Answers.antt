@@ -3,10 +3,10 @@ use Rattle.ber_core.specs.Id.{tag_of_id, form_of_id}
 use Rattle.ber_core.specs.Octets.{are_octets}
 use Rattle.ber_core.specs.declared.header.Len.TheVariants.{Definite}
 use Rattle.ber_leaf.proofs.Leaves.{octets_fit}
-use Rattle.ill_read.specs.Elements.{element_is}
+use Rattle.ill_elements.specs.Elements.{element_is}
 use Rattle.ill_read.specs.HeaderCode.{IsLengthRead, IsWholeLength}
 use Rattle.ber_leaf.specs.Profile.{profile_two}
-use Rattle.ill_read.specs.DueCode.{read_as}
+use Rattle.ill_elements.specs.Due.{read_as}
 use Rattle.ill_refusals.specs.Fault.{wanting}
 use Rattle.ill_read.specs.code.JudgeCode.{IsExtent}
 use Rattle.ill_refusals.specs.Reading.{read_length}

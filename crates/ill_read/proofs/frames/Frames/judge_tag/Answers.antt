@@ -1,10 +1,10 @@
 use Rattle.std.proofs.Common.{◌<◌, ◌≤◌, ℕ, None, Some, sym, ap, subst, ◌∙◌}
 use Rattle.ber_core.specs.Id.{tag_of_id}
 use Rattle.ber_leaf.specs.Profile.{profile_two}
-use Rattle.ill_read.specs.DueCode.{next_is}
+use Rattle.ill_elements.specs.Due.{next_is}
 use Rattle.ill_read.specs.code.JudgeCode.{IsFormed}
 use Rattle.ill_refusals.specs.Next.{due}
-use Rattle.ill_read.proofs.DueCells.{is-coming, shape-next}
+use Rattle.ill_elements.proofs.DueCells.{is-coming, shape-next}
 use Rattle.ill_read.proofs.OpenFrames.{frames_open}
 use Rattle.ill_read.proofs.Judgements.{deep_judged, unexpected_judged, formed_judged, misformed_judged}
 use Rattle.ill_read.proofs.frames.Frames.judge_tag.Goals as goal

@@ -1,14 +1,14 @@
 use Rattle.std.proofs.Common.{◌∙◌, ◌++◌, refl, sym, ap, subst, append-nil}
 use Rattle.ber_leaf.proofs.Leaves.{content_holds}
-use Rattle.ill_read.specs.LeafTypes.{leaf_is}
+use Rattle.ill_elements.specs.LeafTypes.{leaf_is}
 use Rattle.ill_read.specs.code.Drafts.{IsContentOf, IsRightText}
 use Rattle.ill_read.specs.code.OctetDrafts.{enclosed, written}
-use Rattle.ill_read.specs.declared.element.Element.TheVariants.{Leaf, LooseWrapper}
+use Rattle.ill_elements.specs.declared.element.Element.TheVariants.{Leaf, LooseWrapper}
 use Rattle.ill_read.specs.declared.octets.Octets.{Octets}
 use Rattle.ill_read.proofs.OctetDrafts.{contents_of, contents_other, loose_text, octets_closed, right_other, text_at}
 use Rattle.ill_read.proofs.octets.OctetsDraft.close.Goals as goal
 use Rattle.ill_read.proofs.octets.OctetsDraft.close.Goals.{in-Leaf+in_default-fault, in-LooseWrapper+in_ok-enclose-in-LooseWrapper, in_default}
-use Rattle.ill_read.specs.DueCode.{read_as, shape}
+use Rattle.ill_elements.specs.Due.{read_as, shape}
 
 pub returns-clause-text : goal.returns-clause-text
 returns-clause-text c tag entries below text h = elim c.match-of.branch [

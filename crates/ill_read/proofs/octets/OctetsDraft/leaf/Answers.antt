@@ -5,10 +5,10 @@ use Rattle.ber_core.specs.Tree.{primitive}
 use Rattle.ber_leaf.specs.Leaf.{normal_content, value}
 use Rattle.ber_leaf.proofs.Leaves.{content_holds}
 use Rattle.ill_cells.specs.Places.{alternative_of}
-use Rattle.ill_read.specs.DueCode.{IsDueIn, shape, slot_in}
-use Rattle.ill_read.specs.code.Drafts.{due_with}
-use Rattle.ill_read.specs.declared.element.Element.TheVariants.{Leaf as LeafElement}
-use Rattle.ill_read.specs.LeafTypes.{leaf_is}
+use Rattle.ill_elements.specs.Due.{IsDueIn, shape, slot_in}
+use Rattle.ill_elements.specs.Due.{due_with}
+use Rattle.ill_elements.specs.declared.element.Element.TheVariants.{Leaf as LeafElement}
+use Rattle.ill_elements.specs.LeafTypes.{leaf_is}
 use Rattle.ill_read.proofs.OctetDrafts.{leaf_added}
 use Rattle.ill_read.proofs.octets.OctetsDraft.leaf.Goals as goal
 

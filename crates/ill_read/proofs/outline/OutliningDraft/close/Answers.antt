@@ -1,7 +1,7 @@
 use Rattle.std.proofs.Common.{◌≡◌, ◌++◌, take, drop, sym, ap, ap₂, subst, ◌∙◌, ℕ, None, min, length, unwrap_or, arith, Vec, Global, List, [], ◌∷◌, ◌<◌, vec_len, length-append, IsSome, true, false}
 use Rattle.ill_read.specs.declared.mark.Mark.{Mark}
 use Rattle.ill_cells.specs.Places.{alternative_of}
-use Rattle.ill_read.specs.DueCode.{read_as, shape, slot_in}
+use Rattle.ill_elements.specs.Due.{read_as, shape, slot_in}
 use Rattle.ill_read.specs.code.Drafts.{HasClosed, IsChecked}
 use Rattle.ill_read.specs.code.OctetDrafts.{AreOctets}
 use Rattle.ill_read.specs.code.Outlines.{HasFront, HasRear}

@@ -1,5 +1,5 @@
 use Rattle.std.proofs.Common.{refl, ap, ap₂, subst, ◌∙◌, ◌++◌}
-use Rattle.ill_read.specs.DueCode.{shape}
+use Rattle.ill_elements.specs.Due.{shape}
 use Rattle.ill_read.specs.code.Drafts.{rows_before}
 use Rattle.ill_read.specs.code.Outlines.{HasPassed, alternative_marks}
 use Rattle.ill_cells.specs.Places.{alternative_of}

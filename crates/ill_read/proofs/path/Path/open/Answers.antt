@@ -1,5 +1,5 @@
 use Rattle.std.proofs.Common.{◌∙◌, refl, ap}
-use Rattle.ill_read.specs.DueCode.{shape_at}
+use Rattle.ill_elements.specs.Due.{shape_at}
 use Rattle.ill_read.proofs.OpenedElements.{opens_at}
 use Rattle.ill_read.proofs.path.Path.open.Goals as goal
 

@@ -1,7 +1,7 @@
 use Rattle.std.proofs.Common.{refl, sym, subst, ◌∙◌}
 use Rattle.ber_leaf.proofs.Leaves.{content_holds}
-use Rattle.ill_read.specs.LeafTypes.{leaf_is}
-use Rattle.ill_read.specs.DueCode.{shape}
+use Rattle.ill_elements.specs.LeafTypes.{leaf_is}
+use Rattle.ill_elements.specs.Due.{shape}
 use Rattle.ill_read.specs.code.Drafts.{HasLeaf}
 use Rattle.ill_read.proofs.PrimitiveElements.{leaf_read, segment_read}
 use Rattle.ill_read.proofs.path.Path.take.Goals as goal

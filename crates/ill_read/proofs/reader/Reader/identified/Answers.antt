@@ -8,8 +8,8 @@ use Rattle.ill_refusals.specs.Fault.{wanting}
 use Rattle.ill_refusals.proofs.Headers.{read_is_identifier}
 use Rattle.ill_read.specs.Standing.{StandsAt}
 use Rattle.ill_refusals.specs.code.Judge.{judge_length}
-use Rattle.ill_read.specs.DueCode.{read_as}
-use Rattle.ill_read.specs.Elements.{element_is}
+use Rattle.ill_elements.specs.Due.{read_as}
+use Rattle.ill_elements.specs.Elements.{element_is}
 use Rattle.ill_read.specs.code.Judged.{IsBegin}
 use Rattle.ill_read.specs.code.JudgeCode.{Fits, IsExtent}
 use Rattle.ill_read.proofs.Judgements.{behind_identifier, headed_judged}

@@ -3,8 +3,8 @@ use Rattle.ber_core.specs.Id.{tag_of_id}
 use Rattle.ber_leaf.specs.Profile.{profile_two}
 use Rattle.ill_refusals.specs.Fault.{element_fault}
 use Rattle.ill_refusals.specs.code.Judge.{judge, or_faulty, reads}
-use Rattle.ill_read.specs.DueCode.{read_as}
-use Rattle.ill_read.specs.Elements.{element_is}
+use Rattle.ill_elements.specs.Due.{read_as}
+use Rattle.ill_elements.specs.Elements.{element_is}
 use Rattle.ill_refusals.specs.code.Step.{moved}
 use Rattle.ill_read.specs.code.Judged.{IsJudgement, IsStep, content_in}
 use Rattle.ill_read.specs.code.Progress.{Reads}

@@ -1,7 +1,7 @@
 use Rattle.std.proofs.Common.{◌∙◌, ℕ, Global, Vec, refl, sym, subst, ap}
 use Rattle.ber_leaf.specs.Content.{IsContent}
 use Rattle.ber_leaf.proofs.Leaves.{content_holds}
-use Rattle.ill_read.specs.LeafTypes.{leaf_is}
+use Rattle.ill_elements.specs.LeafTypes.{leaf_is}
 use Rattle.ill_read.proofs.ValueDrafts.{list_ends, wrapper_ends, loose_wrapper_ends, string_ends}
 use Rattle.ill_read.proofs.values.Values.ended.Goals as goal
 

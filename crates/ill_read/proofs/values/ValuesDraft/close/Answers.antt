@@ -1,9 +1,9 @@
 use Rattle.std.proofs.Common.{◌∙◌, ◌∷◌, ap₂, subst}
 use Rattle.ill_cells.specs.Places.{alternative_of}
-use Rattle.ill_read.specs.DueCode.{shape, slot_in}
+use Rattle.ill_elements.specs.Due.{shape, slot_in}
 use Rattle.ill_read.specs.code.Drafts.{IsChecked, rows_before}
 use Rattle.ill_read.specs.code.Held.{HasAdded, IsFound}
-use Rattle.ill_read.specs.Standing.{with_alternative}
+use Rattle.ill_elements.specs.Contents.{with_alternative}
 use Rattle.ill_read.proofs.ClosedElements.{handed_on}
 use Rattle.ill_read.proofs.ValueDrafts.{values_added}
 use Rattle.ill_read.proofs.values.ValuesDraft.close.Goals as goal

@@ -2,9 +2,9 @@ use Rattle.std.proofs.Common.{◌∙◌, ap, ap₂, subst}
 use Rattle.ber_leaf.specs.Leaf.{value}
 use Rattle.ill_schema.specs.Content.{simple}
 use Rattle.ill_cells.specs.Places.{alternative_of}
-use Rattle.ill_read.specs.DueCode.{shape, slot_in}
-use Rattle.ill_read.specs.LeafTypes.{leaf_is}
-use Rattle.ill_read.specs.Standing.{with_alternative}
+use Rattle.ill_elements.specs.Due.{shape, slot_in}
+use Rattle.ill_elements.specs.LeafTypes.{leaf_is}
+use Rattle.ill_elements.specs.Contents.{with_alternative}
 use Rattle.ill_read.specs.code.Drafts.{rows_before}
 use Rattle.ill_read.specs.code.Held.{HasAdded}
 use Rattle.ill_read.proofs.ValueDrafts.{values_added}

@@ -1,6 +1,6 @@
 -- What a tag begins.
 use Rattle.ill_schema.specs.declared.part.PartId.{PartId}
-use Rattle.ill_read.specs.declared.element.Element.{Element as CodeElement}
+use Rattle.ill_elements.specs.declared.element.Element.{Element as CodeElement}
 
 pub data Found : Type 0 where
   Element : CodeElement → Found

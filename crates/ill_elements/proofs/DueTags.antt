@@ -21,16 +21,16 @@ use Rattle.ill_schema.specs.declared.part.Row.{Row}
 use Rattle.ill_schema.proofs.Tags.{at_row}
 use Rattle.ill_refusals.specs.Element.{Component, Element, leaf, segment, Start, own_starts, retag, leave_out, tagged_starts, component_starts}
 use Rattle.ill_refusals.proofs.Rows.{same_tag-is, two_cases}
-use Rattle.ill_read.specs.Elements.{component_of, component_at, element_is, element_with}
-use Rattle.ill_read.specs.DueCode.{Begins, IsDueIn}
-use Rattle.ill_read.specs.Standing.{with_alternative}
-use Rattle.ill_read.specs.code.Drafts.{due_with}
-use Rattle.ill_read.specs.code.OctetDrafts.{left_away}
-use Rattle.ill_read.specs.declared.due.Next.{Next}
-use Rattle.ill_read.specs.declared.due.Next.TheVariants.{Rows, Inner, Items, Either, Segments, Nothing}
-use Rattle.ill_read.specs.declared.due.Slot.{Slot}
-use Rattle.ill_read.specs.declared.due.Slot.TheVariants.{Row as AtRow, Item, Inner as Inside, Segment as InString}
-use Rattle.ill_read.specs.declared.element.Element.{Element as CodeElement}
+use Rattle.ill_elements.specs.Elements.{component_of, component_at, element_is, element_with}
+use Rattle.ill_elements.specs.Due.{Begins, IsDueIn}
+use Rattle.ill_elements.specs.Contents.{with_alternative}
+use Rattle.ill_elements.specs.Due.{due_with}
+use Rattle.ill_elements.specs.Written.{left_away}
+use Rattle.ill_elements.specs.declared.due.Next.{Next}
+use Rattle.ill_elements.specs.declared.due.Next.TheVariants.{Rows, Inner, Items, Either, Segments, Nothing}
+use Rattle.ill_elements.specs.declared.due.Slot.{Slot}
+use Rattle.ill_elements.specs.declared.due.Slot.TheVariants.{Row as AtRow, Item, Inner as Inside, Segment as InString}
+use Rattle.ill_elements.specs.declared.element.Element.{Element as CodeElement}
 
 -- what holds of a start where this holds of its tag and its element
 abbrev AllStarts : (Tag → Element → Type 0) → List Start → Type 0

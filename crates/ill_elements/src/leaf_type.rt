@@ -26,8 +26,8 @@ pub enum LeafType {
 impl LeafType {
     ghost use Rattle.ill_schema.specs.Content.{simple};
     ghost use Rattle.ill_schema.specs.Value.{content_of};
-    ghost use Rattle.ill_read.specs.LeafTypes.{leaf_is};
-    ghost use Rattle.ill_read.specs.code.OctetDrafts.{is_number};
+    ghost use Rattle.ill_elements.specs.LeafTypes.{leaf_is};
+    ghost use Rattle.ill_elements.specs.Written.{is_number};
 
     /// Whether it is a string, which may be spelled in segments (X.690, 8.23).
     pub fn is_string(self) -> bool

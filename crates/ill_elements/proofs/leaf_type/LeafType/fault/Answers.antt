@@ -1,9 +1,9 @@
 use Rattle.std.proofs.Common.{subst, sym}
 use Rattle.ber_leaf.specs.Content.{IsContent}
-use Rattle.ill_read.specs.declared.leaf_type.LeafType.{LeafType}
-use Rattle.ill_read.specs.LeafTypes.{leaf_is}
-use Rattle.ill_read.proofs.Enumerated.{as_integer, as_enumerated}
-use Rattle.ill_read.proofs.leaf_type.LeafType.fault.Goals as goal
+use Rattle.ill_elements.specs.declared.leaf_type.LeafType.{LeafType}
+use Rattle.ill_elements.specs.LeafTypes.{leaf_is}
+use Rattle.ill_elements.proofs.Enumerated.{as_integer, as_enumerated}
+use Rattle.ill_elements.proofs.leaf_type.LeafType.fault.Goals as goal
 
 pub returns-in-Enumerated-clause-none : goal.returns-in-Enumerated-clause-none
 returns-in-Enumerated-clause-none c =

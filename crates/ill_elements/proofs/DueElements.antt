@@ -9,14 +9,14 @@ use Rattle.ill_schema.specs.Table.{rows_of}
 use Rattle.ill_refusals.specs.Element.{Component, Element, Start, components, components_from, list, starts}
 use Rattle.ill_refusals.specs.Next as next
 use Rattle.ill_refusals.specs.Next.{part, octets, rows, items, element_of, next_of, due, due_in, opening, start_of}
-use Rattle.ill_read.specs.Elements.{component_of, component_at, element_with, found_is}
-use Rattle.ill_read.specs.DueCode.{IsDueIn, IsDueInRows, IsRowDue, IsInnerDue, next_is, behind}
-use Rattle.ill_read.specs.DueCode.{Due}
-use Rattle.ill_read.specs.declared.due.Slot.{Slot}
-use Rattle.ill_read.specs.declared.due.Slot.TheVariants.{Row as AtRow, Item, Inner as Inside, Segment}
-use Rattle.ill_read.specs.declared.due.Next.{Next}
-use Rattle.ill_read.specs.declared.due.Next.TheVariants.{Rows, Inner, Items, Either, Segments, Nothing}
-use Rattle.ill_read.specs.declared.element.Wrapped.{Wrapped}
+use Rattle.ill_elements.specs.Elements.{component_of, component_at, element_with, found_is}
+use Rattle.ill_elements.specs.Due.{IsDueIn, IsDueInRows, IsRowDue, IsInnerDue, next_is, behind}
+use Rattle.ill_elements.specs.Due.{Due}
+use Rattle.ill_elements.specs.declared.due.Slot.{Slot}
+use Rattle.ill_elements.specs.declared.due.Slot.TheVariants.{Row as AtRow, Item, Inner as Inside, Segment}
+use Rattle.ill_elements.specs.declared.due.Next.{Next}
+use Rattle.ill_elements.specs.declared.due.Next.TheVariants.{Rows, Inner, Items, Either, Segments, Nothing}
+use Rattle.ill_elements.specs.declared.element.Wrapped.{Wrapped}
 
 here : (node : NodeId) (k i : ℕ) (rs : List Row) (row : Row) → slice_get rs i ≡ Some row
     → drop i (components_from profile_two node k rs) ≡ component_at (record { node = node; row = k + i }) row ∷ drop (i + 1) (components_from profile_two node k rs)

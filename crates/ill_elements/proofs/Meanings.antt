@@ -15,11 +15,11 @@ use Rattle.ill_schema.specs.Table.{kind_of, rows_of}
 use Rattle.ill_schema.specs.Tagging.{Tagging, Tagged, untagged, implicit, explicit, explicit_or_bare, tagging, leaf_of}
 use Rattle.ill_schema.proofs.Tags.{is_proper, is_proper_row, at_row, tables_proper}
 use Rattle.ill_schema.proofs.Unique.{leaf_at, no_leaf}
-use Rattle.ill_read.specs.Elements.{component_at, element_with, found_is}
-use Rattle.ill_read.specs.DueCode.{Begins, IsBegun, IsRowDue}
+use Rattle.ill_elements.specs.Elements.{component_at, element_with, found_is}
+use Rattle.ill_elements.specs.Due.{Begins, IsBegun, IsRowDue}
 use Rattle.ill_refusals.specs.Element.{Component, Element, Start, tagged_starts, component_starts}
-use Rattle.ill_read.specs.Standing.{IsValueOf, with_alternative}
-use Rattle.ill_read.specs.Found.{Found}
+use Rattle.ill_elements.specs.Contents.{IsValueOf, with_alternative}
+use Rattle.ill_elements.specs.Found.{Found}
 use Rattle.ill_refusals.proofs.WholeElements.{element_at, own_start, implicit_start, one_start, improper_choice, own_of, own_is, leaf_value, explicit_means, bare_kind, choice_starts, carried_starts, left_found, carried_or_left, left_starts, IsProperComponent, untagged_carried}
 use Rattle.ill_refusals.proofs.OpenElements.{row_proper}
 use Rattle.ill_refusals.proofs.Rows.{starting}

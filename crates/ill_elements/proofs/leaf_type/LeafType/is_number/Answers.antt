@@ -4,8 +4,8 @@ use Rattle.ber_leaf.specs.Leaf.{boolean, enumerated, integer}
 use Rattle.ber_leaf.specs.Profile.{profile_two}
 use Rattle.ber_leaf.proofs.Integers.{integer_size}
 use Rattle.ber_leaf.proofs.Leaves.{no_fault, one_octet}
-use Rattle.ill_read.specs.LeafTypes.{leaf_is}
-use Rattle.ill_read.proofs.leaf_type.LeafType.is_number.Goals as goal
+use Rattle.ill_elements.specs.LeafTypes.{leaf_is}
+use Rattle.ill_elements.proofs.leaf_type.LeafType.is_number.Goals as goal
 
 pub read-requires : goal.read-requires
 read-requires c =

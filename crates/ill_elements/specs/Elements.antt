@@ -7,12 +7,12 @@ use Rattle.ill_schema.specs.declared.part.Presence.{Presence}
 use Rattle.ill_schema.specs.declared.part.Row.{Row}
 use Rattle.ill_schema.specs.Tagging.{untagged, tagging, same_tag}
 use Rattle.ill_refusals.specs.Element.{Component, Element, leaf, sequence, list, wrapper, loose_wrapper, segment, left_out, Start}
-use Rattle.ill_read.specs.LeafTypes.{leaf_is}
-use Rattle.ill_read.specs.declared.element.Element.{Element as CodeElement}
-use Rattle.ill_read.specs.declared.element.Element.TheVariants as code
-use Rattle.ill_read.specs.Found.{Found}
-use Rattle.ill_read.specs.Found as found
-use Rattle.ill_read.specs.declared.element.Wrapped.{Wrapped}
+use Rattle.ill_elements.specs.LeafTypes.{leaf_is}
+use Rattle.ill_elements.specs.declared.element.Element.{Element as CodeElement}
+use Rattle.ill_elements.specs.declared.element.Element.TheVariants as code
+use Rattle.ill_elements.specs.Found.{Found}
+use Rattle.ill_elements.specs.Found as found
+use Rattle.ill_elements.specs.declared.element.Wrapped.{Wrapped}
 
 abbrev pub component_of : Wrapped → Component
 component_of w = record { part = w.part; presence = Presence.Must; tagging = untagged; node = w.node }

@@ -1,7 +1,7 @@
 -- The leaves that the code names.
 use Rattle.ber_leaf.specs.Leaf.{Leaf, boolean, integer, enumerated, general_string, visible_string, printable_string, iso_date, iso_time}
-use Rattle.ill_read.specs.declared.leaf_type.LeafType.{LeafType}
-use Rattle.ill_read.specs.declared.leaf_type.LeafType.TheVariants as code
+use Rattle.ill_elements.specs.declared.leaf_type.LeafType.{LeafType}
+use Rattle.ill_elements.specs.declared.leaf_type.LeafType.TheVariants as code
 
 abbrev pub leaf_is : LeafType → Leaf
 leaf_is code.Boolean = boolean

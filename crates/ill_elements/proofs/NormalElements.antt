@@ -17,13 +17,13 @@ use Rattle.ill_refusals.specs.Element.{Component, Element, Start, tagged_starts,
 use Rattle.ill_refusals.proofs.OpenElements.{inner_proper, row_proper}
 use Rattle.ill_refusals.proofs.Rows.{starting}
 use Rattle.ill_refusals.proofs.WholeElements.{element_at, own_start, implicit_start, one_start, improper_choice, own_of, own_is, leaf_value, choice_starts, carried_starts, left_found, carried_or_left, left_starts, IsProperComponent}
-use Rattle.ill_read.specs.Elements.{component_of, component_at, found_is}
-use Rattle.ill_read.specs.DueCode.{Begins, IsRowDue, IsItemDue, IsInnerDue}
-use Rattle.ill_read.specs.Standing.{IsValueOf, with_alternative}
-use Rattle.ill_read.specs.code.Written.{normal_element}
-use Rattle.ill_read.specs.DueCode.{Due}
-use Rattle.ill_read.specs.Found.{Found}
-use Rattle.ill_read.specs.declared.element.Wrapped.{Wrapped}
+use Rattle.ill_elements.specs.Elements.{component_of, component_at, found_is}
+use Rattle.ill_elements.specs.Due.{Begins, IsRowDue, IsItemDue, IsInnerDue}
+use Rattle.ill_elements.specs.Contents.{IsValueOf, with_alternative}
+use Rattle.ill_elements.specs.Written.{normal_element}
+use Rattle.ill_elements.specs.Due.{Due}
+use Rattle.ill_elements.specs.Found.{Found}
+use Rattle.ill_elements.specs.declared.element.Wrapped.{Wrapped}
 
 -- what a value under a function comes from
 mapped_some : {A B : Type 0} (f : A → B) (o : Option A) (y : B) → option_map f o ≡ Some y → (x : A) × (o ≡ Some x) × (f x ≡ y)

@@ -12,11 +12,11 @@ use Rattle.ill_schema.specs.Presence.{IsCarried}
 use Rattle.ill_schema.specs.Table.{kind_of, rows_of}
 use Rattle.ill_schema.specs.Tagging.{tagging}
 use Rattle.ill_schema.specs.Value.{entries_of, items_of}
-use Rattle.ill_read.specs.Elements.{component_at}
-use Rattle.ill_read.specs.DueCode.{MayAllLack}
+use Rattle.ill_elements.specs.Elements.{component_at}
+use Rattle.ill_elements.specs.Due.{MayAllLack}
 use Rattle.ill_refusals.specs.Element.{components, components_from}
 use Rattle.ill_refusals.specs.Next.{rows, missing, first_mandatory}
-use Rattle.ill_read.specs.Standing.{absent_content}
+use Rattle.ill_elements.specs.Contents.{absent_content}
 use Rattle.ill_refusals.specs.code.Step.{snoc}
 use Rattle.ill_refusals.proofs.OpenElements.{same_simple, first_none}
 use Rattle.ill_refusals.proofs.TreeRuns.{joined, joined-none}

@@ -1,6 +1,6 @@
 //! What may come next in an open element, and where an element is in it.
 ghost use Rattle.std.specs.Prelude.{◌≡◌};
-ghost use Rattle.ill_read.specs.DueCode.{shape, slot_in};
+ghost use Rattle.ill_elements.specs.Due.{shape, slot_in};
 
 use crate::element::Wrapped;
 use ill_cells::{At, Found};

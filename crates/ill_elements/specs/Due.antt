@@ -1,4 +1,4 @@
--- What is due, in the decoder's words.
+-- What is due, in the words of the code.
 use Rattle.std.specs.Prelude.{◌≡◌, ◌⊎◌, ℕ, zero, suc, ◌+◌, ◌<◌, ◌≤◌, true, false, [], ◌∷◌, drop, Option, Some, None, slice_get}
 use Rattle.ber_core.specs.Identifier.{Tag}
 use Rattle.ber_core.specs.Tree.{octet_string}
@@ -18,18 +18,18 @@ use Rattle.ill_cells.specs.declared.cell.Slot.{Slot as CellSlot}
 use Rattle.ill_cells.specs.declared.cell.What.{What}
 use Rattle.ill_cells.specs.declared.cell.What.TheVariants as what
 use Rattle.ill_cells.specs.declared.cell.Slot.TheVariants as cell
-use Rattle.ill_read.specs.Elements.{component_of, component_at, element_with, found_is}
+use Rattle.ill_elements.specs.Elements.{component_of, component_at, element_with, found_is}
 use Rattle.ill_schema.specs.declared.part.Presence.{Presence}
-use Rattle.ill_read.specs.declared.due.Slot.TheVariants.{Row as AtRow, Item, Inner as Inside, Segment}
-use Rattle.ill_read.specs.declared.due.Next.{Next}
-use Rattle.ill_read.specs.declared.due.Next.TheVariants.{Rows, Inner, Items, Either, Segments, Nothing}
-use Rattle.ill_read.specs.declared.due.Slot.{Slot}
-use Rattle.ill_read.specs.declared.element.Element.{Element as CodeElement}
-use Rattle.ill_read.specs.declared.element.Element.TheVariants.{Leaf, Sequence, List as ListOf, Wrapper, LooseWrapper, Segment as InString}
-use Rattle.ill_read.specs.Found.{Found}
-use Rattle.ill_read.specs.Found as found
-use Rattle.ill_read.specs.declared.element.Wrapped.{Wrapped}
-use Rattle.ill_read.specs.declared.leaf_type.LeafType.TheVariants as leaf
+use Rattle.ill_elements.specs.declared.due.Slot.TheVariants.{Row as AtRow, Item, Inner as Inside, Segment}
+use Rattle.ill_elements.specs.declared.due.Next.{Next}
+use Rattle.ill_elements.specs.declared.due.Next.TheVariants.{Rows, Inner, Items, Either, Segments, Nothing}
+use Rattle.ill_elements.specs.declared.due.Slot.{Slot}
+use Rattle.ill_elements.specs.declared.element.Element.{Element as CodeElement}
+use Rattle.ill_elements.specs.declared.element.Element.TheVariants.{Leaf, Sequence, List as ListOf, Wrapper, LooseWrapper, Segment as InString}
+use Rattle.ill_elements.specs.Found.{Found}
+use Rattle.ill_elements.specs.Found as found
+use Rattle.ill_elements.specs.declared.element.Wrapped.{Wrapped}
+use Rattle.ill_elements.specs.declared.leaf_type.LeafType.TheVariants as leaf
 
 -- what may come next at a position of a node: at 0 in the wrapper of a part round it, from 1 on in the node itself
 abbrev pub shape_of : Kind → PartId → NodeId → ℕ → Next
@@ -83,7 +83,7 @@ abbrev pub found_as : PartId → NodeId → What → Found
 found_as p node what.LeftOut = found.LeftOut p
 found_as p node w = found.Element (element_as p node w)
 
--- where what is found stands
+-- where what is found is
 abbrev pub slot_as : ℕ → CellSlot → Slot
 slot_as row cell.Row = AtRow row
 slot_as row cell.Inner = Inside
@@ -103,7 +103,7 @@ slot_in f = slot_as (row_of f) (slot_of f)
 abbrev pub next_place : CellFound → Where
 next_place f = place_after f (slot_of f)
 
--- what a tag begins, where that stands, and the alternative of a choice without a tag that it is
+-- what a tag begins, where that is, and the alternative of a choice without a tag that it is
 pub record Due : Type 0 where
   pub slot : Slot
   pub alternative : Option ℕ
@@ -193,3 +193,7 @@ IsDueIn t Nothing d = ⊥
 pub record IsComing (t : Tag) (at : At) (f : CellFound) : Type 0 where
   pub is_due : IsDueIn t (shape at) (due_as f)
   pub after : shape_at (next_place f) ≡ behind (shape at) (slot_in f)
+
+-- what is due, where it is an element
+abbrev pub due_with : Slot → Option ℕ → CodeElement → Due
+due_with slot alternative element = record { slot = slot; alternative = alternative; found = found.Element element }

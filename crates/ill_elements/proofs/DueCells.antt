@@ -27,15 +27,15 @@ use Rattle.ill_cells.proofs.Going.{element-due}
 use Rattle.ill_cells.proofs.Scanning.{same_tag-swap, sequence_starts}
 use Rattle.ill_cells.specs.declared.cell.Slot.{Slot as CellSlot}
 use Rattle.ill_cells.specs.declared.cell.Slot.TheVariants as cell
-use Rattle.ill_read.specs.Elements.{component_of, component_at, element_with, found_is}
-use Rattle.ill_read.specs.DueCode.{Begins, BeginsAt, Due, IsComing, IsDueIn, IsDueInRows, IsItemDue, IsInnerDue, IsRowDue, IsSegmentDue, MayAllLack, behind, due_as, element_as, found_as, next_is, shape, shape_at, shape_of, slot_as}
-use Rattle.ill_read.specs.declared.due.Next.{Next}
-use Rattle.ill_read.specs.declared.due.Next.TheVariants.{Rows, Inner, Items, Either, Segments, Nothing}
-use Rattle.ill_read.proofs.DueElements.{first_due}
-use Rattle.ill_read.specs.declared.due.Slot.TheVariants.{Row as AtRow, Item, Inner as Inside, Segment as InString}
-use Rattle.ill_read.specs.Found.{Found}
-use Rattle.ill_read.specs.Found as found
-use Rattle.ill_read.specs.declared.element.Wrapped.{Wrapped}
+use Rattle.ill_elements.specs.Elements.{component_of, component_at, element_with, found_is}
+use Rattle.ill_elements.specs.Due.{Begins, BeginsAt, Due, IsComing, IsDueIn, IsDueInRows, IsItemDue, IsInnerDue, IsRowDue, IsSegmentDue, MayAllLack, behind, due_as, element_as, found_as, next_is, shape, shape_at, shape_of, slot_as}
+use Rattle.ill_elements.specs.declared.due.Next.{Next}
+use Rattle.ill_elements.specs.declared.due.Next.TheVariants.{Rows, Inner, Items, Either, Segments, Nothing}
+use Rattle.ill_elements.proofs.DueElements.{first_due}
+use Rattle.ill_elements.specs.declared.due.Slot.TheVariants.{Row as AtRow, Item, Inner as Inside, Segment as InString}
+use Rattle.ill_elements.specs.Found.{Found}
+use Rattle.ill_elements.specs.Found as found
+use Rattle.ill_elements.specs.declared.element.Wrapped.{Wrapped}
 
 there : (node : NodeId) (k i : ℕ) (rs : List Row) (c : Component) (cs : List Component) → drop i (components_from profile_two node k rs) ≡ c ∷ cs
     → (row : Row) × (slice_get rs i ≡ Some row) × (c ≡ component_at (record { node = node; row = k + i }) row)

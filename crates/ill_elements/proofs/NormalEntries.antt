@@ -12,8 +12,8 @@ use Rattle.ill_schema.specs.Table.{kind_of}
 use Rattle.ill_schema.specs.Tagging.{tagging}
 use Rattle.ill_schema.specs.Value.{entries_of, items_of}
 use Rattle.ill_refusals.proofs.OpenElements.{same_simple}
-use Rattle.ill_read.specs.Standing.{absent_content}
-use Rattle.ill_read.specs.code.Written.{entry_octets}
+use Rattle.ill_elements.specs.Contents.{absent_content}
+use Rattle.ill_elements.specs.Written.{entry_octets}
 
 -- the default of a row is its default
 pub default_is : (row : Row) (d : ℤ) → row.presence ≡ Presence.Default d → is_default row (simple (default_value (kind_of row.node) d)) ≡ true

@@ -19,20 +19,20 @@ use Rattle.ill_cells.specs.declared.at.Found.{Found as CellFound}
 use Rattle.ill_cells.specs.declared.cell.Slot.{Slot as CellSlot}
 use Rattle.ill_cells.specs.declared.cell.Slot.TheVariants as cell
 use Rattle.ill_cells.proofs.AtRow.{row-of}
-use Rattle.ill_read.specs.Elements.{component_at, element_with}
-use Rattle.ill_read.specs.DueCode.{IsDueIn, IsRowDue, behind, next_place, shape_at, shape_of, slot_as, slot_in}
-use Rattle.ill_read.specs.LeafTypes.{leaf_is}
-use Rattle.ill_read.specs.Standing.{with_alternative}
-use Rattle.ill_read.specs.code.Drafts.{due_with}
-use Rattle.ill_read.specs.code.OctetDrafts.{is_number, left_away}
-use Rattle.ill_read.specs.declared.due.Next.{Next}
-use Rattle.ill_read.specs.declared.due.Next.TheVariants.{Rows, Inner, Items, Either, Segments, Nothing}
-use Rattle.ill_read.specs.declared.due.Slot.TheVariants.{Row as AtRow, Item, Inner as Inside, Segment as InString}
-use Rattle.ill_read.specs.declared.element.Element.TheVariants.{Leaf as LeafElement}
-use Rattle.ill_read.specs.declared.leaf_type.LeafType.{LeafType}
-use Rattle.ill_read.proofs.DueElements.{components-at}
-use Rattle.ill_read.proofs.DueTags.{PlainLeaf, default_leaf}
-use Rattle.ill_read.proofs.NormalLeaves.{choice_kept}
+use Rattle.ill_elements.specs.Elements.{component_at, element_with}
+use Rattle.ill_elements.specs.Due.{IsDueIn, IsRowDue, behind, next_place, shape_at, shape_of, slot_as, slot_in}
+use Rattle.ill_elements.specs.LeafTypes.{leaf_is}
+use Rattle.ill_elements.specs.Contents.{with_alternative}
+use Rattle.ill_elements.specs.Due.{due_with}
+use Rattle.ill_elements.specs.Written.{is_number, left_away}
+use Rattle.ill_elements.specs.declared.due.Next.{Next}
+use Rattle.ill_elements.specs.declared.due.Next.TheVariants.{Rows, Inner, Items, Either, Segments, Nothing}
+use Rattle.ill_elements.specs.declared.due.Slot.TheVariants.{Row as AtRow, Item, Inner as Inside, Segment as InString}
+use Rattle.ill_elements.specs.declared.element.Element.TheVariants.{Leaf as LeafElement}
+use Rattle.ill_elements.specs.declared.leaf_type.LeafType.{LeafType}
+use Rattle.ill_elements.proofs.DueElements.{components-at}
+use Rattle.ill_elements.proofs.DueTags.{PlainLeaf, default_leaf}
+use Rattle.ill_elements.proofs.NormalLeaves.{choice_kept}
 
 -- a leaf of the kind is a default exactly where it has the number's value
 leaf_number : (k : Kind) (t : Tag) (l : Leaf) (o : List ℕ) (d : ℤ) → PlainLeaf k t (leaf l) → same_value (value l o) (default_value k d) ≡ is_number l d o

@@ -9,10 +9,10 @@ use Rattle.ill_schema.specs.Content.{Content, simple, alternative}
 use Rattle.ill_schema.specs.Presence.{default_value, is_default, is_default_of, same_value}
 use Rattle.ill_schema.specs.Table.{kind_of}
 use Rattle.ill_schema.specs.declared.{node.Kind.Kind, part.Presence.Presence, part.Row.Row}
-use Rattle.ill_read.specs.Standing.{with_alternative}
-use Rattle.ill_read.specs.code.OctetDrafts.{left_away, row_slot}
-use Rattle.ill_read.specs.declared.due.Next.{Next}
-use Rattle.ill_read.specs.declared.due.Slot.{Slot}
+use Rattle.ill_elements.specs.Contents.{with_alternative}
+use Rattle.ill_elements.specs.Written.{left_away, row_slot}
+use Rattle.ill_elements.specs.declared.due.Next.{Next}
+use Rattle.ill_elements.specs.declared.due.Slot.{Slot}
 use Rattle.ber_leaf.proofs.Integers.{integer_same}
 
 -- any content but that of a boolean is normal

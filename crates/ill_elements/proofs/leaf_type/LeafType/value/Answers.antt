@@ -1,9 +1,9 @@
 use Rattle.std.proofs.Common.{subst}
 use Rattle.ber_leaf.specs.Content.{IsContent}
-use Rattle.ill_read.specs.declared.leaf_type.LeafType.{LeafType}
-use Rattle.ill_read.specs.LeafTypes.{leaf_is}
-use Rattle.ill_read.proofs.Enumerated.{as_integer}
-use Rattle.ill_read.proofs.leaf_type.LeafType.value.Goals as goal
+use Rattle.ill_elements.specs.declared.leaf_type.LeafType.{LeafType}
+use Rattle.ill_elements.specs.LeafTypes.{leaf_is}
+use Rattle.ill_elements.proofs.Enumerated.{as_integer}
+use Rattle.ill_elements.proofs.leaf_type.LeafType.value.Goals as goal
 
 pub of-requires-in-Enumerated : goal.of-requires-in-Enumerated
 of-requires-in-Enumerated c =

@@ -1,10 +1,9 @@
 //! The elements that an encoding may hold.
 ghost use Rattle.std.specs.Prelude.{◌≡◌};
-ghost use Rattle.ill_read.specs.code.JudgeCode.{IsFormed, has_form};
 
 use crate::leaf_type::LeafType;
 use ill_cells::{Found, What};
-use ill_schema::{Cause, NodeId, PartId};
+use ill_schema::{NodeId, PartId};
 
 /// An element, as what it is read.
 #[derive(Clone, Copy)]
@@ -21,7 +20,7 @@ pub enum Element {
 }
 
 impl Element {
-    ghost use Rattle.ill_read.specs.DueCode.{read_as};
+    ghost use Rattle.ill_elements.specs.Due.{read_as};
 
     /// As what that which was found is read. What is left out never is.
     #[inline(always)]
@@ -56,36 +55,4 @@ impl Element {
 pub struct Wrapped {
     pub part: PartId,
     pub node: NodeId,
-}
-
-/// Why what was found can't have the form, None where it may.
-#[inline(always)]
-pub fn form_fault(found: Found, constructed: bool) -> Option<Cause>
-    ensures { IsFormed found constructed result }
-{
-    if has_form(found.what(), constructed) {
-        return None;
-    }
-    match found.what() {
-        What::LeftOut => Some(Cause::LeftOut(found.part())),
-        _ => Some(Cause::WrongForm),
-    }
-}
-
-/// Whether what is read so may have the form (X.690, 8.2 to 8.10, 8.14 and 8.23). What is left out has none.
-#[inline(always)]
-fn has_form(what: What, constructed: bool) -> bool
-    ensures { result ≡ has_form what constructed }
-{
-    if constructed {
-        !matches!(
-            what,
-            What::Boolean | What::Integer | What::Enumerated | What::LeftOut
-        )
-    } else {
-        !matches!(
-            what,
-            What::Sequence | What::List | What::Wrapper | What::LooseWrapper | What::LeftOut
-        )
-    }
 }

@@ -1,0 +1,10 @@
+pub mod Enumerated
+pub mod DueElements
+pub mod DueCells
+pub mod Entries
+pub mod Meanings
+pub mod DueTags
+pub mod NormalLeaves
+pub mod Defaults
+pub mod NormalElements
+pub mod NormalEntries

@@ -1,0 +1,37 @@
+-- What the content of an element is.
+use Rattle.std.specs.Prelude.{◌≡◌, ◌⊎◌, Option, Some, None, IsTrue}
+use Rattle.ber_core.specs.Identifier.{Tag}
+use Rattle.ber_core.specs.Octets.{are_octets}
+use Rattle.ber_core.specs.Tree.{Tree, Trees, constructed, none, more, text}
+use Rattle.ber_leaf.specs.Leaf.{value, content_fault}
+use Rattle.ber_leaf.specs.Profile.{profile_two}
+use Rattle.ill_schema.specs.Content.{Content, simple, alternative, Entries, Items}
+use Rattle.ill_schema.specs.Content as content
+use Rattle.ill_schema.specs.Meaning.{Means, Matches, MatchItems, IsLeaf}
+use Rattle.ill_schema.specs.Presence.{default_value}
+use Rattle.ill_schema.specs.Table.{kind_of, rows_of}
+use Rattle.ill_schema.specs.Tagging.{untagged}
+use Rattle.ill_schema.specs.declared.part.Presence.{Presence}
+use Rattle.ill_schema.specs.declared.part.Row.{Row}
+use Rattle.ill_refusals.specs.Element.{Element, leaf, sequence, list, wrapper, loose_wrapper, segment, left_out}
+
+-- the content is what the tree means as a whole element
+abbrev pub IsValueOf : Element → Content → Tree → Type 0
+IsValueOf (leaf l) c T = IsLeaf l T × IsTrue (are_octets (text T)) × (content_fault profile_two l (text T) ≡ None) × (c ≡ simple (value l (text T)))
+IsValueOf (sequence node) c T = (tag : Tag) × (ts : Trees) × (es : Entries) × (T ≡ constructed tag ts) × (c ≡ content.sequence es) × Matches profile_two es (rows_of node) ts
+IsValueOf (list node) c T = (tag : Tag) × (ts : Trees) × (is : Items) × (T ≡ constructed tag ts) × (c ≡ content.list is) × MatchItems profile_two is (rows_of node) ts
+IsValueOf (wrapper w) c T = (tag : Tag) × (U : Tree) × (T ≡ constructed tag (more U none)) × Means profile_two c w.node untagged U
+IsValueOf (loose_wrapper w) c T =
+    ((tag : Tag) × (U : Tree) × (T ≡ constructed tag (more U none)) × Means profile_two c w.node untagged U)
+    ⊎ ((tag : Tag) × (ts : Trees) × (es : Entries) × (T ≡ constructed tag ts) × (c ≡ content.sequence es) × Matches profile_two es (rows_of w.node) ts)
+IsValueOf segment c T = ⊥
+IsValueOf (left_out part) c T = ⊥
+
+-- a value with the number of the alternative that it is
+abbrev pub with_alternative : Option ℕ → Content → Content
+with_alternative None c = c
+with_alternative (Some n) c = alternative n c
+
+-- the entry of a row that has no element
+abbrev pub absent_content : Row → Option Content
+absent_content row = elim row.presence as (λ _. Option Content) [ Presence.Default d ↦ Some (simple (default_value (kind_of row.node) d)) | _ ↦ None ]
