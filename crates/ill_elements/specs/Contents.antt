@@ -1,5 +1,5 @@
 -- What the content of an element is.
-use Rattle.std.specs.Prelude.{◌≡◌, ◌⊎◌, Option, Some, None, IsTrue}
+use Rattle.std.specs.Prelude.{◌≡◌, ◌⊎◌, ℕ, Option, Some, None, IsTrue}
 use Rattle.ber_core.specs.Identifier.{Tag}
 use Rattle.ber_core.specs.Octets.{are_octets}
 use Rattle.ber_core.specs.Tree.{Tree, Trees, constructed, none, more, text}
