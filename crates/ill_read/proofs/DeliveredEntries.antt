@@ -56,6 +56,17 @@ pushed_apart l below apart = go l.element apart
     go (Wrapper w) n = refl
     go (LooseWrapper w) n = refl
 
+-- the innermost level, where no string is open
+pub innermost_level : (place : List Open) (frames : List Frame) (levels : List Level) → AreFrames place frames levels → (next_at frames ≡ Segments → ⊥)
+    → (l : Level) × (below : List Level) × (levels ≡ l ∷ below) × (l.next ≡ next_at frames)
+innermost_level [] frames levels h apart = (top_level, [], h.1, sym (ap next_at h.0))
+innermost_level (o ∷ path) frames levels h apart =
+    let f = h.1 in
+    let k : IsFrame f o path h.0 h.3 = h.6 in
+    let here : next_at frames ≡ shape f.place = ap next_at h.4 ∙ next_behind h.0 f in
+    let l = level_of f o.tag h.3 in
+    (l, h.2, h.5 ∙ pushed_apart l h.2 (λ s. apart (here ∙ segment_next (read_as f.found) (shape f.place) h.3 o.trees k.held s)), sym here)
+
 -- an element's content in the element round it, or in the message
 pub entry_added : {D : Type 0} (holds : D → List Level → List ℕ → Type 0) (frames : List Frame) (levels : List Level) (new : Path D) (place : List Open) (slot : Slot) (alt : Option ℕ) (el : CodeElement)
     (c : Content) (T : Tree) (at : ℕ) (rest : List ℕ) (result : Bool) → AreFrames place frames levels → IsDueIn (tag_of T) (next_at frames) (due_with slot alt el) → (element_is el ≡ segment → ⊥)

@@ -32,4 +32,5 @@ pub mod OctetDrafts
 pub mod NormalLeaves
 pub mod NormalElements
 pub mod NormalEntries
+pub mod OneDue
 pub mod Outlines

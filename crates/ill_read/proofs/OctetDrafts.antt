@@ -44,15 +44,15 @@ written_first (Wrapper w) = refl
 written_first (LooseWrapper w) = refl
 written_first Segment = refl
 
-pub octets_opened : (old new : Octets) (o : Opening) (base : ℕ) (id : List ℕ) → (read_as o.found ≡ Segment → ⊥) → (IsApartAs o → id ≡ identifier (tag_of_id o.id) (form_of (read_as o.found)))
-    → new.octets ≡ old.octets ++ (id ++ 0 ∷ []) → base ≡ length new.octets → HasOpened AreOctets old o base new
-octets_opened old new o base id whole is e b levels text h apart = subst (λ ls. AreOctets new ls text) (sym (pushed_apart l levels whole)) (go levels h)
+pub octets_opened : (old new : Octets) (next : Next) (o : Opening) (base : ℕ) (id : List ℕ) → (read_as o.found ≡ Segment → ⊥) → (IsApartAs o → id ≡ identifier (tag_of_id o.id) (form_of (read_as o.found)))
+    → new.octets ≡ old.octets ++ (id ++ 0 ∷ []) → base ≡ length new.octets → HasOpened AreOctets old next o base new
+octets_opened old new next o base id whole is e b levels text h opening = subst (λ ls. AreOctets new ls text) (sym (pushed_apart l levels whole)) (go levels h)
   where
     l : Level
     l = record { element = (read_as o.found); tag = tag_of_id o.id; next = first_of (read_as o.found); base = base; entries = [] }
 
     none : text ≡ []
-    none = apart whole
+    none = (opening whole).none
 
     go : (ls : List Level) → AreOctets old ls text → AreOctets new (l ∷ ls) text
     go [] h = absurd h.are

@@ -35,8 +35,8 @@ use Rattle.ill_read.specs.declared.values.Values.{Values}
 use Rattle.ill_read.specs.DueCode.{shape, first_of, read_as}
 
 -- an element that opens has no entries
-pub values_opened : (v : Values) (opening : Opening) (base : ℕ) → base ≡ length v.held.entries.items → HasOpened AreValues v opening base v
-values_opened v opening base e levels text h apart = go (read_as opening.found)
+pub values_opened : (v : Values) (next : Next) (opening : Opening) (base : ℕ) → base ≡ length v.held.entries.items → HasOpened AreValues v next opening base v
+values_opened v next opening base e levels text h is = go (read_as opening.found)
   where
     l : Level
     l = record { element = (read_as opening.found); tag = tag_of_id opening.id; next = first_of (read_as opening.found); base = base; entries = [] }

@@ -1,4 +1,4 @@
-use Rattle.std.proofs.Common.{take, drop, arith, sym, ap, ◌∙◌, subst, Vec, Global}
+use Rattle.std.proofs.Common.{[], take, drop, arith, sym, ap, ◌∙◌, subst, Vec, Global}
 use Rattle.ill_schema.specs.Table.{rows_of}
 use Rattle.ill_read.specs.code.Outlines.{HasPassed}
 use Rattle.ill_read.specs.declared.mark.Mark.{Mark}
@@ -16,6 +16,6 @@ loop-number-preserved c = record {
         (sym c.row.ensures ∙ w.in-Some.is) c.loop-number.invariant.passed (ap (λ (v : Vec Mark Global). v.items) w.marks-is ∙ w.in_ok-push.ensures.items)
     | in_default w ↦
         passed_past c.args.node c.args.from c.loop-number.number c.args.marks.now.items _ (sym c.row.ensures ∙ w.in_default.is)
-        (subst (λ (v : Vec Mark Global). HasPassed (drop c.args.from (take c.loop-number.number (rows_of c.args.node))) c.args.marks.now.items v.items) (sym w.marks-is) c.loop-number.invariant.passed)
+        (subst (λ (v : Vec Mark Global). HasPassed [] (drop c.args.from (take c.loop-number.number (rows_of c.args.node))) c.args.marks.now.items v.items) (sym w.marks-is) c.loop-number.invariant.passed)
   ];
 }

@@ -1,4 +1,4 @@
-use Rattle.std.proofs.Common.{◌<◌, ◌≤◌, drop, take}
+use Rattle.std.proofs.Common.{[], ◌<◌, ◌≤◌, drop, take}
 use Rattle.ill_schema.specs.Table.{rows_of}
 use Rattle.ill_read.specs.code.Outlines.{HasPassed}
 use Rattle.ill_read.proofs.outline.pass.Given as goal
@@ -7,5 +7,5 @@ abbrev pub invariant-loop-number : goal.invariant-loop-number
 invariant-loop-number l = record {
   from : l.from ≤ l.number;
   within : l.from < l.number → l.number ≤ l.until;
-  passed : HasPassed (drop l.from (take l.number (rows_of l.fn.node))) l.initial.marks.items l.marks.items;
+  passed : HasPassed [] (drop l.from (take l.number (rows_of l.fn.node))) l.initial.marks.items l.marks.items;
 }
