@@ -1,5 +1,5 @@
 -- What is due for a tree is one thing: its slot, and the value that it gives.
-use Rattle.std.proofs.Common.{◌≡◌, ℕ, true, false, Option, Some, refl, sym, ap, subst, ◌∙◌, ◌+◌, drop, inl, inr, slice_get}
+use Rattle.std.proofs.Common.{◌≡◌, ℕ, true, false, Option, Some, refl, sym, ap, subst, ◌∙◌, inl, inr, slice_get}
 use Rattle.ber_core.specs.Tree.{Tree, tag_of}
 use Rattle.ber_leaf.specs.Profile.{profile_two}
 use Rattle.ill_schema.specs.Content.{Content}
@@ -9,8 +9,8 @@ use Rattle.ill_schema.specs.Tagging.{tagging}
 use Rattle.ill_schema.specs.declared.node.NodeId.{NodeId}
 use Rattle.ill_schema.specs.declared.part.Row.{Row}
 use Rattle.ill_schema.proofs.Unique.{means_unique}
-use Rattle.ill_refusals.specs.Element.{Component, components}
-use Rattle.ill_refusals.specs.Next.{Due, part, rows}
+use Rattle.ill_refusals.specs.Element.{Component}
+use Rattle.ill_refusals.specs.Next.{Due, part}
 use Rattle.ill_refusals.proofs.OpenElements.{inner_proper, row_proper}
 use Rattle.ill_refusals.proofs.WholeElements.{IsProperComponent}
 use Rattle.ill_read.specs.DueCode.{IsBegun, IsDueIn, IsDueInRows}

@@ -1,6 +1,7 @@
 -- The marks that an outline has, as elements open, are read and end.
 use Rattle.std.proofs.Common.{◌≡◌, ℕ, List, [], ◌∷◌, ◌++◌, length, map, append_assoc, append-nil, Option, Some, None, refl, sym, ap, subst, ◌∙◌, inl, inr, true, false, Bool}
 use Rattle.std.proofs.lemmas.List.{map-append}
+use Rattle.std.proofs.lemmas.Option.{slice_get_cases}
 use Rattle.ber_core.specs.Id.{tag_of_id}
 use Rattle.ber_core.specs.Identifier.{Tag}
 use Rattle.ber_core.specs.Tree.{Trees, tag_of}
@@ -41,9 +42,9 @@ use Rattle.ill_read.specs.declared.mark.Mark.TheVariants as mark
 use Rattle.ill_read.specs.declared.outline.Outlining.{Outlining}
 use Rattle.ber_leaf.proofs.Leaves.{content as content_is}
 use Rattle.ill_read.proofs.DeliveredEntries.{pushed_apart}
-use Rattle.ill_read.proofs.HeldEntries.{drop-take-more, take-past}
+use Rattle.ill_read.proofs.HeldEntries.{drop-take-more}
 use Rattle.ill_read.proofs.OneDue.{one_due}
-use Rattle.std.proofs.Common.{suc, ◌+◌, ◌≤◌, take, drop, slice_get, arith}
+use Rattle.std.proofs.Common.{suc, ◌+◌, ◌<◌, ◌≤◌, take, drop, slice_get, arith}
 
 -- ---- rows that are passed
 
@@ -55,24 +56,21 @@ pub passed_none : (rows : List Row) (old : List Mark) → rows ≡ [] → HasPas
 passed_none rows old e = record { marks = []; added = sym (append-nil old); are = subst (λ rs. ArePassed rs []) (sym e) refl }
 
 -- one more row is passed
-pub passed_more : (node : NodeId) (from n : ℕ) (row : Row) (old mid new : List Mark) → from ≤ n → slice_get (rows_of node) n ≡ Some row
-    → HasPassed [] (drop from (take n (rows_of node))) old mid → new ≡ mid ++ mark.Passed (record { node = node; row = n }) ∷ [] → HasPassed [] (drop from (take (n + 1) (rows_of node))) old new
-passed_more node from n row old mid new h is p a =
+pub passed_more : (node : NodeId) (from n : ℕ) (old mid new : List Mark) → from ≤ n → n < length (rows_of node) → HasPassed [] (drop from (take n (rows_of node))) old mid
+    → new ≡ mid ++ mark.Passed (record { node = node; row = n }) ∷ [] → HasPassed [] (drop from (take (n + 1) (rows_of node))) old new
+passed_more node from n old mid new h within p a =
     let s : n + 1 ≡ suc n = omega arith in
     let part = mark.Passed (record { node = node; row = n }) in
-    let more : drop from (take (n + 1) (rows_of node)) ≡ drop from (take n (rows_of node)) ++ row ∷ [] = ap (λ i. drop from (take i (rows_of node))) s ∙ drop-take-more from n (rows_of node) row h is in
+    let r = row_there (rows_of node) n within in
+    let more : drop from (take (n + 1) (rows_of node)) ≡ drop from (take n (rows_of node)) ++ r.0 ∷ [] = ap (λ i. drop from (take i (rows_of node))) s ∙ drop-take-more from n (rows_of node) r.0 h r.1 in
     record {
       marks = p.marks ++ part ∷ [];
       added = a ∙ ap (λ xs. xs ++ part ∷ []) p.added ∙ append_assoc old p.marks (part ∷ []);
-      are = subst (λ rows. ArePassed rows (p.marks ++ part ∷ [])) (sym more) (passed_join _ (row ∷ []) p.marks (part ∷ []) p.are (record { node = node; row = n }, [], refl, is, refl));
+      are = subst (λ rows. ArePassed rows (p.marks ++ part ∷ [])) (sym more) (passed_join _ (r.0 ∷ []) p.marks (part ∷ []) p.are (record { node = node; row = n }, [], refl, r.1, refl));
     }
-
--- after the last row there is none to pass
-pub passed_past : (node : NodeId) (from n : ℕ) (old new : List Mark) → slice_get (rows_of node) n ≡ None → HasPassed [] (drop from (take n (rows_of node))) old new
-    → HasPassed [] (drop from (take (n + 1) (rows_of node))) old new
-passed_past node from n old new is p =
-    let s : suc n ≡ n + 1 = omega arith in
-    subst (λ (rs : List Row). HasPassed [] (drop from rs) old new) (sym (take-past n (rows_of node) is) ∙ ap (λ i. take i (rows_of node)) s) p
+  where
+    row_there : (rows : List Row) (k : ℕ) → k < length rows → (row : Row) × (slice_get rows k ≡ Some row)
+    row_there rows k h = elim (slice_get_cases rows k).1 [ inl x ↦ (x.0, x.2) | inr x ↦ absurd (omega (arith, h, x.0)) ]
 
 -- ---- the entries of a value
 

@@ -18,7 +18,7 @@ use crate::leaf_type::LeafType;
 use crate::mark::Mark;
 use crate::octets::Octets;
 use ill_cells::{At, Found};
-use ill_schema::{NodeId, PartId, row, rows};
+use ill_schema::{NodeId, PartId, rows};
 use std::alloc::{AllocError, Global};
 
 /// The outline of a message: marks that say what its value is, in reading order.
@@ -115,8 +115,9 @@ fn choose(marks: &mut Vec<Mark>, alternative: Option<u8>) -> Result<(), AllocErr
 fn put_octets(marks: &mut Vec<Mark>, octets: &[u8]) -> Result<(), AllocError>
     ensures { OnOk result (marks.new.items ≡ marks.old.items ++ map Mark.Octet octets.now) }
 {
+    marks.reserve(octets.len())?;
     for octet in octets {
-        marks.push(Mark::Octet(*octet))?;
+        marks.push_reserved(Mark::Octet(*octet));
     }
     Ok(())
 }
@@ -166,11 +167,8 @@ fn end(marks: &mut Vec<Mark>, next: Next) -> Result<(), AllocError>
 fn pass(marks: &mut Vec<Mark>, node: NodeId, from: u8, until: u8) -> Result<(), AllocError>
     ensures { OnOk result (HasPassed [] (drop from (take until (rows_of node))) marks.old.items marks.new.items) }
 {
-    for number in from..until {
-        let part = PartId { node, row: number };
-        if let Some(_row) = row(part) {
-            marks.push(Mark::Passed(part))?;
-        }
+    for row in from..until.min(rows(node)) {
+        marks.push(Mark::Passed(PartId { node, row }))?;
     }
     Ok(())
 }
