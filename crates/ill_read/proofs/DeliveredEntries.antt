@@ -27,7 +27,8 @@ use Rattle.ill_read.proofs.OpenFrames.{next_behind}
 use Rattle.ill_read.proofs.MoreTrees.{with_one, frame_added}
 use Rattle.ill_read.proofs.Meanings.{begun_means}
 use Rattle.ill_refusals.proofs.OpenElements.{inner_proper}
-use Rattle.ill_read.proofs.Segments.{due_segment, text_with, text_apart}
+use Rattle.ill_read.proofs.DueTags.{due_segment}
+use Rattle.ill_read.proofs.Segments.{text_with, text_apart}
 
 -- an element that is no segment isn't due in a string
 next_apart : (t : Tag) (n : Next) (slot : Slot) (alt : Option ℕ) (el : CodeElement) → IsDueIn t n (due_with slot alt el) → (element_is el ≡ segment → ⊥) → n ≡ Segments → ⊥
@@ -44,6 +45,9 @@ segment_next e n entries ts h s = go n (subst (λ x. IsHeld x n entries ts) s h)
     go (Items node) h = absurd h
     go (Either w) h = absurd h
     go Nothing h = absurd h
+
+pub pushed_segment : (l : Level) (below : List Level) → l.element ≡ Segment → pushed l below ≡ below
+pushed_segment l below s = ap (λ (e : CodeElement). elim e as (λ _. List Level) [ Segment ↦ below | _ ↦ l ∷ below ]) s
 
 pub pushed_apart : (l : Level) (below : List Level) → (l.element ≡ Segment → ⊥) → pushed l below ≡ l ∷ below
 pushed_apart l below apart = go l.element apart

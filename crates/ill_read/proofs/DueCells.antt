@@ -28,13 +28,12 @@ use Rattle.ill_cells.proofs.Scanning.{same_tag-swap, sequence_starts}
 use Rattle.ill_cells.specs.declared.cell.Slot.{Slot as CellSlot}
 use Rattle.ill_cells.specs.declared.cell.Slot.TheVariants as cell
 use Rattle.ill_read.specs.Elements.{component_of, component_at, element_with, found_is}
-use Rattle.ill_read.specs.DueCode.{Begins, BeginsAt, Due, IsComing, IsDueIn, IsDueInRows, IsItemDue, IsInnerDue, IsRowDue, IsSegmentDue, MayAllLack, behind, due_as, element_as, found_as, next_is, shape, shape_at, shape_of, slot_as}
+use Rattle.ill_read.specs.DueCode.{Begins, BeginsAt, Due, IsComing, IsDueIn, IsDueInRows, IsItemDue, IsInnerDue, IsRowDue, IsSegmentDue, MayAllLack, behind, due_as, found_as, next_is, shape, shape_at, shape_of, slot_as}
 use Rattle.ill_read.specs.declared.due.Next.{Next}
 use Rattle.ill_read.specs.declared.due.Next.TheVariants.{Rows, Inner, Items, Either, Segments, Nothing}
 use Rattle.ill_read.proofs.DueElements.{first_due}
 use Rattle.ill_read.specs.declared.due.Slot.TheVariants.{Row as AtRow, Item, Inner as Inside, Segment as InString}
 use Rattle.ill_read.specs.Found.{Found}
-use Rattle.ill_read.specs.Found as found
 use Rattle.ill_read.specs.declared.element.Wrapped.{Wrapped}
 
 there : (node : NodeId) (k i : ℕ) (rs : List Row) (c : Component) (cs : List Component) → drop i (components_from profile_two node k rs) ≡ c ∷ cs
@@ -473,23 +472,6 @@ shape-next a = go (kind_of (node_in a)) a.position
     go Kind.IllString zero = refl
     go Kind.IllString (suc zero) = refl
     go Kind.IllString (suc (suc n)) = refl
-
--- what isn't left out is an element
-pub found-read : (w : What) (p : PartId) (node : NodeId) → (w ≡ what.LeftOut → ⊥) → found_as p node w ≡ found.Element (element_as p node w)
-found-read what.LeftOut p node h = absurd (h refl)
-found-read what.Boolean p node h = refl
-found-read what.Integer p node h = refl
-found-read what.Enumerated p node h = refl
-found-read what.General p node h = refl
-found-read what.Visible p node h = refl
-found-read what.Printable p node h = refl
-found-read what.Date p node h = refl
-found-read what.Time p node h = refl
-found-read what.Segment p node h = refl
-found-read what.Sequence p node h = refl
-found-read what.LooseWrapper p node h = refl
-found-read what.List p node h = refl
-found-read what.Wrapper p node h = refl
 
 -- what the cells find is due by the decoder's words
 pub is-coming : (t : Tag) (a : At) (f : CellFound) → IsDue t a f → IsComing t a f

@@ -32,5 +32,4 @@ pub mod OctetDrafts
 pub mod NormalLeaves
 pub mod NormalElements
 pub mod NormalEntries
-pub mod OneDue
 pub mod Outlines

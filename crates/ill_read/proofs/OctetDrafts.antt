@@ -158,7 +158,7 @@ octets_closed old new middle f next tag entries trees l below text c h held righ
     let contents = contents_of (read_as f.found) (shape f.place) w text in
     let id = identifier tag (form_of (read_as f.found)) in
     let apart = no_segment (read_as f.found) (shape f.place) entries text c is in
-    let header : a.1 ≡ id ++ 0 ∷ [] = a.4 (λ class number. absurd (due_apart tag l.next (slot_in f.found) (alternative_of f.found) (read_as f.found) due.is_due apart class number)) in
+    let header : a.1 ≡ id ++ 0 ∷ [] = a.4 (λ class number. absurd (due_apart tag l.next (due_with (slot_in f.found) (alternative_of f.found) (read_as f.found)) due.is_due apart class number)) in
     let all : old.octets ≡ (a.0 ++ a.1) ++ (w ++ text) =
     h.joined ∙ ap (λ x. x ++ text) (a.2 ∙ sym (append_assoc a.0 a.1 w)) ∙ append_assoc (a.0 ++ a.1) w text in
     let middle_is : middle ≡ a.0 ++ (id ++ 0 ∷ contents) =

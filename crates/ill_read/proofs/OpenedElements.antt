@@ -21,7 +21,8 @@ use Rattle.ill_read.specs.declared.frame.Frame.{Frame}
 use Rattle.ill_read.specs.declared.judge.Opening.{Opening}
 use Rattle.ill_read.specs.declared.path.Path.{Path}
 use Rattle.ill_read.proofs.DeliveredEntries.{innermost_level}
-use Rattle.ill_read.proofs.Segments.{due_segment, text_with, no_text}
+use Rattle.ill_read.proofs.DueTags.{due_segment}
+use Rattle.ill_read.proofs.Segments.{text_with, no_text}
 
 -- an element that opens holds nothing
 holds_none : (e : CodeElement) (n : Next) → n ≡ first_of e → allows (element_is e) true ≡ true → IsHeld e n [] none

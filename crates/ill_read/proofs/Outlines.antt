@@ -22,7 +22,7 @@ use Rattle.ill_cells.specs.Places.{alternative_of}
 use Rattle.ill_read.specs.DueCode.{IsDueIn, behind, shape, first_of, read_as, slot_in}
 use Rattle.ill_read.specs.LeafTypes.{leaf_is}
 use Rattle.ill_read.specs.Outline.{AreEntries, AreItems, IsMarked, leaf_marks}
-use Rattle.ill_read.specs.Standing.{Level, with_alternative, absent_content, pushed, IsHeld}
+use Rattle.ill_read.specs.Standing.{Level, with_alternative, absent_content, IsHeld}
 use Rattle.ill_read.specs.code.Drafts.{HasOpened, HasText, HasClosed, HasLeaf, HoldsApdu, HasEnded, IsContentOf, IsDueAt, IsOpeningIn, IsRightText, due_with, rows_before, rows_left, with_entry}
 use Rattle.ill_read.specs.code.OctetDrafts.{AreNormal, AreOctets}
 use Rattle.ill_read.specs.code.Outlines.{AreFronts, AreLed, AreOutlined, ArePassed, HasLed, HasOutline, HasPassed, HasRear, IsLed, alternative_marks, first_marks, last_marks, late_marks, start_marks}
@@ -41,9 +41,9 @@ use Rattle.ill_read.specs.declared.mark.Mark.{Mark}
 use Rattle.ill_read.specs.declared.mark.Mark.TheVariants as mark
 use Rattle.ill_read.specs.declared.outline.Outlining.{Outlining}
 use Rattle.ber_leaf.proofs.Leaves.{content as content_is}
-use Rattle.ill_read.proofs.DeliveredEntries.{pushed_apart}
+use Rattle.ill_read.proofs.DeliveredEntries.{pushed_apart, pushed_segment}
 use Rattle.ill_read.proofs.HeldEntries.{drop-take-more}
-use Rattle.ill_read.proofs.OneDue.{one_due}
+use Rattle.ill_read.proofs.AddedEntries.{one_due}
 use Rattle.std.proofs.Common.{suc, ◌+◌, ◌<◌, ◌≤◌, take, drop, slice_get, arith}
 
 -- ---- rows that are passed
@@ -239,9 +239,6 @@ outline_opened old new next o base mid whole octets led e levels text h opening 
     is_led : IsLed (tag_of_id o.id) (read_as o.found) i.level.next h.front mid
     is_led = subst (λ n. IsLed (tag_of_id o.id) (read_as o.found) n h.front mid) (sym i.next)
         (record { slot = slot_in o.found; alternative = alternative_of o.found; is_due = i.is_due; led = subst (λ ms. HasLed next (slot_in o.found) (alternative_of o.found) ms mid) front led })
-
-pushed_segment : (l : Level) (levels : List Level) → l.element ≡ Segment → pushed l levels ≡ levels
-pushed_segment l levels e = ap (λ x. elim x as (λ _. List Level) [ Segment ↦ levels | _ ↦ l ∷ levels ]) e
 
 pub outline_segment : (old new : Outlining) (next : Next) (o : Opening) (base : ℕ) → read_as o.found ≡ Segment → HasOpened AreOctets old.octets next o base new.octets → new.marks.items ≡ old.marks.items
     → HasOpened AreOutlined old next o base new

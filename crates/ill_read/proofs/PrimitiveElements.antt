@@ -33,7 +33,8 @@ use Rattle.ill_read.specs.declared.judge.Reading.{Reading}
 use Rattle.ill_read.specs.declared.leaf_type.LeafType.{LeafType}
 use Rattle.ill_read.specs.declared.path.Path.{Path}
 use Rattle.ill_read.proofs.DeliveredEntries.{entry_added}
-use Rattle.ill_read.proofs.Segments.{segment_due, due_segment, no_text}
+use Rattle.ill_read.proofs.DueTags.{segment_due, due_segment}
+use Rattle.ill_read.proofs.Segments.{no_text}
 use Rattle.ill_read.proofs.Strings.{segment_added}
 
 -- where the contents that were read lead

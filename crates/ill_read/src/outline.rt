@@ -178,6 +178,7 @@ impl Draft for Outlining {
 
     ghost has = { λ draft a octets. HasOutline draft a };
 
+    #[inline(always)]
     fn open(&mut self, place: At, opening: Opening) -> Result<usize, AllocError> {
         let element = Element::of(opening.found);
         if let Element::Segment = element {
@@ -193,6 +194,7 @@ impl Draft for Outlining {
         put_octets(&mut self.marks, octets)
     }
 
+    #[inline(always)]
     fn leaf(
         &mut self,
         place: At,
@@ -209,6 +211,7 @@ impl Draft for Outlining {
         Ok(())
     }
 
+    #[inline(always)]
     fn close(&mut self, frame: Frame, place: At) -> Result<(), Failure> {
         self.octets.close(frame, place)?;
         end(&mut self.marks, frame.next())?;
