@@ -97,11 +97,7 @@ segment_closed holds old new f place marks at rest j stands end frames last is d
 
 right_text : (e : CodeElement) (text : List ℕ) → IsRightText e text → element_fault profile_two (element_is e) text ≡ None
 right_text (Leaf l) text h = h.1
-right_text (Sequence node) text h = refl
-right_text (ListOf node) text h = refl
-right_text (Wrapper w) text h = refl
-right_text (LooseWrapper w) text h = refl
-right_text Segment text h = refl
+right_text _ text h = refl
 
 -- an element closes that is no segment, and its text is right
 pub element_closed : {D : Type 0} (holds : D → List Level → List ℕ → Type 0) (old : Path D) (shorter : List Frame) (f : Frame) (middle : D) (new : Path D) (place : List Open) (marks at : ℕ) (rest : List ℕ)

@@ -51,10 +51,8 @@ row_default : (node : NodeId) (r : ℕ) (row : Row) (t : Tag) (l : Leaf) (o : Li
 row_default node r row t l o is b = go row.presence refl
   where
     go : (pr : Presence) → row.presence ≡ pr → is_default_of pr (kind_of row.node) (simple (value l o)) ≡ has_default (presence_default pr) l o
-    go Presence.Must q = refl
-    go Presence.May q = refl
-    go Presence.LeftOut q = refl
     go (Presence.Default d) q = leaf_number (kind_of row.node) l o d (default_leaf node r row t d (leaf l) is q b)
+    go _ q = refl
 
 -- what is left at the row after is in the node of that row
 round_of : (k : Kind) (p : PartId) (round node : NodeId) (position r : ℕ) → shape_of k p round (position + 1) ≡ Rows node (r + 1) → round ≡ node
@@ -126,13 +124,9 @@ none_left (Some d) n slot l o = refl
 
 row_is_left : (default : Option ℤ) (slot : CellSlot) (l : Leaf) (o : List ℕ) → elim slot as (λ _. Bool) [ cell.Row ↦ has_default default l o | _ ↦ false ] ≡ is_left default None slot l o
 row_is_left None cell.Row l o = refl
-row_is_left None cell.Inner l o = refl
-row_is_left None cell.Item l o = refl
-row_is_left None cell.Segment l o = refl
+row_is_left None _ l o = refl
 row_is_left (Some d) cell.Row l o = refl
-row_is_left (Some d) cell.Inner l o = refl
-row_is_left (Some d) cell.Item l o = refl
-row_is_left (Some d) cell.Segment l o = refl
+row_is_left (Some d) _ l o = refl
 
 pub left_row : (default : Option ℤ) (alternative : Option ℕ) (slot : CellSlot) (l : Leaf) (o : List ℕ) (d : ℤ) → default ≡ Some d → is_some alternative ≡ false → slot ≡ cell.Row
     → is_left default alternative slot l o ≡ is_number l d o

@@ -40,11 +40,7 @@ segment_next e n entries ts h s = go n (subst (λ x. IsHeld x n entries ts) s h)
   where
     go : (m : Next) → IsHeld Segment m entries ts → m ≡ Segments
     go Segments h = refl
-    go (Rows node k) h = absurd h
-    go (Inner w) h = absurd h
-    go (Items node) h = absurd h
-    go (Either w) h = absurd h
-    go Nothing h = absurd h
+    go _ h = absurd h
 
 pub pushed_segment : (l : Level) (below : List Level) → l.element ≡ Segment → pushed l below ≡ below
 pushed_segment l below s = ap (λ (e : CodeElement). elim e as (λ _. List Level) [ Segment ↦ below | _ ↦ l ∷ below ]) s
@@ -54,11 +50,7 @@ pushed_apart l below apart = go l.element apart
   where
     go : (e : CodeElement) → (e ≡ Segment → ⊥) → (elim e as (λ _. List Level) [ Segment ↦ below | _ ↦ l ∷ below ]) ≡ l ∷ below
     go Segment n = absurd (n refl)
-    go (Leaf x) n = refl
-    go (Sequence node) n = refl
-    go (ListOf node) n = refl
-    go (Wrapper w) n = refl
-    go (LooseWrapper w) n = refl
+    go _ n = refl
 
 -- the innermost level, where no string is open
 pub innermost_level : (place : List Open) (frames : List Frame) (levels : List Level) → AreFrames place frames levels → (next_at frames ≡ Segments → ⊥)

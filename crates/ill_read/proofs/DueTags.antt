@@ -60,13 +60,9 @@ own_apart : (k : Kind) (node : NodeId) → AllStarts IsStart (own_starts k node)
 own_apart Kind.Seq node = ((λ s. cc, λ c n. cc), tt)
 own_apart Kind.SeqOf node = ((λ s. cc, λ c n. cc), tt)
 own_apart Kind.Choice node = tt
-own_apart (Kind.Leaf LeafKind.Boolean) node = ((λ s. cc, λ c n. cc), tt)
-own_apart (Kind.Leaf LeafKind.Integer) node = ((λ s. cc, λ c n. cc), tt)
-own_apart (Kind.Leaf LeafKind.Enumerated) node = ((λ s. cc, λ c n. cc), tt)
-own_apart (Kind.Leaf LeafKind.Date) node = ((λ s. cc, λ c n. cc), tt)
-own_apart (Kind.Leaf LeafKind.Time) node = ((λ s. cc, λ c n. cc), tt)
-own_apart (Kind.Leaf LeafKind.Printable) node = ((λ s. cc, λ c n. cc), tt)
 own_apart Kind.IllString node = ((λ s. cc, λ c n. cc), ((λ s. cc, λ c n. cc), tt))
+own_apart (Kind.Leaf LeafKind.Boolean) node = ((λ s. cc, λ c n. cc), tt)
+own_apart _ node = ((λ s. cc, λ c n. cc), tt)
 
 left_apart : (part : PartId) (ss : List Start) → AllStarts IsStart ss → AllStarts IsStart (leave_out part ss)
 left_apart part [] h = tt
@@ -81,17 +77,14 @@ TaggingApart (explicit_or_bare t) = t.class ≡ Universal → t.number ≡ 0 →
 tagged_apart : (g : Tagging) (c : Component) → TaggingApart g → AllStarts IsStart (tagged_starts g c)
 tagged_apart untagged c h = own_apart (kind_of c.node) c.node
 tagged_apart (implicit t) c h = retag_all IsStart IsStart t _ (λ u e k. (k.0, h)) (own_apart (kind_of c.node) c.node)
-tagged_apart (explicit t) c h = ((λ s. cc, h), tt)
-tagged_apart (explicit_or_bare t) c h = ((λ s. cc, h), tt)
+tagged_apart _ c h = ((λ s. cc, h), tt)
 
 component_apart : (c : Component) → TaggingApart c.tagging → AllStarts IsStart (component_starts c)
 component_apart c h = go c.presence
   where
     go : (pr : Presence) → AllStarts IsStart (elim pr as (λ _. List Start) [ Presence.LeftOut ↦ leave_out c.part (tagged_starts c.tagging c) | _ ↦ tagged_starts c.tagging c ])
-    go Presence.Must = tagged_apart c.tagging c h
-    go Presence.May = tagged_apart c.tagging c h
-    go (Presence.Default d) = tagged_apart c.tagging c h
     go Presence.LeftOut = left_apart c.part _ (tagged_apart c.tagging c h)
+    go _ = tagged_apart c.tagging c h
 
 abbrev is_universal : Class → Bool
 is_universal Class.Universal = true
@@ -126,9 +119,7 @@ row_apart : (tag : Option (Class × ℕ)) (m : Mode) (pr : Presence) (node : Nod
     → TaggingApart (tagging profile_two (record { tag = tag; mode = m; presence = pr; node = node }))
 row_apart None m pr node h = tt
 row_apart (Some t) Mode.Untagged pr node h = tt
-row_apart (Some t) Mode.Implicit pr node h = λ c n. (let q : (elim (is_universal t.0) as (λ _. Bool) [ true ↦ false | false ↦ true ]) ≡ true = h in apart t.0 q c)
-row_apart (Some t) Mode.Explicit pr node h = λ c n. (let q : (elim (is_universal t.0) as (λ _. Bool) [ true ↦ false | false ↦ true ]) ≡ true = h in apart t.0 q c)
-row_apart (Some t) Mode.ExplicitOrBare pr node h = λ c n. (let q : (elim (is_universal t.0) as (λ _. Bool) [ true ↦ false | false ↦ true ]) ≡ true = h in apart t.0 q c)
+row_apart (Some t) _ pr node h = λ c n. (let q : (elim (is_universal t.0) as (λ _. Bool) [ true ↦ false | false ↦ true ]) ≡ true = h in apart t.0 q c)
 
 at_apart : (node : NodeId) (n : ℕ) (row : Row) → slice_get (rows_of node) n ≡ Some row → TaggingApart (tagging profile_two row)
 at_apart node n row e = row_apart row.tag row.mode row.presence row.node (at_row is_apart (rows_of node) n row (all_apart node) e)
@@ -142,9 +133,7 @@ rows_start t node n d h = go d.slot h
   where
     go : (x : Slot) → (elim x as (λ _. Type 0) [ AtRow r ↦ IsRowDue t node n r d.alternative d.found | _ ↦ ⊥ ]) → IsStart t (found_is d.found)
     go (AtRow r) k = begins_apart t _ d.alternative (found_is d.found) (at_apart node r k.row k.is_row) k.begins
-    go Item k = absurd k
-    go Inside k = absurd k
-    go InString k = absurd k
+    go _ k = absurd k
 
 due_start : (t : Tag) (n : Next) (d : Due) → IsDueIn t n d → (n ≡ Segments) ⊎ IsStart t (found_is d.found)
 due_start t (Rows node n) d h = inr (rows_start t node n d h)
@@ -183,13 +172,7 @@ plain_own : (d : _) (k : Kind) (node : NodeId) → IsTrue (is_plain (Presence.De
 plain_own d (Kind.Leaf LeafKind.Boolean) node h = (refl, tt)
 plain_own d (Kind.Leaf LeafKind.Integer) node h = (refl, tt)
 plain_own d (Kind.Leaf LeafKind.Enumerated) node h = (refl, tt)
-plain_own d Kind.Seq node h = absurd cc
-plain_own d Kind.SeqOf node h = absurd cc
-plain_own d Kind.Choice node h = absurd cc
-plain_own d Kind.IllString node h = absurd cc
-plain_own d (Kind.Leaf LeafKind.Date) node h = absurd cc
-plain_own d (Kind.Leaf LeafKind.Time) node h = absurd cc
-plain_own d (Kind.Leaf LeafKind.Printable) node h = absurd cc
+plain_own d _ node h = absurd cc
 
 -- it may not be constructed
 plain_stays : (k : Kind) (e : Element) → PlainLeaf k e → MayOpen e → ⊥
@@ -231,32 +214,22 @@ default_leaf node r row t d e is q b =
 
 -- what may be constructed is no default
 row_kept : (node : NodeId) (r : ℕ) (row : Row) (t : Tag) (alt : Option ℕ) (e : Element) (c : Content) → slice_get (rows_of node) r ≡ Some row → Begins t (component_at (record { node = node; row = r }) row) alt e → MayOpen e
-    → is_default row (with_alternative alt c) ≡ false
-row_kept node r row t (Some n) e c is b m = alternative_kept row.presence (kind_of row.node) n c
-row_kept node r row t None e c is b m = go row.presence refl
+    → (elim (slice_get (rows_of node) r) as (λ _. Bool) [ Some x ↦ is_default x (with_alternative alt c) | None ↦ false ]) ≡ false
+row_kept node r row t alt e c is b m = ap (λ o. elim o as (λ _. Bool) [ Some x ↦ is_default x (with_alternative alt c) | None ↦ false ]) is ∙ at alt b
   where
-    go : (pr : Presence) → row.presence ≡ pr → is_default_of row.presence (kind_of row.node) c ≡ false
-    go Presence.Must q = ap (λ x. is_default_of x (kind_of row.node) c) q
-    go Presence.May q = ap (λ x. is_default_of x (kind_of row.node) c) q
-    go Presence.LeftOut q = ap (λ x. is_default_of x (kind_of row.node) c) q
-    go (Presence.Default d) q = absurd (plain_stays (kind_of row.node) e (default_leaf node r row t d e is q b) m)
+    go : (pr : Presence) → row.presence ≡ pr → Begins t (component_at (record { node = node; row = r }) row) None e → is_default row c ≡ false
+    go (Presence.Default d) q k = absurd (plain_stays (kind_of row.node) e (default_leaf node r row t d e is q k) m)
+    go _ q k = ap (λ x. is_default_of x (kind_of row.node) c) q
+
+    at : (o : Option ℕ) → Begins t (component_at (record { node = node; row = r }) row) o e → is_default row (with_alternative o c) ≡ false
+    at (Some n) k = alternative_kept row.presence (kind_of row.node) n c
+    at None k = go row.presence refl k
 
 -- what may be constructed has octets
 pub kept : (t : Tag) (n : Next) (slot : Slot) (alt : Option ℕ) (el : CodeElement) (c : Content) → IsDueIn t n (due_with slot alt el) → MayOpen (element_is el) → left_away n slot (with_alternative alt c) ≡ false
-kept t (Rows node k) (AtRow r) alt el c d m = at_slot (slice_get (rows_of node) r) d.is_row (row_kept node r d.row t alt (element_is el) c d.is_row d.begins m)
-  where
-    at_slot : (o : Option Row) → o ≡ Some d.row → is_default d.row (with_alternative alt c) ≡ false → (elim o as (λ _. Bool) [ Some row ↦ is_default row (with_alternative alt c) | None ↦ false ]) ≡ false
-    at_slot o e h = ap (λ x. elim x as (λ _. Bool) [ Some row ↦ is_default row (with_alternative alt c) | None ↦ false ]) e ∙ h
+kept t (Rows node k) (AtRow r) alt el c d m = row_kept node r d.row t alt (element_is el) c d.is_row d.begins m
 kept t (Rows node k) _ alt el c d m = absurd d
-kept t (Either w) (AtRow r) alt el c (inr d) m = at_slot (slice_get (rows_of w.node) r) d.1.is_row (row_kept w.node r d.1.row t alt (element_is el) c d.1.is_row d.1.begins m)
-  where
-    at_slot : (o : Option Row) → o ≡ Some d.1.row → is_default d.1.row (with_alternative alt c) ≡ false → (elim o as (λ _. Bool) [ Some row ↦ is_default row (with_alternative alt c) | None ↦ false ]) ≡ false
-    at_slot o e h = ap (λ x. elim x as (λ _. Bool) [ Some row ↦ is_default row (with_alternative alt c) | None ↦ false ]) e ∙ h
+kept t (Either w) (AtRow r) alt el c (inr d) m = row_kept w.node r d.1.row t alt (element_is el) c d.1.is_row d.1.begins m
 kept t (Either w) (AtRow r) alt el c (inl d) m = absurd (let q : AtRow r ≡ Inside = d.1.slot in cc)
-kept t (Either w) Item alt el c d m = refl
-kept t (Either w) Inside alt el c d m = refl
-kept t (Either w) InString alt el c d m = refl
-kept t (Inner w) slot alt el c d m = refl
-kept t (Items node) slot alt el c d m = refl
-kept t Segments slot alt el c d m = refl
-kept t Nothing slot alt el c d m = refl
+kept t (Either w) _ alt el c d m = refl
+kept t _ slot alt el c d m = refl

@@ -37,9 +37,7 @@ normal_boolean p (a ∷ b ∷ o) e = absurd (grind arith)
 
 pub alternative_kept : (p : Presence) (k : Kind) (n : ℕ) (c : Content) → is_default_of p k (alternative n c) ≡ false
 alternative_kept Presence.Must k n c = refl
-alternative_kept Presence.May k n c = refl
-alternative_kept Presence.LeftOut k n c = refl
-alternative_kept (Presence.Default d) k n c = refl
+alternative_kept _ k n c = refl
 
 -- a value of a choice is never its row's default
 pub choice_kept : (c : Content) (next : Next) (slot : Slot) (n : ℕ) → left_away next slot (alternative n c) ≡ false

@@ -38,11 +38,7 @@ use Rattle.ill_read.proofs.WrittenElements.{entry_written, ended_written}
 -- an element that opens has written nothing in it
 written_first : (e : CodeElement) → written e (first_of e) [] ≡ []
 written_first (LeafElement l) = refl
-written_first (Sequence node) = refl
-written_first (ListOf node) = refl
-written_first (Wrapper w) = refl
-written_first (LooseWrapper w) = refl
-written_first Segment = refl
+written_first _ = refl
 
 pub octets_opened : (old new : Octets) (next : Next) (o : Opening) (base : ℕ) (id : List ℕ) → (read_as o.found ≡ Segment → ⊥) → (IsApartAs o → id ≡ identifier (tag_of_id o.id) (form_of (read_as o.found)))
     → new.octets ≡ old.octets ++ (id ++ 0 ∷ []) → base ≡ length new.octets → HasOpened AreOctets old next o base new
@@ -135,11 +131,7 @@ ended_octets (LooseWrapper w) n entries ts text c tag h right k = ended_written 
 may_open : (e : CodeElement) (n : Next) (entries : List (Option Content)) (ts : Trees) → IsHeld e n entries ts → MayOpen (element_is e)
 may_open (LeafElement l) Segments entries ts h = h.0
 may_open (LeafElement l) _ entries ts h = absurd h
-may_open (Sequence node) n entries ts h = tt
-may_open (ListOf node) n entries ts h = tt
-may_open (Wrapper w) n entries ts h = tt
-may_open (LooseWrapper w) n entries ts h = tt
-may_open Segment n entries ts h = tt
+may_open _ n entries ts h = tt
 
 no_segment : (e : CodeElement) (n : Next) (entries : List (Option Content)) (text : List ℕ) (c : Content) → IsContentOf e n entries text c → element_is e ≡ segment → ⊥
 no_segment e n entries text c k s = subst (λ x. IsContentOf x n entries text c) (only_segment e s) k
@@ -177,11 +169,7 @@ octets_closed old new middle f next tag entries trees l below text c h held righ
 -- a text that isn't a leaf's is right
 pub right_other : (e : CodeElement) (text : List ℕ) → ((l : LeafType) → e ≡ LeafElement l → ⊥) → IsRightText e text
 right_other (LeafElement l) text h = absurd (h l refl)
-right_other (Sequence node) text h = tt
-right_other (ListOf node) text h = tt
-right_other (Wrapper w) text h = tt
-right_other (LooseWrapper w) text h = tt
-right_other Segment text h = tt
+right_other _ text h = tt
 
 -- what has no contents but its entries
 pub contents_other : (e : CodeElement) (n : Next) (entries : List (Option Content)) (text : List ℕ) (c : Content) → IsContentOf e n entries text c → ((l : LeafType) → e ≡ LeafElement l → ⊥)

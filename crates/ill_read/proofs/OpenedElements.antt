@@ -34,21 +34,13 @@ holds_none (LooseWrapper w) n f a = subst (λ x. IsHeld (LooseWrapper w) x [] no
 holds_none Segment n f a = subst (λ x. IsHeld Segment x [] none) (sym f) (refl, tt)
 
 pub only_segment : (e : CodeElement) → element_is e ≡ segment → e ≡ Segment
-only_segment (Leaf l) s = cc
-only_segment (Sequence node) s = cc
-only_segment (ListOf node) s = cc
-only_segment (Wrapper w) s = cc
-only_segment (LooseWrapper w) s = cc
 only_segment Segment s = refl
+only_segment _ s = cc
 
 -- nor does it add text
 text_opened : (e : CodeElement) (before : List ℕ) → ((element_is e ≡ segment → ⊥) → before ≡ []) → before ≡ text_with (element_is e) before none
-text_opened (Leaf l) before h = h (λ s. cc)
-text_opened (Sequence node) before h = h (λ s. cc)
-text_opened (ListOf node) before h = h (λ s. cc)
-text_opened (Wrapper w) before h = h (λ s. cc)
-text_opened (LooseWrapper w) before h = h (λ s. cc)
 text_opened Segment before h = sym (append-nil before)
+text_opened _ before h = h (λ s. cc)
 
 -- the bound in an element
 bound_opened : (end : Option ℕ) (round : ℕ) (e : CodeElement) (tag : Tag) (start : ℕ) (place : List Open) → round ≡ bound profile_two place → unwrap_or end round ≡ bound profile_two (opened (element_is e) tag start end ∷ place)
@@ -57,11 +49,7 @@ bound_opened None round e tag start place h = h
 
 pub first_opening : (e : CodeElement) → next_is (first_of e) ≡ opening profile_two (element_is e)
 first_opening (Leaf l) = refl
-first_opening (Sequence node) = refl
-first_opening (ListOf node) = refl
-first_opening (Wrapper w) = refl
-first_opening (LooseWrapper w) = refl
-first_opening Segment = refl
+first_opening _ = refl
 
 pub opens_at : {D : Type 0} (holds : D → List Level → List ℕ → Type 0) (old new : Path D) (opening : Opening) (f : Frame) (place : List Open) (round : ℕ) → HoldsAt holds old place
     → IsDueIn (tag_of_id opening.id) (next_at old.frames.open.items) (due_with (slot_in f.found) (alternative_of f.found) (read_as f.found)) → shape_at (next_place f.found) ≡ behind (next_at old.frames.open.items) (slot_in f.found) → allows (element_is (read_as f.found)) true ≡ true → (shape f.place) ≡ first_of (read_as f.found)

@@ -83,9 +83,7 @@ entries_join (Some c ∷ xs) ys a b h k = (h.0, h.1 ++ b, ap (λ ms. ms ++ b) h.
 default_leaf : (p : Presence) (node : NodeId) (c : Content) → (elim p as (λ _. Option Content) [ Presence.Default d ↦ Some (simple (default_value (kind_of node) d)) | _ ↦ None ]) ≡ Some c
     → (v : Simple) × (c ≡ simple v)
 default_leaf (Presence.Default d) node c e = let q : simple (default_value (kind_of node) d) ≡ c = cc in (default_value (kind_of node) d, sym q)
-default_leaf Presence.Must node c e = absurd cc
-default_leaf Presence.May node c e = absurd cc
-default_leaf Presence.LeftOut node c e = absurd cc
+default_leaf _ node c e = absurd cc
 
 passed_entry : (row : Row) (e : Option Content) (es : List (Option Content)) (part : PartId) (rest ms : List Mark) → ms ≡ mark.Passed part ∷ rest → slice_get (rows_of part.node) part.row ≡ Some row → absent_content row ≡ e
     → AreEntries (entries_of es) rest → AreEntries (entries_of (e ∷ es)) ms
@@ -197,14 +195,13 @@ first_more : (n : Next) (e : CodeElement) (entries : List (Option Content)) (ts 
     → IsDueIn t n (due_with slot alt el) → AreEntries (entries_of entries) own → (first_marks n e ++ own) ++ start_marks n slot ≡ first_marks (behind n slot) e ++ own
 first_more (Rows node k) e entries ts t (AtRow r) alt el own held d h = append-nil _
 first_more (Rows node k) e entries ts t _ alt el own held d h = absurd d
-first_more (Inner w) e entries ts t slot alt el own held d h = append-nil _
-first_more (Items node) e entries ts t slot alt el own held d h = append-nil _
 first_more (Either w) e entries ts t (AtRow r) alt el own held d h =
     let none : own ≡ [] = subst (λ xs. AreEntries (entries_of xs) own) (none_held e w entries ts held) h in
     ap (λ o. o ++ mark.Sequence ∷ []) none ∙ ap (λ o. mark.Sequence ∷ o) (sym none)
 first_more (Either w) e entries ts t _ alt el own held d h = append-nil _
 first_more Segments e entries ts t slot alt el own held d h = append-nil _
 first_more Nothing e entries ts t slot alt el own held d h = absurd d
+first_more _ e entries ts t slot alt el own held d h = append-nil _
 
 -- the marks of an element come after those of the elements before it
 entry_marked : (l : Level) (below : List Level) (next : Next) (t : Tag) (slot : Slot) (alt : Option ℕ) (el : CodeElement) (c : Content) (old mid new y : List Mark) → IsDueAt l next t slot alt el

@@ -67,11 +67,8 @@ leaf_refused holds new place r l start octets fault' refusal header at rest is w
 
 primitive_segment : (e : CodeElement) → allows (element_is e) false ≡ true → ((l : LeafType) → e ≡ Leaf l → ⊥) → e ≡ Segment
 primitive_segment (Leaf l) a h = absurd (h l refl)
-primitive_segment (Sequence node) a h = absurd cc
-primitive_segment (ListOf node) a h = absurd cc
-primitive_segment (Wrapper w) a h = absurd cc
-primitive_segment (LooseWrapper w) a h = absurd cc
 primitive_segment Segment a h = refl
+primitive_segment _ a h = absurd cc
 
 -- a segment
 pub segment_read : {D : Type 0} (holds : D → List Level → List ℕ → Type 0) (old new : Path D) (place : List Open) (r : Reading) (start : ℕ) (octets : List ℕ) (header at : ℕ) (rest : List ℕ)

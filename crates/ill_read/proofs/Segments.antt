@@ -28,10 +28,7 @@ text_apart (Leaf l) Segments entries ts h apart before us = absurd (apart refl)
 text_apart (Leaf l) _ entries ts h apart before us = absurd h
 text_apart Segment Segments entries ts h apart before us = absurd (apart refl)
 text_apart Segment _ entries ts h apart before us = absurd h
-text_apart (Sequence node) n entries ts h apart before us = refl
-text_apart (ListOf node) n entries ts h apart before us = refl
-text_apart (Wrapper w) n entries ts h apart before us = refl
-text_apart (LooseWrapper w) n entries ts h apart before us = refl
+text_apart _ n entries ts h apart before us = refl
 
 -- nor do the elements round what is no segment
 pub no_text : (place : List Open) (frames : List Frame) (levels : List Level) → AreFrames place frames levels → (next_at frames ≡ Segments → ⊥) → text_so_far place ≡ []

@@ -11,11 +11,7 @@ use Rattle.ill_read.proofs.octets.OctetsDraft.open.Goals as goal
 
 constructed : (e : CodeElement) → ((l : LeafType) → e ≡ Leaf l → ⊥) → form_of e ≡ true
 constructed (Leaf l) h = absurd (h l refl)
-constructed (Sequence node) h = refl
-constructed (ListOf node) h = refl
-constructed (Wrapper w) h = refl
-constructed (LooseWrapper w) h = refl
-constructed Segment h = refl
+constructed _ h = refl
 
 pub returns-in_ok-base-in-Leaf : goal.returns-in_ok-base-in-Leaf
 returns-in_ok-base-in-Leaf c =
