@@ -35,11 +35,11 @@ use Rattle.ill_elements.proofs.DueTags.{PlainLeaf, default_leaf}
 use Rattle.ill_elements.proofs.NormalLeaves.{choice_kept}
 
 -- a leaf of the kind is a default exactly where it has the number's value
-leaf_number : (k : Kind) (t : Tag) (l : Leaf) (o : List ℕ) (d : ℤ) → PlainLeaf k t (leaf l) → same_value (value l o) (default_value k d) ≡ is_number l d o
-leaf_number (Kind.Leaf LeafKind.Boolean) t l o d h = let q : boolean ≡ l = cc in subst (λ x. same_value (value x o) (default_value (Kind.Leaf LeafKind.Boolean) d) ≡ is_number x d o) q refl
-leaf_number (Kind.Leaf LeafKind.Integer) t l o d h = let q : integer ≡ l = cc in subst (λ x. same_value (value x o) (default_value (Kind.Leaf LeafKind.Integer) d) ≡ is_number x d o) q refl
-leaf_number (Kind.Leaf LeafKind.Enumerated) t l o d h = let q : enumerated ≡ l = cc in subst (λ x. same_value (value x o) (default_value (Kind.Leaf LeafKind.Enumerated) d) ≡ is_number x d o) q refl
-leaf_number _ t l o d h = absurd h
+leaf_number : (k : Kind) (l : Leaf) (o : List ℕ) (d : ℤ) → PlainLeaf k (leaf l) → same_value (value l o) (default_value k d) ≡ is_number l d o
+leaf_number (Kind.Leaf LeafKind.Boolean) l o d h = let q : boolean ≡ l = cc in subst (λ x. same_value (value x o) (default_value (Kind.Leaf LeafKind.Boolean) d) ≡ is_number x d o) q refl
+leaf_number (Kind.Leaf LeafKind.Integer) l o d h = let q : integer ≡ l = cc in subst (λ x. same_value (value x o) (default_value (Kind.Leaf LeafKind.Integer) d) ≡ is_number x d o) q refl
+leaf_number (Kind.Leaf LeafKind.Enumerated) l o d h = let q : enumerated ≡ l = cc in subst (λ x. same_value (value x o) (default_value (Kind.Leaf LeafKind.Enumerated) d) ≡ is_number x d o) q refl
+leaf_number _ l o d h = absurd h
 
 -- the leaf has this default
 abbrev has_default : Option ℤ → Leaf → List ℕ → Bool
@@ -51,10 +51,8 @@ row_default : (node : NodeId) (r : ℕ) (row : Row) (t : Tag) (l : Leaf) (o : Li
 row_default node r row t l o is b = go row.presence refl
   where
     go : (pr : Presence) → row.presence ≡ pr → is_default_of pr (kind_of row.node) (simple (value l o)) ≡ has_default (presence_default pr) l o
-    go Presence.Must q = refl
-    go Presence.May q = refl
-    go Presence.LeftOut q = refl
-    go (Presence.Default d) q = leaf_number (kind_of row.node) t l o d (default_leaf node r row t d (leaf l) is q b)
+    go (Presence.Default d) q = leaf_number (kind_of row.node) l o d (default_leaf node r row t d (leaf l) is q b)
+    go _ q = refl
 
 -- what is left at the row after is in the node of that row
 round_of : (k : Kind) (p : PartId) (round node : NodeId) (position r : ℕ) → shape_of k p round (position + 1) ≡ Rows node (r + 1) → round ≡ node
@@ -126,13 +124,9 @@ none_left (Some d) n slot l o = refl
 
 row_is_left : (default : Option ℤ) (slot : CellSlot) (l : Leaf) (o : List ℕ) → elim slot as (λ _. Bool) [ cell.Row ↦ has_default default l o | _ ↦ false ] ≡ is_left default None slot l o
 row_is_left None cell.Row l o = refl
-row_is_left None cell.Inner l o = refl
-row_is_left None cell.Item l o = refl
-row_is_left None cell.Segment l o = refl
+row_is_left None _ l o = refl
 row_is_left (Some d) cell.Row l o = refl
-row_is_left (Some d) cell.Inner l o = refl
-row_is_left (Some d) cell.Item l o = refl
-row_is_left (Some d) cell.Segment l o = refl
+row_is_left (Some d) _ l o = refl
 
 pub left_row : (default : Option ℤ) (alternative : Option ℕ) (slot : CellSlot) (l : Leaf) (o : List ℕ) (d : ℤ) → default ≡ Some d → is_some alternative ≡ false → slot ≡ cell.Row
     → is_left default alternative slot l o ≡ is_number l d o
@@ -150,4 +144,4 @@ found_left f t n l o due after = go (alternative_of f) due
     go : (alternative : Option ℕ) → IsDueIn t n (due_with (slot_in f) alternative (LeafElement l))
         → left_away n (slot_in f) (with_alternative alternative (simple (value (leaf_is l) o))) ≡ is_left (default_due (due_of f)) alternative (slot_of f) (leaf_is l) o
     go None due = default_left f t n l o due after ∙ row_is_left (default_due (due_of f)) (slot_of f) (leaf_is l) o
-    go (Some k) due = choice_kept (simple (value (leaf_is l) o)) n (slot_in f) (Some k) refl ∙ sym (none_left (default_due (due_of f)) k (slot_of f) (leaf_is l) o)
+    go (Some k) due = choice_kept (simple (value (leaf_is l) o)) n (slot_in f) k ∙ sym (none_left (default_due (due_of f)) k (slot_of f) (leaf_is l) o)

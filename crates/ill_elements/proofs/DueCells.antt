@@ -28,13 +28,12 @@ use Rattle.ill_cells.proofs.Scanning.{same_tag-swap, sequence_starts}
 use Rattle.ill_cells.specs.declared.cell.Slot.{Slot as CellSlot}
 use Rattle.ill_cells.specs.declared.cell.Slot.TheVariants as cell
 use Rattle.ill_elements.specs.Elements.{component_of, component_at, element_with, found_is}
-use Rattle.ill_elements.specs.Due.{Begins, BeginsAt, Due, IsComing, IsDueIn, IsDueInRows, IsItemDue, IsInnerDue, IsRowDue, IsSegmentDue, MayAllLack, behind, due_as, element_as, found_as, next_is, shape, shape_at, shape_of, slot_as}
+use Rattle.ill_elements.specs.Due.{Begins, BeginsAt, Due, IsComing, IsDueIn, IsDueInRows, IsItemDue, IsInnerDue, IsRowDue, IsSegmentDue, MayAllLack, behind, due_as, found_as, next_is, shape, shape_at, shape_of, slot_as}
 use Rattle.ill_elements.specs.declared.due.Next.{Next}
 use Rattle.ill_elements.specs.declared.due.Next.TheVariants.{Rows, Inner, Items, Either, Segments, Nothing}
 use Rattle.ill_elements.proofs.DueElements.{first_due}
 use Rattle.ill_elements.specs.declared.due.Slot.TheVariants.{Row as AtRow, Item, Inner as Inside, Segment as InString}
 use Rattle.ill_elements.specs.Found.{Found}
-use Rattle.ill_elements.specs.Found as found
 use Rattle.ill_elements.specs.declared.element.Wrapped.{Wrapped}
 
 there : (node : NodeId) (k i : ℕ) (rs : List Row) (c : Component) (cs : List Component) → drop i (components_from profile_two node k rs) ≡ c ∷ cs
@@ -228,36 +227,26 @@ around : (t : Tag) (p : PartId) (node : NodeId) (at row : ℕ) (k : Kind) (s : C
     → ((at ≡ 0 → ⊥) → element_with t (starts profile_two (wrapped p node)) ≡ None) → cells.is_placed k at s ≡ true → d.slot ≡ slot_as row s → BeginsDue t D d.alternative → found_is d.found ≡ element_of D
     → IsInnerDue t (record { part = p; node = node }) d
 around t p node zero row k cell.Inner D d h passed placed slot b is = inner-due t (record { part = p; node = node }) D d h b slot is
-around t p node zero row k cell.Row D d h passed placed slot b is = absurd cc
-around t p node zero row k cell.Item D d h passed placed slot b is = absurd cc
-around t p node zero row k cell.Segment D d h passed placed slot b is = absurd cc
 around t p node (suc at) row k s D d h passed placed slot b is = absurd (none-due t (wrapped p node) D refl (passed (λ z. cc)) h)
+around t p node zero row k _ D d h passed placed slot b is = absurd cc
 
 -- in a list, from its first position on, there are items only
 only-item : (at : ℕ) (s : CellSlot) → 1 ≤ at → cells.is_placed Kind.SeqOf at s ≡ true → s ≡ cell.Item
 only-item zero s h p = absurd (omega (arith, h))
-only-item (suc n) cell.Row h p = absurd cc
-only-item (suc n) cell.Inner h p = absurd cc
 only-item (suc n) cell.Item h p = refl
-only-item (suc zero) cell.Segment h p = absurd cc
-only-item (suc (suc n)) cell.Segment h p = absurd cc
+only-item (suc zero) _ h p = absurd cc
+only-item (suc (suc n)) _ h p = absurd cc
 
 -- in a string there are segments only
 only-segment : (k : Kind) (at : ℕ) (s : CellSlot) → cells.is_leaf k ≡ true → 1 ≤ at → cells.is_placed k at s ≡ true → s ≡ cell.Segment
 only-segment k zero s l h p = absurd (omega (arith, h))
 only-segment k (suc n) cell.Segment l h p = refl
 only-segment k (suc n) cell.Inner l h p = absurd cc
-only-segment (Kind.Leaf x) (suc n) cell.Row l h p = absurd cc
-only-segment Kind.IllString (suc n) cell.Row l h p = absurd cc
-only-segment Kind.Seq (suc n) cell.Row l h p = absurd cc
-only-segment Kind.SeqOf (suc n) cell.Row l h p = absurd cc
-only-segment Kind.Choice (suc n) cell.Row l h p = absurd cc
-only-segment (Kind.Leaf x) (suc zero) cell.Item l h p = absurd cc
-only-segment Kind.IllString (suc zero) cell.Item l h p = absurd cc
-only-segment Kind.Seq (suc zero) cell.Item l h p = absurd cc
-only-segment Kind.SeqOf (suc zero) cell.Item l h p = absurd cc
-only-segment Kind.Choice (suc zero) cell.Item l h p = absurd cc
 only-segment k (suc (suc n)) cell.Item l h p = absurd cc
+only-segment (Kind.Leaf x) (suc n) cell.Row l h p = absurd cc
+only-segment _ (suc n) cell.Row l h p = absurd cc
+only-segment (Kind.Leaf x) (suc zero) cell.Item l h p = absurd cc
+only-segment _ (suc zero) cell.Item l h p = absurd cc
 
 sequence-with : (t : Tag) (node : NodeId) (o : Option Element) → element_with t (start sequence_tag (sequence node) ∷ []) ≡ o
     → same_tag t sequence_tag ≡ (elim o as (λ _. Bool) [ Some e ↦ true | None ↦ false ])
@@ -289,25 +278,16 @@ placed-due t Kind.Seq p node zero zero row cell.Inner D d e h b slot is =
     let i = h.inner refl in
     let tag = sequence-due t i.0 node d.alternative i.1 e (let x = begins-due t (wrapped i.0 node) i.1 (rows []) D d.alternative i.2 b in subst (λ y. Begins t (wrapped i.0 node) d.alternative y) (ap element_of i.2) x) in
     inl (tag, inner-due t (record { part = p; node = node }) D d (either-due t p node true D tag h.is) b slot is)
-placed-due t Kind.Seq p node zero zero row cell.Row D d e h b slot is = absurd (let z : false ≡ true = h.placed in cc)
-placed-due t Kind.Seq p node zero zero row cell.Item D d e h b slot is = absurd (let z : false ≡ true = h.placed in cc)
-placed-due t Kind.Seq p node zero zero row cell.Segment D d e h b slot is = absurd (let z : false ≡ true = h.placed in cc)
 placed-due t Kind.Seq p node zero (suc r) row cell.Row D d e h b slot is =
     let apart : element_with t (starts profile_two (wrapped p node)) ≡ None = h.passed refl (λ z. cc) in
     let tag = sequence-with t node None (ap (element_with t) (sym (sequence_starts node e)) ∙ apart) in
     inr (tag, in-row t node 0 row D d slot (either-due t p node false D tag h.is) (h.at_row refl) (omega arith) b is)
-placed-due t Kind.Seq p node zero (suc r) row cell.Inner D d e h b slot is = absurd (let z : false ≡ true = h.placed in cc)
-placed-due t Kind.Seq p node zero (suc zero) row cell.Item D d e h b slot is = absurd (let z : false ≡ true = h.placed in cc)
-placed-due t Kind.Seq p node zero (suc (suc r)) row cell.Item D d e h b slot is = absurd (let z : false ≡ true = h.placed in cc)
-placed-due t Kind.Seq p node zero (suc zero) row cell.Segment D d e h b slot is = absurd (let z : false ≡ true = h.placed in cc)
-placed-due t Kind.Seq p node zero (suc (suc r)) row cell.Segment D d e h b slot is = absurd (let z : false ≡ true = h.placed in cc)
+placed-due t Kind.Seq p node zero (suc zero) row _ D d e h b slot is = absurd (let z : false ≡ true = h.placed in cc)
+placed-due t Kind.Seq p node zero (suc (suc r)) row _ D d e h b slot is = absurd (let z : false ≡ true = h.placed in cc)
 placed-due t Kind.Seq p node (suc n) zero row s D d e h b slot is = absurd (omega (arith, h.later))
 placed-due t Kind.Seq p node (suc n) (suc r) row cell.Row D d e h b slot is = in-row t node n row D d slot h.is (h.at_row refl) (omega (arith, h.later, h.number)) b is
-placed-due t Kind.Seq p node (suc n) (suc r) row cell.Inner D d e h b slot is = absurd (let z : false ≡ true = h.placed in cc)
-placed-due t Kind.Seq p node (suc n) (suc zero) row cell.Item D d e h b slot is = absurd (let z : false ≡ true = h.placed in cc)
-placed-due t Kind.Seq p node (suc n) (suc (suc r)) row cell.Item D d e h b slot is = absurd (let z : false ≡ true = h.placed in cc)
-placed-due t Kind.Seq p node (suc n) (suc zero) row cell.Segment D d e h b slot is = absurd (let z : false ≡ true = h.placed in cc)
-placed-due t Kind.Seq p node (suc n) (suc (suc r)) row cell.Segment D d e h b slot is = absurd (let z : false ≡ true = h.placed in cc)
+placed-due t Kind.Seq p node (suc n) (suc zero) row _ D d e h b slot is = absurd (let z : false ≡ true = h.placed in cc)
+placed-due t Kind.Seq p node (suc n) (suc (suc r)) row _ D d e h b slot is = absurd (let z : false ≡ true = h.placed in cc)
 placed-due t Kind.SeqOf p node zero at row s D d e h b slot is = around t p node at row Kind.SeqOf s D d h.is (h.passed refl) h.placed slot b is
 placed-due t Kind.Choice p node zero at row s D d e h b slot is = around t p node at row Kind.Choice s D d h.is (h.passed refl) h.placed slot b is
 placed-due t (Kind.Leaf l) p node zero at row s D d e h b slot is = around t p node at row (Kind.Leaf l) s D d h.is (h.passed refl) h.placed slot b is
@@ -318,8 +298,8 @@ placed-due t Kind.IllString p node (suc zero) at row s D d e h b slot is = segme
 placed-due t Kind.SeqOf p node (suc (suc n)) at row s D d e h b slot is = absurd (let z : None ≡ Some D = h.is in cc)
 placed-due t Kind.Choice p node (suc zero) at row s D d e h b slot is = absurd (let z : None ≡ Some D = h.is in cc)
 placed-due t Kind.Choice p node (suc (suc n)) at row s D d e h b slot is = absurd (let z : None ≡ Some D = h.is in cc)
-placed-due t (Kind.Leaf l) p node (suc (suc n)) at row s D d e h b slot is = absurd (let z : None ≡ Some D = h.is in cc)
-placed-due t Kind.IllString p node (suc (suc n)) at row s D d e h b slot is = absurd (let z : None ≡ Some D = h.is in cc)
+placed-due t Kind.Seq p node zero zero row _ D d e h b slot is = absurd (let z : false ≡ true = h.placed in cc)
+placed-due t _ p node (suc (suc n)) at row s D d e h b slot is = absurd (let z : None ≡ Some D = h.is in cc)
 
 -- what may come after what is found
 abbrev after-shape : Kind → PartId → NodeId → ℕ → CellSlot → Next
@@ -328,8 +308,7 @@ after-shape k q node at s = elim s as (λ _. Next) [ cell.Row ↦ shape_of k q n
 pub after-found : (f : CellFound) (s : CellSlot) (node : NodeId) → node_in f.at ≡ node → shape_at (place_after f s) ≡ after-shape (kind_of node) (part_in f.at) node f.at.position s
 after-found f cell.Row node e = ap (λ n. shape_of (kind_of n) (part_in f.at) n (f.at.position + 1)) e
 after-found f cell.Inner node e = refl
-after-found f cell.Item node e = ap (λ n. shape_of (kind_of n) (part_in f.at) n f.at.position) e
-after-found f cell.Segment node e = ap (λ n. shape_of (kind_of n) (part_in f.at) n f.at.position) e
+after-found f _ node e = ap (λ n. shape_of (kind_of n) (part_in f.at) n f.at.position) e
 
 after-row : (q : PartId) (node : NodeId) (r row : ℕ) → row ≡ r → shape_of Kind.Seq q node (suc r + 1) ≡ Rows node (row + 1)
 after-row q node r row e = let z : suc r + 1 ≡ suc (row + 1) = omega (arith, e) in ap (shape_of Kind.Seq q node) z
@@ -344,15 +323,6 @@ pub after-is : (t : Tag) (k : Kind) (p q : PartId) (node : NodeId) (position at 
 after-is t Kind.Seq p q node zero (suc r) row cell.Row D h = after-row q node r row h.number
 after-is t Kind.Seq p q node (suc n) (suc r) row cell.Row D h = after-row q node r row h.number
 after-is t k p q node position zero row cell.Row D h = absurd (let z : false ≡ true = h.placed in cc)
-after-is t Kind.SeqOf p q node position (suc r) row cell.Row D h = absurd (let z : false ≡ true = h.placed in cc)
-after-is t Kind.Choice p q node position (suc r) row cell.Row D h = absurd (let z : false ≡ true = h.placed in cc)
-after-is t (Kind.Leaf l) p q node position (suc r) row cell.Row D h = absurd (let z : false ≡ true = h.placed in cc)
-after-is t Kind.IllString p q node position (suc r) row cell.Row D h = absurd (let z : false ≡ true = h.placed in cc)
-after-is t Kind.Seq p q node zero zero row cell.Inner D h = refl
-after-is t Kind.SeqOf p q node zero zero row cell.Inner D h = refl
-after-is t Kind.Choice p q node zero zero row cell.Inner D h = refl
-after-is t (Kind.Leaf l) p q node zero zero row cell.Inner D h = refl
-after-is t Kind.IllString p q node zero zero row cell.Inner D h = refl
 after-is t k p q node (suc n) zero row cell.Inner D h = absurd (omega (arith, h.later))
 after-is t k p q node position (suc r) row cell.Inner D h = absurd (let z : false ≡ true = h.placed in cc)
 after-is t Kind.SeqOf p q node zero (suc zero) row cell.Item D h = absurd (wrapper-only t p node D 0 h.is (h.passed refl))
@@ -360,10 +330,6 @@ after-is t Kind.SeqOf p q node (suc zero) (suc zero) row cell.Item D h = refl
 after-is t Kind.SeqOf p q node (suc (suc n)) (suc zero) row cell.Item D h = absurd (omega (arith, h.later))
 after-is t k p q node position zero row cell.Item D h = absurd (let z : false ≡ true = h.placed in cc)
 after-is t k p q node position (suc (suc n)) row cell.Item D h = absurd (let z : false ≡ true = h.placed in cc)
-after-is t Kind.Seq p q node position (suc zero) row cell.Item D h = absurd (let z : false ≡ true = h.placed in cc)
-after-is t Kind.Choice p q node position (suc zero) row cell.Item D h = absurd (let z : false ≡ true = h.placed in cc)
-after-is t (Kind.Leaf l) p q node position (suc zero) row cell.Item D h = absurd (let z : false ≡ true = h.placed in cc)
-after-is t Kind.IllString p q node position (suc zero) row cell.Item D h = absurd (let z : false ≡ true = h.placed in cc)
 after-is t (Kind.Leaf l) p q node zero (suc zero) row cell.Segment D h = absurd (wrapper-only t p node D 0 h.is (h.passed refl))
 after-is t (Kind.Leaf l) p q node (suc zero) (suc zero) row cell.Segment D h = refl
 after-is t (Kind.Leaf l) p q node (suc (suc n)) (suc zero) row cell.Segment D h = absurd (omega (arith, h.later))
@@ -372,71 +338,42 @@ after-is t Kind.IllString p q node (suc zero) (suc zero) row cell.Segment D h = 
 after-is t Kind.IllString p q node (suc (suc n)) (suc zero) row cell.Segment D h = absurd (omega (arith, h.later))
 after-is t k p q node position zero row cell.Segment D h = absurd (let z : false ≡ true = h.placed in cc)
 after-is t k p q node position (suc (suc n)) row cell.Segment D h = absurd (let z : false ≡ true = h.placed in cc)
-after-is t Kind.Seq p q node position (suc zero) row cell.Segment D h = absurd (let z : false ≡ true = h.placed in cc)
-after-is t Kind.SeqOf p q node position (suc zero) row cell.Segment D h = absurd (let z : false ≡ true = h.placed in cc)
-after-is t Kind.Choice p q node position (suc zero) row cell.Segment D h = absurd (let z : false ≡ true = h.placed in cc)
+after-is t _ p q node position (suc r) row cell.Row D h = absurd (let z : false ≡ true = h.placed in cc)
+after-is t Kind.Seq p q node zero zero row cell.Inner D h = refl
+after-is t _ p q node zero zero row cell.Inner D h = refl
+after-is t _ p q node position (suc zero) row cell.Item D h = absurd (let z : false ≡ true = h.placed in cc)
+after-is t _ p q node position (suc zero) row cell.Segment D h = absurd (let z : false ≡ true = h.placed in cc)
 
 leaf-shape : (p : PartId) (node : NodeId) (k : Kind) → cells.is_leaf k ≡ true → shape_of k p node 1 ≡ Segments
 leaf-shape p node (Kind.Leaf l) h = refl
 leaf-shape p node Kind.IllString h = refl
-leaf-shape p node Kind.Seq h = absurd cc
-leaf-shape p node Kind.SeqOf h = absurd cc
-leaf-shape p node Kind.Choice h = absurd cc
+leaf-shape p node _ h = absurd cc
 
 sequence-shape : (p : PartId) (node : NodeId) (k : Kind) → cells.is_sequence k ≡ true → (shape_of k p node 1 ≡ Rows node 0) × (shape_of k p node 0 ≡ Either (record { part = p; node = node }))
 sequence-shape p node Kind.Seq h = (refl, refl)
-sequence-shape p node (Kind.Leaf l) h = absurd cc
-sequence-shape p node Kind.IllString h = absurd cc
-sequence-shape p node Kind.SeqOf h = absurd cc
-sequence-shape p node Kind.Choice h = absurd cc
+sequence-shape p node _ h = absurd cc
 
 list-shape : (p : PartId) (node : NodeId) (k : Kind) → cells.is_list k ≡ true → shape_of k p node 1 ≡ Items node
 list-shape p node Kind.SeqOf h = refl
-list-shape p node (Kind.Leaf l) h = absurd cc
-list-shape p node Kind.IllString h = absurd cc
-list-shape p node Kind.Seq h = absurd cc
-list-shape p node Kind.Choice h = absurd cc
+list-shape p node _ h = absurd cc
 
 wrapper-shape : (p : PartId) (node : NodeId) (k : Kind) → is_other k ≡ true → shape_of k p node 0 ≡ Inner (record { part = p; node = node })
-wrapper-shape p node Kind.SeqOf h = refl
-wrapper-shape p node (Kind.Leaf l) h = refl
-wrapper-shape p node Kind.IllString h = refl
-wrapper-shape p node Kind.Choice h = refl
 wrapper-shape p node Kind.Seq h = absurd cc
+wrapper-shape p node _ h = refl
 
 -- where what is found begins inside
 pub begins-at : (w : What) (p : PartId) (node : NodeId) → IsTrue (opens_in w node) → BeginsAt (found_as p node w) (record { part = p; node = node; position = cells.first_position w })
-begins-at what.Boolean p node h = leaf-shape p node (kind_of node) h
-begins-at what.Integer p node h = leaf-shape p node (kind_of node) h
-begins-at what.Enumerated p node h = leaf-shape p node (kind_of node) h
-begins-at what.General p node h = leaf-shape p node (kind_of node) h
-begins-at what.Visible p node h = leaf-shape p node (kind_of node) h
-begins-at what.Printable p node h = leaf-shape p node (kind_of node) h
-begins-at what.Date p node h = leaf-shape p node (kind_of node) h
-begins-at what.Time p node h = leaf-shape p node (kind_of node) h
-begins-at what.Segment p node h = leaf-shape p node (kind_of node) h
 begins-at what.Sequence p node h = (sequence-shape p node (kind_of node) h).0
 begins-at what.LooseWrapper p node h = (sequence-shape p node (kind_of node) h).1
 begins-at what.List p node h = list-shape p node (kind_of node) h
 begins-at what.Wrapper p node h = wrapper-shape p node (kind_of node) h
 begins-at what.LeftOut p node h = tt
+begins-at _ p node h = leaf-shape p node (kind_of node) h
 
 -- what is found, by the definitions
 pub found-means : (w : What) (p : PartId) (node : NodeId) → found_is (found_as p node w) ≡ cells.element_in p node w
 found-means what.Boolean p node = refl
-found-means what.Integer p node = refl
-found-means what.Enumerated p node = refl
-found-means what.General p node = refl
-found-means what.Visible p node = refl
-found-means what.Printable p node = refl
-found-means what.Date p node = refl
-found-means what.Time p node = refl
-found-means what.Segment p node = refl
-found-means what.Sequence p node = refl
-found-means what.LooseWrapper p node = refl
-found-means what.List p node = refl
-found-means what.Wrapper p node = refl
-found-means what.LeftOut p node = refl
+found-means _ p node = refl
 
 -- what is found at a place is placed there
 pub found-placed : (t : Tag) (a : At) (f : CellFound) → IsDue t a f → IsPlaced t (kind_of (node_in a)) (part_in a) (node_in a) a.position f.at.position (row_of f) (slot_of f) (due_of f)
@@ -461,35 +398,9 @@ shape-next a = go (kind_of (node_in a)) a.position
     go : (k : Kind) (n : ℕ) → cells.next_of_kind k (part_in a) (node_in a) n ≡ next_is (shape_of k (part_in a) (node_in a) n)
     go Kind.Seq zero = refl
     go Kind.Seq (suc row) = refl
-    go Kind.SeqOf zero = refl
-    go Kind.SeqOf (suc zero) = refl
-    go Kind.SeqOf (suc (suc n)) = refl
-    go Kind.Choice zero = refl
-    go Kind.Choice (suc zero) = refl
-    go Kind.Choice (suc (suc n)) = refl
-    go (Kind.Leaf l) zero = refl
-    go (Kind.Leaf l) (suc zero) = refl
-    go (Kind.Leaf l) (suc (suc n)) = refl
-    go Kind.IllString zero = refl
-    go Kind.IllString (suc zero) = refl
-    go Kind.IllString (suc (suc n)) = refl
-
--- what isn't left out is an element
-pub found-read : (w : What) (p : PartId) (node : NodeId) → (w ≡ what.LeftOut → ⊥) → found_as p node w ≡ found.Element (element_as p node w)
-found-read what.LeftOut p node h = absurd (h refl)
-found-read what.Boolean p node h = refl
-found-read what.Integer p node h = refl
-found-read what.Enumerated p node h = refl
-found-read what.General p node h = refl
-found-read what.Visible p node h = refl
-found-read what.Printable p node h = refl
-found-read what.Date p node h = refl
-found-read what.Time p node h = refl
-found-read what.Segment p node h = refl
-found-read what.Sequence p node h = refl
-found-read what.LooseWrapper p node h = refl
-found-read what.List p node h = refl
-found-read what.Wrapper p node h = refl
+    go _ zero = refl
+    go _ (suc zero) = refl
+    go _ (suc (suc n)) = refl
 
 -- what the cells find is due by the decoder's words
 pub is-coming : (t : Tag) (a : At) (f : CellFound) → IsDue t a f → IsComing t a f

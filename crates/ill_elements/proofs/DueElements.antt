@@ -76,9 +76,7 @@ in_rows t node n d h = go d.slot h
     go : (s : Slot) → (elim s as (λ _. Type 0) [ AtRow r ↦ IsRowDue t node n r d.alternative d.found | _ ↦ ⊥ ])
         → (r : ℕ) × (s ≡ AtRow r) × Answer (due_in profile_two t (drop n (components profile_two node))) (found_is d.found) (next_is (Rows node (r + 1)))
     go (AtRow r) k = (r, refl, (part (component_at (record { node = node; row = r }) k.row) (found_is d.found) (rows (drop (r + 1) (components profile_two node))), k.is, refl, refl))
-    go Item k = absurd k
-    go Inside k = absurd k
-    go Segment k = absurd k
+    go _ k = absurd k
 
 inside : (t : Tag) (w : Wrapped) (d : Due) → IsInnerDue t w d → Answer (due_in profile_two t (component_of w ∷ [])) (found_is d.found) (next_is Nothing)
 inside t w d h = (part (component_of w) (found_is d.found) (rows []), due_in-found t (component_of w) [] (found_is d.found) h.begun.is, refl, refl)

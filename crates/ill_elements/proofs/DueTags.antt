@@ -1,12 +1,12 @@
--- The tags of leaves are no end mark's, and rows with a default hold leaves that are no strings.
-use Rattle.std.proofs.Common.{◌≡◌, ℕ, Bool, true, false, List, [], ◌∷◌, Option, Some, None, IsTrue, refl, sym, ap, subst, ◌∙◌, inl, inr, slice_get}
+-- What is due outside strings is no segment, and its tag no end mark's; rows with a default hold leaves that are no strings.
+use Rattle.std.proofs.Common.{◌≡◌, ◌⊎◌, ℕ, Bool, true, false, List, [], ◌∷◌, Option, Some, None, IsTrue, refl, sym, ap, subst, ◌∙◌, inl, inr, slice_get}
 use Rattle.std.specs.List.{list_all}
 use Rattle.ber_core.specs.Identifier.{Tag}
 use Rattle.ber_core.specs.declared.id.Class.{Class}
 use Rattle.ber_core.specs.declared.id.Class.TheVariants.{Universal}
 use Rattle.ber_leaf.specs.Leaf.{boolean, enumerated, integer, is_string}
 use Rattle.ber_leaf.specs.Profile.{profile_two}
-use Rattle.ill_schema.specs.Content.{Content, alternative}
+use Rattle.ill_schema.specs.Content.{Content}
 use Rattle.ill_schema.specs.Presence.{is_default, is_default_of}
 use Rattle.ill_schema.specs.Table.{kind_of, rows_of}
 use Rattle.ill_schema.specs.Tagging.{Tagging, untagged, implicit, explicit, explicit_or_bare, tagging, same_tag}
@@ -21,8 +21,8 @@ use Rattle.ill_schema.specs.declared.part.Row.{Row}
 use Rattle.ill_schema.proofs.Tags.{at_row}
 use Rattle.ill_refusals.specs.Element.{Component, Element, leaf, segment, Start, own_starts, retag, leave_out, tagged_starts, component_starts}
 use Rattle.ill_refusals.proofs.Rows.{same_tag-is, two_cases}
-use Rattle.ill_elements.specs.Elements.{component_of, component_at, element_is, element_with}
-use Rattle.ill_elements.specs.Due.{Begins, IsDueIn}
+use Rattle.ill_elements.specs.Elements.{component_of, component_at, element_is, element_with, found_is}
+use Rattle.ill_elements.specs.Due.{Begins, Due, IsDueIn, IsDueInRows, IsRowDue}
 use Rattle.ill_elements.specs.Contents.{with_alternative}
 use Rattle.ill_elements.specs.Due.{due_with}
 use Rattle.ill_elements.specs.Written.{left_away}
@@ -31,6 +31,7 @@ use Rattle.ill_elements.specs.declared.due.Next.TheVariants.{Rows, Inner, Items,
 use Rattle.ill_elements.specs.declared.due.Slot.{Slot}
 use Rattle.ill_elements.specs.declared.due.Slot.TheVariants.{Row as AtRow, Item, Inner as Inside, Segment as InString}
 use Rattle.ill_elements.specs.declared.element.Element.{Element as CodeElement}
+use Rattle.ill_elements.proofs.NormalLeaves.{alternative_kept}
 
 -- what holds of a start where this holds of its tag and its element
 abbrev AllStarts : (Tag → Element → Type 0) → List Start → Type 0
@@ -47,29 +48,25 @@ found_start P t (s ∷ ss) e h k = elim (two_cases (same_tag s.tag t)) [
   | inr n ↦ found_start P t ss e h.1 (let q : element_with t (s ∷ ss) ≡ element_with t ss = rw n refl in sym q ∙ k)
 ]
 
--- a leaf's tag is no end mark's
-abbrev NoEnd : Tag → Element → Type 0
-NoEnd t e = t.class ≡ Universal → t.number ≡ 0 → ⊥
+retag_all : (P Q : Tag → Element → Type 0) (t : Tag) (ss : List Start) → ((u : Tag) (e : Element) → P u e → Q t e) → AllStarts P ss → AllStarts Q (retag t ss)
+retag_all P Q t [] f h = tt
+retag_all P Q t (s ∷ ss) f h = (f s.tag s.element h.0, retag_all P Q t ss f h.1)
 
-own_apart : (k : Kind) (node : NodeId) → AllStarts NoEnd (own_starts k node)
-own_apart Kind.Seq node = (λ c n. cc, tt)
-own_apart Kind.SeqOf node = (λ c n. cc, tt)
+-- no segment, and its tag is no end mark's
+abbrev IsStart : Tag → Element → Type 0
+IsStart t e = (e ≡ segment → ⊥) × (t.class ≡ Universal → t.number ≡ 0 → ⊥)
+
+own_apart : (k : Kind) (node : NodeId) → AllStarts IsStart (own_starts k node)
+own_apart Kind.Seq node = ((λ s. cc, λ c n. cc), tt)
+own_apart Kind.SeqOf node = ((λ s. cc, λ c n. cc), tt)
 own_apart Kind.Choice node = tt
-own_apart (Kind.Leaf LeafKind.Boolean) node = (λ c n. cc, tt)
-own_apart (Kind.Leaf LeafKind.Integer) node = (λ c n. cc, tt)
-own_apart (Kind.Leaf LeafKind.Enumerated) node = (λ c n. cc, tt)
-own_apart (Kind.Leaf LeafKind.Date) node = (λ c n. cc, tt)
-own_apart (Kind.Leaf LeafKind.Time) node = (λ c n. cc, tt)
-own_apart (Kind.Leaf LeafKind.Printable) node = (λ c n. cc, tt)
-own_apart Kind.IllString node = (λ c n. cc, (λ c n. cc, tt))
+own_apart Kind.IllString node = ((λ s. cc, λ c n. cc), ((λ s. cc, λ c n. cc), tt))
+own_apart (Kind.Leaf LeafKind.Boolean) node = ((λ s. cc, λ c n. cc), tt)
+own_apart _ node = ((λ s. cc, λ c n. cc), tt)
 
-retag_apart : (t : Tag) (ss : List Start) → (t.class ≡ Universal → t.number ≡ 0 → ⊥) → AllStarts NoEnd (retag t ss)
-retag_apart t [] h = tt
-retag_apart t (s ∷ ss) h = (h, retag_apart t ss h)
-
-left_apart : (part : PartId) (ss : List Start) → AllStarts NoEnd ss → AllStarts NoEnd (leave_out part ss)
+left_apart : (part : PartId) (ss : List Start) → AllStarts IsStart ss → AllStarts IsStart (leave_out part ss)
 left_apart part [] h = tt
-left_apart part (s ∷ ss) h = (h.0, left_apart part ss h.1)
+left_apart part (s ∷ ss) h = ((λ e. cc, h.0.1), left_apart part ss h.1)
 
 abbrev TaggingApart : Tagging → Type 0
 TaggingApart untagged = Unit {0}
@@ -77,20 +74,17 @@ TaggingApart (implicit t) = t.class ≡ Universal → t.number ≡ 0 → ⊥
 TaggingApart (explicit t) = t.class ≡ Universal → t.number ≡ 0 → ⊥
 TaggingApart (explicit_or_bare t) = t.class ≡ Universal → t.number ≡ 0 → ⊥
 
-tagged_apart : (g : Tagging) (c : Component) → TaggingApart g → AllStarts NoEnd (tagged_starts g c)
+tagged_apart : (g : Tagging) (c : Component) → TaggingApart g → AllStarts IsStart (tagged_starts g c)
 tagged_apart untagged c h = own_apart (kind_of c.node) c.node
-tagged_apart (implicit t) c h = retag_apart t _ h
-tagged_apart (explicit t) c h = (h, tt)
-tagged_apart (explicit_or_bare t) c h = (h, tt)
+tagged_apart (implicit t) c h = retag_all IsStart IsStart t _ (λ u e k. (k.0, h)) (own_apart (kind_of c.node) c.node)
+tagged_apart _ c h = ((λ s. cc, h), tt)
 
-component_apart : (c : Component) → TaggingApart c.tagging → AllStarts NoEnd (component_starts c)
+component_apart : (c : Component) → TaggingApart c.tagging → AllStarts IsStart (component_starts c)
 component_apart c h = go c.presence
   where
-    go : (pr : Presence) → AllStarts NoEnd (elim pr as (λ _. List Start) [ Presence.LeftOut ↦ leave_out c.part (tagged_starts c.tagging c) | _ ↦ tagged_starts c.tagging c ])
-    go Presence.Must = tagged_apart c.tagging c h
-    go Presence.May = tagged_apart c.tagging c h
-    go (Presence.Default d) = tagged_apart c.tagging c h
+    go : (pr : Presence) → AllStarts IsStart (elim pr as (λ _. List Start) [ Presence.LeftOut ↦ leave_out c.part (tagged_starts c.tagging c) | _ ↦ tagged_starts c.tagging c ])
     go Presence.LeftOut = left_apart c.part _ (tagged_apart c.tagging c h)
+    go _ = tagged_apart c.tagging c h
 
 abbrev is_universal : Class → Bool
 is_universal Class.Universal = true
@@ -125,28 +119,42 @@ row_apart : (tag : Option (Class × ℕ)) (m : Mode) (pr : Presence) (node : Nod
     → TaggingApart (tagging profile_two (record { tag = tag; mode = m; presence = pr; node = node }))
 row_apart None m pr node h = tt
 row_apart (Some t) Mode.Untagged pr node h = tt
-row_apart (Some t) Mode.Implicit pr node h = λ c n. (let q : (elim (is_universal t.0) as (λ _. Bool) [ true ↦ false | false ↦ true ]) ≡ true = h in apart t.0 q c)
-row_apart (Some t) Mode.Explicit pr node h = λ c n. (let q : (elim (is_universal t.0) as (λ _. Bool) [ true ↦ false | false ↦ true ]) ≡ true = h in apart t.0 q c)
-row_apart (Some t) Mode.ExplicitOrBare pr node h = λ c n. (let q : (elim (is_universal t.0) as (λ _. Bool) [ true ↦ false | false ↦ true ]) ≡ true = h in apart t.0 q c)
+row_apart (Some t) _ pr node h = λ c n. (let q : (elim (is_universal t.0) as (λ _. Bool) [ true ↦ false | false ↦ true ]) ≡ true = h in apart t.0 q c)
 
 at_apart : (node : NodeId) (n : ℕ) (row : Row) → slice_get (rows_of node) n ≡ Some row → TaggingApart (tagging profile_two row)
 at_apart node n row e = row_apart row.tag row.mode row.presence row.node (at_row is_apart (rows_of node) n row (all_apart node) e)
 
-begins_apart : (t : Tag) (c : Component) (alt : Option ℕ) (e : Element) → TaggingApart c.tagging → Begins t c alt e → NoEnd t e
-begins_apart t c None e h b = found_start NoEnd t (component_starts c) e (component_apart c h) b
-begins_apart t c (Some n) e h b = found_start NoEnd t _ e (component_apart (component_at (record { node = c.node; row = n }) b.2.0) (at_apart c.node n b.2.0 b.2.1)) b.2.2
+begins_apart : (t : Tag) (c : Component) (alt : Option ℕ) (e : Element) → TaggingApart c.tagging → Begins t c alt e → IsStart t e
+begins_apart t c None e h b = found_start IsStart t (component_starts c) e (component_apart c h) b
+begins_apart t c (Some n) e h b = found_start IsStart t _ e (component_apart (component_at (record { node = c.node; row = n }) b.2.0) (at_apart c.node n b.2.0 b.2.1)) b.2.2
+
+rows_start : (t : Tag) (node : NodeId) (n : ℕ) (d : Due) → IsDueInRows t node n d → IsStart t (found_is d.found)
+rows_start t node n d h = go d.slot h
+  where
+    go : (x : Slot) → (elim x as (λ _. Type 0) [ AtRow r ↦ IsRowDue t node n r d.alternative d.found | _ ↦ ⊥ ]) → IsStart t (found_is d.found)
+    go (AtRow r) k = begins_apart t _ d.alternative (found_is d.found) (at_apart node r k.row k.is_row) k.begins
+    go _ k = absurd k
+
+due_start : (t : Tag) (n : Next) (d : Due) → IsDueIn t n d → (n ≡ Segments) ⊎ IsStart t (found_is d.found)
+due_start t (Rows node n) d h = inr (rows_start t node n d h)
+due_start t (Inner w) d h = inr (begins_apart t (component_of w) d.alternative (found_is d.found) tt h.begun.begins)
+due_start t (Items node) d h = inr (begins_apart t _ d.alternative (found_is d.found) (at_apart node 0 h.row h.is_row) h.begun.begins)
+due_start t (Either w) d (inl h) = inr (begins_apart t (component_of w) d.alternative (found_is d.found) tt h.1.begun.begins)
+due_start t (Either w) d (inr h) = inr (rows_start t w.node 0 d h.1)
+due_start t Segments d h = inl refl
+due_start t Nothing d h = absurd h
+
+-- a segment is due in strings alone
+pub segment_due : (t : Tag) (n : Next) (d : Due) → IsDueIn t n d → found_is d.found ≡ segment → n ≡ Segments
+segment_due t n d h s = elim (due_start t n d h) [ inl e ↦ e | inr k ↦ absurd (k.0 s) ]
+
+-- and what is due in a string is a segment
+pub due_segment : (t : Tag) (n : Next) (d : Due) → IsDueIn t n d → n ≡ Segments → found_is d.found ≡ segment
+due_segment t n d h e = (let k : IsDueIn t Segments d = subst (λ x. IsDueIn t x d) e h in k.found)
 
 -- the tag of what is due, but of a segment
-pub due_apart : (t : Tag) (n : Next) (slot : Slot) (alt : Option ℕ) (el : CodeElement) → IsDueIn t n (due_with slot alt el) → (element_is el ≡ segment → ⊥) → t.class ≡ Universal → t.number ≡ 0 → ⊥
-due_apart t (Rows node k) (AtRow r) alt el d s = begins_apart t _ alt (element_is el) (at_apart node r d.row d.is_row) d.begins
-due_apart t (Rows node k) _ alt el d s = absurd d
-due_apart t (Inner w) slot alt el d s = begins_apart t (component_of w) alt (element_is el) tt d.begun.begins
-due_apart t (Items node) slot alt el d s = begins_apart t _ alt (element_is el) (at_apart node 0 d.row d.is_row) d.begun.begins
-due_apart t (Either w) slot alt el (inl d) s = begins_apart t (component_of w) alt (element_is el) tt d.1.begun.begins
-due_apart t (Either w) (AtRow r) alt el (inr d) s = begins_apart t _ alt (element_is el) (at_apart w.node r d.1.row d.1.is_row) d.1.begins
-due_apart t (Either w) _ alt el (inr d) s = absurd d.1
-due_apart t Segments slot alt el d s = absurd (s d.found)
-due_apart t Nothing slot alt el d s = absurd d
+pub due_apart : (t : Tag) (n : Next) (d : Due) → IsDueIn t n d → (found_is d.found ≡ segment → ⊥) → t.class ≡ Universal → t.number ≡ 0 → ⊥
+due_apart t n d h s = elim (due_start t n d h) [ inl e ↦ absurd (s (due_segment t n d h e)) | inr k ↦ k.1 ]
 
 -- an element that may be constructed
 abbrev pub MayOpen : Element → Type 0
@@ -154,45 +162,29 @@ MayOpen (leaf l) = IsTrue (is_string l)
 MayOpen _ = Unit {0}
 
 -- is the leaf of the kind, which is one of those that have defaults
-abbrev pub PlainLeaf : Kind → Tag → Element → Type 0
-PlainLeaf (Kind.Leaf LeafKind.Boolean) t e = e ≡ leaf boolean
-PlainLeaf (Kind.Leaf LeafKind.Integer) t e = e ≡ leaf integer
-PlainLeaf (Kind.Leaf LeafKind.Enumerated) t e = e ≡ leaf enumerated
-PlainLeaf _ t e = ⊥
+abbrev pub PlainLeaf : Kind → Element → Type 0
+PlainLeaf (Kind.Leaf LeafKind.Boolean) e = e ≡ leaf boolean
+PlainLeaf (Kind.Leaf LeafKind.Integer) e = e ≡ leaf integer
+PlainLeaf (Kind.Leaf LeafKind.Enumerated) e = e ≡ leaf enumerated
+PlainLeaf _ e = ⊥
 
-plain_own : (d : _) (k : Kind) (node : NodeId) → IsTrue (is_plain (Presence.Default d) Mode.Implicit k) → AllStarts (PlainLeaf k) (own_starts k node)
+plain_own : (d : _) (k : Kind) (node : NodeId) → IsTrue (is_plain (Presence.Default d) Mode.Implicit k) → AllStarts (λ t e. PlainLeaf k e) (own_starts k node)
 plain_own d (Kind.Leaf LeafKind.Boolean) node h = (refl, tt)
 plain_own d (Kind.Leaf LeafKind.Integer) node h = (refl, tt)
 plain_own d (Kind.Leaf LeafKind.Enumerated) node h = (refl, tt)
-plain_own d Kind.Seq node h = absurd cc
-plain_own d Kind.SeqOf node h = absurd cc
-plain_own d Kind.Choice node h = absurd cc
-plain_own d Kind.IllString node h = absurd cc
-plain_own d (Kind.Leaf LeafKind.Date) node h = absurd cc
-plain_own d (Kind.Leaf LeafKind.Time) node h = absurd cc
-plain_own d (Kind.Leaf LeafKind.Printable) node h = absurd cc
-
-plain_other : (k : Kind) (t u : Tag) (e : Element) → PlainLeaf k t e → PlainLeaf k u e
-plain_other (Kind.Leaf LeafKind.Boolean) t u e h = h
-plain_other (Kind.Leaf LeafKind.Integer) t u e h = h
-plain_other (Kind.Leaf LeafKind.Enumerated) t u e h = h
-plain_other _ t u e h = absurd h
-
-plain_retag : (k : Kind) (t : Tag) (ss : List Start) → AllStarts (PlainLeaf k) ss → AllStarts (PlainLeaf k) (retag t ss)
-plain_retag k t [] h = tt
-plain_retag k t (s ∷ ss) h = (plain_other k s.tag t s.element h.0, plain_retag k t ss h.1)
+plain_own d _ node h = absurd cc
 
 -- it may not be constructed
-plain_stays : (k : Kind) (t : Tag) (e : Element) → PlainLeaf k t e → MayOpen e → ⊥
-plain_stays (Kind.Leaf LeafKind.Boolean) t e h m = (let n : IsTrue (is_string boolean) = subst MayOpen h m in cc)
-plain_stays (Kind.Leaf LeafKind.Integer) t e h m = (let n : IsTrue (is_string integer) = subst MayOpen h m in cc)
-plain_stays (Kind.Leaf LeafKind.Enumerated) t e h m = (let n : IsTrue (is_string enumerated) = subst MayOpen h m in cc)
-plain_stays _ t e h m = absurd h
+plain_stays : (k : Kind) (e : Element) → PlainLeaf k e → MayOpen e → ⊥
+plain_stays (Kind.Leaf LeafKind.Boolean) e h m = (let n : IsTrue (is_string boolean) = subst MayOpen h m in cc)
+plain_stays (Kind.Leaf LeafKind.Integer) e h m = (let n : IsTrue (is_string integer) = subst MayOpen h m in cc)
+plain_stays (Kind.Leaf LeafKind.Enumerated) e h m = (let n : IsTrue (is_string enumerated) = subst MayOpen h m in cc)
+plain_stays _ e h m = absurd h
 
 plain_row : (tag : Option (Class × ℕ)) (m : Mode) (d : _) (node : NodeId) (part : PartId) → IsTrue (has_plain_default (record { tag = tag; mode = m; presence = Presence.Default d; node = node }))
-    → AllStarts (PlainLeaf (kind_of node)) (component_starts (component_at part (record { tag = tag; mode = m; presence = Presence.Default d; node = node })))
+    → AllStarts (λ t e. PlainLeaf (kind_of node) e) (component_starts (component_at part (record { tag = tag; mode = m; presence = Presence.Default d; node = node })))
 plain_row None m d node part h = absurd cc
-plain_row (Some t) Mode.Implicit d node part h = plain_retag (kind_of node) _ _ (plain_own d (kind_of node) node h)
+plain_row (Some t) Mode.Implicit d node part h = retag_all _ (λ u e. PlainLeaf (kind_of node) e) _ _ (λ u e k. k) (plain_own d (kind_of node) node h)
 plain_row (Some t) Mode.Explicit d node part h = absurd (never (kind_of node) h)
   where
     never : (k : Kind) → IsTrue (is_plain (Presence.Default d) Mode.Explicit k) → ⊥
@@ -211,49 +203,33 @@ plain_row (Some t) Mode.Untagged d node part h = absurd (never (kind_of node) h)
 
 -- what begins a row with a default is the leaf of its kind
 pub default_leaf : (node : NodeId) (r : ℕ) (row : Row) (t : Tag) (d : _) (e : Element) → slice_get (rows_of node) r ≡ Some row → row.presence ≡ Presence.Default d
-    → element_with t (component_starts (component_at (record { node = node; row = r }) row)) ≡ Some e → PlainLeaf (kind_of row.node) t e
+    → element_with t (component_starts (component_at (record { node = node; row = r }) row)) ≡ Some e → PlainLeaf (kind_of row.node) e
 default_leaf node r row t d e is q b =
     let same : row ≡ record { tag = row.tag; mode = row.mode; presence = Presence.Default d; node = row.node } =
     ap (λ x. let y : Row = record { tag = row.tag; mode = row.mode; presence = x; node = row.node } in y) q in
     let plain = subst (λ x. IsTrue (has_plain_default x)) same (at_row has_plain_default (rows_of node) r row (all_plain node) is) in
     let starts = plain_row row.tag row.mode d row.node (record { node = node; row = r }) plain in
     let here = subst (λ x. element_with t (component_starts (component_at (record { node = node; row = r }) x)) ≡ Some e) same b in
-    found_start (PlainLeaf (kind_of row.node)) t _ e starts here
+    found_start (λ u x. PlainLeaf (kind_of row.node) x) t _ e starts here
 
 -- what may be constructed is no default
 row_kept : (node : NodeId) (r : ℕ) (row : Row) (t : Tag) (alt : Option ℕ) (e : Element) (c : Content) → slice_get (rows_of node) r ≡ Some row → Begins t (component_at (record { node = node; row = r }) row) alt e → MayOpen e
-    → is_default row (with_alternative alt c) ≡ false
-row_kept node r row t (Some n) e c is b m = go row.presence
+    → (elim (slice_get (rows_of node) r) as (λ _. Bool) [ Some x ↦ is_default x (with_alternative alt c) | None ↦ false ]) ≡ false
+row_kept node r row t alt e c is b m = ap (λ o. elim o as (λ _. Bool) [ Some x ↦ is_default x (with_alternative alt c) | None ↦ false ]) is ∙ at alt b
   where
-    go : (pr : Presence) → is_default_of pr (kind_of row.node) (alternative n c) ≡ false
-    go Presence.Must = refl
-    go Presence.May = refl
-    go Presence.LeftOut = refl
-    go (Presence.Default d) = refl
-row_kept node r row t None e c is b m = go row.presence refl
-  where
-    go : (pr : Presence) → row.presence ≡ pr → is_default_of row.presence (kind_of row.node) c ≡ false
-    go Presence.Must q = ap (λ x. is_default_of x (kind_of row.node) c) q
-    go Presence.May q = ap (λ x. is_default_of x (kind_of row.node) c) q
-    go Presence.LeftOut q = ap (λ x. is_default_of x (kind_of row.node) c) q
-    go (Presence.Default d) q = absurd (plain_stays (kind_of row.node) t e (default_leaf node r row t d e is q b) m)
+    go : (pr : Presence) → row.presence ≡ pr → Begins t (component_at (record { node = node; row = r }) row) None e → is_default row c ≡ false
+    go (Presence.Default d) q k = absurd (plain_stays (kind_of row.node) e (default_leaf node r row t d e is q k) m)
+    go _ q k = ap (λ x. is_default_of x (kind_of row.node) c) q
+
+    at : (o : Option ℕ) → Begins t (component_at (record { node = node; row = r }) row) o e → is_default row (with_alternative o c) ≡ false
+    at (Some n) k = alternative_kept row.presence (kind_of row.node) n c
+    at None k = go row.presence refl k
 
 -- what may be constructed has octets
 pub kept : (t : Tag) (n : Next) (slot : Slot) (alt : Option ℕ) (el : CodeElement) (c : Content) → IsDueIn t n (due_with slot alt el) → MayOpen (element_is el) → left_away n slot (with_alternative alt c) ≡ false
-kept t (Rows node k) (AtRow r) alt el c d m = at_slot (slice_get (rows_of node) r) d.is_row (row_kept node r d.row t alt (element_is el) c d.is_row d.begins m)
-  where
-    at_slot : (o : Option Row) → o ≡ Some d.row → is_default d.row (with_alternative alt c) ≡ false → (elim o as (λ _. Bool) [ Some row ↦ is_default row (with_alternative alt c) | None ↦ false ]) ≡ false
-    at_slot o e h = ap (λ x. elim x as (λ _. Bool) [ Some row ↦ is_default row (with_alternative alt c) | None ↦ false ]) e ∙ h
+kept t (Rows node k) (AtRow r) alt el c d m = row_kept node r d.row t alt (element_is el) c d.is_row d.begins m
 kept t (Rows node k) _ alt el c d m = absurd d
-kept t (Either w) (AtRow r) alt el c (inr d) m = at_slot (slice_get (rows_of w.node) r) d.1.is_row (row_kept w.node r d.1.row t alt (element_is el) c d.1.is_row d.1.begins m)
-  where
-    at_slot : (o : Option Row) → o ≡ Some d.1.row → is_default d.1.row (with_alternative alt c) ≡ false → (elim o as (λ _. Bool) [ Some row ↦ is_default row (with_alternative alt c) | None ↦ false ]) ≡ false
-    at_slot o e h = ap (λ x. elim x as (λ _. Bool) [ Some row ↦ is_default row (with_alternative alt c) | None ↦ false ]) e ∙ h
+kept t (Either w) (AtRow r) alt el c (inr d) m = row_kept w.node r d.1.row t alt (element_is el) c d.1.is_row d.1.begins m
 kept t (Either w) (AtRow r) alt el c (inl d) m = absurd (let q : AtRow r ≡ Inside = d.1.slot in cc)
-kept t (Either w) Item alt el c d m = refl
-kept t (Either w) Inside alt el c d m = refl
-kept t (Either w) InString alt el c d m = refl
-kept t (Inner w) slot alt el c d m = refl
-kept t (Items node) slot alt el c d m = refl
-kept t Segments slot alt el c d m = refl
-kept t Nothing slot alt el c d m = refl
+kept t (Either w) _ alt el c d m = refl
+kept t _ slot alt el c d m = refl

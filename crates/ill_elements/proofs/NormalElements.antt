@@ -44,21 +44,18 @@ leaf_tree node g t k n octets e h at =
 kind_tree : (node : NodeId) (g : Tagging) (t : Tag) (k : Kind) (n : ℕ) (c : Content) (T : Tree) → kind_of node ≡ k → (k ≡ Kind.Choice → ⊥)
     → ((f : Tag → Tree) → tag_tree g (own_of k n) f ≡ f t) → IsValueOf (element_at k node n) c T → normal_tree c node g ≡ normal_element (element_at k node n) t c
 unfolding own_of
-kind_tree node g t Kind.Seq n c T e other at h = rw h.4 (at _)
-kind_tree node g t Kind.SeqOf n c T e other at h = rw h.4 (at _)
 kind_tree node g t Kind.Choice n c T e other at h = absurd (other refl)
 kind_tree node g t Kind.IllString n c T e other at h =
     rw h.3 (leaf_tree node g t Kind.IllString n (text T) e (λ x. elim x [ inl q ↦ cc | inr (inl q) ↦ cc | inr (inr q) ↦ cc ]) at)
 kind_tree node g t (Kind.Leaf l) n c T e other at h =
     rw h.3 (leaf_tree node g t (Kind.Leaf l) n (text T) e (λ x. elim x [ inl q ↦ cc | inr (inl q) ↦ cc | inr (inr q) ↦ cc ]) at)
+kind_tree node g t _ n c T e other at h = rw h.4 (at _)
 
 -- an explicit tag holds the one tree, also where it may stand bare
 wrapped_tree : (g : Tagging) (t : Tag) (c : Content) (node : NodeId) → ((own : Tag) (f : Tag → Tree) → tag_tree g own f ≡ constructed t (more (f own) none))
     → normal_tree c node g ≡ constructed t (more (normal_tree c node untagged) none)
 wrapped_tree g t (simple v) node at = at _ _
-wrapped_tree g t (content.sequence es) node at = at _ _
-wrapped_tree g t (content.list is) node at = at _ _
-wrapped_tree g t (alternative n c) node at = at _ _
+wrapped_tree g t _ node at = at _ _
 
 -- an element of a component by its tag, under a tagging that it suits
 tagged_normal : (g : Tagging) (w : Component) (t : Tag) (s : Start) (c : Content) (T : Tree) → IsTrue (is_proper g (kind_of w.node)) → starting t (tagged_starts g w) ≡ Some s

@@ -33,6 +33,7 @@ pub enum Slot {
 
 impl Next {
     /// What may come next at a place.
+    #[inline(always)]
     pub fn at(place: At) -> Next
         ensures { result ≡ shape place }
     {

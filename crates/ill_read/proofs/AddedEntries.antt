@@ -1,14 +1,19 @@
 -- An element's content among the entries of the element round it.
-use Rattle.std.proofs.Common.{◌≡◌, ℕ, ◌+◌, List, [], ◌∷◌, ◌++◌, take, drop, map, Option, Some, refl, sym, ap, subst, ◌∙◌, inl, inr}
+use Rattle.std.proofs.Common.{◌≡◌, ℕ, ◌+◌, true, false, List, [], ◌∷◌, ◌++◌, take, drop, map, Option, Some, refl, sym, ap, subst, ◌∙◌, inl, inr, slice_get}
 use Rattle.ber_core.specs.Tree.{Tree, Trees, none, more, tag_of}
 use Rattle.ber_leaf.specs.Profile.{profile_two}
 use Rattle.ill_schema.specs.declared.node.NodeId.{NodeId}
 use Rattle.ill_schema.specs.Content.{Content}
-use Rattle.ill_schema.specs.Meaning.{Matches, MatchItems}
+use Rattle.ill_schema.specs.Meaning.{Matches, MatchItems, Means}
 use Rattle.ill_schema.specs.Table.{rows_of}
+use Rattle.ill_schema.specs.Tagging.{tagging}
 use Rattle.ill_schema.specs.Value.{entries_of, items_of}
+use Rattle.ill_schema.specs.declared.part.Row.{Row}
+use Rattle.ill_schema.proofs.Unique.{means_unique}
+use Rattle.ill_refusals.specs.Element.{Component}
+use Rattle.ill_refusals.specs.Next as next
 use Rattle.ill_elements.specs.Elements.{component_of, component_at, element_is, found_is}
-use Rattle.ill_elements.specs.Due.{IsDueIn, IsRowDue, IsInnerDue, IsItemDue, behind}
+use Rattle.ill_elements.specs.Due.{IsBegun, IsDueIn, IsDueInRows, IsRowDue, IsInnerDue, IsItemDue, behind}
 use Rattle.ill_read.specs.code.Drafts.{rows_before}
 use Rattle.ill_elements.specs.Due.{due_with}
 use Rattle.ill_read.specs.Standing.{HoldsPart, IsHeld}
@@ -26,6 +31,7 @@ use Rattle.ill_elements.specs.declared.element.Wrapped.{Wrapped}
 use Rattle.ill_elements.proofs.Entries.{row_added, item_added}
 use Rattle.ill_elements.proofs.Meanings.{begun_means, row_means}
 use Rattle.ill_refusals.proofs.OpenElements.{inner_proper, row_proper}
+use Rattle.ill_refusals.proofs.WholeElements.{IsProperComponent}
 
 -- in the rows of a sequence
 in_row : (T : Tree) (node : NodeId) (n r : ℕ) (alt : Option ℕ) (f : Found) (c : Content) (held : List (Option Content)) (ts : Trees) → IsRowDue (tag_of T) node n r alt f → IsValueOf (found_is f) c T
@@ -104,3 +110,44 @@ held_added (LooseWrapper w) (Rows own n) entries ts T (AtRow r) alt el c h d m =
 held_added (LooseWrapper w) (Rows own n) entries ts T _ alt el c h d m = absurd d
 held_added (LooseWrapper w) Nothing entries ts T slot alt el c h d m = absurd d
 held_added (LooseWrapper w) _ entries ts T slot alt el c h d m = absurd h
+
+-- ---- what is due for a tree is one thing: its slot, and the value that it gives
+
+one_begun : (T : Tree) (w : Component) (a b : Option ℕ) (el : CodeElement) (c : Content) → IsProperComponent profile_two w → IsBegun (tag_of T) w a (Found.Element el) → IsBegun (tag_of T) w b (Found.Element el)
+    → IsValueOf (element_is el) c T → with_alternative a c ≡ with_alternative b c
+one_begun T w a b el c ok h k v =
+    means_unique profile_two _ _ w.node w.tagging T ok.proper ((begun_means w a (Found.Element el) c T ok h v).1) ((begun_means w b (Found.Element el) c T ok k v).1)
+
+-- the row of the component that is due
+abbrev row_due : Option next.Due → ℕ
+row_due (Some (next.part w e n)) = w.part.row
+row_due _ = 0
+
+one_row : (T : Tree) (node : NodeId) (n : ℕ) (s t : Slot) (a b : Option ℕ) (el : CodeElement) (c : Content) → IsDueInRows (tag_of T) node n (due_with s a el) → IsDueInRows (tag_of T) node n (due_with t b el)
+    → IsValueOf (element_is el) c T → (s ≡ t) × (with_alternative a c ≡ with_alternative b c)
+one_row T node n (AtRow q) (AtRow r) a b el c h k v =
+    let row : q ≡ r = ap row_due (sym h.is ∙ k.is) in
+    let is : Some h.row ≡ Some k.row = sym h.is_row ∙ ap (slice_get (rows_of node)) row ∙ k.is_row in
+    let same : k.row ≡ h.row = cc in (
+      ap AtRow row,
+      means_unique profile_two _ _ h.row.node (tagging profile_two h.row) T (row_proper node q h.row h.is_row).proper ((row_means T node n q a (Found.Element el) c h v).1)
+          (subst (λ (x : Row). Means profile_two (with_alternative b c) x.node (tagging profile_two x) T) same ((row_means T node n r b (Found.Element el) c k v).1)),
+    )
+one_row T node n (AtRow q) _ a b el c h k v = absurd k
+one_row T node n _ t a b el c h k v = absurd h
+
+pub one_due : (T : Tree) (n : Next) (s t : Slot) (a b : Option ℕ) (el : CodeElement) (c : Content) → IsDueIn (tag_of T) n (due_with s a el) → IsDueIn (tag_of T) n (due_with t b el)
+    → IsValueOf (element_is el) c T → (s ≡ t) × (with_alternative a c ≡ with_alternative b c)
+one_due T (Rows node n) s t a b el c h k v = one_row T node n s t a b el c h k v
+one_due T (Inner w) s t a b el c h k v = (h.slot ∙ sym k.slot, one_begun T (component_of w) a b el c (inner_proper profile_two _ refl refl) h.begun k.begun v)
+one_due T (Items node) s t a b el c h k v =
+    let is : Some k.row ≡ Some h.row = sym k.is_row ∙ h.is_row in
+    let same : k.row ≡ h.row = cc in
+    let at : Row → Component = component_at (record { node = node; row = 0 }) in
+    (h.slot ∙ sym k.slot, one_begun T (at h.row) a b el c (row_proper node 0 h.row h.is_row) h.begun (subst (λ (x : Row). IsBegun (tag_of T) (at x) b (Found.Element el)) same k.begun) v)
+one_due T (Either w) s t a b el c (inl h) (inl k) v = (h.1.slot ∙ sym k.1.slot, one_begun T (component_of w) a b el c (inner_proper profile_two _ refl refl) h.1.begun k.1.begun v)
+one_due T (Either w) s t a b el c (inr h) (inr k) v = one_row T w.node 0 s t a b el c h.1 k.1 v
+one_due T (Either w) s t a b el c (inl h) (inr k) v = absurd (let q : true ≡ false = sym h.0 ∙ k.0 in cc)
+one_due T (Either w) s t a b el c (inr h) (inl k) v = absurd (let q : false ≡ true = sym h.0 ∙ k.0 in cc)
+one_due T Segments s t a b el c h k v = absurd (subst (λ e. IsValueOf e c T) h.found v)
+one_due T Nothing s t a b el c h k v = absurd h

@@ -14,10 +14,8 @@ use Rattle.ill_schema.specs.Table.{rows_of}
 use Rattle.ill_schema.proofs.MeansFits.{means_apdu_fits}
 
 carried_some : (presence : Presence) (node : NodeId) → IsCarried presence → carried presence node ≡ Some node
-carried_some Presence.Must node h = refl
-carried_some Presence.May node h = refl
-carried_some (Presence.Default d) node h = refl
 carried_some Presence.LeftOut node h = absurd h
+carried_some _ node h = refl
 
 rows_many : length (rows_of IllApdu) ≡ 20
 rows_many = refl

@@ -30,10 +30,11 @@ use Rattle.ill_read.specs.declared.failure.Failure.{Failure}
 use Rattle.ill_read.specs.declared.frame.Frame.{Frame}
 use Rattle.ill_read.specs.declared.path.Path.{Path}
 use Rattle.ill_read.proofs.EndedElements.{frame_ended}
-use Rattle.ill_read.proofs.DeliveredEntries.{entry_added, pushed_apart}
+use Rattle.ill_read.proofs.DeliveredEntries.{entry_added, pushed_apart, pushed_segment}
 use Rattle.ill_read.proofs.OpenFrames.{last_open}
 use Rattle.ill_read.proofs.OpenedElements.{only_segment}
-use Rattle.ill_read.proofs.Segments.{segment_due, text_with}
+use Rattle.ill_elements.proofs.DueTags.{segment_due}
+use Rattle.ill_read.proofs.Segments.{text_with}
 use Rattle.ill_read.proofs.Strings.{segment_added}
 use Rattle.ill_cells.specs.declared.at.At.{At}
 use Rattle.ill_elements.specs.Due.{shape, shape_at, read_as, slot_in, next_place}
@@ -96,16 +97,9 @@ segment_closed holds old new f place marks at rest j stands end frames last is d
     segment_holds Segments entries ts h = h.1
     segment_holds _ entries ts h = absurd h
 
-    pushed_segment : (l : Level) (below : List Level) → l.element ≡ Segment → pushed l below ≡ below
-    pushed_segment l below s = ap (λ (e : CodeElement). elim e as (λ _. List Level) [ Segment ↦ below | _ ↦ l ∷ below ]) s
-
 right_text : (e : CodeElement) (text : List ℕ) → IsRightText e text → element_fault profile_two (element_is e) text ≡ None
 right_text (Leaf l) text h = h.1
-right_text (Sequence node) text h = refl
-right_text (ListOf node) text h = refl
-right_text (Wrapper w) text h = refl
-right_text (LooseWrapper w) text h = refl
-right_text Segment text h = refl
+right_text _ text h = refl
 
 -- an element closes that is no segment, and its text is right
 pub element_closed : {D : Type 0} (holds : D → List Level → List ℕ → Type 0) (old : Path D) (shorter : List Frame) (f : Frame) (middle : D) (new : Path D) (place : List Open) (marks at : ℕ) (rest : List ℕ)

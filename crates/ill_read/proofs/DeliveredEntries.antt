@@ -29,7 +29,8 @@ use Rattle.ill_read.proofs.OpenFrames.{next_behind}
 use Rattle.ill_read.proofs.MoreTrees.{with_one, frame_added}
 use Rattle.ill_elements.proofs.Meanings.{begun_means}
 use Rattle.ill_refusals.proofs.OpenElements.{inner_proper}
-use Rattle.ill_read.proofs.Segments.{due_segment, text_with, text_apart}
+use Rattle.ill_elements.proofs.DueTags.{due_segment}
+use Rattle.ill_read.proofs.Segments.{text_with, text_apart}
 
 -- an element that is no segment isn't due in a string
 next_apart : (t : Tag) (n : Next) (slot : Slot) (alt : Option ℕ) (el : CodeElement) → IsDueIn t n (due_with slot alt el) → (element_is el ≡ segment → ⊥) → n ≡ Segments → ⊥
@@ -41,22 +42,28 @@ segment_next e n entries ts h s = go n (subst (λ x. IsHeld x n entries ts) s h)
   where
     go : (m : Next) → IsHeld Segment m entries ts → m ≡ Segments
     go Segments h = refl
-    go (Rows node k) h = absurd h
-    go (Inner w) h = absurd h
-    go (Items node) h = absurd h
-    go (Either w) h = absurd h
-    go Nothing h = absurd h
+    go _ h = absurd h
+
+pub pushed_segment : (l : Level) (below : List Level) → l.element ≡ Segment → pushed l below ≡ below
+pushed_segment l below s = ap (λ (e : CodeElement). elim e as (λ _. List Level) [ Segment ↦ below | _ ↦ l ∷ below ]) s
 
 pub pushed_apart : (l : Level) (below : List Level) → (l.element ≡ Segment → ⊥) → pushed l below ≡ l ∷ below
 pushed_apart l below apart = go l.element apart
   where
     go : (e : CodeElement) → (e ≡ Segment → ⊥) → (elim e as (λ _. List Level) [ Segment ↦ below | _ ↦ l ∷ below ]) ≡ l ∷ below
     go Segment n = absurd (n refl)
-    go (Leaf x) n = refl
-    go (Sequence node) n = refl
-    go (ListOf node) n = refl
-    go (Wrapper w) n = refl
-    go (LooseWrapper w) n = refl
+    go _ n = refl
+
+-- the innermost level, where no string is open
+pub innermost_level : (place : List Open) (frames : List Frame) (levels : List Level) → AreFrames place frames levels → (next_at frames ≡ Segments → ⊥)
+    → (l : Level) × (below : List Level) × (levels ≡ l ∷ below) × (l.next ≡ next_at frames)
+innermost_level [] frames levels h apart = (top_level, [], h.1, sym (ap next_at h.0))
+innermost_level (o ∷ path) frames levels h apart =
+    let f = h.1 in
+    let k : IsFrame f o path h.0 h.3 = h.6 in
+    let here : next_at frames ≡ shape f.place = ap next_at h.4 ∙ next_behind h.0 f in
+    let l = level_of f o.tag h.3 in
+    (l, h.2, h.5 ∙ pushed_apart l h.2 (λ s. apart (here ∙ segment_next (read_as f.found) (shape f.place) h.3 o.trees k.held s)), sym here)
 
 -- an element's content in the element round it, or in the message
 pub entry_added : {D : Type 0} (holds : D → List Level → List ℕ → Type 0) (frames : List Frame) (levels : List Level) (new : Path D) (place : List Open) (slot : Slot) (alt : Option ℕ) (el : CodeElement)

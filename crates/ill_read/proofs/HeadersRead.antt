@@ -113,9 +113,8 @@ part_length_read w id ok part begins =
 
 -- a length in the short form, after an identifier of one octet
 pub short_length : (f : Bool) (w : List ℕ) → 2 ≤ length w → slice_index_or w 1 0 < 128 → read_length f (drop 1 w) ≡ definite (slice_index_or w 1 0) (drop 2 w)
-short_length f [] h short = absurd (omega (arith, h))
-short_length f (a ∷ []) h short = absurd (omega (arith, h))
 short_length f (a ∷ (n ∷ w)) h short = let e : nat_lt n 128 ≡ true = grind (arith, short) in rw e refl
+short_length f _ h short = absurd (omega (arith, h))
 
 -- a length in four octets
 pub four_length : (f : Bool) (w : List ℕ) → 6 ≤ length w → slice_get w 1 ≡ Some 132
@@ -125,9 +124,4 @@ four_length f (i ∷ k ∷ a ∷ b ∷ c ∷ d ∷ w) h e =
     let there : nat_le 4 (length (a ∷ b ∷ c ∷ d ∷ w)) ≡ true = grind arith in
     let front : 0 + a ≡ a = omega arith in
     rw first (rw there (ap (λ n. definite (((n * 256 + b) * 256 + c) * 256 + d) w) front))
-four_length f [] h e = absurd (omega (arith, h))
-four_length f (i ∷ []) h e = absurd (omega (arith, h))
-four_length f (i ∷ k ∷ []) h e = absurd (omega (arith, h))
-four_length f (i ∷ k ∷ a ∷ []) h e = absurd (omega (arith, h))
-four_length f (i ∷ k ∷ a ∷ b ∷ []) h e = absurd (omega (arith, h))
-four_length f (i ∷ k ∷ a ∷ b ∷ c ∷ []) h e = absurd (omega (arith, h))
+four_length f _ h e = absurd (omega (arith, h))

@@ -132,9 +132,8 @@ mark_judged place at want (x ∷ w) e i =
 
 -- the octet after the first
 second_octet : (w : List ℕ) (y : ℕ) → 1 < length w → ((d : ℕ) → y ≡ get_or w 1 d) → (rest : List ℕ) × (drop 1 w ≡ y ∷ rest)
-second_octet [] y h e = absurd (omega (arith, h))
-second_octet (x ∷ []) y h e = absurd (omega (arith, h))
 second_octet (x ∷ (z ∷ w)) y h e = (w, ap (λ t. t ∷ w) (sym (e 0)))
+second_octet _ y h e = absurd (omega (arith, h))
 
 -- the end mark is whole
 pub mark_ends : (place : List Open) (at : ℕ) (want : Fault) (w : List ℕ) (y : ℕ) → 1 < length w → ((d : ℕ) → y ≡ get_or w 1 d) → y ≡ 0
@@ -143,9 +142,8 @@ mark_ends place at want w y h e z = let s = second_octet w y h e in ap (judge_ma
 
 -- the second octet isn't there
 pub mark_part : (place : List Open) (at : ℕ) (want : Fault) (w : List ℕ) → length w ≤ 1 → judge_mark profile_two place at want (drop 1 w) ≡ faulty want
-mark_part place at want [] h = refl
-mark_part place at want (x ∷ []) h = refl
 mark_part place at want (x ∷ (z ∷ w)) h = absurd (omega (arith, h))
+mark_part place at want _ h = refl
 
 pub not_zero : (n : ℕ) → (n ≡ 0 → ⊥) → nat_eq n 0 ≡ false
 not_zero n h = grind (arith, h)

@@ -99,8 +99,7 @@ after_end has r s A h = go r.state h
   where
     go : (st : State) → InState st s (HasRead has r s) ⊥ → InState st s (HasRead has r s) A
     go state.Open h = absurd h
-    go state.Whole h = h
-    go (state.Failed f) h = h
+    go _ h = h
 
 -- the refusal of the place where a path stands
 pub stops_refused : (Stands : List Open → Type 0) (at : ℕ) (s rest : List ℕ) (r : Refusal) → (b : StandsBefore Stands at s rest) → judge profile_two b.place at rest ≡ faulty (fault_of r) → r.cause ≢ Cause.Truncated

@@ -40,21 +40,17 @@ use Rattle.ill_read.proofs.WrittenElements.{entry_written, ended_written}
 -- an element that opens has written nothing in it
 written_first : (e : CodeElement) → written e (first_of e) [] ≡ []
 written_first (LeafElement l) = refl
-written_first (Sequence node) = refl
-written_first (ListOf node) = refl
-written_first (Wrapper w) = refl
-written_first (LooseWrapper w) = refl
-written_first Segment = refl
+written_first _ = refl
 
-pub octets_opened : (old new : Octets) (o : Opening) (base : ℕ) (id : List ℕ) → (read_as o.found ≡ Segment → ⊥) → (IsApartAs o → id ≡ identifier (tag_of_id o.id) (form_of (read_as o.found)))
-    → new.octets ≡ old.octets ++ (id ++ 0 ∷ []) → base ≡ length new.octets → HasOpened AreOctets old o base new
-octets_opened old new o base id whole is e b levels text h apart = subst (λ ls. AreOctets new ls text) (sym (pushed_apart l levels whole)) (go levels h)
+pub octets_opened : (old new : Octets) (next : Next) (o : Opening) (base : ℕ) (id : List ℕ) → (read_as o.found ≡ Segment → ⊥) → (IsApartAs o → id ≡ identifier (tag_of_id o.id) (form_of (read_as o.found)))
+    → new.octets ≡ old.octets ++ (id ++ 0 ∷ []) → base ≡ length new.octets → HasOpened AreOctets old next o base new
+octets_opened old new next o base id whole is e b levels text h opening = subst (λ ls. AreOctets new ls text) (sym (pushed_apart l levels whole)) (go levels h)
   where
     l : Level
     l = record { element = (read_as o.found); tag = tag_of_id o.id; next = first_of (read_as o.found); base = base; entries = [] }
 
     none : text ≡ []
-    none = apart whole
+    none = (opening whole).none
 
     go : (ls : List Level) → AreOctets old ls text → AreOctets new (l ∷ ls) text
     go [] h = absurd h.are
@@ -137,11 +133,7 @@ ended_octets (LooseWrapper w) n entries ts text c tag h right k = ended_written 
 may_open : (e : CodeElement) (n : Next) (entries : List (Option Content)) (ts : Trees) → IsHeld e n entries ts → MayOpen (element_is e)
 may_open (LeafElement l) Segments entries ts h = h.0
 may_open (LeafElement l) _ entries ts h = absurd h
-may_open (Sequence node) n entries ts h = tt
-may_open (ListOf node) n entries ts h = tt
-may_open (Wrapper w) n entries ts h = tt
-may_open (LooseWrapper w) n entries ts h = tt
-may_open Segment n entries ts h = tt
+may_open _ n entries ts h = tt
 
 no_segment : (e : CodeElement) (n : Next) (entries : List (Option Content)) (text : List ℕ) (c : Content) → IsContentOf e n entries text c → element_is e ≡ segment → ⊥
 no_segment e n entries text c k s = subst (λ x. IsContentOf x n entries text c) (only_segment e s) k
@@ -160,7 +152,7 @@ octets_closed old new middle f next tag entries trees l below text c h held righ
     let contents = contents_of (read_as f.found) (shape f.place) w text in
     let id = identifier tag (form_of (read_as f.found)) in
     let apart = no_segment (read_as f.found) (shape f.place) entries text c is in
-    let header : a.1 ≡ id ++ 0 ∷ [] = a.4 (λ class number. absurd (due_apart tag l.next (slot_in f.found) (alternative_of f.found) (read_as f.found) due.is_due apart class number)) in
+    let header : a.1 ≡ id ++ 0 ∷ [] = a.4 (λ class number. absurd (due_apart tag l.next (due_with (slot_in f.found) (alternative_of f.found) (read_as f.found)) due.is_due apart class number)) in
     let all : old.octets ≡ (a.0 ++ a.1) ++ (w ++ text) =
     h.joined ∙ ap (λ x. x ++ text) (a.2 ∙ sym (append_assoc a.0 a.1 w)) ∙ append_assoc (a.0 ++ a.1) w text in
     let middle_is : middle ≡ a.0 ++ (id ++ 0 ∷ contents) =
@@ -179,11 +171,7 @@ octets_closed old new middle f next tag entries trees l below text c h held righ
 -- a text that isn't a leaf's is right
 pub right_other : (e : CodeElement) (text : List ℕ) → ((l : LeafType) → e ≡ LeafElement l → ⊥) → IsRightText e text
 right_other (LeafElement l) text h = absurd (h l refl)
-right_other (Sequence node) text h = tt
-right_other (ListOf node) text h = tt
-right_other (Wrapper w) text h = tt
-right_other (LooseWrapper w) text h = tt
-right_other Segment text h = tt
+right_other _ text h = tt
 
 -- what has no contents but its entries
 pub contents_other : (e : CodeElement) (n : Next) (entries : List (Option Content)) (text : List ℕ) (c : Content) → IsContentOf e n entries text c → ((l : LeafType) → e ≡ LeafElement l → ⊥)

@@ -15,9 +15,8 @@ next_last (g ∷ h ∷ fs) f e = next_last (h ∷ fs) f (let n : length (g ∷ h
 
 -- the frame after others
 pub next_behind : (outer : List Frame) (f : Frame) → next_at (outer ++ f ∷ []) ≡ (shape f.place)
-next_behind [] f = refl
-next_behind (g ∷ []) f = refl
 next_behind (g ∷ h ∷ fs) f = next_behind (h ∷ fs) f
+next_behind _ f = refl
 
 pub last_behind : (outer : List Frame) (f : Frame) → slice_get (outer ++ f ∷ []) (length (outer ++ f ∷ []) - 1) ≡ Some f
 last_behind [] f = refl

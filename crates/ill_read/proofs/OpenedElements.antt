@@ -12,15 +12,18 @@ use Rattle.ill_refusals.specs.Next.{opening}
 use Rattle.ill_refusals.specs.Place.{Open, allows, bound}
 use Rattle.ill_read.specs.Standing.{Level, level_of, pushed, next_at, text_so_far, IsHeld, IsFrame, HoldsAt}
 use Rattle.ill_refusals.specs.code.Step.{opened}
-use Rattle.ill_read.specs.code.Drafts.{HasOpened}
+use Rattle.ill_read.specs.code.Drafts.{HasOpened, IsOpeningIn}
 use Rattle.ill_elements.specs.Due.{due_with}
 use Rattle.ill_elements.specs.declared.due.Next.{Next}
+use Rattle.ill_elements.specs.declared.due.Next.TheVariants.{Segments}
 use Rattle.ill_elements.specs.declared.element.Element.{Element as CodeElement}
 use Rattle.ill_elements.specs.declared.element.Element.TheVariants.{Leaf, Sequence, List as ListOf, Wrapper, LooseWrapper, Segment}
 use Rattle.ill_read.specs.declared.frame.Frame.{Frame}
 use Rattle.ill_read.specs.declared.judge.Opening.{Opening}
 use Rattle.ill_read.specs.declared.path.Path.{Path}
-use Rattle.ill_read.proofs.Segments.{due_segment, text_with, no_text}
+use Rattle.ill_read.proofs.DeliveredEntries.{innermost_level}
+use Rattle.ill_elements.proofs.DueTags.{due_segment}
+use Rattle.ill_read.proofs.Segments.{text_with, no_text}
 
 -- an element that opens holds nothing
 holds_none : (e : CodeElement) (n : Next) → n ≡ first_of e → allows (element_is e) true ≡ true → IsHeld e n [] none
@@ -32,21 +35,13 @@ holds_none (LooseWrapper w) n f a = subst (λ x. IsHeld (LooseWrapper w) x [] no
 holds_none Segment n f a = subst (λ x. IsHeld Segment x [] none) (sym f) (refl, tt)
 
 pub only_segment : (e : CodeElement) → element_is e ≡ segment → e ≡ Segment
-only_segment (Leaf l) s = cc
-only_segment (Sequence node) s = cc
-only_segment (ListOf node) s = cc
-only_segment (Wrapper w) s = cc
-only_segment (LooseWrapper w) s = cc
 only_segment Segment s = refl
+only_segment _ s = cc
 
 -- nor does it add text
 text_opened : (e : CodeElement) (before : List ℕ) → ((element_is e ≡ segment → ⊥) → before ≡ []) → before ≡ text_with (element_is e) before none
-text_opened (Leaf l) before h = h (λ s. cc)
-text_opened (Sequence node) before h = h (λ s. cc)
-text_opened (ListOf node) before h = h (λ s. cc)
-text_opened (Wrapper w) before h = h (λ s. cc)
-text_opened (LooseWrapper w) before h = h (λ s. cc)
 text_opened Segment before h = sym (append-nil before)
+text_opened _ before h = h (λ s. cc)
 
 -- the bound in an element
 bound_opened : (end : Option ℕ) (round : ℕ) (e : CodeElement) (tag : Tag) (start : ℕ) (place : List Open) → round ≡ bound profile_two place → unwrap_or end round ≡ bound profile_two (opened (element_is e) tag start end ∷ place)
@@ -55,15 +50,11 @@ bound_opened None round e tag start place h = h
 
 pub first_opening : (e : CodeElement) → next_is (first_of e) ≡ opening profile_two (element_is e)
 first_opening (Leaf l) = refl
-first_opening (Sequence node) = refl
-first_opening (ListOf node) = refl
-first_opening (Wrapper w) = refl
-first_opening (LooseWrapper w) = refl
-first_opening Segment = refl
+first_opening _ = refl
 
 pub opens_at : {D : Type 0} (holds : D → List Level → List ℕ → Type 0) (old new : Path D) (opening : Opening) (f : Frame) (place : List Open) (round : ℕ) → HoldsAt holds old place
     → IsDueIn (tag_of_id opening.id) (next_at old.frames.open.items) (due_with (slot_in f.found) (alternative_of f.found) (read_as f.found)) → shape_at (next_place f.found) ≡ behind (next_at old.frames.open.items) (slot_in f.found) → allows (element_is (read_as f.found)) true ≡ true → (shape f.place) ≡ first_of (read_as f.found)
-    → round ≡ bound profile_two place → f.bound ≡ unwrap_or f.end round → HasOpened holds old.draft opening f.base new.draft → new.frames.open.items ≡ old.frames.open.items ++ f ∷ [] → read_as f.found ≡ (read_as opening.found)
+    → round ≡ bound profile_two place → f.bound ≡ unwrap_or f.end round → HasOpened holds old.draft (next_at old.frames.open.items) opening f.base new.draft → new.frames.open.items ≡ old.frames.open.items ++ f ∷ [] → f.found ≡ opening.found
     → HoldsAt holds new (opened (element_is (read_as f.found)) (tag_of_id opening.id) f.start f.end ∷ place)
 opens_at holds old new opening f place round h due after allowed first r b has frames is =
     let tag = tag_of_id opening.id in
@@ -79,12 +70,24 @@ opens_at holds old new opening f place round h due after allowed first r b has f
       held = holds_none (read_as f.found) (shape f.place) first allowed;
       were_due = tt;
     } in
-    let none_before : (element_is (read_as f.found) ≡ segment → ⊥) → text_so_far place ≡ [] = λ apart.
-    no_text place old.frames.open.items h.0 h.1 (λ s. apart (due_segment tag (next_at old.frames.open.items) (due_with (slot_in f.found) (alternative_of f.found) (read_as f.found)) due s)) in
-    let kept = has h.0 (text_so_far place) h.2 (λ apart. none_before (λ s. apart (sym is ∙ only_segment (read_as f.found) s))) in
+    let next = next_at old.frames.open.items in
+    let apart : (element_is (read_as f.found) ≡ segment → ⊥) → next ≡ Segments → ⊥ = λ n s. n (due_segment tag next (due_with (slot_in f.found) (alternative_of f.found) (read_as f.found)) due s) in
+    let none_before : (element_is (read_as f.found) ≡ segment → ⊥) → text_so_far place ≡ [] = λ n. no_text place old.frames.open.items h.0 h.1 (apart n) in
+    let opens_in : (read_as opening.found ≡ Segment → ⊥) → IsOpeningIn h.0 (text_so_far place) next opening = λ n.
+    let other : element_is (read_as f.found) ≡ segment → ⊥ = λ s. n (ap read_as (sym is) ∙ only_segment (read_as f.found) s) in
+    let l = innermost_level place old.frames.open.items h.0 h.1 (apart other) in
+    record {
+      none = none_before other;
+      level = l.0;
+      below = l.1;
+      are = l.2;
+      next = l.3;
+      is_due = subst (λ x. IsDueIn tag next (due_with (slot_in x) (alternative_of x) (read_as x))) is due;
+    } in
+    let kept = has h.0 (text_so_far place) h.2 opens_in in
     let opened_as : CodeElement → Level = λ e. record { element = e; tag = tag; next = first_of e; base = f.base; entries = [] } in
     let level : opened_as (read_as opening.found) ≡ level_of f tag [] =
-    ap opened_as (sym is) ∙ ap (λ n. let l : Level = record { element = (read_as f.found); tag = tag; next = n; base = f.base; entries = [] } in l) (sym first) in (
+    ap opened_as (ap read_as (sym is)) ∙ ap (λ n. let l : Level = record { element = (read_as f.found); tag = tag; next = n; base = f.base; entries = [] } in l) (sym first) in (
       pushed (level_of f tag []) h.0,
       (old.frames.open.items, f, h.0, [], frames, refl, framed, h.1),
       subst (holds new.draft (pushed (level_of f tag []) h.0)) (text_opened (read_as f.found) (text_so_far place) none_before) (subst (λ l. holds new.draft (pushed l h.0) (text_so_far place)) level kept),

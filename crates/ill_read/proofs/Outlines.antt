@@ -1,11 +1,10 @@
 -- The marks that an outline has, as elements open, are read and end.
 use Rattle.std.proofs.Common.{◌≡◌, ℕ, List, [], ◌∷◌, ◌++◌, length, map, append_assoc, append-nil, Option, Some, None, refl, sym, ap, subst, ◌∙◌, inl, inr, true, false, Bool}
-use Rattle.std.proofs.lemmas.List.{map-append, take_at, drop_at}
-use Rattle.std.proofs.Common.{Result, Ok, Err, IfOk, ap₂, min, length-append}
-use Rattle.std.specs.Option.{option_to_list}
-use Rattle.std.specs.declared.alloc.AllocError.{AllocError}
+use Rattle.std.proofs.lemmas.List.{map-append}
+use Rattle.std.proofs.lemmas.Option.{slice_get_cases}
 use Rattle.ber_core.specs.Id.{tag_of_id}
-use Rattle.ber_core.specs.Tree.{Trees}
+use Rattle.ber_core.specs.Identifier.{Tag}
+use Rattle.ber_core.specs.Tree.{Trees, tag_of}
 use Rattle.ber_leaf.specs.Content.{IsContent}
 use Rattle.ber_leaf.specs.Leaf.{value}
 use Rattle.ber_leaf.specs.Simple.{Simple}
@@ -20,17 +19,19 @@ use Rattle.ill_schema.specs.declared.part.PartId.{PartId}
 use Rattle.ill_schema.specs.declared.part.Presence.{Presence}
 use Rattle.ill_schema.specs.declared.part.Row.{Row}
 use Rattle.ill_cells.specs.Places.{alternative_of}
-use Rattle.ill_elements.specs.Due.{shape, first_of, read_as, slot_in}
+use Rattle.ill_elements.specs.Due.{IsDueIn, behind, shape, first_of, read_as, slot_in}
 use Rattle.ill_elements.specs.LeafTypes.{leaf_is}
 use Rattle.ill_read.specs.Outline.{AreEntries, AreItems, IsMarked, leaf_marks}
-use Rattle.ill_read.specs.Standing.{Level, pushed, IsHeld}
+use Rattle.ill_read.specs.Standing.{Level, IsHeld}
 use Rattle.ill_elements.specs.Contents.{with_alternative, absent_content}
-use Rattle.ill_read.specs.code.Drafts.{HasOpened, HasText, HasClosed, HasLeaf, HoldsApdu, HasEnded, IsContentOf, IsRightText, rows_before, rows_left, with_entry}
+use Rattle.ill_read.specs.code.Drafts.{HasOpened, HasText, HasClosed, HasLeaf, HoldsApdu, HasEnded, IsContentOf, IsDueAt, IsOpeningIn, IsRightText, rows_before, rows_left, with_entry}
+use Rattle.ill_elements.specs.Due.{due_with}
 use Rattle.ill_read.specs.code.OctetDrafts.{AreNormal, AreOctets}
-use Rattle.ill_read.specs.code.Outlines.{AreFronts, AreOutlined, ArePassed, HasEndedRows, HasFront, HasOutline, HasPassed, HasRear, alternative_marks, first_marks, last_marks, last_rows}
+use Rattle.ill_read.specs.code.Outlines.{AreFronts, AreLed, AreOutlined, ArePassed, HasLed, HasOutline, HasPassed, HasRear, IsLed, alternative_marks, first_marks, last_marks, late_marks, start_marks}
 use Rattle.ill_elements.specs.declared.due.Next.{Next}
 use Rattle.ill_elements.specs.declared.due.Next.TheVariants.{Rows, Inner, Items, Either, Segments, Nothing}
 use Rattle.ill_elements.specs.declared.due.Slot.{Slot}
+use Rattle.ill_elements.specs.declared.due.Slot.TheVariants.{Row as AtRow}
 use Rattle.ill_elements.specs.declared.element.Element.{Element as CodeElement}
 use Rattle.ill_elements.specs.declared.element.Element.TheVariants.{Leaf, Sequence, List as ListOf, Wrapper, LooseWrapper, Segment}
 use Rattle.ill_elements.specs.declared.element.Wrapped.{Wrapped}
@@ -42,9 +43,10 @@ use Rattle.ill_read.specs.declared.mark.Mark.{Mark}
 use Rattle.ill_read.specs.declared.mark.Mark.TheVariants as mark
 use Rattle.ill_read.specs.declared.outline.Outlining.{Outlining}
 use Rattle.ber_leaf.proofs.Leaves.{content as content_is}
-use Rattle.ill_read.proofs.DeliveredEntries.{pushed_apart}
-use Rattle.ill_read.proofs.HeldEntries.{drop-take-more, take-past}
-use Rattle.std.proofs.Common.{suc, ◌+◌, ◌≤◌, take, drop, slice_get, arith}
+use Rattle.ill_read.proofs.DeliveredEntries.{pushed_apart, pushed_segment}
+use Rattle.ill_read.proofs.HeldEntries.{drop-take-more}
+use Rattle.ill_read.proofs.AddedEntries.{one_due}
+use Rattle.std.proofs.Common.{suc, ◌+◌, ◌<◌, ◌≤◌, take, drop, slice_get, arith}
 
 -- ---- rows that are passed
 
@@ -52,28 +54,25 @@ passed_join : (xs ys : List Row) (a b : List Mark) → ArePassed xs a → ArePas
 passed_join [] ys a b h k = subst (λ ms. ArePassed ys (ms ++ b)) (sym h) k
 passed_join (x ∷ xs) ys a b h k = (h.0, h.1 ++ b, ap (λ ms. ms ++ b) h.2, h.3, passed_join xs ys h.1 b h.4 k)
 
-pub passed_none : (rows : List Row) (old : List Mark) → rows ≡ [] → HasPassed rows old old
+pub passed_none : (rows : List Row) (old : List Mark) → rows ≡ [] → HasPassed [] rows old old
 passed_none rows old e = record { marks = []; added = sym (append-nil old); are = subst (λ rs. ArePassed rs []) (sym e) refl }
 
 -- one more row is passed
-pub passed_more : (node : NodeId) (from n : ℕ) (row : Row) (old mid new : List Mark) → from ≤ n → slice_get (rows_of node) n ≡ Some row
-    → HasPassed (drop from (take n (rows_of node))) old mid → new ≡ mid ++ mark.Passed (record { node = node; row = n }) ∷ [] → HasPassed (drop from (take (n + 1) (rows_of node))) old new
-passed_more node from n row old mid new h is p a =
+pub passed_more : (node : NodeId) (from n : ℕ) (old mid new : List Mark) → from ≤ n → n < length (rows_of node) → HasPassed [] (drop from (take n (rows_of node))) old mid
+    → new ≡ mid ++ mark.Passed (record { node = node; row = n }) ∷ [] → HasPassed [] (drop from (take (n + 1) (rows_of node))) old new
+passed_more node from n old mid new h within p a =
     let s : n + 1 ≡ suc n = omega arith in
     let part = mark.Passed (record { node = node; row = n }) in
-    let more : drop from (take (n + 1) (rows_of node)) ≡ drop from (take n (rows_of node)) ++ row ∷ [] = ap (λ i. drop from (take i (rows_of node))) s ∙ drop-take-more from n (rows_of node) row h is in
+    let r = row_there (rows_of node) n within in
+    let more : drop from (take (n + 1) (rows_of node)) ≡ drop from (take n (rows_of node)) ++ r.0 ∷ [] = ap (λ i. drop from (take i (rows_of node))) s ∙ drop-take-more from n (rows_of node) r.0 h r.1 in
     record {
       marks = p.marks ++ part ∷ [];
       added = a ∙ ap (λ xs. xs ++ part ∷ []) p.added ∙ append_assoc old p.marks (part ∷ []);
-      are = subst (λ rows. ArePassed rows (p.marks ++ part ∷ [])) (sym more) (passed_join _ (row ∷ []) p.marks (part ∷ []) p.are (record { node = node; row = n }, [], refl, is, refl));
+      are = subst (λ rows. ArePassed rows (p.marks ++ part ∷ [])) (sym more) (passed_join _ (r.0 ∷ []) p.marks (part ∷ []) p.are (record { node = node; row = n }, [], refl, r.1, refl));
     }
-
--- after the last row there is none to pass
-pub passed_past : (node : NodeId) (from n : ℕ) (old new : List Mark) → slice_get (rows_of node) n ≡ None → HasPassed (drop from (take n (rows_of node))) old new
-    → HasPassed (drop from (take (n + 1) (rows_of node))) old new
-passed_past node from n old new is p =
-    let s : suc n ≡ n + 1 = omega arith in
-    subst (λ (rs : List Row). HasPassed (drop from rs) old new) (sym (take-past n (rows_of node) is) ∙ ap (λ i. take i (rows_of node)) s) p
+  where
+    row_there : (rows : List Row) (k : ℕ) → k < length rows → (row : Row) × (slice_get rows k ≡ Some row)
+    row_there rows k h = elim (slice_get_cases rows k).1 [ inl x ↦ (x.0, x.2) | inr x ↦ absurd (omega (arith, h, x.0)) ]
 
 -- ---- the entries of a value
 
@@ -86,9 +85,7 @@ entries_join (Some c ∷ xs) ys a b h k = (h.0, h.1 ++ b, ap (λ ms. ms ++ b) h.
 default_leaf : (p : Presence) (node : NodeId) (c : Content) → (elim p as (λ _. Option Content) [ Presence.Default d ↦ Some (simple (default_value (kind_of node) d)) | _ ↦ None ]) ≡ Some c
     → (v : Simple) × (c ≡ simple v)
 default_leaf (Presence.Default d) node c e = let q : simple (default_value (kind_of node) d) ≡ c = cc in (default_value (kind_of node) d, sym q)
-default_leaf Presence.Must node c e = absurd cc
-default_leaf Presence.May node c e = absurd cc
-default_leaf Presence.LeftOut node c e = absurd cc
+default_leaf _ node c e = absurd cc
 
 passed_entry : (row : Row) (e : Option Content) (es : List (Option Content)) (part : PartId) (rest ms : List Mark) → ms ≡ mark.Passed part ∷ rest → slice_get (rows_of part.node) part.row ≡ Some row → absent_content row ≡ e
     → AreEntries (entries_of es) rest → AreEntries (entries_of (e ∷ es)) ms
@@ -123,12 +120,8 @@ leaf_marked l octets h = inl (l, octets, refl, h, refl)
 
 -- ---- an element that ends
 
-abbrev pub whole_marks : CodeElement → Next → List Mark → List ℕ → List Mark → List Mark
-whole_marks e n own text rows = first_marks e n ++ ((own ++ map mark.Octet text) ++ (rows ++ last_marks e n))
-
-string_none : (l : LeafType) (n : Next) (entries : List (Option Content)) (ts : Trees) → IsHeld (Leaf l) n entries ts → entries ≡ []
-string_none l Segments entries ts h = h.1
-string_none l _ entries ts h = absurd h
+abbrev pub whole_marks : Next → CodeElement → List Mark → List ℕ → List Mark → List Mark
+whole_marks n e own text rows = first_marks n e ++ ((own ++ map mark.Octet text) ++ (late_marks n ++ (rows ++ last_marks n)))
 
 joined_marks : (text : List ℕ) (own rows last : List Mark) → text ≡ [] → (own ++ map mark.Octet text) ++ (rows ++ last) ≡ (own ++ rows) ++ last
 joined_marks text own rows last e = ap (λ t. (own ++ map mark.Octet t) ++ (rows ++ last)) e ∙ ap (λ x. x ++ (rows ++ last)) (append-nil own) ∙ sym (append_assoc own rows last)
@@ -153,212 +146,161 @@ part_marked : (entries : List (Option Content)) (text : List ℕ) (c : Content) 
 part_marked entries text c own rows none es h k =
     subst (IsMarked c) (sym (joined_marks text own rows [] none ∙ append-nil (own ++ rows) ∙ ap (λ r. own ++ r) k ∙ append-nil own)) (only_entry c own (subst (λ xs. AreEntries (entries_of xs) own) es h))
 
-string_marked : (l : LeafType) (n : Next) (entries : List (Option Content)) (ts : Trees) (text : List ℕ) (c : Content) (own rows : List Mark) → IsHeld (Leaf l) n entries ts → IsRightText (Leaf l) text
+string_marked : (l : LeafType) (entries : List (Option Content)) (text : List ℕ) (c : Content) (own rows : List Mark) → entries ≡ [] → IsRightText (Leaf l) text
     → c ≡ simple (value (leaf_is l) text) → AreEntries (entries_of entries) own → rows ≡ [] → IsMarked c (mark.Leaf l ∷ ((own ++ map mark.Octet text) ++ (rows ++ mark.End ∷ [])))
-string_marked l n entries ts text c own rows held right is h k =
-    let none : own ≡ [] = subst (λ xs. AreEntries (entries_of xs) own) (string_none l n entries ts held) h in
+string_marked l entries text c own rows none right is h k =
+    let own_none : own ≡ [] = subst (λ xs. AreEntries (entries_of xs) own) none h in
     subst (λ x. IsMarked x (mark.Leaf l ∷ ((own ++ map mark.Octet text) ++ (rows ++ mark.End ∷ [])))) (sym is)
     (inl (
       l,
       text,
-      ap (λ o. mark.Leaf l ∷ ((o ++ map mark.Octet text) ++ (rows ++ mark.End ∷ []))) none ∙ ap (λ r. mark.Leaf l ∷ (map mark.Octet text ++ (r ++ mark.End ∷ []))) k,
+      ap (λ o. mark.Leaf l ∷ ((o ++ map mark.Octet text) ++ (rows ++ mark.End ∷ []))) own_none ∙ ap (λ r. mark.Leaf l ∷ (map mark.Octet text ++ (r ++ mark.End ∷ []))) k,
       content_is (leaf_is l) text right.0 right.1,
       refl,
     ))
 
+-- a loose wrapper that ends as a sequence without elements
+late_marked : (w : Wrapped) (entries : List (Option Content)) (text : List ℕ) (c : Content) (own rows : List Mark) → text ≡ [] → c ≡ content.sequence (entries_of (entries ++ map absent_content (rows_of w.node)))
+    → entries ≡ [] → AreEntries (entries_of entries) own → ArePassed (rows_of w.node) rows → IsMarked c (whole_marks (Either w) (LooseWrapper w) own text rows)
+late_marked w entries text c own rows none is held h k =
+    let own_none : own ≡ [] = subst (λ xs. AreEntries (entries_of xs) own) held h in
+    subst (λ o. IsMarked c ((o ++ map mark.Octet text) ++ (mark.Sequence ∷ (rows ++ mark.End ∷ [])))) (sym own_none)
+    (subst (λ t. IsMarked c (map mark.Octet t ++ (mark.Sequence ∷ (rows ++ mark.End ∷ [])))) (sym none)
+    (sequence_marked entries (rows_of w.node) [] c [] rows refl is (subst (AreEntries (entries_of entries)) own_none h) k))
+
 -- the marks of an element that has ended say its content
 pub ended_marked : (e : CodeElement) (n : Next) (entries : List (Option Content)) (ts : Trees) (text : List ℕ) (c : Content) (own rows : List Mark) → IsHeld e n entries ts → IsRightText e text
-    → IsContentOf e n entries text c → AreEntries (entries_of entries) own → ArePassed (last_rows e n) rows → IsMarked c (whole_marks e n own text rows)
-ended_marked (Leaf l) n entries ts text c own rows held right is h k = string_marked l n entries ts text c own rows held right is h k
-ended_marked (Sequence node) n entries ts text c own rows held right is h k = sequence_marked entries (rows_left n) text c own rows is.0 is.1 h k
-ended_marked (ListOf node) n entries ts text c own rows held right is h k = list_marked entries is.1 text c own rows is.0 is.2 is.3 h k
-ended_marked (Wrapper w) n entries ts text c own rows held right is h k = part_marked entries text c own rows is.0 is.1 h k
+    → IsContentOf e n entries text c → AreEntries (entries_of entries) own → ArePassed (rows_left n) rows → IsMarked c (whole_marks n e own text rows)
+ended_marked (Leaf l) Segments entries ts text c own rows held right is h k = string_marked l entries text c own rows held.1 right is h k
+ended_marked (Leaf l) _ entries ts text c own rows held right is h k = absurd held
+ended_marked (Sequence node) (Rows own_node m) entries ts text c own rows held right is h k = sequence_marked entries (rows_left (Rows own_node m)) text c own rows is.0 is.1 h k
+ended_marked (Sequence node) _ entries ts text c own rows held right is h k = absurd held
+ended_marked (ListOf node) (Items own_node) entries ts text c own rows held right is h k = list_marked entries is.1 text c own rows is.0 is.2 is.3 h k
+ended_marked (ListOf node) _ entries ts text c own rows held right is h k = absurd held
+ended_marked (Wrapper w) (Inner own_part) entries ts text c own rows held right is h k = part_marked entries text c own rows is.0 is.1 h k
+ended_marked (Wrapper w) Nothing entries ts text c own rows held right is h k = part_marked entries text c own rows is.0 is.1 h k
+ended_marked (Wrapper w) _ entries ts text c own rows held right is h k = absurd held
 ended_marked (LooseWrapper w) Nothing entries ts text c own rows held right is h k = part_marked entries text c own rows is.0 is.1 h k
-ended_marked (LooseWrapper w) (Rows node m) entries ts text c own rows held right is h k = sequence_marked entries (rows_left (Rows node m)) text c own rows is.0 is.1 h k
-ended_marked (LooseWrapper w) (Inner x) entries ts text c own rows held right is h k = sequence_marked entries (rows_left (Inner x)) text c own rows is.0 is.1 h k
-ended_marked (LooseWrapper w) (Items node) entries ts text c own rows held right is h k = sequence_marked entries (rows_left (Items node)) text c own rows is.0 is.1 h k
-ended_marked (LooseWrapper w) (Either x) entries ts text c own rows held right is h k = sequence_marked entries (rows_left (Either x)) text c own rows is.0 is.1 h k
-ended_marked (LooseWrapper w) Segments entries ts text c own rows held right is h k = sequence_marked entries (rows_left Segments) text c own rows is.0 is.1 h k
+ended_marked (LooseWrapper w) (Rows own_node m) entries ts text c own rows held right is h k = sequence_marked entries (rows_left (Rows own_node m)) text c own rows is.0 is.1 h k
+ended_marked (LooseWrapper w) (Either own_part) entries ts text c own rows held right is h k = late_marked own_part entries text c own rows is.0 is.1 held.1 h k
+ended_marked (LooseWrapper w) _ entries ts text c own rows held right is h k = absurd held
 ended_marked Segment n entries ts text c own rows held right is h k = absurd is
 
 -- ---- the draft
 
-fronts_added : (l : Level) (below : List Level) (slot : Slot) (c : Content) (bases : List ℕ) (front p x : List Mark) → AreFronts (l ∷ below) bases front → ArePassed (rows_before l.next slot) p → IsMarked c x
-    → AreFronts (with_entry l slot c ∷ below) bases (front ++ (p ++ x))
-fronts_added l [] slot c bases front p x h k m = (h.0, entry_added l.entries (rows_before l.next slot) c front p x h.1 k m)
-fronts_added l (o ∷ below) slot c bases front p x h k m =
-    (h.0, h.1, h.2 ++ (p ++ x), h.3, ap (λ ms. ms ++ (p ++ x)) h.4 ∙ append_assoc h.1 h.2 (p ++ x), entry_added l.entries (rows_before l.next slot) c h.2 p x h.5 k m, h.6)
+none_held : (e : CodeElement) (w : Wrapped) (entries : List (Option Content)) (ts : Trees) → IsHeld e (Either w) entries ts → entries ≡ []
+none_held (LooseWrapper x) w entries ts h = h.1
+none_held _ w entries ts h = absurd h
 
-pub outline_opened : (old new : Outlining) (o : Opening) (base : ℕ) → (read_as o.found ≡ Segment → ⊥) → HasOpened AreOctets old.octets o base new.octets → new.marks.items ≡ old.marks.items
-    → new.bases.items ≡ old.bases.items ++ length old.marks.items ∷ [] → HasOpened AreOutlined old o base new
-outline_opened old new o base whole octets same bases levels text h apart = record {
-  octets = octets levels text h.octets apart;
+-- an entry more, and the marks that its element began with
+first_more : (n : Next) (e : CodeElement) (entries : List (Option Content)) (ts : Trees) (t : Tag) (slot : Slot) (alt : Option ℕ) (el : CodeElement) (own : List Mark) → IsHeld e n entries ts
+    → IsDueIn t n (due_with slot alt el) → AreEntries (entries_of entries) own → (first_marks n e ++ own) ++ start_marks n slot ≡ first_marks (behind n slot) e ++ own
+first_more (Rows node k) e entries ts t (AtRow r) alt el own held d h = append-nil _
+first_more (Rows node k) e entries ts t _ alt el own held d h = absurd d
+first_more (Either w) e entries ts t (AtRow r) alt el own held d h =
+    let none : own ≡ [] = subst (λ xs. AreEntries (entries_of xs) own) (none_held e w entries ts held) h in
+    ap (λ o. o ++ mark.Sequence ∷ []) none ∙ ap (λ o. mark.Sequence ∷ o) (sym none)
+first_more (Either w) e entries ts t _ alt el own held d h = append-nil _
+first_more Segments e entries ts t slot alt el own held d h = append-nil _
+first_more Nothing e entries ts t slot alt el own held d h = absurd d
+first_more _ e entries ts t slot alt el own held d h = append-nil _
+
+-- the marks of an element come after those of the elements before it
+entry_marked : (l : Level) (below : List Level) (next : Next) (t : Tag) (slot : Slot) (alt : Option ℕ) (el : CodeElement) (c : Content) (old mid new y : List Mark) → IsDueAt l next t slot alt el
+    → AreFronts (l ∷ below) old → HasLed l.next slot alt old mid → new ≡ mid ++ y → IsMarked c y → AreFronts (with_entry l slot (with_alternative alt c) ∷ below) new
+entry_marked l below next t slot alt el c old mid new y due h led e m =
+    let start = start_marks l.next slot in
+    let alternative = alternative_marks alt in
+    let x = led.rows ++ (alternative ++ y) in
+    let first = first_marks l.next l.element in
+    let all : new ≡ old ++ (start ++ x) = e ∙ ap (λ ms. ms ++ y) led.added ∙ append_assoc old (start ++ (led.rows ++ alternative)) y
+    ∙ ap (λ ms. old ++ ms) (append_assoc start (led.rows ++ alternative) y ∙ ap (λ ms. start ++ ms) (append_assoc led.rows alternative y)) in
+    let joined : new ≡ h.1 ++ (first_marks (behind l.next slot) l.element ++ (h.2 ++ x)) = all ∙ ap (λ ms. ms ++ (start ++ x)) h.3 ∙ append_assoc h.1 (first ++ h.2) (start ++ x)
+    ∙ ap (λ ms. h.1 ++ ms) (sym (append_assoc (first ++ h.2) start x) ∙ ap (λ ms. ms ++ x) (first_more l.next l.element l.entries due.trees t slot alt el h.2 due.held due.is_due h.5) ∙ append_assoc (first_marks (behind l.next slot) l.element) h.2 x) in
+    (h.0, h.1, h.2 ++ x, joined, h.4, entry_added l.entries (rows_before l.next slot) (with_alternative alt c) h.2 led.rows (alternative ++ y) h.5 led.are (chosen alt c y m), h.6)
+
+pub outline_opened : (old new : Outlining) (next : Next) (o : Opening) (base : ℕ) (mid : List Mark) → (read_as o.found ≡ Segment → ⊥) → HasOpened AreOctets old.octets next o base new.octets
+    → HasLed next (slot_in o.found) (alternative_of o.found) old.marks.items mid → new.marks.items ≡ mid ++ first_marks (first_of (read_as o.found)) (read_as o.found) → HasOpened AreOutlined old next o base new
+outline_opened old new next o base mid whole octets led e levels text h opening = record {
+  octets = octets levels text h.octets opening;
   front = new.marks.items;
-  joined = sym (append-nil new.marks.items) ∙ ap (λ t. new.marks.items ++ map mark.Octet t) (sym none);
-  are = subst (λ ls. AreFronts ls new.bases.items new.marks.items) (sym (pushed_apart l levels whole)) (go levels h.are);
+  joined = sym (append-nil new.marks.items) ∙ ap (λ t. new.marks.items ++ map mark.Octet t) (sym i.none);
+  are = subst (λ ls. AreFronts ls new.marks.items) (sym (pushed_apart _ levels whole))
+      (h.front, mid, [], e ∙ ap (λ ms. mid ++ ms) (sym (append-nil _)), subst (λ ls. AreLed (tag_of_id o.id) (read_as o.found) ls h.front mid) (sym i.are) is_led, refl, h.are);
 }
   where
-    l : Level
-    l = record { element = read_as o.found; tag = tag_of_id o.id; next = first_of (read_as o.found); base = base; entries = [] }
-
-    none : text ≡ []
-    none = apart whole
+    i : IsOpeningIn levels text next o
+    i = opening whole
 
     front : old.marks.items ≡ h.front
-    front = h.joined ∙ ap (λ t. h.front ++ map mark.Octet t) none ∙ append-nil h.front
+    front = h.joined ∙ ap (λ t. h.front ++ map mark.Octet t) i.none ∙ append-nil h.front
 
-    go : (ls : List Level) → AreFronts ls old.bases.items h.front → AreFronts (l ∷ ls) new.bases.items new.marks.items
-    go [] k = absurd k
-    go (x ∷ ls) k = (old.bases.items, h.front, [], bases ∙ ap (λ ms. old.bases.items ++ length ms ∷ []) front, same ∙ front ∙ sym (append-nil h.front), refl, k)
+    is_led : IsLed (tag_of_id o.id) (read_as o.found) i.level.next h.front mid
+    is_led = subst (λ n. IsLed (tag_of_id o.id) (read_as o.found) n h.front mid) (sym i.next)
+        (record { slot = slot_in o.found; alternative = alternative_of o.found; is_due = i.is_due; led = subst (λ ms. HasLed next (slot_in o.found) (alternative_of o.found) ms mid) front led })
 
-pushed_segment : (l : Level) (levels : List Level) → l.element ≡ Segment → pushed l levels ≡ levels
-pushed_segment l levels e = ap (λ x. elim x as (λ _. List Level) [ Segment ↦ levels | _ ↦ l ∷ levels ]) e
-
-pub outline_segment : (old new : Outlining) (o : Opening) (base : ℕ) → read_as o.found ≡ Segment → HasOpened AreOctets old.octets o base new.octets → new.marks.items ≡ old.marks.items
-    → new.bases.items ≡ old.bases.items → HasOpened AreOutlined old o base new
-outline_segment old new o base is octets same bases levels text h apart = record {
-  octets = octets levels text h.octets apart;
+pub outline_segment : (old new : Outlining) (next : Next) (o : Opening) (base : ℕ) → read_as o.found ≡ Segment → HasOpened AreOctets old.octets next o base new.octets → new.marks.items ≡ old.marks.items
+    → HasOpened AreOutlined old next o base new
+outline_segment old new next o base is octets same levels text h opening = record {
+  octets = octets levels text h.octets opening;
   front = h.front;
   joined = same ∙ h.joined;
-  are = subst (λ ls. AreFronts ls new.bases.items h.front) (sym (pushed_segment _ levels is)) (subst (λ bs. AreFronts levels bs h.front) (sym bases) h.are);
+  are = subst (λ ls. AreFronts ls h.front) (sym (pushed_segment _ levels is)) h.are;
 }
 
-pub outline_text : (old new : Outlining) (octets : List ℕ) → HasText AreOctets old.octets octets new.octets → new.marks.items ≡ old.marks.items ++ map mark.Octet octets → new.bases.items ≡ old.bases.items
-    → HasText AreOutlined old octets new
-outline_text old new octets has e bases levels text h = record {
+pub outline_text : (old new : Outlining) (octets : List ℕ) → HasText AreOctets old.octets octets new.octets → new.marks.items ≡ old.marks.items ++ map mark.Octet octets → HasText AreOutlined old octets new
+outline_text old new octets has e levels text h = record {
   octets = has levels text h.octets;
   front = h.front;
   joined = e ∙ ap (λ ms. ms ++ map mark.Octet octets) h.joined ∙ append_assoc h.front (map mark.Octet text) (map mark.Octet octets) ∙ ap (λ ms. h.front ++ ms) (sym (map-append mark.Octet text octets));
-  are = subst (λ bs. AreFronts levels bs h.front) (sym bases) h.are;
+  are = h.are;
 }
 
-pub outline_leaf : (old new : Outlining) (next : Next) (r : Reading) (leaf : LeafType) (octets : List ℕ) (passed : List Mark) → IsContent (leaf_is leaf) octets → HasLeaf AreOctets old.octets next r leaf octets new.octets
-    → HasPassed (rows_before next (slot_in r.found)) old.marks.items passed → new.marks.items ≡ passed ++ (alternative_marks (alternative_of r.found) ++ leaf_marks leaf octets) → new.bases.items ≡ old.bases.items
-    → HasLeaf AreOutlined old next r leaf octets new
-outline_leaf old new next r leaf octets passed right has p e bases after l below h due =
-    let c = with_alternative (alternative_of r.found) (simple (value (leaf_is leaf) octets)) in
-    let x = alternative_marks (alternative_of r.found) ++ leaf_marks leaf octets in
+pub outline_leaf : (old new : Outlining) (next : Next) (r : Reading) (leaf : LeafType) (octets : List ℕ) (mid : List Mark) → IsContent (leaf_is leaf) octets → HasLeaf AreOctets old.octets next r leaf octets new.octets
+    → HasLed next (slot_in r.found) (alternative_of r.found) old.marks.items mid → new.marks.items ≡ mid ++ leaf_marks leaf octets → HasLeaf AreOutlined old next r leaf octets new
+outline_leaf old new next r leaf octets mid right has led e after l below h due =
     let front = h.joined ∙ append-nil h.front in
-    let all : new.marks.items ≡ h.front ++ (p.marks ++ x) = e ∙ ap (λ ms. ms ++ x) (p.added ∙ ap (λ ms. ms ++ p.marks) front) ∙ append_assoc h.front p.marks x in
-    let rows = subst (λ n. ArePassed (rows_before n (slot_in r.found)) p.marks) (sym due.next) p.are in
+    let here = subst (λ n. HasLed n (slot_in r.found) (alternative_of r.found) h.front mid) (sym due.next) (subst (λ ms. HasLed next (slot_in r.found) (alternative_of r.found) ms mid) front led) in
     record {
       octets = has after l below h.octets due;
-      front = h.front ++ (p.marks ++ x);
-      joined = all ∙ sym (append-nil (h.front ++ (p.marks ++ x)));
-      are = subst (λ bs. AreFronts (with_entry l (slot_in r.found) c ∷ below) bs (h.front ++ (p.marks ++ x))) (sym bases)
-          (fronts_added l below (slot_in r.found) c old.bases.items h.front p.marks x h.are rows (chosen (alternative_of r.found) _ _ (leaf_marked leaf octets right)));
+      front = new.marks.items;
+      joined = sym (append-nil new.marks.items);
+      are = entry_marked l below next (tag_of_id r.id) (slot_in r.found) (alternative_of r.found) (Leaf leaf) (simple (value (leaf_is leaf) octets)) h.front mid new.marks.items (leaf_marks leaf octets) due h.are here e (leaf_marked leaf octets right);
     }
 
--- an element ends: its last marks are put after its own, and what comes before them is put at its base
-pub outline_closed : (old new : Outlining) (f : Frame) (next : Next) (middle front : List Mark) → HasClosed AreOctets old.octets f next new.octets
-    → HasRear (read_as f.found) (shape f.place) old.marks.items middle → HasFront (read_as f.found) (shape f.place) next (slot_in f.found) (alternative_of f.found) front
-    → ((outer : List ℕ) (before own : List Mark) → old.bases.items ≡ outer ++ length before ∷ [] → middle ≡ before ++ own → (new.bases.items ≡ outer) × (new.marks.items ≡ before ++ (front ++ own)))
-    → HasClosed AreOutlined old f next new
-outline_closed old new f next middle front has rear first put tag entries trees l below text c h held right is value due =
+-- an element ends: its last marks are put after its own
+pub outline_closed : (old new : Outlining) (f : Frame) (next : Next) → HasClosed AreOctets old.octets f next new.octets → HasRear (shape f.place) old.marks.items new.marks.items → HasClosed AreOutlined old f next new
+outline_closed old new f next has rear tag entries trees l below text c h held right is value due =
     let a = h.are in
     let e = read_as f.found in
     let n = shape f.place in
-    let own = (a.2 ++ map mark.Octet text) ++ (rear.rows ++ last_marks e n) in
-    let heads = alternative_marks (alternative_of f.found) ++ first_marks e n in
-    let x = alternative_marks (alternative_of f.found) ++ (first_marks e n ++ own) in
-    let all : middle ≡ a.1 ++ own =
-    rear.added ∙ ap (λ ms. ms ++ (rear.rows ++ last_marks e n)) (h.joined ∙ ap (λ ms. ms ++ map mark.Octet text) a.4 ∙ append_assoc a.1 a.2 (map mark.Octet text))
-    ∙ append_assoc a.1 (a.2 ++ map mark.Octet text) (rear.rows ++ last_marks e n) in
-    let done = put a.0 a.1 own a.3 all in
-    let marked = chosen (alternative_of f.found) c (first_marks e n ++ own) (ended_marked e n entries trees text c a.2 rear.rows held right is a.5 rear.are) in
-    let made : front ++ own ≡ first.rows ++ x =
-    ap (λ ms. ms ++ own) first.is ∙ append_assoc first.rows heads own ∙ ap (λ ms. first.rows ++ ms) (append_assoc (alternative_marks (alternative_of f.found)) (first_marks e n) own) in
-    let marks : new.marks.items ≡ a.1 ++ (first.rows ++ x) = done.1 ∙ ap (λ ms. a.1 ++ ms) made in
-    let rows = subst (λ m. ArePassed (rows_before m (slot_in f.found)) first.rows) (sym due.next) first.are in
+    let first = first_marks n e in
+    let last = late_marks n ++ (rear.rows ++ last_marks n) in
+    let marks : new.marks.items ≡ a.1 ++ whole_marks n e a.2 text rear.rows =
+    rear.added ∙ ap (λ ms. ms ++ last) (h.joined ∙ ap (λ ms. ms ++ map mark.Octet text) a.3) ∙ append_assoc (a.1 ++ (first ++ a.2)) (map mark.Octet text) last ∙ append_assoc a.1 (first ++ a.2) (map mark.Octet text ++ last)
+    ∙ ap (λ ms. a.1 ++ ms) (append_assoc first a.2 (map mark.Octet text ++ last) ∙ ap (λ ms. first ++ ms) (sym (append_assoc a.2 (map mark.Octet text) last))) in
+    let due_as : (s : Slot) (alt : Option ℕ) → IsDueIn tag l.next (due_with s alt e) → IsDueIn (tag_of value.0) l.next (due_with s alt e) = λ s alt. subst (λ t. IsDueIn t l.next (due_with s alt e)) (sym value.1) in
+    let one = one_due value.0 l.next a.4.slot (slot_in f.found) a.4.alternative (alternative_of f.found) e c (due_as _ _ a.4.is_due) (due_as _ _ due.is_due) value.2 in
+    let there = entry_marked l below next tag a.4.slot a.4.alternative e c a.0 a.1 new.marks.items _ (record { trees = due.trees; held = due.held; next = due.next; is_due = a.4.is_due }) a.6 a.4.led marks
+    (ended_marked e n entries trees text c a.2 rear.rows held right is a.5 rear.are) in
     record {
       octets = has tag entries trees l below text c h.octets held right is value due;
-      front = a.1 ++ (first.rows ++ x);
-      joined = marks ∙ sym (append-nil (a.1 ++ (first.rows ++ x)));
-      are = subst (λ bs. AreFronts (with_entry l (slot_in f.found) (with_alternative (alternative_of f.found) c) ∷ below) bs (a.1 ++ (first.rows ++ x))) (sym done.0)
-          (fronts_added l below (slot_in f.found) (with_alternative (alternative_of f.found) c) a.0 a.1 first.rows x a.6 rows marked);
+      front = new.marks.items;
+      joined = sym (append-nil new.marks.items);
+      are = subst (λ s. AreFronts (with_entry l s (with_alternative (alternative_of f.found) c) ∷ below) new.marks.items) one.0 (subst (λ x. AreFronts (with_entry l a.4.slot x ∷ below) new.marks.items) one.1 there);
     }
 
 pub outline_ended : (old new : Outlining) (a : Apdu) (b : List ℕ) (n : ℕ) (within : Bool) → HoldsApdu AreOutlined old a b → new.marks.items ≡ old.marks.items
     → HasEnded AreNormal new.octets a n within → HasEnded (λ draft x m. HasOutline draft x) new a n within
 outline_ended old new a b n true h same has =
-    let front = h.0.joined ∙ append-nil h.0.front in
-    (subst (IsMarked (choice_of a)) (sym (same ∙ front)) (only_entry (choice_of a) h.0.front h.0.are.1), has.1)
+    let f = h.0.are in
+    let marks = same ∙ h.0.joined ∙ append-nil h.0.front ∙ f.3 ∙ ap (λ ms. ms ++ f.2) (f.4 ∙ f.6) in
+    (subst (IsMarked (choice_of a)) (sym marks) (only_entry (choice_of a) f.2 f.5), has.1)
 outline_ended old new a b n false h same has = has
-
--- ---- the two ends of an element's marks
-
-pub rear_none : (e : CodeElement) (n : Next) (old : List Mark) → last_rows e n ≡ [] → last_marks e n ≡ [] → HasRear e n old old
-rear_none e n old r m = record { rows = []; added = sym (append-nil old) ∙ ap (λ ms. old ++ ms) (sym m); are = subst (λ rs. ArePassed rs []) (sym r) refl }
-
-pub rear_end : (e : CodeElement) (n : Next) (old new : List Mark) → last_rows e n ≡ [] → last_marks e n ≡ mark.End ∷ [] → new ≡ old ++ mark.End ∷ [] → HasRear e n old new
-rear_end e n old new r m is = record { rows = []; added = is ∙ ap (λ ms. old ++ ms) (sym m); are = subst (λ rs. ArePassed rs []) (sym r) refl }
-
-pub rows_ended : (rows : List Row) (old mid new : List Mark) → HasPassed rows old mid → new ≡ mid ++ mark.End ∷ [] → HasEndedRows rows old new
-rows_ended rows old mid new p is = record { marks = p.marks; added = is ∙ ap (λ ms. ms ++ mark.End ∷ []) p.added ∙ append_assoc old p.marks (mark.End ∷ []); are = p.are }
-
-pub rear_rows : (e : CodeElement) (n : Next) (old new : List Mark) → last_rows e n ≡ rows_left n → last_marks e n ≡ mark.End ∷ [] → HasEndedRows (rows_left n) old new → HasRear e n old new
-rear_rows e n old new r m p = record {
-  rows = p.marks;
-  added = p.added ∙ ap (λ ms. old ++ (p.marks ++ ms)) (sym m);
-  are = subst (λ rs. ArePassed rs p.marks) (sym r) p.are;
-}
-
-pub plain_rear : (e : CodeElement) (n : Next) → ((w : Wrapped) → e ≡ Wrapper w → ⊥) → ((node : NodeId) → e ≡ Sequence node → ⊥) → ((w : Wrapped) → e ≡ LooseWrapper w → ⊥) → (last_rows e n ≡ []) × (last_marks e n ≡ mark.End ∷ [])
-plain_rear (Leaf l) n x y z = (refl, refl)
-plain_rear (Sequence node) n x y z = absurd (y node refl)
-plain_rear (ListOf node) n x y z = (refl, refl)
-plain_rear (Wrapper w) n x y z = absurd (x w refl)
-plain_rear (LooseWrapper w) n x y z = absurd (z w refl)
-plain_rear Segment n x y z = (refl, refl)
-
-pub loose_rear : (w : Wrapped) (n : Next) → (n ≡ Nothing → ⊥) → (last_rows (LooseWrapper w) n ≡ rows_left n) × (last_marks (LooseWrapper w) n ≡ mark.End ∷ []) × (first_marks (LooseWrapper w) n ≡ mark.Sequence ∷ [])
-loose_rear w Nothing apart = absurd (apart refl)
-loose_rear w (Rows node m) apart = (refl, refl, refl)
-loose_rear w (Inner x) apart = (refl, refl, refl)
-loose_rear w (Items node) apart = (refl, refl, refl)
-loose_rear w (Either x) apart = (refl, refl, refl)
-loose_rear w Segments apart = (refl, refl, refl)
-
-pub front_made : (e : CodeElement) (own next : Next) (slot : Slot) (n : Option ℕ) (none passed mid new : List Mark) → none ≡ [] → HasPassed (rows_before next slot) none passed → mid ≡ passed ++ alternative_marks n → new ≡ mid ++ first_marks e own
-    → HasFront e own next slot n new
-front_made e own next slot n none passed mid new empty p m is = record {
-  rows = p.marks;
-  is = is ∙ ap (λ ms. ms ++ first_marks e own) (m ∙ ap (λ ms. ms ++ alternative_marks n) (p.added ∙ ap (λ ms. ms ++ p.marks) empty)) ∙ append_assoc p.marks (alternative_marks n) (first_marks e own);
-  are = p.are;
-}
 
 -- ---- the calls
 
-pub opened_ok : (old new : Outlining) (o : Opening) (r : Result ℕ AllocError) → (read_as o.found ≡ Segment → ⊥) → IfOk r (λ base. HasOpened AreOctets old.octets o base new.octets) → new.marks.items ≡ old.marks.items
-    → new.bases.items ≡ old.bases.items ++ length old.marks.items ∷ [] → IfOk r (λ base. HasOpened AreOutlined old o base new)
-opened_ok old new o (Ok base) whole h same bases = outline_opened old new o base whole h same bases
-opened_ok old new o (Err e) whole h same bases = tt
-
-pub leaf_joined : (passed a : List Mark) (l : LeafType) (octets : List ℕ) (m₁ m₂ m₃ m₄ : List Mark) → m₁ ≡ passed ++ a → m₂ ≡ m₁ ++ mark.Leaf l ∷ [] → m₃ ≡ m₂ ++ map mark.Octet octets → m₄ ≡ m₃ ++ mark.End ∷ []
-    → m₄ ≡ passed ++ (a ++ leaf_marks l octets)
-leaf_joined passed a l octets m₁ m₂ m₃ m₄ e₁ e₂ e₃ e₄ =
+pub leaf_joined : (l : LeafType) (octets : List ℕ) (m₁ m₂ m₃ m₄ : List Mark) → m₂ ≡ m₁ ++ mark.Leaf l ∷ [] → m₃ ≡ m₂ ++ map mark.Octet octets → m₄ ≡ m₃ ++ mark.End ∷ [] → m₄ ≡ m₁ ++ leaf_marks l octets
+leaf_joined l octets m₁ m₂ m₃ m₄ e₂ e₃ e₄ =
     let o = map mark.Octet octets in
-    e₄ ∙ ap (λ m. m ++ mark.End ∷ []) (e₃ ∙ ap (λ m. m ++ o) (e₂ ∙ ap (λ m. m ++ mark.Leaf l ∷ []) e₁ ∙ append_assoc passed a (mark.Leaf l ∷ [])) ∙ append_assoc passed (a ++ mark.Leaf l ∷ []) o)
-    ∙ append_assoc passed ((a ++ mark.Leaf l ∷ []) ++ o) (mark.End ∷ [])
-    ∙ ap (λ m. passed ++ m) (ap (λ m. m ++ mark.End ∷ []) (append_assoc a (mark.Leaf l ∷ []) o) ∙ append_assoc a (mark.Leaf l ∷ o) (mark.End ∷ []))
-
-last_same : (xs ys : List ℕ) (m n : ℕ) → xs ++ m ∷ [] ≡ ys ++ n ∷ [] → (xs ≡ ys) × (m ≡ n)
-last_same [] [] m n e = (refl, cc)
-last_same [] (y ∷ []) m n e = absurd cc
-last_same [] (y ∷ z ∷ ys) m n e = absurd cc
-last_same (x ∷ []) [] m n e = absurd cc
-last_same (x ∷ z ∷ xs) [] m n e = absurd cc
-last_same (x ∷ xs) (y ∷ ys) m n e =
-    let head : x ≡ y = cc in
-    let rest : xs ++ m ∷ [] ≡ ys ++ n ∷ [] = cc in
-    let r = last_same xs ys m n rest in
-    (ap₂ (λ (a : ℕ) (as' : List ℕ). a ∷ as') head r.0, r.1)
-
-pub base_popped : (outer before after : List ℕ) (n : ℕ) (r : Option ℕ) → before ≡ outer ++ n ∷ [] → before ≡ after ++ option_to_list r → (r ≡ None → ⊥) → (after ≡ outer) × (r ≡ Some n)
-base_popped outer before after n None e is some = absurd (some refl)
-base_popped outer before after n (Some m) e is some = let s = last_same after outer m n (sym is ∙ e) in (s.0, ap (λ x. Some x) s.1)
-
-pub inserted : (before own mid front new : List Mark) (base : ℕ) → mid ≡ before ++ own → base ≡ min (length before) (length mid) → new ≡ take base mid ++ (front ++ drop base mid) → new ≡ before ++ (front ++ own)
-inserted before own mid front new base e b is =
-    let at : length before ≡ base = omega (arith, b, ap length e, length-append before own) in
-    is ∙ ap₂ (λ (x y : List Mark). x ++ (front ++ y)) (ap (take base) e ∙ take_at before own base at) (ap (drop base) e ∙ drop_at before own base at)
+    e₄ ∙ ap (λ m. m ++ mark.End ∷ []) (e₃ ∙ ap (λ m. m ++ o) e₂ ∙ append_assoc m₁ (mark.Leaf l ∷ []) o) ∙ append_assoc m₁ (mark.Leaf l ∷ o) (mark.End ∷ [])

@@ -34,7 +34,8 @@ use Rattle.ill_read.specs.declared.judge.Reading.{Reading}
 use Rattle.ill_elements.specs.declared.leaf_type.LeafType.{LeafType}
 use Rattle.ill_read.specs.declared.path.Path.{Path}
 use Rattle.ill_read.proofs.DeliveredEntries.{entry_added}
-use Rattle.ill_read.proofs.Segments.{segment_due, due_segment, no_text}
+use Rattle.ill_elements.proofs.DueTags.{segment_due, due_segment}
+use Rattle.ill_read.proofs.Segments.{no_text}
 use Rattle.ill_read.proofs.Strings.{segment_added}
 
 -- where the contents that were read lead
@@ -67,11 +68,8 @@ leaf_refused holds new place r l start octets fault' refusal header at rest is w
 
 primitive_segment : (e : CodeElement) → allows (element_is e) false ≡ true → ((l : LeafType) → e ≡ Leaf l → ⊥) → e ≡ Segment
 primitive_segment (Leaf l) a h = absurd (h l refl)
-primitive_segment (Sequence node) a h = absurd cc
-primitive_segment (ListOf node) a h = absurd cc
-primitive_segment (Wrapper w) a h = absurd cc
-primitive_segment (LooseWrapper w) a h = absurd cc
 primitive_segment Segment a h = refl
+primitive_segment _ a h = absurd cc
 
 -- a segment
 pub segment_read : {D : Type 0} (holds : D → List Level → List ℕ → Type 0) (old new : Path D) (place : List Open) (r : Reading) (start : ℕ) (octets : List ℕ) (header at : ℕ) (rest : List ℕ)

@@ -34,8 +34,7 @@ finished holds has r end opened whole failed s h = go r.state refl
 
 open_or_closed : (st : State) → (st ≡ state.Open) ⊎ (st ≢ state.Open)
 open_or_closed state.Open = inl refl
-open_or_closed state.Whole = inr (λ e. cc)
-open_or_closed (state.Failed f) = inr (λ e. cc)
+open_or_closed _ = inr (λ e. cc)
 
 stands : {D : Type 0} (holds : D → List Level → List ℕ → Type 0) (has : D → Apdu → ℕ → Type 0) (d : Reader D) (s : List ℕ) → IsFed holds has d s → d.state ≡ state.Open → StandsLast (HoldsAt holds d.path) d.at s d.pending.items
 stands holds has d s h e = (is_open holds has d s h e).1
@@ -121,8 +120,6 @@ reads_filled holds has left after broken broken' d end old new h f taken stays =
 
     says_none : (r : Result Bool Failure) → ((s : List ℕ) → IsFed holds has d s → EndsAs has d s r)
         → IfOk (read_result d.at r) (λ found. IfNone found (Consumes left after [] × IsAtEnd after))
-    says_none (Ok true) f = tt
-    says_none (Err e) f = tt
     says_none (Ok false) f = (
       subst (Consumes left after) (f h.filled.octets h.filled.fed) h.filled.taken,
       elim h.filled.ended [
@@ -130,6 +127,7 @@ reads_filled holds has left after broken broken' d end old new h f taken stays =
         | inl closed ↦ absurd (let e = ap length (f (h.filled.octets ++ 0 ∷ []) (ended_longer has d h.filled.octets (0 ∷ []) _ _ closed h.filled.fed)) in omega (arith, e, length-append h.filled.octets (0 ∷ [])))
       ],
     )
+    says_none _ f = tt
 
     says_refused : (left : Option (List ℕ)) (r : Result Bool Failure) → ((s : List ℕ) → IsFed holds has d s → EndsAs has d s r) → HasFilled holds has left after d
         → IfErr (read_result d.at r) (λ e. IfReadRefused e (λ f. IfSome left (λ s. (0 < length s) × OnlyRefuses profile_two s f)))
@@ -144,9 +142,8 @@ reads_filled holds has left after broken broken' d end old new h f taken stays =
 
     says_fault : (r : Result Bool Failure) → IfErr (read_result d.at r) (λ e. IfReadFault e (IsTrue broken' × TakesNoMessage left after))
     says_fault (Ok true) = tt
-    says_fault (Ok false) = tt
     says_fault (Err Failure.OutOfMemory) = tt
-    says_fault (Err (Failure.Refused r)) = tt
+    says_fault _ = tt
 
 -- the message that a draft of values has
 pub values_spelled : (values : Values) (b : List ℕ) → IsReadOf AreMessage values b → (m : Message) × (values.message ≡ Some m) × IsSpelled m b

@@ -36,19 +36,13 @@ text_more (more U ts) T = ap (λ xs. text U ++ xs) (text_more ts T) ∙ sym (app
 string_held : (e : CodeElement) (entries : List (Option Content)) (ts : Trees) (T : Tree) → IsHeld e Segments entries ts → tag_of T ≡ octet_string → IsString T → IsHeld e Segments entries (snoc ts T)
 string_held (Leaf l) entries ts T h e s = (h.0, h.1, segments_more ts T h.2 e s)
 string_held Segment entries ts T h e s = (h.0, segments_more ts T h.1 e s)
-string_held (Sequence node) entries ts T h e s = absurd h
-string_held (ListOf node) entries ts T h e s = absurd h
-string_held (Wrapper w) entries ts T h e s = absurd h
-string_held (LooseWrapper w) entries ts T h e s = absurd h
+string_held _ entries ts T h e s = absurd h
 
 string_text : (e : CodeElement) (entries : List (Option Content)) (ts : Trees) (T : Tree) (before : List ℕ) → IsHeld e Segments entries ts
     → text_with (element_is e) before (snoc ts T) ≡ text_with (element_is e) before ts ++ text T
 string_text (Leaf l) entries ts T before h = text_more ts T
 string_text Segment entries ts T before h = ap (λ xs. before ++ xs) (text_more ts T) ∙ sym (append_assoc before (text_all ts) (text T))
-string_text (Sequence node) entries ts T before h = absurd h
-string_text (ListOf node) entries ts T before h = absurd h
-string_text (Wrapper w) entries ts T before h = absurd h
-string_text (LooseWrapper w) entries ts T before h = absurd h
+string_text _ entries ts T before h = absurd h
 
 segment_tag : (t : Tag) (n : Next) (d : Due) → IsDueIn t n d → n ≡ Segments → t ≡ octet_string
 segment_tag t n d h e = let k : IsDueIn t Segments d = subst (λ x. IsDueIn t x d) e h in same_tag-is t octet_string k.tag

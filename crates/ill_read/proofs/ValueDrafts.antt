@@ -36,8 +36,8 @@ use Rattle.ill_read.specs.declared.values.Values.{Values}
 use Rattle.ill_elements.specs.Due.{shape, first_of, read_as}
 
 -- an element that opens has no entries
-pub values_opened : (v : Values) (opening : Opening) (base : ℕ) → base ≡ length v.held.entries.items → HasOpened AreValues v opening base v
-values_opened v opening base e levels text h apart = go (read_as opening.found)
+pub values_opened : (v : Values) (next : Next) (opening : Opening) (base : ℕ) → base ≡ length v.held.entries.items → HasOpened AreValues v next opening base v
+values_opened v next opening base e levels text h is = go (read_as opening.found)
   where
     l : Level
     l = record { element = (read_as opening.found); tag = tag_of_id opening.id; next = first_of (read_as opening.found); base = base; entries = [] }
@@ -47,11 +47,7 @@ values_opened v opening base e levels text h apart = go (read_as opening.found)
 
     go : (x : CodeElement) → AreValues v (elim x as (λ _. List Level) [ Segment ↦ levels | _ ↦ l ∷ levels ]) text
     go Segment = h
-    go (Leaf x) = more
-    go (Sequence node) = more
-    go (ListOf node) = more
-    go (Wrapper w) = more
-    go (LooseWrapper w) = more
+    go _ = more
 
 -- an element's value is one entry more
 pub values_added : (old new : Values) (l : Level) (below : List Level) (next : Next) (slot : Slot) (v : Value) (c : Content) → AreHeld (l ∷ below) old.held.entries.items → l.next ≡ next
@@ -96,11 +92,7 @@ sequence_ends old new f v node is s same tag entries below text h =
 loose_content : (w : Wrapped) (n : Next) (entries : List (Option Content)) (text : List ℕ) (c : Content) → (n ≡ Nothing → ⊥) → IsContentOf (LooseWrapper w) n entries text c
     → (text ≡ []) × (c ≡ content.sequence (entries_of (entries ++ map absent_content (rows_left n))))
 loose_content w Nothing entries text c apart k = absurd (apart refl)
-loose_content w (Rows node n) entries text c apart k = k
-loose_content w (Inner x) entries text c apart k = k
-loose_content w (Items node) entries text c apart k = k
-loose_content w (Either x) entries text c apart k = k
-loose_content w Segments entries text c apart k = k
+loose_content w _ entries text c apart k = k
 
 pub loose_ends : (old new : Values) (f : Frame) (v : Value) (w : Wrapped) → read_as f.found ≡ LooseWrapper w → ((shape f.place) ≡ Nothing → ⊥)
     → IsSequence (rows_left (shape f.place)) f.base v old.held.entries.items new.held.entries.items → new.text.items ≡ old.text.items → EndsExactly old f new (Ok (Some v))
@@ -133,10 +125,9 @@ list_ends old new f v node is s same tag entries below text h =
 
 -- the one entry is a value
 one_there : (es : List (Option Value)) (c : Content) → map (option_map content_of) es ≡ Some c ∷ [] → (v : Value) × (es ≡ Some v ∷ []) × (content_of v ≡ c)
-one_there [] c e = absurd cc
-one_there (None ∷ es) c e = absurd cc
 one_there (Some v ∷ []) c e = (v, refl, let q : content_of v ≡ c = cc in q)
 one_there (Some v ∷ x ∷ es) c e = absurd cc
+one_there _ c e = absurd cc
 
 last_left : (old new : Values) (f : Frame) (tag : Tag) (entries : List (Option Content)) (below : List Level) (text : List ℕ) (found : Option Value) (c : Content)
     → AreValues old (level_of f tag entries ∷ below) text → IsLast found old.held.entries.items new.held.entries.items → new.text.items ≡ old.text.items → text ≡ [] → entries ≡ Some c ∷ []

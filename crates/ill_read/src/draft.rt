@@ -22,9 +22,9 @@ pub trait Draft: Drop {
     // It has this APDU, which was read of as many octets.
     ghost has: { Self → Apdu → ℕ → Type 0 };
 
-    /// An element opens. Returns where its contents begin.
-    fn open(&mut self, opening: Opening) -> Result<usize, AllocError>
-        ensures { IfOk result (λ base. HasOpened holds self.old opening base self.new) };
+    /// An element opens, at this place. Returns where its contents begin.
+    fn open(&mut self, place: At, opening: Opening) -> Result<usize, AllocError>
+        ensures { IfOk result (λ base. HasOpened holds self.old (shape place) opening base self.new) };
 
     /// More octets of the string that is open.
     fn text(&mut self, octets: &[u8]) -> Result<(), AllocError>

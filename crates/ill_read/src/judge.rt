@@ -2,12 +2,12 @@
 ghost use Rattle.std.specs.Prelude.{◌≡◌, ◌≤◌, false, true, IfOk, length};
 ghost use Rattle.ber_core.specs.Id.{form_of_id};
 ghost use Rattle.std.specs.Option.{ForSome};
-ghost use Rattle.ill_read.specs.code.JudgeCode.{IsFormed, has_form};
 
+use crate::form::form_fault;
 use crate::frames::{DEPTH, Frames};
 use crate::header::LengthRead;
 use ber_core::{Id, Len};
-use ill_cells::{Found, What};
+use ill_cells::Found;
 use ill_schema::{Cause, Refusal};
 
 /// A constructed element: the size of its header, and its end.
@@ -175,37 +175,5 @@ impl Frames {
             return Err(self.wanting(at, came));
         }
         Ok(Extent::Reads(header, size))
-    }
-}
-
-/// Why what was found can't have the form, None where it may.
-#[inline(always)]
-fn form_fault(found: Found, constructed: bool) -> Option<Cause>
-    ensures { IsFormed found constructed result }
-{
-    if has_form(found.what(), constructed) {
-        return None;
-    }
-    match found.what() {
-        What::LeftOut => Some(Cause::LeftOut(found.part())),
-        _ => Some(Cause::WrongForm),
-    }
-}
-
-/// Whether what is read so may have the form (X.690, 8.2 to 8.10, 8.14 and 8.23). What is left out has none.
-#[inline(always)]
-fn has_form(what: What, constructed: bool) -> bool
-    ensures { result ≡ has_form what constructed }
-{
-    if constructed {
-        !matches!(
-            what,
-            What::Boolean | What::Integer | What::Enumerated | What::LeftOut
-        )
-    } else {
-        !matches!(
-            what,
-            What::Sequence | What::List | What::Wrapper | What::LooseWrapper | What::LeftOut
-        )
     }
 }

@@ -12,6 +12,7 @@
 mod decoder;
 mod draft;
 mod failure;
+mod form;
 mod frame;
 mod frames;
 mod header;

@@ -89,7 +89,7 @@ impl Draft for Octets {
     ghost has = { λ draft a octets. AreNormal draft a octets };
 
     #[inline(always)]
-    fn open(&mut self, opening: Opening) -> Result<usize, AllocError> {
+    fn open(&mut self, _place: At, opening: Opening) -> Result<usize, AllocError> {
         let base = match Element::of(opening.found) {
             Element::Segment => self.octets.len(),
             Element::Leaf(_) => self.octets.open(string_id(opening.id))?,

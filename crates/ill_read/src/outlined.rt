@@ -32,7 +32,7 @@ pub fn read_outline_in<R: Source, L: Look<R>>(
 ) -> Result<Option<Outlined>, ReadFailure>
     ensures { ReadsNext (R.left source.old) (R.left source.new) (R.is_broken source.old) (R.is_broken source.new) IsOutlined result }
 {
-    let mut reader = Reader::new(alloc, Outlining::new(alloc, room));
+    let mut reader = Reader::new(alloc, Outlining::new(room));
     match read_draft::<Outlining, R, L, Forget>(&mut reader, source, &mut Forget) {
         Ok(Some(read)) => Ok(Some(Outlined {
             outline: reader.into_draft().into_outline(),

@@ -45,7 +45,7 @@ impl<D: Draft> Path<D> {
         ensures exact { IfOk result (λ _. OpensExactly D.holds self.old opening start self.new) }
         ensures depth { depth_of self.new.frames ≤ depth_of self.old.frames + 1 }
     {
-        let base = self.draft.open(opening)?;
+        let base = self.draft.open(self.frames.place(), opening)?;
         let frame = Frame {
             found: opening.found,
             place: opening.found.first(),

@@ -120,7 +120,7 @@ impl Draft for Values {
 
     ghost has = { λ values a octets. AreMessage values a octets };
 
-    fn open(&mut self, _opening: Opening) -> Result<usize, AllocError> {
+    fn open(&mut self, _place: At, _opening: Opening) -> Result<usize, AllocError> {
         Ok(self.held.len())
     }
 

@@ -16,7 +16,7 @@ use Rattle.ill_schema.specs.Value.{entries_of, items_of}
 use Rattle.ill_schema.specs.declared.part.Row.{Row}
 use Rattle.ill_refusals.specs.Fault.{fault, element_fault, fault_of}
 use Rattle.ill_cells.specs.Places.{alternative_of}
-use Rattle.ill_elements.specs.Due.{IsDueIn, behind, first_of, next_place, shape, shape_at, read_as, slot_in}
+use Rattle.ill_elements.specs.Due.{IsDueIn, behind, first_of, next_place, shape, shape_at, read_as, slot_in, due_with}
 use Rattle.ill_elements.specs.Elements.{element_is}
 use Rattle.ill_elements.specs.LeafTypes.{leaf_is}
 use Rattle.ill_read.specs.Standing.{Level, IsHeld, level_of, pushed, whole_level}
@@ -82,9 +82,18 @@ abbrev pub IsChecked : Frame → List ℕ → Result ⊤ Failure → Type 0
 IsChecked f text (Ok _) = IsRightText (read_as f.found) text
 IsChecked f text (Err failure) = IsTextFault (read_as f.found) f.start text failure
 
+-- no text is open, and the element is due in the innermost level
+pub record IsOpeningIn (levels : List Level) (text : List ℕ) (expected : Next) (o : Opening) : Type 0 where
+  pub none : text ≡ []
+  pub level : Level
+  pub below : List Level
+  pub are : levels ≡ level ∷ below
+  pub next : level.next ≡ expected
+  pub is_due : IsDueIn (tag_of_id o.id) expected (due_with (slot_in o.found) (alternative_of o.found) (read_as o.found))
+
 -- an element opened
-abbrev pub HasOpened : {D : Type 0} → (D → List Level → List ℕ → Type 0) → D → Opening → ℕ → D → Type 0
-HasOpened holds old o base new = (levels : List Level) (text : List ℕ) → holds old levels text → ((read_as o.found ≡ Segment → ⊥) → text ≡ [])
+abbrev pub HasOpened : {D : Type 0} → (D → List Level → List ℕ → Type 0) → D → Next → Opening → ℕ → D → Type 0
+HasOpened holds old next o base new = (levels : List Level) (text : List ℕ) → holds old levels text → ((read_as o.found ≡ Segment → ⊥) → IsOpeningIn levels text next o)
     → holds new (pushed (record { element = read_as o.found; tag = tag_of_id o.id; next = first_of (read_as o.found); base = base; entries = [] }) levels) text
 
 -- the text grew

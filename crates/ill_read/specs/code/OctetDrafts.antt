@@ -13,6 +13,7 @@ use Rattle.ill_schema.specs.Tagging.{untagged, sequence_tag}
 use Rattle.ill_schema.specs.Value.{entries_of, items_of}
 use Rattle.ill_elements.specs.Due.{read_as}
 use Rattle.ill_read.specs.Standing.{Level}
+use Rattle.ill_elements.specs.Written.{left_away}
 use Rattle.ill_elements.specs.declared.due.Next.{Next}
 use Rattle.ill_elements.specs.declared.due.Next.TheVariants.{Rows, Nothing}
 use Rattle.ill_elements.specs.declared.due.Slot.{Slot}

@@ -1,5 +1,6 @@
 -- What the draft of an outline holds of the elements that have been read.
-use Rattle.std.specs.Prelude.{◌≡◌, ℕ, List, [], ◌∷◌, ◌++◌, length, map, Option, Some, None, slice_get}
+use Rattle.std.specs.Prelude.{◌≡◌, ℕ, List, [], ◌∷◌, ◌++◌, map, Option, Some, None, slice_get}
+use Rattle.ber_core.specs.Identifier.{Tag}
 use Rattle.ill_schema.specs.declared.part.PartId.{PartId}
 use Rattle.ill_schema.specs.declared.part.Row.{Row}
 use Rattle.ill_schema.specs.Apdu.{Apdu, choice_of}
@@ -7,13 +8,16 @@ use Rattle.ill_schema.specs.Table.{rows_of}
 use Rattle.ill_schema.specs.Value.{entries_of}
 use Rattle.ill_read.specs.Outline.{AreEntries, IsMarked}
 use Rattle.ill_read.specs.Standing.{Level}
+use Rattle.ill_elements.specs.Due.{IsDueIn}
 use Rattle.ill_read.specs.code.Drafts.{rows_before, rows_left}
+use Rattle.ill_elements.specs.Due.{due_with}
 use Rattle.ill_read.specs.code.OctetDrafts.{AreOctets}
 use Rattle.ill_elements.specs.declared.due.Next.{Next}
-use Rattle.ill_elements.specs.declared.due.Next.TheVariants.{Nothing}
+use Rattle.ill_elements.specs.declared.due.Next.TheVariants.{Rows, Inner, Items, Either, Segments, Nothing}
 use Rattle.ill_elements.specs.declared.due.Slot.{Slot}
+use Rattle.ill_elements.specs.declared.due.Slot.TheVariants.{Row as AtRow}
 use Rattle.ill_elements.specs.declared.element.Element.{Element as CodeElement}
-use Rattle.ill_elements.specs.declared.element.Element.TheVariants.{Leaf, Sequence, List as ListOf, Wrapper, LooseWrapper, Segment}
+use Rattle.ill_elements.specs.declared.element.Element.TheVariants.{Leaf}
 use Rattle.ill_read.specs.declared.mark.Mark.{Mark}
 use Rattle.ill_read.specs.declared.mark.Mark.TheVariants as mark
 use Rattle.ill_read.specs.declared.outline.Outlining.{Outlining}
@@ -23,68 +27,73 @@ abbrev pub ArePassed : List Row → List Mark → Type 0
 ArePassed [] ms = ms ≡ []
 ArePassed (row ∷ rows) ms = (part : PartId) × (rest : List Mark) × (ms ≡ mark.Passed part ∷ rest) × (slice_get (rows_of part.node) part.row ≡ Some row) × ArePassed rows rest
 
--- rows without an element were passed
-pub record HasPassed (rows : List Row) (old new : List Mark) : Type 0 where
+-- rows without an element were passed, after these marks
+pub record HasPassed (before : List Mark) (rows : List Row) (old new : List Mark) : Type 0 where
   pub marks : List Mark
-  pub added : new ≡ old ++ marks
-  pub are : ArePassed rows marks
-
--- rows without an element were passed, and then the end came
-pub record HasEndedRows (rows : List Row) (old new : List Mark) : Type 0 where
-  pub marks : List Mark
-  pub added : new ≡ old ++ (marks ++ mark.End ∷ [])
+  pub added : new ≡ old ++ (before ++ marks)
   pub are : ArePassed rows marks
 
 abbrev pub alternative_marks : Option ℕ → List Mark
 alternative_marks None = []
 alternative_marks (Some n) = mark.Alternative n ∷ []
 
--- the mark that an element begins with
-abbrev pub first_marks : CodeElement → Next → List Mark
-first_marks (Leaf l) n = mark.Leaf l ∷ []
-first_marks (Sequence node) n = mark.Sequence ∷ []
-first_marks (ListOf node) n = mark.List ∷ []
-first_marks (Wrapper w) n = []
-first_marks (LooseWrapper w) Nothing = []
-first_marks (LooseWrapper w) n = mark.Sequence ∷ []
-first_marks Segment n = []
+-- the mark that an element begins with, where this may come next in it; a loose wrapper has one once a row came
+abbrev pub first_marks : Next → CodeElement → List Mark
+first_marks (Rows node n) e = mark.Sequence ∷ []
+first_marks (Items node) e = mark.List ∷ []
+first_marks Segments (Leaf l) = mark.Leaf l ∷ []
+first_marks _ e = []
 
--- the rows that an element passes at its end, and the mark that it ends with
-abbrev pub last_rows : CodeElement → Next → List Row
-last_rows (Sequence node) n = rows_left n
-last_rows (LooseWrapper w) Nothing = []
-last_rows (LooseWrapper w) n = rows_left n
-last_rows _ n = []
+-- the mark of a loose wrapper as a sequence, where the first row comes
+abbrev pub start_marks : Next → Slot → List Mark
+start_marks (Either w) (AtRow r) = mark.Sequence ∷ []
+start_marks _ _ = []
 
-abbrev pub last_marks : CodeElement → Next → List Mark
-last_marks (Wrapper w) n = []
-last_marks (LooseWrapper w) Nothing = []
-last_marks _ n = mark.End ∷ []
+-- the same where no row came
+abbrev pub late_marks : Next → List Mark
+late_marks (Either w) = mark.Sequence ∷ []
+late_marks _ = []
+
+-- the mark that an element ends with
+abbrev pub last_marks : Next → List Mark
+last_marks (Inner w) = []
+last_marks Nothing = []
+last_marks _ = mark.End ∷ []
 
 -- the marks of an element came to their end
-pub record HasRear (e : CodeElement) (n : Next) (old new : List Mark) : Type 0 where
+pub record HasRear (n : Next) (old new : List Mark) : Type 0 where
   pub rows : List Mark
-  pub added : new ≡ old ++ (rows ++ last_marks e n)
-  pub are : ArePassed (last_rows e n) rows
+  pub added : new ≡ old ++ (late_marks n ++ (rows ++ last_marks n))
+  pub are : ArePassed (rows_left n) rows
 
--- what stands before the marks of an element: the rows that were passed, the alternative that it is, and its first mark
-pub record HasFront (e : CodeElement) (own next : Next) (slot : Slot) (alternative : Option ℕ) (new : List Mark) : Type 0 where
+-- what comes before an element came: the rows that it passes, and the alternative that it is
+pub record HasLed (next : Next) (slot : Slot) (alternative : Option ℕ) (old new : List Mark) : Type 0 where
   pub rows : List Mark
-  pub is : new ≡ rows ++ (alternative_marks alternative ++ first_marks e own)
+  pub added : new ≡ old ++ (start_marks next slot ++ (rows ++ alternative_marks alternative))
   pub are : ArePassed (rows_before next slot) rows
 
--- the marks are those of the levels, outermost first; each but the outermost begins at its base
-abbrev pub AreFronts : List Level → List ℕ → List Mark → Type 0
-AreFronts [] bases ms = ⊥
-AreFronts (l ∷ []) bases ms = (bases ≡ []) × AreEntries (entries_of l.entries) ms
-AreFronts (l ∷ (k ∷ below)) bases ms = (outer : List ℕ) × (before : List Mark) × (own : List Mark)
-    × (bases ≡ outer ++ length before ∷ []) × (ms ≡ before ++ own) × AreEntries (entries_of l.entries) own × AreFronts (k ∷ below) outer before
+-- so it did before an open element, which is due in those round it
+pub record IsLed (tag : Tag) (element : CodeElement) (next : Next) (old new : List Mark) : Type 0 where
+  pub slot : Slot
+  pub alternative : Option ℕ
+  pub is_due : IsDueIn tag next (due_with slot alternative element)
+  pub led : HasLed next slot alternative old new
+
+abbrev pub AreLed : Tag → CodeElement → List Level → List Mark → List Mark → Type 0
+AreLed tag element [] old new = new ≡ old
+AreLed tag element (l ∷ below) old new = IsLed tag element l.next old new
+
+-- the marks are those of the levels, outermost first
+abbrev pub AreFronts : List Level → List Mark → Type 0
+AreFronts [] ms = ms ≡ []
+AreFronts (l ∷ below) ms = (before : List Mark) × (led : List Mark) × (own : List Mark)
+    × (ms ≡ led ++ (first_marks l.next l.element ++ own)) × AreLed l.tag l.element below before led × AreEntries (entries_of l.entries) own × AreFronts below before
 
 pub record AreOutlined (draft : Outlining) (levels : List Level) (text : List ℕ) : Type 0 where
   pub octets : AreOctets draft.octets levels text
   pub front : List Mark
   pub joined : draft.marks.items ≡ front ++ map mark.Octet text
-  pub are : AreFronts levels draft.bases.items front
+  pub are : AreFronts levels front
 
 -- the marks are the APDU's
 abbrev pub HasOutline : Outlining → Apdu → Type 0

@@ -13,13 +13,7 @@ only_boolean code.Boolean e = e'
   where
     e' : code.Boolean ≡ code.Boolean
     e' = λ i. code.Boolean
-only_boolean code.Integer e = absurd cc
-only_boolean code.Enumerated e = absurd cc
-only_boolean code.General e = absurd cc
-only_boolean code.Visible e = absurd cc
-only_boolean code.Printable e = absurd cc
-only_boolean code.Date e = absurd cc
-only_boolean code.Time e = absurd cc
+only_boolean _ e = absurd cc
 
 not_zero : (a : ℕ) → (a ∷ [] ≡ 0 ∷ [] → ⊥) → nat_eq a 0 ≡ false
 not_zero a h = elim (nat_eq a 0) as (λ b. nat_eq a 0 ≡ b → b ≡ false) [ true ↦ λ e. absurd (h (ap (λ n. n ∷ []) (grind (arith, e)))) | false ↦ λ e. λ i. false ] (λ i. nat_eq a 0)

@@ -1,7 +1,7 @@
 use Rattle.std.proofs.Common.{◌≡◌, ◌∙◌, refl, true, false, ap, subst, sym}
 use Rattle.ber_core.specs.Id.{id_octets, tag_of_id}
 use Rattle.ber_core.specs.Identifier.{HasIdentifier, identifier}
-use Rattle.ill_elements.specs.Due.{read_as}
+use Rattle.ill_elements.specs.Due.{read_as, shape}
 use Rattle.ill_read.specs.code.OctetDrafts.{form_of}
 use Rattle.ill_elements.specs.declared.element.Element.{Element as CodeElement}
 use Rattle.ill_elements.specs.declared.element.Element.TheVariants.{Leaf, Sequence, List as ListOf, Wrapper, LooseWrapper, Segment}
@@ -11,17 +11,13 @@ use Rattle.ill_read.proofs.octets.OctetsDraft.open.Goals as goal
 
 constructed : (e : CodeElement) → ((l : LeafType) → e ≡ Leaf l → ⊥) → form_of e ≡ true
 constructed (Leaf l) h = absurd (h l refl)
-constructed (Sequence node) h = refl
-constructed (ListOf node) h = refl
-constructed (Wrapper w) h = refl
-constructed (LooseWrapper w) h = refl
-constructed Segment h = refl
+constructed _ h = refl
 
 pub returns-in_ok-base-in-Leaf : goal.returns-in_ok-base-in-Leaf
 returns-in_ok-base-in-Leaf c =
     let o = c.args.opening in
     let is : read_as o.found ≡ Leaf c.in-Leaf.field-0 = sym c.of.ensures ∙ c.in-Leaf.is in
-    octets_opened c.args.self.now (record c.args.self.now { octets = c.open.new.self }) o c.in_ok-base-in-Leaf.base (id_octets c.string_id.result) (λ s. let q : Leaf c.in-Leaf.field-0 ≡ Segment = sym is ∙ s in cc)
+    octets_opened c.args.self.now (record c.args.self.now { octets = c.open.new.self }) (shape c.args._place) o c.in_ok-base-in-Leaf.base (id_octets c.string_id.result) (λ s. let q : Leaf c.in-Leaf.field-0 ≡ Segment = sym is ∙ s in cc)
     (λ apart.
     let valid : HasIdentifier (tag_of_id o.id) false = record { number = o.id.valid.number; not_end = λ k n. subst (λ e. form_of e ≡ true) is (apart k n) } in
     c.string_id.ensures valid ∙ ap (λ e. identifier (tag_of_id o.id) (form_of e)) (sym is))
@@ -30,6 +26,6 @@ returns-in_ok-base-in-Leaf c =
 pub returns-in_ok-base-in_default : goal.returns-in_ok-base-in_default
 returns-in_ok-base-in_default c =
     let o = c.args.opening in
-    octets_opened c.args.self.now (record c.args.self.now { octets = c.open-in_default.new.self }) o c.in_ok-base-in_default.base (id_octets o.id) (λ s. c.in_default.not-Segment (c.of.ensures ∙ s))
+    octets_opened c.args.self.now (record c.args.self.now { octets = c.open-in_default.new.self }) (shape c.args._place) o c.in_ok-base-in_default.base (id_octets o.id) (λ s. c.in_default.not-Segment (c.of.ensures ∙ s))
     (λ apart. ap (identifier (tag_of_id o.id)) (o.form ∙ sym (constructed (read_as o.found) (λ l e. c.in_default.not-Leaf l (c.of.ensures ∙ e)))))
     c.in_ok-base-in_default.ensures.octets c.in_ok-base-in_default.ensures.base

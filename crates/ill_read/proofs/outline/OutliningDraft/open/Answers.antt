@@ -1,8 +1,13 @@
-use Rattle.std.proofs.Common.{refl, ap, ◌∙◌, ◌∷◌, [], ◌++◌, ℕ}
-use Rattle.ill_read.proofs.Outlines.{opened_ok}
+use Rattle.std.proofs.Common.{◌++◌, ap, ◌∙◌}
+use Rattle.std.proofs.lemmas.Result.{IfOk-weaker}
+use Rattle.ill_elements.specs.Due.{first_of, shape}
+use Rattle.ill_read.specs.code.Outlines.{first_marks}
+use Rattle.ill_read.proofs.Outlines.{outline_opened}
 use Rattle.ill_read.proofs.outline.OutliningDraft.open.Goals as goal
 
 pub returns : goal.returns
 returns c =
-    opened_ok c.args.self.now (record c.args.self.now { octets = c.open-2.new.self; bases = c.push.new.self }) c.args.opening c.open-2.result (λ s. c.in_default.not-Segment (c.of.ensures ∙ s)) c.open-2.ensures refl
-    (c.in_ok-push.ensures.items ∙ ap (λ (n : ℕ). c.args.self.now.bases.items ++ n ∷ []) (c.len.ensures ∙ c.args.self.now.marks.ok.0))
+    let e = c.in_ok-begin.ensures ∙ ap (λ x. c.lead.new.marks.items ++ first_marks (first_of x) x) c.of-element.ensures in
+    IfOk-weaker c.open-2.result _ _
+    (λ base h. outline_opened c.args.self.now (record { octets = c.open-2.new.self; marks = c.begin.new.marks }) (shape c.args.place) c.args.opening base c.lead.new.marks.items (λ s. c.in_default.not-Segment (c.of-element.ensures ∙ s)) h c.in_ok-lead.ensures e)
+    c.open-2.ensures
