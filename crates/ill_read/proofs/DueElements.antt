@@ -13,7 +13,7 @@ use Rattle.ill_read.specs.Elements.{component_of, component_at, element_with, fo
 use Rattle.ill_read.specs.DueCode.{IsDueIn, IsDueInRows, IsRowDue, IsInnerDue, next_is, behind}
 use Rattle.ill_read.specs.DueCode.{Due}
 use Rattle.ill_read.specs.declared.due.Slot.{Slot}
-use Rattle.ill_read.specs.declared.due.Slot.TheVariants.{Row as AtRow, Item, Inner as Inside, Segment}
+use Rattle.ill_read.specs.declared.due.Slot.TheVariants.{Row as AtRow}
 use Rattle.ill_read.specs.declared.due.Next.{Next}
 use Rattle.ill_read.specs.declared.due.Next.TheVariants.{Rows, Inner, Items, Either, Segments, Nothing}
 use Rattle.ill_read.specs.declared.element.Wrapped.{Wrapped}

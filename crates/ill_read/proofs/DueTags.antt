@@ -29,7 +29,7 @@ use Rattle.ill_read.specs.code.OctetDrafts.{left_away}
 use Rattle.ill_read.specs.declared.due.Next.{Next}
 use Rattle.ill_read.specs.declared.due.Next.TheVariants.{Rows, Inner, Items, Either, Segments, Nothing}
 use Rattle.ill_read.specs.declared.due.Slot.{Slot}
-use Rattle.ill_read.specs.declared.due.Slot.TheVariants.{Row as AtRow, Item, Inner as Inside, Segment as InString}
+use Rattle.ill_read.specs.declared.due.Slot.TheVariants.{Row as AtRow, Inner as Inside}
 use Rattle.ill_read.specs.declared.element.Element.{Element as CodeElement}
 use Rattle.ill_read.proofs.NormalLeaves.{alternative_kept}
 
@@ -57,8 +57,6 @@ abbrev IsStart : Tag → Element → Type 0
 IsStart t e = (e ≡ segment → ⊥) × (t.class ≡ Universal → t.number ≡ 0 → ⊥)
 
 own_apart : (k : Kind) (node : NodeId) → AllStarts IsStart (own_starts k node)
-own_apart Kind.Seq node = ((λ s. cc, λ c n. cc), tt)
-own_apart Kind.SeqOf node = ((λ s. cc, λ c n. cc), tt)
 own_apart Kind.Choice node = tt
 own_apart Kind.IllString node = ((λ s. cc, λ c n. cc), ((λ s. cc, λ c n. cc), tt))
 own_apart (Kind.Leaf LeafKind.Boolean) node = ((λ s. cc, λ c n. cc), tt)

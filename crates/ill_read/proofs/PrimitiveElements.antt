@@ -26,7 +26,7 @@ use Rattle.ill_read.specs.code.Stepping.{GoesOn, ReadsExactly}
 use Rattle.ill_read.specs.Standing.{Level, next_at, text_so_far, AreFrames, HoldsAt}
 use Rattle.ill_read.specs.declared.due.Next.TheVariants.{Segments}
 use Rattle.ill_read.specs.declared.element.Element.{Element as CodeElement}
-use Rattle.ill_read.specs.declared.element.Element.TheVariants.{Leaf, Sequence, List as ListOf, Wrapper, LooseWrapper, Segment}
+use Rattle.ill_read.specs.declared.element.Element.TheVariants.{Leaf, Segment}
 use Rattle.ill_read.specs.declared.failure.Failure.{Failure}
 use Rattle.ill_read.specs.code.Progress.{Reads}
 use Rattle.ill_read.specs.declared.judge.Reading.{Reading}

@@ -22,7 +22,7 @@ use Rattle.ill_read.specs.code.Drafts.{HasOpened, IsContentOf, IsRightText, rows
 use Rattle.ill_read.specs.code.Held.{EndsExactly, HasAdded, IsFound, IsLast, IsList, IsSequence}
 use Rattle.ill_read.specs.Standing.{Level, level_of, whole_level, absent_content, AreHeld, AreValues, IsHeld}
 use Rattle.ill_read.specs.declared.due.Next.{Next}
-use Rattle.ill_read.specs.declared.due.Next.TheVariants.{Rows, Inner, Items, Either, Segments, Nothing}
+use Rattle.ill_read.specs.declared.due.Next.TheVariants.{Segments, Nothing}
 use Rattle.ill_read.specs.declared.due.Slot.{Slot}
 use Rattle.ill_read.specs.declared.element.Element.{Element as CodeElement}
 use Rattle.ill_read.specs.declared.element.Element.TheVariants.{Leaf, Sequence, List as ListOf, Wrapper, LooseWrapper, Segment}
