@@ -52,9 +52,6 @@ passed_join : (xs ys : List Row) (a b : List Mark) → ArePassed xs a → ArePas
 passed_join [] ys a b h k = subst (λ ms. ArePassed ys (ms ++ b)) (sym h) k
 passed_join (x ∷ xs) ys a b h k = (h.0, h.1 ++ b, ap (λ ms. ms ++ b) h.2, h.3, passed_join xs ys h.1 b h.4 k)
 
-pub passed_none : (rows : List Row) (old : List Mark) → rows ≡ [] → HasPassed [] rows old old
-passed_none rows old e = record { marks = []; added = sym (append-nil old); are = subst (λ rs. ArePassed rs []) (sym e) refl }
-
 -- one more row is passed
 pub passed_more : (node : NodeId) (from n : ℕ) (old mid new : List Mark) → from ≤ n → n < length (rows_of node) → HasPassed [] (drop from (take n (rows_of node))) old mid
     → new ≡ mid ++ mark.Passed (record { node = node; row = n }) ∷ [] → HasPassed [] (drop from (take (n + 1) (rows_of node))) old new
@@ -112,9 +109,6 @@ only_entry c ms h = subst (IsMarked c) (sym (h.2 ∙ ap (λ r. h.0 ++ r) h.4 ∙
 pub chosen : (n : Option ℕ) (c : Content) (ms : List Mark) → IsMarked c ms → IsMarked (with_alternative n c) (alternative_marks n ++ ms)
 chosen None c ms h = h
 chosen (Some n) c ms h = (ms, refl, h)
-
-pub leaf_marked : (l : LeafType) (octets : List ℕ) → IsContent (leaf_is l) octets → IsMarked (simple (value (leaf_is l) octets)) (leaf_marks l octets)
-leaf_marked l octets h = inl (l, octets, refl, h, refl)
 
 -- ---- an element that ends
 
@@ -263,7 +257,7 @@ outline_leaf old new next r leaf octets mid right has led e after l below h due 
       octets = has after l below h.octets due;
       front = new.marks.items;
       joined = sym (append-nil new.marks.items);
-      are = entry_marked l below next (tag_of_id r.id) (slot_in r.found) (alternative_of r.found) (Leaf leaf) (simple (value (leaf_is leaf) octets)) h.front mid new.marks.items (leaf_marks leaf octets) due h.are here e (leaf_marked leaf octets right);
+      are = entry_marked l below next (tag_of_id r.id) (slot_in r.found) (alternative_of r.found) (Leaf leaf) (simple (value (leaf_is leaf) octets)) h.front mid new.marks.items (leaf_marks leaf octets) due h.are here e (inl (leaf, octets, refl, right, refl));
     }
 
 -- an element ends: its last marks are put after its own
