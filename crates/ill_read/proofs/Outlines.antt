@@ -164,19 +164,15 @@ late_marked w entries text c own rows none is held h k =
 pub ended_marked : (e : CodeElement) (n : Next) (entries : List (Option Content)) (ts : Trees) (text : List ℕ) (c : Content) (own rows : List Mark) → IsHeld e n entries ts → IsRightText e text
     → IsContentOf e n entries text c → AreEntries (entries_of entries) own → ArePassed (rows_left n) rows → IsMarked c (whole_marks n e own text rows)
 ended_marked (Leaf l) Segments entries ts text c own rows held right is h k = string_marked l entries text c own rows held.1 right is h k
-ended_marked (Leaf l) _ entries ts text c own rows held right is h k = absurd held
 ended_marked (Sequence node) (Rows own_node m) entries ts text c own rows held right is h k = sequence_marked entries (rows_left (Rows own_node m)) text c own rows is.0 is.1 h k
-ended_marked (Sequence node) _ entries ts text c own rows held right is h k = absurd held
 ended_marked (ListOf node) (Items own_node) entries ts text c own rows held right is h k = list_marked entries is.1 text c own rows is.0 is.2 is.3 h k
-ended_marked (ListOf node) _ entries ts text c own rows held right is h k = absurd held
 ended_marked (Wrapper w) (Inner own_part) entries ts text c own rows held right is h k = part_marked entries text c own rows is.0 is.1 h k
 ended_marked (Wrapper w) Nothing entries ts text c own rows held right is h k = part_marked entries text c own rows is.0 is.1 h k
-ended_marked (Wrapper w) _ entries ts text c own rows held right is h k = absurd held
 ended_marked (LooseWrapper w) Nothing entries ts text c own rows held right is h k = part_marked entries text c own rows is.0 is.1 h k
 ended_marked (LooseWrapper w) (Rows own_node m) entries ts text c own rows held right is h k = sequence_marked entries (rows_left (Rows own_node m)) text c own rows is.0 is.1 h k
 ended_marked (LooseWrapper w) (Either own_part) entries ts text c own rows held right is h k = late_marked own_part entries text c own rows is.0 is.1 held.1 h k
-ended_marked (LooseWrapper w) _ entries ts text c own rows held right is h k = absurd held
 ended_marked Segment n entries ts text c own rows held right is h k = absurd is
+ended_marked _ _ entries ts text c own rows held right is h k = absurd held
 
 -- ---- the draft
 
