@@ -61,12 +61,8 @@ round_of k p round node position r h = go k position (let z : position + 1 ≡ s
     go : (k : Kind) (position : ℕ) → shape_of k p round (suc position) ≡ Rows node (r + 1) → round ≡ node
     go Kind.Seq position h = cc
     go Kind.Choice position h = absurd cc
-    go Kind.SeqOf zero h = absurd cc
-    go Kind.SeqOf (suc n) h = absurd cc
-    go (Kind.Leaf l) zero h = absurd cc
-    go (Kind.Leaf l) (suc n) h = absurd cc
-    go Kind.IllString zero h = absurd cc
-    go Kind.IllString (suc n) h = absurd cc
+    go _ zero h = absurd cc
+    go _ (suc n) h = absurd cc
 
 -- the default of what was found at a row is the row's
 found_default : (f : CellFound) (node : NodeId) (row : Row) → slot_of f ≡ cell.Row → node_round f ≡ node → slice_get (rows_of node) (row_of f) ≡ Some row
@@ -101,15 +97,9 @@ default_left f t n l o due after = go (slot_of f) refl n due after
     go cell.Row e (Items node) due after = absurd (let q : AtRow (row_of f) ≡ Item = due.slot in cc)
     go cell.Row e Segments due after = absurd (let q : AtRow (row_of f) ≡ InString = due.slot in cc)
     go cell.Row e Nothing due after = absurd due
-    go cell.Inner e (Rows node k) due after = refl
-    go cell.Inner e (Either w) due after = refl
-    go cell.Inner e _ due after = refl
-    go cell.Item e (Rows node k) due after = refl
-    go cell.Item e (Either w) due after = refl
-    go cell.Item e _ due after = refl
-    go cell.Segment e (Rows node k) due after = refl
-    go cell.Segment e (Either w) due after = refl
-    go cell.Segment e _ due after = refl
+    go _ e (Rows node k) due after = refl
+    go _ e (Either w) due after = refl
+    go _ e _ due after = refl
 
 -- what was found has this default, is of no choice, stands in a row, and has the default's value
 abbrev pub is_left : Option ℤ → Option ℕ → CellSlot → Leaf → List ℕ → Bool
@@ -124,8 +114,8 @@ none_left (Some d) n slot l o = refl
 
 row_is_left : (default : Option ℤ) (slot : CellSlot) (l : Leaf) (o : List ℕ) → elim slot as (λ _. Bool) [ cell.Row ↦ has_default default l o | _ ↦ false ] ≡ is_left default None slot l o
 row_is_left None cell.Row l o = refl
-row_is_left None _ l o = refl
 row_is_left (Some d) cell.Row l o = refl
+row_is_left None _ l o = refl
 row_is_left (Some d) _ l o = refl
 
 pub left_row : (default : Option ℤ) (alternative : Option ℕ) (slot : CellSlot) (l : Leaf) (o : List ℕ) (d : ℤ) → default ≡ Some d → is_some alternative ≡ false → slot ≡ cell.Row

@@ -295,9 +295,7 @@ placed-due t Kind.IllString p node zero at row s D d e h b slot is = around t p 
 placed-due t Kind.SeqOf p node (suc zero) at row s D d e h b slot is = item-due t node D d h.is b (slot ∙ ap (slot_as row) (only-item at s h.later h.placed)) is
 placed-due t (Kind.Leaf l) p node (suc zero) at row s D d e h b slot is = segment-due t D d h.is (slot ∙ ap (slot_as row) (only-segment (Kind.Leaf l) at s refl h.later h.placed)) is
 placed-due t Kind.IllString p node (suc zero) at row s D d e h b slot is = segment-due t D d h.is (slot ∙ ap (slot_as row) (only-segment Kind.IllString at s refl h.later h.placed)) is
-placed-due t Kind.SeqOf p node (suc (suc n)) at row s D d e h b slot is = absurd (let z : None ≡ Some D = h.is in cc)
 placed-due t Kind.Choice p node (suc zero) at row s D d e h b slot is = absurd (let z : None ≡ Some D = h.is in cc)
-placed-due t Kind.Choice p node (suc (suc n)) at row s D d e h b slot is = absurd (let z : None ≡ Some D = h.is in cc)
 placed-due t Kind.Seq p node zero zero row _ D d e h b slot is = absurd (let z : false ≡ true = h.placed in cc)
 placed-due t _ p node (suc (suc n)) at row s D d e h b slot is = absurd (let z : None ≡ Some D = h.is in cc)
 

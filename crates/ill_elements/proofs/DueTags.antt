@@ -29,7 +29,7 @@ use Rattle.ill_elements.specs.Written.{left_away}
 use Rattle.ill_elements.specs.declared.due.Next.{Next}
 use Rattle.ill_elements.specs.declared.due.Next.TheVariants.{Rows, Inner, Items, Either, Segments, Nothing}
 use Rattle.ill_elements.specs.declared.due.Slot.{Slot}
-use Rattle.ill_elements.specs.declared.due.Slot.TheVariants.{Row as AtRow, Item, Inner as Inside, Segment as InString}
+use Rattle.ill_elements.specs.declared.due.Slot.TheVariants.{Row as AtRow, Inner as Inside}
 use Rattle.ill_elements.specs.declared.element.Element.{Element as CodeElement}
 use Rattle.ill_elements.proofs.NormalLeaves.{alternative_kept}
 
@@ -57,8 +57,6 @@ abbrev IsStart : Tag → Element → Type 0
 IsStart t e = (e ≡ segment → ⊥) × (t.class ≡ Universal → t.number ≡ 0 → ⊥)
 
 own_apart : (k : Kind) (node : NodeId) → AllStarts IsStart (own_starts k node)
-own_apart Kind.Seq node = ((λ s. cc, λ c n. cc), tt)
-own_apart Kind.SeqOf node = ((λ s. cc, λ c n. cc), tt)
 own_apart Kind.Choice node = tt
 own_apart Kind.IllString node = ((λ s. cc, λ c n. cc), ((λ s. cc, λ c n. cc), tt))
 own_apart (Kind.Leaf LeafKind.Boolean) node = ((λ s. cc, λ c n. cc), tt)
@@ -91,11 +89,15 @@ is_universal Class.Universal = true
 is_universal _ = false
 
 -- no row's tag is universal, and a row with a default has an implicit tag on what is no string
+abbrev is_plain_kind : Kind → Bool
+is_plain_kind (Kind.Leaf LeafKind.Boolean) = true
+is_plain_kind (Kind.Leaf LeafKind.Integer) = true
+is_plain_kind (Kind.Leaf LeafKind.Enumerated) = true
+is_plain_kind _ = false
+
 abbrev is_plain : Presence → Mode → Kind → Bool
-is_plain (Presence.Default d) Mode.Implicit (Kind.Leaf LeafKind.Boolean) = true
-is_plain (Presence.Default d) Mode.Implicit (Kind.Leaf LeafKind.Integer) = true
-is_plain (Presence.Default d) Mode.Implicit (Kind.Leaf LeafKind.Enumerated) = true
-is_plain (Presence.Default d) _ _ = false
+is_plain (Presence.Default d) Mode.Implicit k = is_plain_kind k
+is_plain (Presence.Default d) _ k = false
 is_plain _ _ _ = true
 
 abbrev is_apart : Row → Bool
@@ -168,11 +170,11 @@ PlainLeaf (Kind.Leaf LeafKind.Integer) e = e ≡ leaf integer
 PlainLeaf (Kind.Leaf LeafKind.Enumerated) e = e ≡ leaf enumerated
 PlainLeaf _ e = ⊥
 
-plain_own : (d : _) (k : Kind) (node : NodeId) → IsTrue (is_plain (Presence.Default d) Mode.Implicit k) → AllStarts (λ t e. PlainLeaf k e) (own_starts k node)
-plain_own d (Kind.Leaf LeafKind.Boolean) node h = (refl, tt)
-plain_own d (Kind.Leaf LeafKind.Integer) node h = (refl, tt)
-plain_own d (Kind.Leaf LeafKind.Enumerated) node h = (refl, tt)
-plain_own d _ node h = absurd cc
+plain_own : (k : Kind) (node : NodeId) → IsTrue (is_plain_kind k) → AllStarts (λ t e. PlainLeaf k e) (own_starts k node)
+plain_own (Kind.Leaf LeafKind.Boolean) node h = (refl, tt)
+plain_own (Kind.Leaf LeafKind.Integer) node h = (refl, tt)
+plain_own (Kind.Leaf LeafKind.Enumerated) node h = (refl, tt)
+plain_own _ node h = absurd cc
 
 -- it may not be constructed
 plain_stays : (k : Kind) (e : Element) → PlainLeaf k e → MayOpen e → ⊥
@@ -184,22 +186,8 @@ plain_stays _ e h m = absurd h
 plain_row : (tag : Option (Class × ℕ)) (m : Mode) (d : _) (node : NodeId) (part : PartId) → IsTrue (has_plain_default (record { tag = tag; mode = m; presence = Presence.Default d; node = node }))
     → AllStarts (λ t e. PlainLeaf (kind_of node) e) (component_starts (component_at part (record { tag = tag; mode = m; presence = Presence.Default d; node = node })))
 plain_row None m d node part h = absurd cc
-plain_row (Some t) Mode.Implicit d node part h = retag_all _ (λ u e. PlainLeaf (kind_of node) e) _ _ (λ u e k. k) (plain_own d (kind_of node) node h)
-plain_row (Some t) Mode.Explicit d node part h = absurd (never (kind_of node) h)
-  where
-    never : (k : Kind) → IsTrue (is_plain (Presence.Default d) Mode.Explicit k) → ⊥
-    never Kind.Seq h = cc
-    never _ h = cc
-plain_row (Some t) Mode.ExplicitOrBare d node part h = absurd (never (kind_of node) h)
-  where
-    never : (k : Kind) → IsTrue (is_plain (Presence.Default d) Mode.ExplicitOrBare k) → ⊥
-    never Kind.Seq h = cc
-    never _ h = cc
-plain_row (Some t) Mode.Untagged d node part h = absurd (never (kind_of node) h)
-  where
-    never : (k : Kind) → IsTrue (is_plain (Presence.Default d) Mode.Untagged k) → ⊥
-    never Kind.Seq h = cc
-    never _ h = cc
+plain_row (Some t) Mode.Implicit d node part h = retag_all _ (λ u e. PlainLeaf (kind_of node) e) _ _ (λ u e k. k) (plain_own (kind_of node) node h)
+plain_row (Some t) _ d node part h = absurd cc
 
 -- what begins a row with a default is the leaf of its kind
 pub default_leaf : (node : NodeId) (r : ℕ) (row : Row) (t : Tag) (d : _) (e : Element) → slice_get (rows_of node) r ≡ Some row → row.presence ≡ Presence.Default d

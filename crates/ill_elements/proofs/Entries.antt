@@ -46,9 +46,8 @@ lacking_matches (row ∷ rs) h = one row.presence refl (lacking_matches rs (λ k
   where
     one : (pr : Presence) → row.presence ≡ pr → Matches profile_two (entries_of (map absent_content rs)) rs none → Matches profile_two (entries_of (absent_content row ∷ map absent_content rs)) (row ∷ rs) none
     one Presence.Must e m = absurd (h 0 row refl e)
-    one Presence.May e m = rw e (tt, m)
-    one Presence.LeftOut e m = rw e (tt, m)
     one (Presence.Default d) e m = rw e (tt, inr (same_simple (kind_of row.node) d, m))
+    one _ e m = rw e (tt, m)
 
 pub absent_matches : (node : NodeId) (from until : ℕ) → MayAllLack node from until
     → Matches profile_two (entries_of (map absent_content (drop from (take until (rows_of node))))) (drop from (take until (rows_of node))) none

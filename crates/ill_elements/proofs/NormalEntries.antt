@@ -5,7 +5,7 @@ use Rattle.ber_core.specs.Tree.{Tree, Trees, none, more}
 use Rattle.ber_leaf.specs.Profile.{profile_two}
 use Rattle.ill_schema.specs.declared.part.Presence.{Presence}
 use Rattle.ill_schema.specs.declared.part.Row.{Row}
-use Rattle.ill_schema.specs.Content.{Content, simple, Entries, no_entries, absent, present}
+use Rattle.ill_schema.specs.Content.{Content, simple, Entries, no_entries}
 use Rattle.ill_schema.specs.Normal.{normal_tree, normal_trees, normal_items}
 use Rattle.ill_schema.specs.Presence.{is_default, default_value}
 use Rattle.ill_schema.specs.Table.{kind_of}
@@ -28,14 +28,12 @@ absent_first : (row : Row) (es : List (Option Content)) (rows : List Row) → no
 absent_first row es rows = one row.presence refl
   where
     one : (pr : Presence) → row.presence ≡ pr → normal_trees (entries_of (absent_content row ∷ es)) (row ∷ rows) ≡ normal_trees (entries_of es) rows
-    one Presence.Must e = rw e refl
-    one Presence.May e = rw e refl
-    one Presence.LeftOut e = rw e refl
     one (Presence.Default d) e =
         let c = simple (default_value (kind_of row.node) d) in
         let is : absent_content row ≡ Some c = rw e refl in
         ap (λ x. normal_trees (entries_of (x ∷ es)) (row ∷ rows)) is
         ∙ ap (λ b. unless_default b (normal_tree c row.node (tagging profile_two row)) (normal_trees (entries_of es) rows)) (default_is row d e)
+    one _ e = rw e refl
 
 -- rows that are passed add none
 passed : (n r : ℕ) (rows : List Row) (es : List (Option Content)) → n ≤ r
@@ -77,8 +75,7 @@ entry_first row c ts = one (is_default row c) (normal_tree c row.node (tagging p
 -- without rows there are no trees
 no_rows : (es : Entries) → normal_trees es [] ≡ none
 no_rows no_entries = refl
-no_rows (absent es) = refl
-no_rows (present c es) = refl
+no_rows _ = refl
 
 -- the octets of entries after others
 entries_behind : (xs ys : List (Option Content)) (rows : List Row)

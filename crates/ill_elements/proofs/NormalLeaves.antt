@@ -2,7 +2,7 @@
 use Rattle.std.proofs.Common.{◌≡◌, ℕ, zero, suc, Bool, false, List, [], ◌∷◌, Option, Some, None, IsTrue, refl, arith}
 use Rattle.std.specs.Prelude.{nat_eq, if◌then◌else◌}
 use Rattle.ber_core.specs.Octets.{are_octets}
-use Rattle.ber_leaf.specs.Leaf.{Leaf, boolean, integer, enumerated, general_string, visible_string, printable_string, iso_date, iso_time, value, normal_content, content_fault}
+use Rattle.ber_leaf.specs.Leaf.{Leaf, boolean, integer, enumerated, value, normal_content, content_fault}
 use Rattle.ber_leaf.specs.Profile.{Profile}
 use Rattle.ill_schema.specs.Content.{Content, alternative}
 use Rattle.ill_schema.specs.Presence.{is_default, is_default_of}
@@ -18,11 +18,7 @@ pub normal_as_read : (p : Profile) (l : Leaf) (o : List ℕ) → (l ≡ boolean 
 normal_as_read p boolean o n h e = absurd (n refl)
 normal_as_read p integer o n h e = integer_same o h p e
 normal_as_read p enumerated o n h e = integer_same o h p e
-normal_as_read p general_string o n h e = refl
-normal_as_read p visible_string o n h e = refl
-normal_as_read p printable_string o n h e = refl
-normal_as_read p iso_date o n h e = refl
-normal_as_read p iso_time o n h e = refl
+normal_as_read p _ o n h e = refl
 
 -- a boolean's content is one octet, and its normal content is 00 or FF as that is 0 or not
 pub normal_boolean : (p : Profile) (o : List ℕ) → content_fault p boolean o ≡ None

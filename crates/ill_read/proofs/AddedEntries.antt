@@ -63,29 +63,24 @@ pub held_added : (e : CodeElement) (n : Next) (entries : List (Option Content)) 
     → IsHeld e n entries ts → IsDueIn (tag_of T) n (due_with slot alt el) → IsValueOf (element_is el) c T
     → IsHeld e (behind n slot) (entries ++ (map absent_content (rows_before n slot) ++ Some (with_alternative alt c) ∷ [])) (snoc ts T)
 held_added (Leaf l) Segments entries ts T slot alt el c h d m = absurd (subst (λ x. IsValueOf x c T) d.found m)
-held_added (Leaf l) _ entries ts T slot alt el c h d m = absurd h
 held_added Segment Segments entries ts T slot alt el c h d m = absurd (subst (λ x. IsValueOf x c T) d.found m)
-held_added Segment _ entries ts T slot alt el c h d m = absurd h
 held_added (Sequence node) (Rows own n) entries ts T (AtRow r) alt el c h d m = (
   h.0,
   subst (λ x. Matches profile_two (entries_of (entries ++ (map absent_content (drop n (take r (rows_of own))) ++ Some (with_alternative alt c) ∷ []))) (take (r + 1) (rows_of x)) (snoc ts T)) h.0
       (in_row T own n r alt (Found.Element el) c entries ts d m (subst (λ x. Matches profile_two (entries_of entries) (take n (rows_of x)) ts) (sym h.0) h.1)),
 )
 held_added (Sequence node) (Rows own n) entries ts T _ alt el c h d m = absurd d
-held_added (Sequence node) _ entries ts T slot alt el c h d m = absurd h
 held_added (ListOf node) (Items own) entries ts T slot alt el c h d m = (
   h.0,
   h.1 ++ with_alternative alt c ∷ [],
   ap (λ xs. xs ++ Some (with_alternative alt c) ∷ []) h.2 ∙ some-append h.1 (with_alternative alt c),
   in_list T node (due_with slot alt el) c h.1 ts (subst (λ x. IsItemDue (tag_of T) x (due_with slot alt el)) h.0 d) m h.3,
 )
-held_added (ListOf node) _ entries ts T slot alt el c h d m = absurd h
 held_added (Wrapper w) (Inner own) entries ts T slot alt el c h d m =
     let part = in_wrapper T w (due_with slot alt el) c (subst (λ x. IsInnerDue (tag_of T) x (due_with slot alt el)) h.0 d) m in
     subst (λ us. HoldsPart w (entries ++ Some (with_alternative alt c) ∷ []) (snoc us T)) (sym h.2)
     (subst (λ xs. HoldsPart w (xs ++ Some (with_alternative alt c) ∷ []) (more T none)) (sym h.1) part)
 held_added (Wrapper w) Nothing entries ts T slot alt el c h d m = absurd d
-held_added (Wrapper w) _ entries ts T slot alt el c h d m = absurd h
 held_added (LooseWrapper w) (Either own) entries ts T (AtRow r) alt el c h (inl d) m = absurd (let q : AtRow r ≡ Inside = d.1.slot in cc)
 held_added (LooseWrapper w) (Either own) entries ts T (AtRow r) alt el c h (inr d) m = (
   ap (λ (x : Wrapped). x.node) h.0,
@@ -109,7 +104,7 @@ held_added (LooseWrapper w) (Rows own n) entries ts T (AtRow r) alt el c h d m =
 )
 held_added (LooseWrapper w) (Rows own n) entries ts T _ alt el c h d m = absurd d
 held_added (LooseWrapper w) Nothing entries ts T slot alt el c h d m = absurd d
-held_added (LooseWrapper w) _ entries ts T slot alt el c h d m = absurd h
+held_added _ _ entries ts T slot alt el c h d m = absurd h
 
 -- ---- what is due for a tree is one thing: its slot, and the value that it gives
 

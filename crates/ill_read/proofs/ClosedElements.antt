@@ -13,7 +13,7 @@ use Rattle.ill_refusals.specs.Next.{missing}
 use Rattle.ill_refusals.specs.Fault.{fault, element_fault}
 use Rattle.ill_refusals.specs.Place.{Open, next_in}
 use Rattle.ill_refusals.specs.code.Judge.{Judgement, closes, or_faulty}
-use Rattle.ill_refusals.specs.code.Step.{moved, refused, with_tree}
+use Rattle.ill_refusals.specs.code.Step.{moved}
 use Rattle.ill_cells.specs.Places.{alternative_of, where_of}
 use Rattle.ill_elements.specs.Elements.{element_is}
 use Rattle.ill_read.specs.code.Drafts.{ChecksText, HasClosed, IsRightText, with_entry}
@@ -25,7 +25,7 @@ use Rattle.ill_elements.specs.Contents.{with_alternative}
 use Rattle.ill_elements.specs.declared.due.Next.{Next}
 use Rattle.ill_elements.specs.declared.due.Next.TheVariants.{Segments}
 use Rattle.ill_elements.specs.declared.element.Element.{Element as CodeElement}
-use Rattle.ill_elements.specs.declared.element.Element.TheVariants.{Leaf, Sequence, List as ListOf, Wrapper, LooseWrapper, Segment}
+use Rattle.ill_elements.specs.declared.element.Element.TheVariants.{Leaf, Segment}
 use Rattle.ill_read.specs.declared.failure.Failure.{Failure}
 use Rattle.ill_read.specs.declared.frame.Frame.{Frame}
 use Rattle.ill_read.specs.declared.path.Path.{Path}
@@ -61,18 +61,10 @@ popped old frames levels f o path a rest last =
       outer = subst (λ fs. AreFrames path fs a.2) outer a.7;
     }
 
--- the end that was judged
-ending : (place : List Open) (marks at : ℕ) (rest : List ℕ) (j : Judgement) (e : IsEnd place marks j)
-    → moved j place at rest ≡ moved (or_faulty (element_fault profile_two e.innermost.element (text_all e.innermost.trees)) e.innermost.start (closes marks)) (e.innermost ∷ e.outer) at rest
-ending place marks at rest j e = ap₂ (λ x p. moved x p at rest) e.is e.is_path
-
-closing : (o : Open) (path : List Open) (marks at : ℕ) (rest : List ℕ) → element_fault profile_two o.element (text_all o.trees) ≡ None
-    → moved (or_faulty (element_fault profile_two o.element (text_all o.trees)) o.start (closes marks)) (o ∷ path) at rest ≡ with_tree path (constructed o.tag o.trees) (at + marks) (drop marks rest)
-closing o path marks at rest h = ap (λ x. moved (or_faulty x o.start (closes marks)) (o ∷ path) at rest) h
-
-refusing : (o : Open) (path : List Open) (marks at : ℕ) (rest : List ℕ) (c : LeafFault) → element_fault profile_two o.element (text_all o.trees) ≡ Some c
-    → moved (or_faulty (element_fault profile_two o.element (text_all o.trees)) o.start (closes marks)) (o ∷ path) at rest ≡ refused (fault (cause_of c) o.start)
-refusing o path marks at rest c h = ap (λ x. moved (or_faulty x o.start (closes marks)) (o ∷ path) at rest) h
+-- the end that was judged, by the fault of its text
+ending : (place : List Open) (marks at : ℕ) (rest : List ℕ) (j : Judgement) (e : IsEnd place marks j) (x : Option LeafFault) → element_fault profile_two e.innermost.element (text_all e.innermost.trees) ≡ x
+    → moved j place at rest ≡ moved (or_faulty x e.innermost.start (closes marks)) (e.innermost ∷ e.outer) at rest
+ending place marks at rest j e x h = ap₂ (λ y p. moved y p at rest) e.is e.is_path ∙ ap (λ y. moved (or_faulty y e.innermost.start (closes marks)) (e.innermost ∷ e.outer) at rest) h
 
 -- a segment closes
 pub segment_closed : {D : Type 0} (holds : D → List Level → List ℕ → Type 0) (old new : Path D) (f : Frame) (place : List Open) (marks at : ℕ) (rest : List ℕ) (j : Judgement) → HoldsAt holds old place
@@ -91,7 +83,7 @@ segment_closed holds old new f place marks at rest j stands end frames last is d
     let held = subst (λ t. holds new.draft p.below t) joined (subst (λ ls. holds new.draft ls (text_so_far (o ∷ path))) levels (subst (λ d. holds d here.0 (text_so_far (o ∷ path))) (sym draft) here.2)) in
     let added = segment_added holds new path p.below (due_with (slot_in f.found) (alternative_of f.found) (read_as f.found)) (constructed o.tag o.trees) (at + marks) (drop marks rest) p.outer p.framed.is_due string h held in
     let none : element_fault profile_two o.element (text_all o.trees) ≡ None = sym (ap (λ x. element_fault profile_two x (text_all o.trees)) e) in
-    subst (IsStep holds new (Ok false)) (sym (ending place marks at rest j end ∙ closing o path marks at rest none)) added
+    subst (IsStep holds new (Ok false)) (sym (ending place marks at rest j end None none)) added
   where
     segment_holds : (n : Next) (entries : List (Option Content)) (ts : Trees) → IsHeld Segment n entries ts → AreSegments ts
     segment_holds Segments entries ts h = h.1
@@ -124,7 +116,7 @@ element_closed holds old shorter f middle new place marks at rest j result stand
       subst (λ x. holds x (with_entry l (slot_in f.found) (with_alternative (alternative_of f.found) ends.content) ∷ below) []) (sym draft)
           (closed o.tag p.entries o.trees l below text ends.content (subst (λ ls. holds old.draft (level_of f o.tag p.entries ∷ ls) text) e held) p.framed.held right ends.is (constructed o.tag o.trees, refl, ends.value right) d),
     )) in
-    subst (IsStep holds new (Ok result)) (sym (ending place marks at rest j end ∙ closing o path marks at rest none)) added
+    subst (IsStep holds new (Ok result)) (sym (ending place marks at rest j end None none)) added
 
 -- or its text is at fault, or memory runs out
 pub element_refused : {D : Type 0} (holds : D → List Level → List ℕ → Type 0) (old : Path D) (shorter : List Frame) (f : Frame) (new : Path D) (place : List Open) (marks at : ℕ) (rest : List ℕ)
@@ -142,7 +134,7 @@ element_refused holds old shorter f new place marks at rest j (Failure.Refused r
     let wrong = checks o.tag p.entries p.below text held in
     let found : element_fault profile_two o.element (text_all o.trees) ≡ Some wrong.0 =
     ap (λ x. element_fault profile_two x (text_all o.trees)) (sym p.framed.element) ∙ ends.fault ∙ wrong.1 in
-    subst (IsStep holds new (Err (Failure.Refused r))) (sym (ending place marks at rest j end ∙ refusing o path marks at rest wrong.0 found))
+    subst (IsStep holds new (Err (Failure.Refused r))) (sym (ending place marks at rest j end (Some wrong.0) found))
     (ap (fault (cause_of wrong.0)) (sym p.framed.start) ∙ wrong.2)
 
 -- a failure is handed on

@@ -102,9 +102,7 @@ goes_on holds path new at s rest judgement b p h is = go (moved (judge profile_t
       stands = i;
       is_place = m.placed.3;
     }
-    go (whole T n) m i = absurd i
-    go (refused f) m i = absurd i
-    go stuck m i = absurd i
+    go _ m i = absurd i
 
 -- the message is whole: its octets encode what the draft holds
 pub is_whole : {D : Type 0} (holds : D → List Level → List ℕ → Type 0) (path new : Path D) (at : ℕ) (s rest : List ℕ) (judgement : CodeJudgement) → (b : StandsBefore (HoldsAt holds path) at s rest)
@@ -120,9 +118,7 @@ is_whole holds path new at s rest judgement b p h is = go (moved (judge profile_
         let message : IsMessage profile_two s T n = record m.placed { apdu = apdu.0; means = apdu.2 } in
         let encoded = subst (λ k. (k ≤ length s) × Encodes profile_two apdu.0 (take k s)) m.ends (message_encodes profile_two s T n message) in
         (encoded.0, (apdu.0, (subst (λ c. holds new.draft (whole_level c ∷ []) []) apdu.1 i.1, apdu.2.0, encoded.1)))
-    go (goes place l after) m i = absurd i
-    go (refused f) m i = absurd i
-    go stuck m i = absurd i
+    go _ m i = absurd i
 
 -- a text is at fault, or memory runs out
 pub is_refused : {D : Type 0} (holds : D → List Level → List ℕ → Type 0) (path new : Path D) (at : ℕ) (s rest : List ℕ) (judgement : CodeJudgement) (failure : Failure)
@@ -134,7 +130,5 @@ is_refused holds path new at s rest judgement failure b p h is = go failure (mov
     go : (failure : Failure) (st : Step) → IsMade at s rest judgement st → IsStep holds new (Err failure) st → IsRefused s failure
     go (Failure.Refused r) (refused f) m i =
         (refuses_alone s (fault_of r) (inl (subst (λ (g : Fault). Placed profile_two s (refused g)) i m.placed)), subst (λ (g : Fault). g.cause ≡ Cause.Truncated → ⊥) i m.ends)
-    go (Failure.Refused r) (goes place l after) m i = absurd i
-    go (Failure.Refused r) (whole T n) m i = absurd i
-    go (Failure.Refused r) stuck m i = absurd i
+    go (Failure.Refused r) _ m i = absurd i
     go Failure.OutOfMemory st m i = tt

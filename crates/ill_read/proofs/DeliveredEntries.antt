@@ -1,6 +1,5 @@
 -- An element's content goes where it belongs.
 use Rattle.std.proofs.Common.{◌≡◌, ℕ, Bool, true, false, List, [], ◌∷◌, ◌++◌, Option, Ok, refl, sym, ap, subst, ◌∙◌}
-use Rattle.ber_core.specs.Identifier.{Tag}
 use Rattle.ber_core.specs.Tree.{Tree, Trees, none, tag_of}
 use Rattle.ber_leaf.specs.Profile.{profile_two}
 use Rattle.ill_schema.specs.Content.{Content}
@@ -17,10 +16,10 @@ use Rattle.ill_read.specs.code.Stepping.{GoesOn}
 use Rattle.ill_read.specs.Standing.{Level, level_of, pushed, top_level, top_part, next_at, text_so_far, top, IsHeld, IsFrame, AreFrames}
 use Rattle.ill_elements.specs.Contents.{with_alternative, IsValueOf}
 use Rattle.ill_elements.specs.declared.due.Next.{Next}
-use Rattle.ill_elements.specs.declared.due.Next.TheVariants.{Rows, Inner, Items, Either, Segments, Nothing}
+use Rattle.ill_elements.specs.declared.due.Next.TheVariants.{Segments}
 use Rattle.ill_elements.specs.declared.due.Slot.{Slot}
 use Rattle.ill_elements.specs.declared.element.Element.{Element as CodeElement}
-use Rattle.ill_elements.specs.declared.element.Element.TheVariants.{Leaf, Sequence, List as ListOf, Wrapper, LooseWrapper, Segment}
+use Rattle.ill_elements.specs.declared.element.Element.TheVariants.{Segment}
 use Rattle.ill_elements.specs.Found.{Found}
 use Rattle.ill_read.specs.declared.frame.Frame.{Frame}
 use Rattle.ill_read.specs.declared.path.Path.{Path}
@@ -31,10 +30,6 @@ use Rattle.ill_elements.proofs.Meanings.{begun_means}
 use Rattle.ill_refusals.proofs.OpenElements.{inner_proper}
 use Rattle.ill_elements.proofs.DueTags.{due_segment}
 use Rattle.ill_read.proofs.Segments.{text_with, text_apart}
-
--- an element that is no segment isn't due in a string
-next_apart : (t : Tag) (n : Next) (slot : Slot) (alt : Option ℕ) (el : CodeElement) → IsDueIn t n (due_with slot alt el) → (element_is el ≡ segment → ⊥) → n ≡ Segments → ⊥
-next_apart t n slot alt el due apart s = apart (due_segment t n (due_with slot alt el) due s)
 
 -- what may come next in a segment is a segment
 segment_next : (e : CodeElement) (n : Next) (entries : List (Option Content)) (ts : Trees) → IsHeld e n entries ts → e ≡ Segment → n ≡ Segments
@@ -93,7 +88,7 @@ entry_added holds frames levels new (o ∷ path) slot alt el c T at rest false h
     let k : IsFrame f o path outer entries = h.6 in
     let here : next_at frames ≡ (shape f.place) = ap next_at h.4 ∙ next_behind outer f in
     let due : IsDueIn (tag_of T) (shape f.place) (due_with slot alt el) = subst (λ n. IsDueIn (tag_of T) n (due_with slot alt el)) here d in
-    let other : (shape f.place) ≡ Segments → ⊥ = next_apart (tag_of T) (shape f.place) slot alt el due apart in
+    let other : (shape f.place) ≡ Segments → ⊥ = λ s. apart (due_segment (tag_of T) (shape f.place) (due_with slot alt el) due s) in
     let whole : read_as f.found ≡ Segment → ⊥ = λ s. other (segment_next (read_as f.found) (shape f.place) entries o.trees k.held s) in
     let l = level_of f o.tag entries in
     let x = given l below (h.5 ∙ pushed_apart l below whole) (record { trees = o.trees; held = k.held; next = sym here; is_due = due }) in

@@ -45,18 +45,14 @@ content_ended : (e : CodeElement) (n : Next) (entries : List (Option Content)) (
     → missing profile_two (next_is n) ≡ None → EndsWith e n entries o (text_with (element_is e) before o.trees)
 content_ended (Leaf l) Segments entries o before h apart m =
     record { content = simple (value (leaf_is l) (text_all o.trees)); is = refl; value = λ right. ((h.0, h.2), right.0, right.1, refl); fault = refl }
-content_ended (Leaf l) _ entries o before h apart m = absurd h
 content_ended (Sequence node) (Rows own n) entries o before h apart m =
     let es = entries_of (entries ++ map absent_content (rows_left (Rows own n))) in
     record { content = content.sequence es; is = (refl, refl); value = λ right. (o.tag, o.trees, es, refl, refl, whole_rows node own n entries o.trees h.0 m h.1); fault = refl }
-content_ended (Sequence node) _ entries o before h apart m = absurd h
 content_ended (ListOf node) (Items own) entries o before h apart m =
     record { content = content.list (items_of h.1); is = (refl, h.1, h.2, refl); value = λ right. (o.tag, o.trees, items_of h.1, refl, refl, h.3); fault = refl }
-content_ended (ListOf node) _ entries o before h apart m = absurd h
 content_ended (Wrapper w) (Inner own) entries o before h apart m = absurd cc
 content_ended (Wrapper w) Nothing entries o before h apart m =
     record { content = h.0; is = (refl, h.2); value = λ right. (o.tag, h.1, ap (constructed o.tag) h.3, h.4); fault = refl }
-content_ended (Wrapper w) _ entries o before h apart m = absurd h
 content_ended (LooseWrapper w) (Either own) entries o before h apart m =
     let es = entries_of (entries ++ map absent_content (rows_left (Either own))) in
     let rows = whole_rows w.node own.node 0 [] none (ap (λ (x : Wrapped). x.node) h.0) m refl in
@@ -68,8 +64,8 @@ content_ended (LooseWrapper w) (Rows own n) entries o before h apart m =
     record { content = content.sequence es; is = (refl, refl); value = λ right. inr (o.tag, o.trees, es, refl, refl, whole_rows w.node own n entries o.trees h.0 m h.1); fault = refl }
 content_ended (LooseWrapper w) Nothing entries o before h apart m =
     record { content = h.0; is = (refl, h.2); value = λ right. inl (o.tag, h.1, ap (constructed o.tag) h.3, h.4); fault = refl }
-content_ended (LooseWrapper w) _ entries o before h apart m = absurd h
 content_ended Segment n entries o before h apart m = absurd (apart refl)
+content_ended _ _ entries o before h apart m = absurd h
 
 -- of the innermost open element
 pub frame_ended : (f : Frame) (o : Open) (path : List Open) (outer : List Frame) (entries : List (Option Content)) → IsFrame f o path outer entries → (read_as f.found ≡ Segment → ⊥)

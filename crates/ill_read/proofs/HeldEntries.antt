@@ -43,10 +43,6 @@ take-past (suc n) [] e = refl
 take-past zero (r ∷ rows) e = absurd cc
 take-past (suc n) (r ∷ rows) e = ap (λ xs. r ∷ xs) (take-past n rows e)
 
-rows-append : (f : Row → Option Content) (xs ys : List Row) → map f (xs ++ ys) ≡ map f xs ++ map f ys
-rows-append f [] ys = refl
-rows-append f (x ∷ xs) ys = ap (λ zs. f x ∷ zs) (rows-append f xs ys)
-
 -- one more row is passed
 pub passed-more : (rows : List Row) (from n : ℕ) (row : Row) (entry : Option Value) (old mid new : List (Option Value)) → from ≤ n → slice_get rows n ≡ Some row
     → HasPassed (drop from (take n rows)) old mid → option_map content_of entry ≡ absent_content row → new ≡ mid ++ entry ∷ [] → HasPassed (drop from (take (n + 1) rows)) old new
@@ -57,7 +53,7 @@ passed-more rows from n row entry old mid new h is p e a =
       entries = p.entries ++ entry ∷ [];
       added = a ∙ ap (λ xs. xs ++ entry ∷ []) p.added ∙ append_assoc old p.entries (entry ∷ []);
       are = map-append (option_map content_of) p.entries (entry ∷ []) ∙ ap₂ (λ (xs : List (Option Content)) (x : Option Content). xs ++ x ∷ []) p.are e
-          ∙ sym (rows-append absent_content (drop from (take n rows)) (row ∷ [])) ∙ ap (map absent_content) (sym more);
+          ∙ sym (map-append absent_content (drop from (take n rows)) (row ∷ [])) ∙ ap (map absent_content) (sym more);
     }
 
 -- after the last row there is none to pass

@@ -103,7 +103,7 @@ pub misformed_judged : (frames : Frames) (place : List Open) (at : At) (k : ℕ)
 misformed_judged frames place at k id f cause h s e c g i want w =
     due_judged frames place (tag_of_id id) (form_of_id id) (due_as f) k i want w h s (subst (λ n. IsDueIn (tag_of_id id) n (due_as f)) e c.is_due) ∙ g profile_two place (tag_of_id id) k i want w
 
-abbrev element_body : List Open → ℕ → Fault → List ℕ → IdentifierRead → Judgement
+abbrev pub element_body : List Open → ℕ → Fault → List ℕ → IdentifierRead → Judgement
 element_body place at want w x = elim x as (λ _. Judgement) [
   | part_identifier ↦ faulty want
   | no_identifier ↦ faulty (fault Cause.BadTag at)
@@ -114,14 +114,6 @@ element_body place at want w x = elim x as (λ _. Judgement) [
 pub empty_judged : (place : List Open) (at : ℕ) (want : Fault) (w : List ℕ) → slice_get w 0 ≡ None → judge_octets profile_two place at want w ≡ faulty want
 empty_judged place at want [] e = refl
 empty_judged place at want (x ∷ w) e = absurd cc
-
--- the identifier isn't whole
-pub part_judged : (place : List Open) (at : ℕ) (want : Fault) (w : List ℕ) → read_identifier w ≡ part_identifier → judge_element profile_two place at want w ≡ faulty want
-part_judged place at want w e = ap (element_body place at want w) e
-
--- no identifier begins so
-pub no_identifier_judged : (place : List Open) (at : ℕ) (want : Fault) (w : List ℕ) → read_identifier w ≡ no_identifier → judge_element profile_two place at want w ≡ faulty (fault Cause.BadTag at)
-no_identifier_judged place at want w e = ap (element_body place at want w) e
 
 -- an end mark begins
 pub mark_judged : (place : List Open) (at : ℕ) (want : Fault) (w : List ℕ) → slice_get w 0 ≡ Some 0 → is_indefinite place ≡ true → judge_octets profile_two place at want w ≡ judge_mark profile_two place at want (drop 1 w)

@@ -3,7 +3,7 @@ use Rattle.std.proofs.Common.{◌≡◌, ◌≢◌, ℕ, ◌+◌, ◌<◌, ◌�
 use Rattle.std.proofs.lemmas.Bool.{cases_lt}
 use Rattle.std.proofs.lemmas.List.{nil_from_length, take-append-le, take_all}
 use Rattle.ber_core.specs.Octets.{are_octets}
-use Rattle.ber_leaf.specs.Profile.{profile_two}
+use Rattle.ber_leaf.specs.Profile.{Profile, profile_two}
 use Rattle.ill_schema.specs.declared.message.Message.{Message}
 use Rattle.ill_schema.specs.declared.refusal.Cause.{Cause}
 use Rattle.ill_schema.specs.declared.refusal.Refusal.{Refusal}
@@ -29,9 +29,6 @@ use Rattle.ill_refusals.proofs.Prefixes.{refusal_stays}
 use Rattle.ill_refusals.proofs.Headers.{octets_join}
 use Rattle.ill_refusals.proofs.Truncation.{truncated_at}
 use Rattle.ill_refusals.proofs.OneOutcome.{accepted_alone, long_alone, refused_alone, fault_run}
-
-pub read_whole : (s : List ℕ) (a : Apdu) (n : ℕ) → n ≤ length s → Encodes profile_two a (take n s) → length (normal_form a) ≤ 1_048_576 → OnlyAccepts profile_two s a n
-read_whole s a n le h short = accepted_alone profile_two s a n le h short
 
 pub too_long : (s : List ℕ) (a : Apdu) (n : ℕ) → n ≤ length s → Encodes profile_two a (take n s) → 1_048_576 < length (normal_form a)
     → IsRefused s (Failure.Refused (record { at = 0; cause = Cause.NormalTooLong }))
@@ -119,9 +116,9 @@ stops_open Stands at s rest r b e c =
     (b, has_fault profile_two b.place at rest _ (e ∙ ap faulty (q.1 ∙ ap (fault Cause.Truncated) n)))
 
 -- no place reaches past the limit
-pub place_bound : (path : List Open) (u : List ℕ) → IsPlace profile_two u path → bound profile_two path ≤ 1_048_576
-place_bound [] u h = omega arith
-place_bound (o ∷ path) u h = let r = place_bound path h.0 h.3 in let inside = h.4.inside in omega arith
+pub bound_small : (p : Profile) (place : List Open) (u : List ℕ) → IsPlace p u place → bound p place ≤ p.limit
+bound_small p [] u h = omega arith
+bound_small p (o ∷ path) u h = let i = h.4.inside in let r = bound_small p path h.0 h.3 in omega arith
 
 -- the octets that lead to a place and those that wait there
 pub last_size : (Stands : List Open → Type 0) (at : ℕ) (s rest : List ℕ) → StandsLast Stands at s rest → (at + length rest ≡ length s) × (length s < 1_048_576)
@@ -129,7 +126,7 @@ last_size Stands at s rest h =
     let b = h.0 in
     let n : at + length rest ≡ length s = omega (arith, b.offset, ap length b.joined, length-append b.before rest) in
     let within = (truncated_at profile_two b.place at rest (fault Cause.Truncated (length s)) (is_judged profile_two b.place at rest _ h.1) refl).0 in
-    let limit = place_bound b.place b.before b.is_place in
+    let limit = bound_small profile_two b.place b.before b.is_place in
     (n, omega arith)
 
 pub nothing_waits : {D : Type 0} (holds : D → List Level → List ℕ → Type 0) (r : Reader D) → IsOpenAt holds r [] → r.pending.items ≡ []
@@ -211,15 +208,9 @@ pub decode_fails : (s : List ℕ) (failure : Failure) → IsRefused s failure �
 decode_fails s (Failure.Refused r) h = inl h.0
 decode_fails s Failure.OutOfMemory h = tt
 
-pub decode_short : (s : List ℕ) → IsPart s → DecodeAnswers s (Err (Failure.Refused (record { at = length s; cause = Cause.Truncated })))
-decode_short s h = inl h
-
 pub normal_fails : (s : List ℕ) (failure : Failure) → IsRefused s failure → NormalAnswers s (Err failure)
 normal_fails s (Failure.Refused r) h = inl h.0
 normal_fails s Failure.OutOfMemory h = tt
-
-pub normal_short : (s : List ℕ) → IsPart s → NormalAnswers s (Err (Failure.Refused (record { at = length s; cause = Cause.Truncated })))
-normal_short s h = inl h
 
 -- of a message that more octets follow
 pub normal_trails : (s : List ℕ) (a : Apdu) (n : ℕ) → OnlyAccepts profile_two s a n → (n ≡ length s → ⊥) → NormalAnswers s (Err (Failure.Refused (record { at = n; cause = Cause.TrailingBytes })))

@@ -32,6 +32,7 @@ use Rattle.ill_read.specs.declared.header.HeaderRead.TheVariants.{NoIdentifier, 
 use Rattle.ill_read.specs.declared.header.LengthRead.{LengthRead as Length}
 use Rattle.ill_read.specs.declared.header.LengthRead.TheVariants.{NoLength, PartLength, Whole}
 use Rattle.ill_refusals.proofs.Continuations.{HasEnd, Keeps, with_keeps, due_at, ends_before, reads_before}
+use Rattle.ill_read.proofs.MessageEnds.{bound_small}
 use Rattle.ill_read.proofs.OpenFrames.{outermost_open}
 use Rattle.ill_read.proofs.HeadersRead.{whole_header_read}
 use Rattle.ill_refusals.proofs.Judgements.{Judged, judged, bound_some}
@@ -53,10 +54,6 @@ bound_before : (p : Profile) (place : List Open) (u : List ℕ) (e : ℕ) → Is
 bound_before p [] u e h k = absurd k
 bound_before p (o ∷ path) u e h (inl k) = let q = bound_some p o path e k in omega arith
 bound_before p (o ∷ path) u e h (inr k) = let i = h.4.inside in let r = bound_before p path h.0 e h.3 k in omega arith
-
-bound_small : (p : Profile) (place : List Open) (u : List ℕ) → IsPlace p u place → bound p place ≤ p.limit
-bound_small p [] u h = omega arith
-bound_small p (o ∷ path) u h = let i = h.4.inside in let r = bound_small p path h.0 h.3 in omega arith
 
 -- the octets end before the bound, in the midst of something
 short : (Stands : List Open → Type 0) (at : ℕ) (s octets : List ℕ) → (l : StandsLast Stands at s octets) → (at + length octets < bound profile_two l.0.place) × Wants profile_two l.0.place octets

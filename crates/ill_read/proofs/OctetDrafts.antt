@@ -135,9 +135,6 @@ may_open (LeafElement l) Segments entries ts h = h.0
 may_open (LeafElement l) _ entries ts h = absurd h
 may_open _ n entries ts h = tt
 
-no_segment : (e : CodeElement) (n : Next) (entries : List (Option Content)) (text : List ℕ) (c : Content) → IsContentOf e n entries text c → element_is e ≡ segment → ⊥
-no_segment e n entries text c k s = subst (λ x. IsContentOf x n entries text c) (only_segment e s) k
-
 -- an element ends: its contents are made, and then its length is set
 pub octets_closed : (old new : Octets) (middle : List ℕ) (f : Frame) (next : Next) (tag : Tag) (entries : List (Option Content)) (trees : Trees) (l : Level) (below : List Level) (text : List ℕ) (c : Content)
     → AreOctets old (level_of f tag entries ∷ l ∷ below) text → IsHeld (read_as f.found) (shape f.place) entries trees → IsRightText (read_as f.found) text → IsContentOf (read_as f.found) (shape f.place) entries text c
@@ -151,7 +148,7 @@ octets_closed old new middle f next tag entries trees l below text c h held righ
     let w = written (read_as f.found) (shape f.place) entries in
     let contents = contents_of (read_as f.found) (shape f.place) w text in
     let id = identifier tag (form_of (read_as f.found)) in
-    let apart = no_segment (read_as f.found) (shape f.place) entries text c is in
+    let apart : element_is (read_as f.found) ≡ segment → ⊥ = λ s. subst (λ x. IsContentOf x (shape f.place) entries text c) (only_segment (read_as f.found) s) is in
     let header : a.1 ≡ id ++ 0 ∷ [] = a.4 (λ class number. absurd (due_apart tag l.next (due_with (slot_in f.found) (alternative_of f.found) (read_as f.found)) due.is_due apart class number)) in
     let all : old.octets ≡ (a.0 ++ a.1) ++ (w ++ text) =
     h.joined ∙ ap (λ x. x ++ text) (a.2 ∙ sym (append_assoc a.0 a.1 w)) ∙ append_assoc (a.0 ++ a.1) w text in

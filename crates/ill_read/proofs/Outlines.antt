@@ -54,9 +54,6 @@ passed_join : (xs ys : List Row) (a b : List Mark) → ArePassed xs a → ArePas
 passed_join [] ys a b h k = subst (λ ms. ArePassed ys (ms ++ b)) (sym h) k
 passed_join (x ∷ xs) ys a b h k = (h.0, h.1 ++ b, ap (λ ms. ms ++ b) h.2, h.3, passed_join xs ys h.1 b h.4 k)
 
-pub passed_none : (rows : List Row) (old : List Mark) → rows ≡ [] → HasPassed [] rows old old
-passed_none rows old e = record { marks = []; added = sym (append-nil old); are = subst (λ rs. ArePassed rs []) (sym e) refl }
-
 -- one more row is passed
 pub passed_more : (node : NodeId) (from n : ℕ) (old mid new : List Mark) → from ≤ n → n < length (rows_of node) → HasPassed [] (drop from (take n (rows_of node))) old mid
     → new ≡ mid ++ mark.Passed (record { node = node; row = n }) ∷ [] → HasPassed [] (drop from (take (n + 1) (rows_of node))) old new
@@ -115,9 +112,6 @@ pub chosen : (n : Option ℕ) (c : Content) (ms : List Mark) → IsMarked c ms �
 chosen None c ms h = h
 chosen (Some n) c ms h = (ms, refl, h)
 
-pub leaf_marked : (l : LeafType) (octets : List ℕ) → IsContent (leaf_is l) octets → IsMarked (simple (value (leaf_is l) octets)) (leaf_marks l octets)
-leaf_marked l octets h = inl (l, octets, refl, h, refl)
-
 -- ---- an element that ends
 
 abbrev pub whole_marks : Next → CodeElement → List Mark → List ℕ → List Mark → List Mark
@@ -172,19 +166,15 @@ late_marked w entries text c own rows none is held h k =
 pub ended_marked : (e : CodeElement) (n : Next) (entries : List (Option Content)) (ts : Trees) (text : List ℕ) (c : Content) (own rows : List Mark) → IsHeld e n entries ts → IsRightText e text
     → IsContentOf e n entries text c → AreEntries (entries_of entries) own → ArePassed (rows_left n) rows → IsMarked c (whole_marks n e own text rows)
 ended_marked (Leaf l) Segments entries ts text c own rows held right is h k = string_marked l entries text c own rows held.1 right is h k
-ended_marked (Leaf l) _ entries ts text c own rows held right is h k = absurd held
 ended_marked (Sequence node) (Rows own_node m) entries ts text c own rows held right is h k = sequence_marked entries (rows_left (Rows own_node m)) text c own rows is.0 is.1 h k
-ended_marked (Sequence node) _ entries ts text c own rows held right is h k = absurd held
 ended_marked (ListOf node) (Items own_node) entries ts text c own rows held right is h k = list_marked entries is.1 text c own rows is.0 is.2 is.3 h k
-ended_marked (ListOf node) _ entries ts text c own rows held right is h k = absurd held
 ended_marked (Wrapper w) (Inner own_part) entries ts text c own rows held right is h k = part_marked entries text c own rows is.0 is.1 h k
 ended_marked (Wrapper w) Nothing entries ts text c own rows held right is h k = part_marked entries text c own rows is.0 is.1 h k
-ended_marked (Wrapper w) _ entries ts text c own rows held right is h k = absurd held
 ended_marked (LooseWrapper w) Nothing entries ts text c own rows held right is h k = part_marked entries text c own rows is.0 is.1 h k
 ended_marked (LooseWrapper w) (Rows own_node m) entries ts text c own rows held right is h k = sequence_marked entries (rows_left (Rows own_node m)) text c own rows is.0 is.1 h k
 ended_marked (LooseWrapper w) (Either own_part) entries ts text c own rows held right is h k = late_marked own_part entries text c own rows is.0 is.1 held.1 h k
-ended_marked (LooseWrapper w) _ entries ts text c own rows held right is h k = absurd held
 ended_marked Segment n entries ts text c own rows held right is h k = absurd is
+ended_marked _ _ entries ts text c own rows held right is h k = absurd held
 
 -- ---- the draft
 
@@ -265,7 +255,7 @@ outline_leaf old new next r leaf octets mid right has led e after l below h due 
       octets = has after l below h.octets due;
       front = new.marks.items;
       joined = sym (append-nil new.marks.items);
-      are = entry_marked l below next (tag_of_id r.id) (slot_in r.found) (alternative_of r.found) (Leaf leaf) (simple (value (leaf_is leaf) octets)) h.front mid new.marks.items (leaf_marks leaf octets) due h.are here e (leaf_marked leaf octets right);
+      are = entry_marked l below next (tag_of_id r.id) (slot_in r.found) (alternative_of r.found) (Leaf leaf) (simple (value (leaf_is leaf) octets)) h.front mid new.marks.items (leaf_marks leaf octets) due h.are here e (inl (leaf, octets, refl, right, refl));
     }
 
 -- an element ends: its last marks are put after its own

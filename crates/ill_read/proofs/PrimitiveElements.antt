@@ -1,17 +1,14 @@
 -- A primitive element is read.
-use Rattle.std.proofs.Common.{◌≡◌, ℕ, ◌+◌, List, [], ◌∷◌, length, drop, Some, None, Result, Ok, Err, Bool, true, false, IsTrue, refl, sym, ap, subst, ◌∙◌}
+use Rattle.std.proofs.Common.{◌≡◌, ℕ, ◌+◌, List, [], ◌∷◌, length, drop, None, Result, Ok, Bool, true, false, IsTrue, refl, sym, ap, subst, ◌∙◌}
 use Rattle.ber_core.specs.Id.{tag_of_id}
 use Rattle.ber_core.specs.Identifier.{Tag}
 use Rattle.ber_core.specs.Octets.{are_octets}
 use Rattle.ber_core.specs.Tree.{primitive}
 use Rattle.ber_leaf.specs.Leaf.{value, content_fault}
 use Rattle.ber_leaf.specs.Profile.{profile_two}
-use Rattle.ber_leaf.specs.declared.fault.LeafFault.{LeafFault}
-use Rattle.ill_schema.specs.Causes.{cause_of}
 use Rattle.ill_schema.specs.Content.{simple}
-use Rattle.ill_schema.specs.declared.refusal.Refusal.{Refusal}
 use Rattle.ill_refusals.specs.Element.{segment}
-use Rattle.ill_refusals.specs.Fault.{fault, fault_of, element_fault}
+use Rattle.ill_refusals.specs.Fault.{element_fault}
 use Rattle.ill_refusals.specs.Place.{Open, allows}
 use Rattle.ill_refusals.specs.code.Judge.{Judgement, or_faulty, reads}
 use Rattle.ill_refusals.specs.code.Step.{Step, moved}
@@ -27,7 +24,7 @@ use Rattle.ill_read.specs.code.Stepping.{GoesOn, ReadsExactly}
 use Rattle.ill_read.specs.Standing.{Level, next_at, text_so_far, AreFrames, HoldsAt}
 use Rattle.ill_elements.specs.declared.due.Next.TheVariants.{Segments}
 use Rattle.ill_elements.specs.declared.element.Element.{Element as CodeElement}
-use Rattle.ill_elements.specs.declared.element.Element.TheVariants.{Leaf, Sequence, List as ListOf, Wrapper, LooseWrapper, Segment}
+use Rattle.ill_elements.specs.declared.element.Element.TheVariants.{Leaf, Segment}
 use Rattle.ill_read.specs.declared.failure.Failure.{Failure}
 use Rattle.ill_read.specs.code.Progress.{Reads}
 use Rattle.ill_read.specs.declared.judge.Reading.{Reading}
@@ -57,14 +54,6 @@ leaf_read holds old new place r l start octets result header at rest stands begi
     (λ level below e d. ((tt, ok, right, refl), has begin.goes_on level below (subst (λ t. holds old.draft (level ∷ below) t) no (subst (λ ls. holds old.draft ls (text_so_far place)) e stands.2)) d)) in
     let none : element_fault profile_two (element_is (read_as r.found)) octets ≡ None = ap (λ x. element_fault profile_two (element_is x) octets) is ∙ right in
     subst (λ f. IsStep holds new (Ok result) (moved (or_faulty f start (reads tag header octets)) place at rest)) (sym none) added
-
--- its contents are at fault
-pub leaf_refused : {D : Type 0} (holds : D → List Level → List ℕ → Type 0) (new : Path D) (place : List Open) (r : Reading) (l : LeafType) (start : ℕ) (octets : List ℕ) (fault' : LeafFault) (refusal : Refusal)
-    (header at : ℕ) (rest : List ℕ) → read_as r.found ≡ Leaf l → content_fault profile_two (leaf_is l) octets ≡ Some fault' → fault (cause_of fault') start ≡ fault_of refusal
-    → IsStep holds new (Err (Failure.Refused refusal)) (content_read (read_as r.found) place (tag_of_id r.id) header octets start at rest)
-leaf_refused holds new place r l start octets fault' refusal header at rest is wrong same =
-    let found : element_fault profile_two (element_is (read_as r.found)) octets ≡ Some fault' = ap (λ x. element_fault profile_two (element_is x) octets) is ∙ wrong in
-    subst (λ f. IsStep holds new (Err (Failure.Refused refusal)) (moved (or_faulty f start (reads (tag_of_id r.id) header octets)) place at rest)) (sym found) same
 
 primitive_segment : (e : CodeElement) → allows (element_is e) false ≡ true → ((l : LeafType) → e ≡ Leaf l → ⊥) → e ≡ Segment
 primitive_segment (Leaf l) a h = absurd (h l refl)

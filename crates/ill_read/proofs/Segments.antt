@@ -1,23 +1,18 @@
 -- The text of the strings that are open.
-use Rattle.std.proofs.Common.{◌≡◌, ℕ, List, [], ◌∷◌, ◌++◌, Option, refl, sym, ap, subst, ◌∙◌}
-use Rattle.ber_core.specs.Tree.{Tree, Trees, text_all}
+use Rattle.std.proofs.Common.{◌≡◌, ℕ, List, [], ◌∷◌, ◌++◌, Option, refl, sym, ap, ◌∙◌}
+use Rattle.ber_core.specs.Tree.{Trees, text_all}
 use Rattle.ill_schema.specs.Content.{Content}
 use Rattle.ill_elements.specs.Elements.{element_is}
 use Rattle.ill_elements.specs.Due.{shape, read_as}
 use Rattle.ill_refusals.specs.Element.{Element, leaf, segment}
 use Rattle.ill_refusals.specs.Place.{Open}
 use Rattle.ill_read.specs.Standing.{Level, next_at, text_so_far, IsHeld, IsFrame, AreFrames}
-use Rattle.ill_elements.specs.Contents.{IsValueOf}
 use Rattle.ill_elements.specs.declared.due.Next.{Next}
 use Rattle.ill_elements.specs.declared.due.Next.TheVariants.{Segments}
 use Rattle.ill_elements.specs.declared.element.Element.{Element as CodeElement}
-use Rattle.ill_elements.specs.declared.element.Element.TheVariants.{Leaf, Sequence, List as ListOf, Wrapper, LooseWrapper, Segment}
+use Rattle.ill_elements.specs.declared.element.Element.TheVariants.{Leaf, Segment}
 use Rattle.ill_read.specs.declared.frame.Frame.{Frame}
 use Rattle.ill_read.proofs.OpenFrames.{next_behind}
-
--- no value is a segment's
-pub value_apart : (e : Element) (c : Content) (T : Tree) → IsValueOf e c T → e ≡ segment → ⊥
-value_apart e c T h s = subst (λ x. IsValueOf x c T) s h
 
 -- the text that an open element adds
 abbrev pub text_with : Element → List ℕ → Trees → List ℕ

@@ -6,18 +6,16 @@ use Rattle.std.proofs.lemmas.Bool.{cases_lt}
 use Rattle.std.proofs.lemmas.List.{nil_from_length, take_all}
 use Rattle.ber_core.specs.Octets.{are_octets}
 use Rattle.ber_leaf.specs.Profile.{profile_two}
-use Rattle.ill_schema.specs.declared.message.Message.{Message}
 use Rattle.ill_schema.specs.Apdu.{Apdu, Accepts, SpellsApdu}
-use Rattle.ill_read.specs.Answers.{IsSpelled, IsUnfinished, IfReadFault, IfReadRefused, ReadsNext, TakesFront, TakesNoMessage}
+use Rattle.ill_read.specs.Answers.{IsUnfinished, IfReadFault, IfReadRefused, ReadsNext, TakesFront, TakesNoMessage}
 use Rattle.ill_read.specs.Feeding.{IsOpenAt}
-use Rattle.ill_read.specs.Standing.{AreMessage, HoldsAt, Level, StandsLast}
+use Rattle.ill_read.specs.Standing.{HoldsAt, Level, StandsLast}
 use Rattle.ill_read.specs.code.ReaderCode.{EndsAs, HasRead, IsFed, IsReadOf, ended, read_result}
 use Rattle.ill_read.specs.code.Filling.{NoneEndsWithin, HasFilled, HasKept}
 use Rattle.ill_refusals.specs.Outcome.{OnlyRefuses}
 use Rattle.ill_read.specs.declared.reader.Reader.{Reader}
 use Rattle.ill_read.specs.declared.reader.State.{State}
 use Rattle.ill_read.specs.declared.reader.State.TheVariants as state
-use Rattle.ill_read.specs.declared.values.Values.{Values}
 use Rattle.ill_read.specs.declared.failure.Failure.{Failure}
 use Rattle.ill_read.proofs.MessageEnds.{ended_ends, ended_longer, failed_ends, is_failed, is_open, is_whole, last_size, stands_part}
 use Rattle.ill_refusals.proofs.Headers.{octets_join}
@@ -144,9 +142,3 @@ reads_filled holds has left after broken broken' d end old new h f taken stays =
     says_fault (Ok true) = tt
     says_fault (Err Failure.OutOfMemory) = tt
     says_fault _ = tt
-
--- the message that a draft of values has
-pub values_spelled : (values : Values) (b : List ℕ) → IsReadOf AreMessage values b → (m : Message) × (values.message ≡ Some m) × IsSpelled m b
-values_spelled values b h =
-    let has = h.2 in
-    (has.0, has.1, record { spells = subst (λ a. SpellsApdu profile_two a b) (sym has.2) h.1; octets = has.3 })

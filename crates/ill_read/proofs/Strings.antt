@@ -15,7 +15,7 @@ use Rattle.ill_elements.specs.Due.{Due}
 use Rattle.ill_elements.specs.declared.due.Next.{Next}
 use Rattle.ill_elements.specs.declared.due.Next.TheVariants.{Segments}
 use Rattle.ill_elements.specs.declared.element.Element.{Element as CodeElement}
-use Rattle.ill_elements.specs.declared.element.Element.TheVariants.{Leaf, Sequence, List as ListOf, Wrapper, LooseWrapper, Segment}
+use Rattle.ill_elements.specs.declared.element.Element.TheVariants.{Leaf, Segment}
 use Rattle.ill_read.specs.declared.frame.Frame.{Frame}
 use Rattle.ill_read.specs.declared.path.Path.{Path}
 use Rattle.ill_elements.proofs.DueElements.{due_element_is}

@@ -1,5 +1,5 @@
 -- The values that a draft holds, as elements open, are read and end.
-use Rattle.std.proofs.Common.{◌≡◌, ℕ, List, [], ◌∷◌, ◌++◌, length, map, append_assoc, append-nil, Option, Some, None, Ok, Err, IsTrue, refl, sym, ap, ap₂, subst, ◌∙◌, option_map}
+use Rattle.std.proofs.Common.{◌≡◌, ℕ, List, [], ◌∷◌, ◌++◌, length, map, append_assoc, append-nil, Option, Some, None, Ok, IsTrue, refl, sym, ap, ap₂, subst, ◌∙◌, option_map}
 use Rattle.std.proofs.lemmas.List.{map-append}
 use Rattle.ber_core.specs.Id.{tag_of_id}
 use Rattle.ber_core.specs.Identifier.{Tag}
@@ -7,28 +7,22 @@ use Rattle.ber_core.specs.Octets.{are_octets}
 use Rattle.ber_core.specs.Tree.{Trees}
 use Rattle.ber_leaf.specs.Leaf.{value, content_fault}
 use Rattle.ber_leaf.specs.Profile.{profile_two}
-use Rattle.ber_leaf.specs.declared.fault.LeafFault.{LeafFault}
-use Rattle.ill_schema.specs.Causes.{cause_of}
 use Rattle.ill_schema.specs.Content.{Content, simple, alternative}
 use Rattle.ill_schema.specs.Content as content
 use Rattle.ill_schema.specs.Value.{content_of, entries_of, items_of}
 use Rattle.ill_schema.specs.declared.node.NodeId.{NodeId}
-use Rattle.ill_schema.specs.declared.refusal.Refusal.{Refusal}
 use Rattle.ill_schema.specs.declared.value.Value.{Value}
-use Rattle.ill_refusals.specs.Fault.{fault, element_fault, fault_of}
-use Rattle.ill_elements.specs.Elements.{element_is}
 use Rattle.ill_elements.specs.LeafTypes.{leaf_is}
 use Rattle.ill_read.specs.code.Drafts.{HasOpened, IsContentOf, IsRightText, rows_before, rows_left, with_entry}
 use Rattle.ill_read.specs.code.Held.{EndsExactly, HasAdded, IsFound, IsLast, IsList, IsSequence}
 use Rattle.ill_read.specs.Standing.{Level, level_of, whole_level, AreHeld, AreValues, IsHeld}
 use Rattle.ill_elements.specs.Contents.{absent_content}
 use Rattle.ill_elements.specs.declared.due.Next.{Next}
-use Rattle.ill_elements.specs.declared.due.Next.TheVariants.{Rows, Inner, Items, Either, Segments, Nothing}
+use Rattle.ill_elements.specs.declared.due.Next.TheVariants.{Segments, Nothing}
 use Rattle.ill_elements.specs.declared.due.Slot.{Slot}
 use Rattle.ill_elements.specs.declared.element.Element.{Element as CodeElement}
-use Rattle.ill_elements.specs.declared.element.Element.TheVariants.{Leaf, Sequence, List as ListOf, Wrapper, LooseWrapper, Segment}
+use Rattle.ill_elements.specs.declared.element.Element.TheVariants.{Leaf, List as ListOf, Wrapper, LooseWrapper, Segment}
 use Rattle.ill_elements.specs.declared.element.Wrapped.{Wrapped}
-use Rattle.ill_read.specs.declared.failure.Failure.{Failure}
 use Rattle.ill_read.specs.declared.frame.Frame.{Frame}
 use Rattle.ill_read.specs.declared.judge.Opening.{Opening}
 use Rattle.ill_elements.specs.declared.leaf_type.LeafType.{LeafType}
@@ -83,22 +77,10 @@ sequence_left old new f tag entries below text v c h s same empty is =
     let all : map g (x.1 ++ s.entries) ≡ entries ++ map absent_content (rows_left (shape f.place)) = map-append g x.1 s.entries ∙ ap₂ (λ (xs ys : List (Option Content)). xs ++ ys) x.4 s.are in
     (taken.1 ∙ ap (λ es. content.sequence (entries_of es)) all ∙ sym is, left new below x.0 x.5 taken.0 (same ∙ h.text ∙ empty))
 
-pub sequence_ends : (old new : Values) (f : Frame) (v : Value) (node : NodeId) → read_as f.found ≡ Sequence node → IsSequence (rows_left (shape f.place)) f.base v old.held.entries.items new.held.entries.items
-    → new.text.items ≡ old.text.items → EndsExactly old f new (Ok (Some v))
-sequence_ends old new f v node is s same tag entries below text h =
-    subst (λ x. IsRightText x text × ((trees : Trees) (c : Content) → IsHeld x (shape f.place) entries trees → IsContentOf x (shape f.place) entries text c → IsFound (Some v) c × AreValues new below [])) (sym is)
-    (tt, λ trees c held k. sequence_left old new f tag entries below text v c h s same k.0 k.1)
-
 loose_content : (w : Wrapped) (n : Next) (entries : List (Option Content)) (text : List ℕ) (c : Content) → (n ≡ Nothing → ⊥) → IsContentOf (LooseWrapper w) n entries text c
     → (text ≡ []) × (c ≡ content.sequence (entries_of (entries ++ map absent_content (rows_left n))))
 loose_content w Nothing entries text c apart k = absurd (apart refl)
 loose_content w _ entries text c apart k = k
-
-pub loose_ends : (old new : Values) (f : Frame) (v : Value) (w : Wrapped) → read_as f.found ≡ LooseWrapper w → ((shape f.place) ≡ Nothing → ⊥)
-    → IsSequence (rows_left (shape f.place)) f.base v old.held.entries.items new.held.entries.items → new.text.items ≡ old.text.items → EndsExactly old f new (Ok (Some v))
-loose_ends old new f v w is apart s same tag entries below text h =
-    subst (λ x. IsRightText x text × ((trees : Trees) (c : Content) → IsHeld x (shape f.place) entries trees → IsContentOf x (shape f.place) entries text c → IsFound (Some v) c × AreValues new below [])) (sym is)
-    (tt, λ trees c held k. let q = loose_content w (shape f.place) entries text c apart k in sequence_left old new f tag entries below text v c h s same q.0 q.1)
 
 -- entries that are all there are values
 all_there : (es : List (Option Value)) (cs : List Content) → map (option_map content_of) es ≡ map Some cs → (vs : List Value) × (es ≡ map Some vs) × (map content_of vs ≡ cs)
@@ -175,16 +157,6 @@ string_ends old new f v l octets is same ok right value_is kept empty tag entrie
           let none = no_entries x.1 entries x.4 (string_none l (shape f.place) entries trees held) in
           (value_is ∙ ap (λ o. simple (value (leaf_is l) o)) joined ∙ sym k, left new below x.0 x.5 (kept ∙ x.2 ∙ ap (λ xs. x.0 ++ xs) none ∙ append-nil x.0) empty),
     )
-
-pub string_fails : (old new : Values) (f : Frame) (l : LeafType) (octets : List ℕ) (wrong : LeafFault) (r : Refusal) → read_as f.found ≡ Leaf l → octets ≡ old.text.items
-    → content_fault profile_two (leaf_is l) octets ≡ Some wrong → fault (cause_of wrong) f.start ≡ fault_of r → EndsExactly old f new (Err (Failure.Refused r))
-string_fails old new f l octets wrong r is same e at tag entries below text h =
-    (wrong, ap (λ x. element_fault profile_two (element_is x) text) is ∙ ap (content_fault profile_two (leaf_is l)) (sym (same ∙ h.text)) ∙ e, at)
-
-pub segment_ends : (old new : Values) (f : Frame) → read_as f.found ≡ Segment → EndsExactly old f new (Ok None)
-segment_ends old new f is tag entries below text h =
-    subst (λ x. IsRightText x text × ((trees : Trees) (c : Content) → IsHeld x (shape f.place) entries trees → IsContentOf x (shape f.place) entries text c → IsFound None c × AreValues new below [])) (sym is)
-    (tt, λ trees c held k. absurd k)
 
 -- the value of a message
 pub body_there : (old new : Values) (found : Option Value) (c : Content) → AreValues old (whole_level c ∷ []) [] → IsLast found old.held.entries.items new.held.entries.items

@@ -100,15 +100,12 @@ pub entry_written : (e : CodeElement) (n : Next) (entries : List (Option Content
     → written e (behind n slot) (entries ++ (map absent_content (rows_before n slot) ++ Some (with_alternative alt c) ∷ []))
     ≡ written e n entries ++ unless_left n slot (with_alternative alt c) (encoding (normal_element (element_is el) (tag_of T) c))
 entry_written (LeafElement l) Segments entries ts T slot alt el c h d m = absurd (subst (λ x. IsValueOf x c T) d.found m)
-entry_written (LeafElement l) _ entries ts T slot alt el c h d m = absurd h
 entry_written Segment Segments entries ts T slot alt el c h d m = absurd (subst (λ x. IsValueOf x c T) d.found m)
-entry_written Segment _ entries ts T slot alt el c h d m = absurd h
 entry_written (Sequence node) (Rows own n) entries ts T (AtRow r) alt el c h d m =
     subst (λ x. encodings (normal_trees (entries_of (entries ++ (map absent_content (drop n (take r (rows_of own))) ++ Some (with_alternative alt c) ∷ []))) (rows_of x))
     ≡ encodings (normal_trees (entries_of entries) (rows_of x)) ++ unless_left (Rows own n) (AtRow r) (with_alternative alt c) (encoding (normal_element (element_is el) (tag_of T) c))) h.0
     (row_written T own n r alt el c entries ts d m (subst (λ x. Matches profile_two (entries_of entries) (take n (rows_of x)) ts) (sym h.0) h.1))
 entry_written (Sequence node) (Rows own n) entries ts T _ alt el c h d m = absurd d
-entry_written (Sequence node) _ entries ts T slot alt el c h d m = absurd h
 entry_written (ListOf node) (Items own) entries ts T slot alt el c h d m =
     let c' = with_alternative alt c in
     let more : items_in (entries ++ Some c' ∷ []) ≡ h.1 ++ c' ∷ [] = ap (λ es. items_in (es ++ Some c' ∷ [])) h.2 ∙ items_some h.1 c' in
@@ -116,14 +113,12 @@ entry_written (ListOf node) (Items own) entries ts T slot alt el c h d m =
     ap (λ is. encodings (normal_items (items_of is) (rows_of node))) more
     ∙ item_written T node slot alt el c h.1 (subst (λ x. IsItemDue (tag_of T) x (due_with slot alt el)) h.0 d) m
     ∙ ap (λ is. encodings (normal_items (items_of is) (rows_of node)) ++ encoding (normal_element (element_is el) (tag_of T) c)) (sym before)
-entry_written (ListOf node) _ entries ts T slot alt el c h d m = absurd h
 entry_written (Wrapper w) (Inner own) entries ts T slot alt el c h d m =
     let c' = with_alternative alt c in
     ap (λ es. part_octets w (es ++ Some c' ∷ [])) h.1
     ∙ part_written T w slot alt el c (subst (λ x. IsInnerDue (tag_of T) x (due_with slot alt el)) h.0 d) m
     ∙ ap (λ es. part_octets w es ++ encoding (normal_element (element_is el) (tag_of T) c)) (sym h.1)
 entry_written (Wrapper w) Nothing entries ts T slot alt el c h d m = absurd d
-entry_written (Wrapper w) _ entries ts T slot alt el c h d m = absurd h
 entry_written (LooseWrapper w) (Either own) entries ts T (AtRow r) alt el c h (inl d) m = absurd (let q : AtRow r ≡ Inside = d.1.slot in cc)
 entry_written (LooseWrapper w) (Either own) entries ts T (AtRow r) alt el c h (inr d) m =
     let c' = with_alternative alt c in
@@ -147,7 +142,7 @@ entry_written (LooseWrapper w) (Rows own n) entries ts T (AtRow r) alt el c h d 
     (row_written T own n r alt el c entries ts d m (subst (λ x. Matches profile_two (entries_of entries) (take n (rows_of x)) ts) (sym h.0) h.1))
 entry_written (LooseWrapper w) (Rows own n) entries ts T _ alt el c h d m = absurd d
 entry_written (LooseWrapper w) Nothing entries ts T slot alt el c h d m = absurd d
-entry_written (LooseWrapper w) _ entries ts T slot alt el c h d m = absurd h
+entry_written _ _ entries ts T slot alt el c h d m = absurd h
 
 -- the rows left of as many entries
 rows_after : {X : Type 0} (n : ℕ) (xs : List X) (k : ℕ) → k ≡ length (take n xs) → drop n xs ≡ drop k xs
@@ -179,11 +174,9 @@ ended_written (Sequence node) (Rows own n) entries ts text c tag h k apart =
     ap (λ x. encoding (normal_element (element_is (Sequence node)) tag x)) k.1
     ∙ ap (λ x. of_contents tag (encodings x))
     (subst (λ x. normal_trees (entries_of (entries ++ map absent_content (drop n (rows_of x)))) (rows_of node) ≡ normal_trees (entries_of entries) (rows_of node)) (sym h.0) (ended_rows node n entries ts h.1))
-ended_written (Sequence node) _ entries ts text c tag h k apart = absurd h
 ended_written (ListOf node) (Items own) entries ts text c tag h k apart =
     ap (λ x. encoding (normal_element (element_is (ListOf node)) tag x)) k.3
     ∙ ap (λ is. of_contents tag (encodings (normal_items (items_of is) (rows_of node)))) (sym (ap items_in k.2 ∙ items_all k.1))
-ended_written (ListOf node) _ entries ts text c tag h k apart = absurd h
 ended_written (Wrapper w) n entries ts text c tag h k apart =
     ap (of_contents tag) (append-nil (encoding (normal_tree c w.node untagged)) ∙ sym (ap (part_octets w) k.1))
 ended_written (LooseWrapper w) Nothing entries ts text c tag h k apart =
@@ -201,4 +194,4 @@ ended_written (LooseWrapper w) (Either own) entries ts text c tag h k apart =
     ∙ ap₂ (λ es node. of_contents sequence_tag (encodings (normal_trees (entries_of (es ++ map absent_content (rows_of node))) (rows_of w.node)))) h.1 same
     ∙ ap (λ x. of_contents sequence_tag (encodings x)) none_left
     ∙ ap (λ es. of_contents sequence_tag (part_octets w es)) (sym h.1))
-ended_written (LooseWrapper w) _ entries ts text c tag h k apart = absurd h
+ended_written _ _ entries ts text c tag h k apart = absurd h

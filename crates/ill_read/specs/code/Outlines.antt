@@ -66,19 +66,20 @@ pub record HasRear (n : Next) (old new : List Mark) : Type 0 where
   pub added : new ≡ old ++ (late_marks n ++ (rows ++ last_marks n))
   pub are : ArePassed (rows_left n) rows
 
--- what comes before an element came: the rows that it passes, and the alternative that it is
+-- what comes before an element was marked: the rows that it passes, and the alternative that it is
 pub record HasLed (next : Next) (slot : Slot) (alternative : Option ℕ) (old new : List Mark) : Type 0 where
   pub rows : List Mark
   pub added : new ≡ old ++ (start_marks next slot ++ (rows ++ alternative_marks alternative))
   pub are : ArePassed (rows_before next slot) rows
 
--- so it did before an open element, which is due in those round it
+-- the same of an open element, which is due in the element round it
 pub record IsLed (tag : Tag) (element : CodeElement) (next : Next) (old new : List Mark) : Type 0 where
   pub slot : Slot
   pub alternative : Option ℕ
   pub is_due : IsDueIn tag next (due_with slot alternative element)
   pub led : HasLed next slot alternative old new
 
+-- the outermost level has nothing before it
 abbrev pub AreLed : Tag → CodeElement → List Level → List Mark → List Mark → Type 0
 AreLed tag element [] old new = new ≡ old
 AreLed tag element (l ∷ below) old new = IsLed tag element l.next old new

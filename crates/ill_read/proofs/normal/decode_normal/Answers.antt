@@ -1,4 +1,4 @@
-use Rattle.std.proofs.Common.{◌≡◌, ◌<◌, Bool, Result, get_or, length, IsTrue, Ok, Err, drop, sym, ap, subst, ◌∙◌, arith}
+use Rattle.std.proofs.Common.{◌≡◌, ◌<◌, Bool, Result, get_or, length, IsTrue, Ok, Err, drop, sym, ap, subst, ◌∙◌, arith, inl}
 use Rattle.ber_core.specs.Octets.{are_octets}
 use Rattle.ber_leaf.proofs.Leaves.{octets_fit}
 use Rattle.ill_schema.specs.declared.refusal.Cause.{Cause}
@@ -9,7 +9,7 @@ use Rattle.ill_read.specs.code.ReaderCode.{HasOutcome}
 use Rattle.ill_read.specs.declared.failure.Failure.{Failure}
 use Rattle.ill_read.specs.declared.octets.Octets.{Octets}
 use Rattle.ill_read.proofs.ClosedElements.{handed_on}
-use Rattle.ill_read.proofs.MessageEnds.{normal_fails, normal_short, normal_trails, normal_whole, runs}
+use Rattle.ill_read.proofs.MessageEnds.{normal_fails, normal_trails, normal_whole, runs}
 use Rattle.ill_read.proofs.normal.decode_normal.Goals as goal
 
 pub returns-in_err-outcome : goal.returns-in_err-outcome
@@ -35,7 +35,7 @@ returns-then-not-branch c =
     let ok : IsTrue (are_octets w) = octets_fit w (λ k. let small : get_or w k 0 < 256 = omega (arith, c.type_inv.octets k) in small) in
     let came = c.outcome.ensures w (drop c.run.result w) (c.run.ensures.stopped w (runs AreOctets AreNormal c.new-reader.result w ok (c.new-reader.ensures c.new-2.ensures))) in
     let read = subst (λ (e : Result Bool Failure). HasOutcome AreNormal c.run.new.self w e) (c.in_ok-outcome.was ∙ ap Ok c.if-not-branch.true) came in
-    subst (λ r. NormalAnswers w (Err r)) (sym c.refused.ensures) (normal_short w read.0)
+    subst (λ r. NormalAnswers w (Err r)) (sym c.refused.ensures) (inl read.0)
 
 pub returns-then-read-octets : goal.returns-then-read-octets
 returns-then-read-octets c =

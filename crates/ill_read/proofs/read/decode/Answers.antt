@@ -1,7 +1,7 @@
-use Rattle.std.proofs.Common.{Ok, Err, refl, sym, subst, arith}
+use Rattle.std.proofs.Common.{Ok, Err, refl, sym, subst, arith, inl}
 use Rattle.ill_read.specs.Answers.{DecodeAnswers}
 use Rattle.ill_read.specs.code.ReaderCode.{HasBegun}
-use Rattle.ill_read.proofs.MessageEnds.{decode_fails, decode_short}
+use Rattle.ill_read.proofs.MessageEnds.{decode_fails}
 use Rattle.ill_read.proofs.read.decode.Goals as goal
 
 pub overflow_cast-octets : goal.overflow_cast-octets
@@ -15,7 +15,7 @@ returns-in-Ok-Some c = c.whole.ensures c.args.octets.now refl (subst (λ m. HasB
 pub returns-in-Ok-None : goal.returns-in-Ok-None
 returns-in-Ok-None c =
     subst (λ r. DecodeAnswers c.args.octets.now (Err r)) (sym c.refused.ensures)
-    (decode_short c.args.octets.now (subst (λ m. HasBegun c.args.octets.now (Ok m)) c.in-Ok-None.field-0-is c.in-Ok-None.ensures).0)
+    (inl (subst (λ m. HasBegun c.args.octets.now (Ok m)) c.in-Ok-None.field-0-is c.in-Ok-None.ensures).0)
 
 pub returns-in-Err : goal.returns-in-Err
 returns-in-Err c = decode_fails c.args.octets.now c.in-Err.failure c.in-Err.ensures

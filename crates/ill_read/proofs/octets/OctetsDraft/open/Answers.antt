@@ -4,7 +4,7 @@ use Rattle.ber_core.specs.Identifier.{HasIdentifier, identifier}
 use Rattle.ill_elements.specs.Due.{read_as, shape}
 use Rattle.ill_read.specs.code.OctetDrafts.{form_of}
 use Rattle.ill_elements.specs.declared.element.Element.{Element as CodeElement}
-use Rattle.ill_elements.specs.declared.element.Element.TheVariants.{Leaf, Sequence, List as ListOf, Wrapper, LooseWrapper, Segment}
+use Rattle.ill_elements.specs.declared.element.Element.TheVariants.{Leaf, Segment}
 use Rattle.ill_elements.specs.declared.leaf_type.LeafType.{LeafType}
 use Rattle.ill_read.proofs.OctetDrafts.{octets_opened}
 use Rattle.ill_read.proofs.octets.OctetsDraft.open.Goals as goal

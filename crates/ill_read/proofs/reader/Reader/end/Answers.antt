@@ -2,10 +2,11 @@ use Rattle.std.proofs.Common.{◌∙◌, take, sym, subst, ap}
 use Rattle.ber_leaf.specs.Profile.{profile_two}
 use Rattle.ill_schema.specs.Apdu.{Apdu}
 use Rattle.ill_refusals.specs.Outcome.{OnlyAccepts}
+use Rattle.ill_refusals.proofs.OneOutcome.{accepted_alone}
 use Rattle.ill_read.specs.code.Drafts.{HasEnded}
 use Rattle.ill_read.specs.code.ReaderCode.{InState}
 use Rattle.ill_read.specs.declared.reader.State.TheVariants.{Failed}
-use Rattle.ill_read.proofs.MessageEnds.{read_whole, too_long}
+use Rattle.ill_read.proofs.MessageEnds.{too_long}
 use Rattle.ill_read.proofs.reader.Reader.end.Goals as goal
 use Rattle.ill_read.proofs.reader.Reader.end.Goals.{then-end, else-end}
 
@@ -17,7 +18,7 @@ returns-clause-ended g c s a le h =
     elim c.if-end.branch [
       | then-end w ↦
           let whole = subst (HasEnded g.D.Draft.has c.end.new.self a n) w.if-end.true is in
-          subst (λ st. InState st s ((b : Apdu) × OnlyAccepts profile_two s b n × has b n) ⊥) (sym w.self-is) (a, read_whole s a n le h.2 whole.1, whole.0)
+          subst (λ st. InState st s ((b : Apdu) × OnlyAccepts profile_two s b n × has b n) ⊥) (sym w.self-is) (a, accepted_alone profile_two s a n le h.2 whole.1, whole.0)
       | else-end w ↦
           let long = subst (HasEnded g.D.Draft.has c.end.new.self a n) w.if-end.false is in
           subst (λ st. InState st s ((b : Apdu) × OnlyAccepts profile_two s b n × has b n) ⊥) (sym (w.self-is ∙ ap Failed w.refused.ensures)) (too_long s a n le h.2 long)
