@@ -30,6 +30,7 @@ use itoa::Buffer;
 const DIGITS: &[u8; 16] = b"0123456789abcdef";
 
 /// Puts the line of a leaf with these octets, in a row of this name.
+#[inline(always)]
 pub fn put_leaf<W: Sink>(
     leaf: LeafType,
     octets: &[Mark],
@@ -154,6 +155,7 @@ fn put_name<W: Sink>(row: &str, number: i64, out: &mut Out, sink: &mut W)
 }
 
 /// Puts a line with a string in quotation marks, after what it opens with.
+#[inline(always)]
 fn put_quoted<W: Sink>(
     trail: &Trail<'_>,
     opening: &str,
@@ -193,6 +195,18 @@ fn put_escaped_mark<W: Sink>(mark: Mark, out: &mut Out, sink: &mut W)
 }
 
 fn put_octet<W: Sink>(octet: u8, out: &mut Out, sink: &mut W)
+    ensures adds { Adds (escaped octet) (sending (W.contents sink.old) (W.is_broken sink.old) out.old) (sending (W.contents sink.new) (W.is_broken sink.new) out.new) }
+    ensures stays { IsTrue (W.is_broken sink.old) → IsTrue (W.is_broken sink.new) }
+{
+    match octet {
+        b' ' | b'!' | b'#'..=b'[' | b']'..=b'~' => out.put(sink, &[octet]),
+        _ => put_escape(octet, out, sink),
+    }
+}
+
+/// Puts an octet that isn't put as it is.
+#[inline(never)]
+fn put_escape<W: Sink>(octet: u8, out: &mut Out, sink: &mut W)
     ensures adds { Adds (escaped octet) (sending (W.contents sink.old) (W.is_broken sink.old) out.old) (sending (W.contents sink.new) (W.is_broken sink.new) out.new) }
     ensures stays { IsTrue (W.is_broken sink.old) → IsTrue (W.is_broken sink.new) }
 {

@@ -21,6 +21,7 @@ use ill_schema::{NodeId, PartId};
 
 /// Puts the lines of the value that the marks begin with, of this node in a row of this name, and returns the marks after it.
 #[cycle(show)]
+#[inline(always)]
 pub fn put_value<'m, W: Sink>(
     marks: &'m [Mark],
     trail: &Trail<'_>,
@@ -45,7 +46,7 @@ pub fn put_value<'m, W: Sink>(
             let _ = put_default(part, trail, name, out, sink);
             rest
         }
-        Mark::Alternative(row) => put_part(rest, trail, node, row as usize, out, sink),
+        Mark::Alternative(row) => put_alternative(rest, trail, node, row, out, sink),
         Mark::Sequence => put_entries(rest, trail, name, node, out, sink),
         Mark::List => put_items(rest, trail, name, node, out, sink),
         Mark::Octet(_) => rest,
@@ -54,6 +55,7 @@ pub fn put_value<'m, W: Sink>(
 }
 
 /// Puts the line of a leaf whose octets the marks begin with, and returns the marks after it.
+#[inline(always)]
 fn put_marked_leaf<'m, W: Sink>(
     leaf: LeafType,
     marks: &'m [Mark],
@@ -93,8 +95,29 @@ fn is_octet(mark: Mark) -> bool
     matches!(&mark, Mark::Octet(_))
 }
 
+/// Puts the lines of the alternative of a choice that is in a row.
+#[cycle(show)]
+#[inline(never)]
+fn put_alternative<'m, W: Sink>(
+    marks: &'m [Mark],
+    trail: &Trail<'_>,
+    node: NodeId,
+    row: u8,
+    out: &mut Out,
+    sink: &mut W,
+) -> &'m [Mark]
+    ensures adds { (c : Content) (ms rest : List Mark) → IsMarked c ms → marks.now ≡ ms ++ rest → (result.now ≡ rest)
+        × Adds (lines_of (part (place_at trail.now [] node) row) c) (sending (W.contents sink.old) (W.is_broken sink.old) out.old) (sending (W.contents sink.new) (W.is_broken sink.new) out.new) }
+    ensures shorter { 0 < length marks.now → length result.now < length marks.now }
+    ensures no_longer { length result.now ≤ length marks.now }
+    ensures stays { IsTrue (W.is_broken sink.old) → IsTrue (W.is_broken sink.new) }
+{
+    put_part(marks, trail, node, row as usize, out, sink)
+}
+
 /// Puts the lines of the value in a row.
 #[cycle(show)]
+#[inline(always)]
 fn put_part<'m, W: Sink>(
     marks: &'m [Mark],
     trail: &Trail<'_>,
@@ -142,6 +165,7 @@ fn put_entry<'m, W: Sink>(
 
 /// Puts the lines of the entries that the marks begin with, up to their end, and returns the marks after it.
 #[cycle(show)]
+#[inline(never)]
 fn put_entries<'m, W: Sink>(
     marks: &'m [Mark],
     trail: &Trail<'_>,
@@ -173,6 +197,7 @@ fn put_entries<'m, W: Sink>(
 
 /// Puts the lines of the items that the marks begin with, up to their end, and returns the marks after it.
 #[cycle(show)]
+#[inline(never)]
 fn put_items<'m, W: Sink>(
     marks: &'m [Mark],
     trail: &Trail<'_>,

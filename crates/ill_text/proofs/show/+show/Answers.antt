@@ -134,7 +134,7 @@ put_value-returns-in-Alternative-clause-adds g t c x ms rest h q =
     let tail = drop 1 c.args.marks.now in
     let all = starts c.args.marks.now c.in-Some.first (sym c.first_mark.ensures ∙ c.in-Some.is) ∙ ap (λ m. m ∷ tail) c.in-Alternative.is in
     let f = alternative_first x ms rest tail c.in-Alternative.row h (sym all ∙ q) in
-    let done = c.put_part.ensures.adds f.0 f.1 rest f.3 (c.after_first-rest.ensures ∙ f.4) in
+    let done = c.put_alternative.ensures.adds f.0 f.1 rest f.3 (c.after_first-rest.ensures ∙ f.4) in
     (done.0, adds_as _ _ _ _ (ap (lines_of (place_at c.args.trail.now c.args.name.now c.args.node)) (sym f.2)) done.1)
 
 pub put_value-returns-in-Sequence-clause-adds : goal.put_value-returns-in-Sequence-clause-adds
