@@ -55,27 +55,35 @@ pub fn put_leaf<W: Sink>(
     }
 }
 
-/// Puts the line of the default of a row that was passed, if it has one, and returns whether it has.
+/// Whether a row that was passed has a default.
+pub fn has_default(part: PartId) -> bool
+    ensures { (e : Option Content) → IsPassed part e → result ≡ is_there e }
+{
+    match row(part) {
+        Some(row) => matches!(row.presence, Presence::Default(_)),
+        None => false,
+    }
+}
+
+/// Puts the line of the default of a row that was passed, if it has one.
 pub fn put_default<W: Sink>(
     part: PartId,
     trail: &Trail<'_>,
     name: &str,
     out: &mut Out,
     sink: &mut W,
-) -> bool
+)
     ensures adds { (e : Option Content) (node : NodeId) → IsPassed part e → Adds (entry_text (place_at trail.now name.now node) e)
         (sending (W.contents sink.old) (W.is_broken sink.old) out.old) (sending (W.contents sink.new) (W.is_broken sink.new) out.new) }
-    ensures there { (e : Option Content) → IsPassed part e → result ≡ is_there e }
     ensures stays { IsTrue (W.is_broken sink.old) → IsTrue (W.is_broken sink.new) }
 {
     let Some(row) = row(part) else {
-        return false;
+        return;
     };
     let Presence::Default(number) = row.presence else {
-        return false;
+        return;
     };
     put_value_of(row.node, number, trail, name, out, sink);
-    true
 }
 
 /// Puts the line of the value that the number of a default stands for.

@@ -1,5 +1,5 @@
 //! Outlines as lines.
-ghost use Rattle.std.specs.Prelude.{◌≡◌, ◌<◌, ◌≤◌, ℕ, List, [], ◌∷◌, ◌++◌, length, map, drop, slice_get, IsTrue, Option};
+ghost use Rattle.std.specs.Prelude.{◌≡◌, ◌<◌, ◌≤◌, ℕ, List, [], ◌∷◌, ◌++◌, length, map, drop, not, slice_get, IsTrue, Option};
 ghost use Rattle.ill_schema.specs.Content.{Content, Entries, Items, sequence, list};
 ghost use Rattle.ill_read.specs.Outline.{AreEntries, AreItems, IsMarked};
 ghost use Rattle.ill_read.specs.declared.mark.Mark.{Mark};
@@ -11,7 +11,7 @@ ghost use Rattle.ber_leaf.specs.Content.{IsContent};
 ghost use Rattle.ber_leaf.specs.Leaf.{value};
 ghost use Rattle.ill_read.specs.LeafTypes.{leaf_is};
 
-use crate::leaf::{put_default, put_leaf};
+use crate::leaf::{has_default, put_default, put_leaf};
 use crate::outgoing::Out;
 use crate::part::{row_name, row_node};
 use crate::trail::{Trail, put_line};
@@ -43,7 +43,7 @@ pub fn put_value<'m, W: Sink>(
     match first {
         Mark::Leaf(leaf) => put_marked_leaf(leaf, rest, trail, name, out, sink),
         Mark::Passed(part) => {
-            let _ = put_default(part, trail, name, out, sink);
+            put_default(part, trail, name, out, sink);
             rest
         }
         Mark::Alternative(row) => put_alternative(rest, trail, node, row, out, sink),
@@ -152,14 +152,19 @@ fn put_entry<'m, W: Sink>(
     ensures shorter { 0 < length marks.now → length result.0.now < length marks.now }
     ensures stays { IsTrue (W.is_broken sink.old) → IsTrue (W.is_broken sink.new) }
 {
+    if is_absent(marks) {
+        return (after_first(marks), false);
+    }
+    (put_part(marks, trail, node, i, out, sink), true)
+}
+
+/// Whether a row that has no default was passed.
+fn is_absent(marks: &[Mark]) -> bool
+    ensures { (e : Option Content) (ms rest : List Mark) → IsEntry e ms → marks.now ≡ ms ++ rest → result ≡ not (is_there e) }
+{
     match passed(marks) {
-        Some(part) => {
-            let name = row_name(node, i);
-            let inside = Trail::Row(&*trail, name);
-            let there = put_default(part, &inside, name, out, sink);
-            (after_first(marks), there)
-        }
-        None => (put_part(marks, trail, node, i, out, sink), true),
+        Some(part) => !has_default(part),
+        None => false,
     }
 }
 
