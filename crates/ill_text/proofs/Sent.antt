@@ -1,10 +1,10 @@
 -- What is put one after another.
-use Rattle.std.proofs.Common.{◌≡◌, ℕ, ◌+◌, ◌-◌, ◌^◌, ◌<◌, ◌≤◌, Bool, true, false, List, [], ◌++◌, length, take, Option, Some, None, IsTrue, refl, sym, ap, subst, ◌∙◌, arith, append_assoc, append-nil, length-append, drop, length-take}
+use Rattle.std.proofs.Common.{◌≡◌, ℕ, ◌+◌, ◌^◌, ◌<◌, ◌≤◌, Bool, true, false, List, [], ◌++◌, length, take, Option, IsTrue, refl, sym, ap, subst, ◌∙◌, arith, append_assoc, append-nil, length-append, drop, length-take}
 use Rattle.std.proofs.lemmas.List.{take-append-drop, take_at}
-use Rattle.std.proofs.KnownBytes.{Appends-nil, Appends-trans}
+use Rattle.std.proofs.KnownBytes.{Appends-trans}
 use Rattle.std.specs.Io.KnownBytes.{Appends}
 use Rattle.ill_text.specs.declared.outgoing.Out.{Out}
-use Rattle.ill_text.specs.code.Sending.{Adds, IsLeft, Sending, Stands, counted, sending}
+use Rattle.ill_text.specs.code.Sending.{Adds, Sending, Stands, counted, sending}
 
 pub counted_then : (m n k : ℕ) → k ≡ counted m → counted (k + n) ≡ counted (m + n)
 counted_then m n k e = omega arith

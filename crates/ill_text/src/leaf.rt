@@ -1,11 +1,10 @@
 //! Leaves as lines.
-ghost use Rattle.std.specs.Prelude.{◌≡◌, ◌++◌, ◌<◌, ◌≤◌, ◌-◌, [], length, not, nat_eq, replicate, codes, flat_map, ◌∷◌, IsTrue, Option};
+ghost use Rattle.std.specs.Prelude.{◌≡◌, ◌++◌, ◌<◌, ◌≤◌, [], length, not, nat_eq, codes, flat_map, ◌∷◌, IsTrue, Option};
 ghost use Rattle.std.specs.Fmt.{signed_decimal};
 ghost use Rattle.std.specs.List.{list_all};
 ghost use Rattle.ber_leaf.specs.Content.{IsContent};
 ghost use Rattle.ber_leaf.specs.Leaf.{integer_of, value};
 ghost use Rattle.ber_leaf.specs.Simple.{flag};
-ghost use Rattle.ber_leaf.specs.code.Sign.{sign_octet};
 ghost use Rattle.ill_schema.specs.Content.{Content};
 ghost use Rattle.ill_schema.specs.Presence.{default_value};
 ghost use Rattle.ill_schema.specs.Table.{kind_of};
@@ -23,6 +22,7 @@ use crate::outgoing::Out;
 use crate::trail::{Trail, put_line, put_path};
 use arrayvec::ArrayVec;
 use ber_core::Sink;
+use ber_leaf::Whole;
 use ill_read::{LeafType, Mark};
 use ill_schema::{Kind, LeafKind, NodeId, PartId, Presence, kind, row};
 use itoa::Buffer;
@@ -268,16 +268,7 @@ pub fn number_in(octets: &[Mark]) -> i64
     if octets.is_empty() {
         return 0;
     }
-    whole(octets.as_slice())
-}
-
-/// The number that the octets are in two's complement.
-fn whole(octets: &[u8]) -> i64
-    requires some { 0 < length octets.now }
-    requires few { length octets.now ≤ 8 }
-    ensures { result ≡ integer_of octets.now }
-{
-    i64::from_be_bytes(extended(octets))
+    Whole::read(octets.as_slice())
 }
 
 /// The octets, where they are eight at most.
@@ -300,16 +291,4 @@ fn push_mark(octets: &mut ArrayVec<u8, 8>, mark: Mark)
         }
         _ => {}
     }
-}
-
-/// The octets after as many copies of their sign octet as make eight in all.
-fn extended(octets: &[u8]) -> [u8; 8]
-    requires some { 0 < length octets.now }
-    requires few { length octets.now ≤ 8 }
-    ensures { result ≡ replicate (8 - length octets.now) (sign_octet octets.now) ++ octets.now }
-{
-    let sign = if octets[0] < 0x80 { 0x00 } else { 0xFF };
-    let mut bytes = [sign; 8];
-    bytes[8 - octets.len()..].copy_from_slice(octets);
-    bytes
 }

@@ -5,7 +5,7 @@ use ber_core::Sink;
 use ill_write::put_all;
 
 /// How many octets wait at most.
-const ROOM: usize = 512;
+const ROOM: usize = 1024;
 
 /// How far a text is written: the octets that wait until there are more, and how many the sink has taken. Once the sink broke nothing
 /// more is put.
@@ -15,8 +15,8 @@ pub struct Out {
     len: usize,
     written: usize,
     broken: bool,
-    ghost within: { len ≤ 512 },
-    ghost full: { broken ≡ true → len ≡ 512 },
+    ghost within: { len ≤ 1024 },
+    ghost full: { broken ≡ true → len ≡ 1024 },
 }
 
 impl Out {
@@ -122,7 +122,7 @@ impl Out {
 
     /// Keeps octets for which there is room. There is none once the sink broke.
     fn keep(&mut self, octets: &[u8])
-        requires room { self.old.len + length octets.now ≤ 512 }
+        requires room { self.old.len + length octets.now ≤ 1024 }
         ensures { (reported : Option (List _)) (b : _) → Adds octets.now (sending reported b self.old) (sending reported b self.new) }
     {
         let end = self.len + octets.len();

@@ -1,6 +1,5 @@
-use Rattle.std.proofs.Common.{◌≡◌, ◌∙◌, ap, sym, subst, None, Option}
+use Rattle.std.proofs.Common.{◌∙◌, ap, sym, Option}
 use Rattle.ill_schema.specs.Content.{Content}
-use Rattle.ill_schema.specs.declared.part.Row.{Row}
 use Rattle.ill_read.specs.Standing.{absent_content}
 use Rattle.ill_read.specs.Outline.{IsPassed}
 use Rattle.ill_text.specs.code.Marks.{entry_text}

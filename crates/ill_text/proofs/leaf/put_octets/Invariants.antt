@@ -1,6 +1,4 @@
 use Rattle.std.proofs.Common.{IsTrue, take}
-use Rattle.std.specs.Prelude.{flat_map}
-use Rattle.ill_text.specs.Shown.{escaped}
 use Rattle.ill_text.specs.code.Marks.{octets_in}
 use Rattle.ill_text.specs.code.Sending.{Adds, sending}
 use Rattle.ill_text.proofs.leaf.put_octets.Given as goal

@@ -1,4 +1,4 @@
-use Rattle.std.proofs.Common.{◌≡◌, ◌+◌, ◌*◌, ◌≤◌, ◌<◌, ◌++◌, ◌∷◌, ℕ, List, [], length, IsTrue}
+use Rattle.std.proofs.Common.{◌≡◌, ◌+◌, ◌*◌, ◌≤◌, ◌++◌, ◌∷◌, List, length, IsTrue}
 use Rattle.ill_schema.specs.Content.{Entries, Items}
 use Rattle.ill_read.specs.Outline.{AreEntries, AreItems}
 use Rattle.ill_read.specs.declared.mark.Mark.{Mark}

@@ -1,4 +1,4 @@
-use Rattle.std.proofs.Common.{◌≡◌, ◌≤◌, ◌+◌, true, false, refl, length, IsTrue, arith, rules}
+use Rattle.std.proofs.Common.{◌≡◌, ◌≤◌, ◌+◌, true, false, refl, length, arith, rules}
 use Rattle.ill_text.specs.code.Sending.{counted}
 use Rattle.ill_text.proofs.Sent.{adds_broken, flushed_all, flushed_some}
 use Rattle.ill_text.proofs.outgoing.Out.flush.Goals as goal
