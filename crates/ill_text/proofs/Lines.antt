@@ -453,13 +453,15 @@ nothing_begins c ms rest marks none h e =
     absurd (let q : None ≡ Some b.0 = sym none ∙ ap (λ x. slice_get x 0) (front ms rest b.1 marks b.0 b.2 e) in cc)
 
 -- an entry whose row was passed, and one that has an element
-passed_alone : (q : PartId) (p : PartId) (ms rest marks : List Mark) → ms ≡ mark.Passed q ∷ [] → marks ≡ ms ++ rest → passed_in marks ≡ Some p → q ≡ p
-passed_alone q p ms rest marks e at is = let x : Some q ≡ Some p = sym (ap passed_in (front ms rest [] marks (mark.Passed q) e at)) ∙ is in cc
+passed_alone : (q : PartId) (p : PartId) (ms rest marks : List Mark) → ms ≡ mark.Passed q ∷ [] → marks ≡ ms ++ rest → passed_in marks ≡ Some p → (q ≡ p) × (drop 1 marks ≡ rest)
+passed_alone q p ms rest marks e at is =
+    let all : marks ≡ mark.Passed q ∷ rest = front ms rest [] marks (mark.Passed q) e at in
+    (let x : Some q ≡ Some p = sym (ap passed_in all) ∙ is in cc, ap (drop 1) all)
 
-pub entry_passed : (e : Option Content) (ms rest marks : List Mark) (p : PartId) → IsEntry e ms → marks ≡ ms ++ rest → passed_in marks ≡ Some p → IsPassed p e
-entry_passed None ms rest marks p h e is = subst (λ x. IsPassed x None) (passed_alone h.0 p ms rest marks h.1 e is) h.2
+pub entry_passed : (e : Option Content) (ms rest marks : List Mark) (p : PartId) → IsEntry e ms → marks ≡ ms ++ rest → passed_in marks ≡ Some p → IsPassed p e × (drop 1 marks ≡ rest)
+entry_passed None ms rest marks p h e is = let a = passed_alone h.0 p ms rest marks h.1 e is in (subst (λ x. IsPassed x None) a.0 h.2, a.1)
 entry_passed (Some (simple v)) ms rest marks p (inl h) e is = absurd (let x : None ≡ Some p = sym (ap passed_in (front ms rest _ marks _ h.2 e)) ∙ is in cc)
-entry_passed (Some (simple v)) ms rest marks p (inr h) e is = subst (λ x. IsPassed x (Some (simple v))) (passed_alone h.0 p ms rest marks h.1 e is) h.2
+entry_passed (Some (simple v)) ms rest marks p (inr h) e is = let a = passed_alone h.0 p ms rest marks h.1 e is in (subst (λ x. IsPassed x (Some (simple v))) a.0 h.2, a.1)
 entry_passed (Some (sequence es)) ms rest marks p h e is = absurd (let x : None ≡ Some p = sym (ap passed_in (front ms rest _ marks _ h.1 e)) ∙ is in cc)
 entry_passed (Some (list is')) ms rest marks p h e is = absurd (let x : None ≡ Some p = sym (ap passed_in (front ms rest _ marks _ h.1 e)) ∙ is in cc)
 entry_passed (Some (alternative n c)) ms rest marks p h e is = absurd (let x : None ≡ Some p = sym (ap passed_in (front ms rest _ marks _ h.1 e)) ∙ is in cc)
