@@ -3,7 +3,7 @@ ghost use Rattle.std.specs.Prelude.{◌≡◌, ◌<◌, ◌≤◌, ℕ, List, []
 ghost use Rattle.ill_schema.specs.Content.{Content, Entries, Items, sequence, list};
 ghost use Rattle.ill_read.specs.Outline.{AreEntries, AreItems, IsMarked};
 ghost use Rattle.ill_read.specs.declared.mark.Mark.{Mark};
-ghost use Rattle.ill_text.specs.code.Marks.{IsEntry, alternative_in, entry_text, front_octets, is_at_end, is_octet, is_there, passed_in};
+ghost use Rattle.ill_text.specs.code.Marks.{IsEntry, alternative_in, entry_text, is_at_end, is_there, passed_in};
 ghost use Rattle.ill_text.specs.code.Sending.{Adds, sending};
 ghost use Rattle.ill_text.specs.code.Trails.{path_of, place_at};
 ghost use Rattle.ill_text.specs.Shown.{item_of, leaf_text, line, lines_of, part};
@@ -69,30 +69,8 @@ fn put_marked_leaf<'m, W: Sink>(
     ensures shorter { length result.now ≤ length marks.now }
     ensures stays { IsTrue (W.is_broken sink.old) → IsTrue (W.is_broken sink.new) }
 {
-    let count = front_octets(marks);
-    put_leaf(leaf, &marks[..count], trail, name, out, sink);
+    let count = put_leaf(leaf, marks, trail, name, out, sink);
     &marks[(count + 1).min(marks.len())..]
-}
-
-/// How many marks of octets come first.
-pub fn front_octets(marks: &[Mark]) -> usize
-    ensures exact { result ≡ front_octets marks.now }
-    ensures within { result ≤ length marks.now }
-{
-    let mut count = 0;
-    for mark in marks {
-        if !is_octet(*mark) {
-            return count;
-        }
-        count += 1;
-    }
-    count
-}
-
-fn is_octet(mark: Mark) -> bool
-    ensures { result ≡ is_octet mark }
-{
-    matches!(&mark, Mark::Octet(_))
 }
 
 /// Puts the lines of the alternative of a choice that is in a row.
