@@ -1,5 +1,5 @@
 -- How long a text may be: no line is longer than its marks are many, by far.
-use Rattle.std.proofs.Common.{◌≡◌, ℕ, zero, suc, ◌+◌, ◌-◌, ◌*◌, ◌^◌, ◌<◌, ◌≤◌, ℤ, pos, negsuc, ◌&&◌, Bool, true, false, not, IsTrue, List, [], ◌∷◌, ◌++◌, length, map, Option, Some, None, refl, sym, ap, subst, ◌∙◌, inl, inr, arith, codes, decimal, slice_get, length-append, le-ltb}
+use Rattle.std.proofs.Common.{◌≡◌, ℕ, zero, suc, ◌+◌, ◌-◌, ◌*◌, ◌^◌, ◌<◌, ◌≤◌, ℤ, pos, negsuc, ◌&&◌, Bool, true, false, IsTrue, List, [], ◌∷◌, ◌++◌, length, map, Option, Some, None, refl, sym, ap, subst, inl, inr, arith, codes, decimal, slice_get, length-append}
 use Rattle.std.specs.Prelude.{nat_eq, nat_le, flat_map, slice_index, ◌||◌, ◌/◌, ◌%◌, if◌then◌else◌}
 use Rattle.std.proofs.lemmas.Int.{ints}
 use Rattle.std.specs.Fmt.{signed_decimal}
@@ -7,7 +7,7 @@ use Rattle.std.specs.List.{list_all}
 use Rattle.std.proofs.lemmas.Fmt.{length-decimal-le_succ, length_signed_le}
 use lib.Signed.{mag}
 use Rattle.ber_leaf.specs.Content.{IsContent}
-use Rattle.ber_leaf.specs.Leaf.{enumerated, value, integer, integer_of, Holds}
+use Rattle.ber_leaf.specs.Leaf.{enumerated, value, integer, integer_of}
 use Rattle.ber_leaf.specs.Profile.{profile_two}
 use Rattle.ber_leaf.specs.Simple.{Simple, flag, whole}
 use Rattle.ber_leaf.proofs.Integers.{whole_bounds}
@@ -27,8 +27,7 @@ use Rattle.ill_schema.specs.Names.{names_of}
 use Rattle.ill_schema.specs.Presence.{default_value}
 use Rattle.ill_schema.specs.Table.{kind_of, rows_of}
 use Rattle.ill_elements.specs.LeafTypes.{leaf_is}
-use Rattle.ill_read.specs.Outline.{AreEntries, AreItems, IsMarked, IsPassed, leaf_marks}
-use Rattle.ill_elements.specs.Contents.{absent_content}
+use Rattle.ill_read.specs.Outline.{AreEntries, AreItems, IsMarked, leaf_marks}
 use Rattle.ill_elements.specs.declared.leaf_type.LeafType.{LeafType}
 use Rattle.ill_elements.specs.declared.leaf_type.LeafType.TheVariants as code
 use Rattle.ill_read.specs.declared.mark.Mark.{Mark}

@@ -1,5 +1,5 @@
 -- What marks say, and the lines that are put for them.
-use Rattle.std.proofs.Common.{◌≡◌, ◌⊎◌, ℕ, zero, suc, ◌+◌, ◌<◌, ◌≤◌, Bool, true, false, not, ◌&&◌, List, [], ◌∷◌, ◌++◌, length, take, drop, map, Option, Some, None, refl, sym, ap, ap₂, subst, ◌∙◌, inl, inr, arith, rules, append_assoc, append-nil, codes, decimal, length-append, Bor, get_or, ℤ}
+use Rattle.std.proofs.Common.{◌≡◌, ◌⊎◌, ℕ, suc, ◌+◌, ◌<◌, ◌≤◌, Bool, true, false, not, ◌&&◌, List, [], ◌∷◌, ◌++◌, length, take, drop, map, Option, Some, None, refl, sym, ap, ap₂, subst, ◌∙◌, inl, inr, arith, rules, append_assoc, append-nil, codes, decimal, length-append, Bor, get_or, ℤ}
 use Rattle.std.specs.Prelude.{flat_map}
 use Rattle.std.proofs.lemmas.List.{take_more}
 use Rattle.std.proofs.lemmas.List.Concat.{flat_map-append}
@@ -19,7 +19,7 @@ use Rattle.ill_schema.specs.Presence.{default_value}
 use Rattle.ill_schema.specs.Table.{kind_of}
 use Rattle.ill_schema.specs.Content.{Content, simple, sequence, list, alternative, Entries, no_entries, absent, present, Items, no_items, item}
 use Rattle.ill_elements.specs.LeafTypes.{leaf_is}
-use Rattle.ill_read.specs.Outline.{AreEntries, AreItems, IsMarked, IsPassed, leaf_marks}
+use Rattle.ill_read.specs.Outline.{AreEntries, AreItems, IsMarked, IsPassed}
 use Rattle.ill_read.specs.declared.mark.Mark.{Mark}
 use Rattle.ill_read.specs.declared.mark.Mark.TheVariants as mark
 use Rattle.ill_text.specs.Shown.{Place, entry_lines, is_empty, item_lines, item_of, line, lines_of, part, within}
@@ -469,6 +469,14 @@ entry_passed (Some (alternative n c)) ms rest marks p h e is = absurd (let x : N
 pub entry_value : (e : Option Content) (ms rest marks : List Mark) → IsEntry e ms → marks ≡ ms ++ rest → passed_in marks ≡ None → (c : Content) × (e ≡ Some c) × IsMarked c ms
 entry_value None ms rest marks h e is = absurd (let x : Some h.0 ≡ None = sym (ap passed_in (front ms rest [] marks (mark.Passed h.0) h.1 e)) ∙ is in cc)
 entry_value (Some c) ms rest marks h e is = (c, refl, h)
+
+pub entry_absent : (e : Option Content) (ms rest marks : List Mark) → IsEntry e ms → marks ≡ ms ++ rest → is_there e ≡ false → (e ≡ None) × (drop 1 marks ≡ rest)
+entry_absent None ms rest marks h q off = (refl, ap (drop 1) (front ms rest [] marks _ h.1 q))
+entry_absent (Some c) ms rest marks h q off = absurd cc
+
+pub entry_there : (e : Option Content) (ms : List Mark) → IsEntry e ms → is_there e ≡ true → (c : Content) × (e ≡ Some c) × IsMarked c ms
+entry_there None ms h on = absurd cc
+entry_there (Some c) ms h on = (c, refl, h)
 
 -- ---- where a part and an item stand
 

@@ -1,10 +1,10 @@
 -- What is put one after another.
-use Rattle.std.proofs.Common.{◌≡◌, ℕ, ◌+◌, ◌-◌, ◌^◌, ◌<◌, ◌≤◌, Bool, true, false, List, [], ◌++◌, length, take, Option, Some, None, IsTrue, refl, sym, ap, subst, ◌∙◌, arith, append_assoc, append-nil, length-append, drop, length-take}
+use Rattle.std.proofs.Common.{◌≡◌, ℕ, ◌+◌, ◌^◌, ◌<◌, ◌≤◌, Bool, true, false, List, [], ◌++◌, length, take, Option, IsTrue, refl, sym, ap, subst, ◌∙◌, arith, append_assoc, append-nil, length-append, drop, length-take}
 use Rattle.std.proofs.lemmas.List.{take-append-drop, take_at}
-use Rattle.std.proofs.KnownBytes.{Appends-nil, Appends-trans}
+use Rattle.std.proofs.KnownBytes.{Appends-trans}
 use Rattle.std.specs.Io.KnownBytes.{Appends}
 use Rattle.ill_text.specs.declared.outgoing.Out.{Out}
-use Rattle.ill_text.specs.code.Sending.{Adds, IsLeft, Sending, Stands, counted, sending}
+use Rattle.ill_text.specs.code.Sending.{Adds, Sending, Stands, counted, sending}
 
 pub counted_then : (m n k : ℕ) → k ≡ counted m → counted (k + n) ≡ counted (m + n)
 counted_then m n k e = omega arith
@@ -73,20 +73,22 @@ sent_some xs reported reported' b b' o o' n whole broke put fewer count is_broke
       left = subst (λ (x : Bool). elim x as (λ _. Type 0) [ false ↦ drop n all ≡ take o'.len o'.waiting | true ↦ (0 < length (drop n all)) × IsTrue b' ]) (sym broke) (rest, is_broken);
     }
 
--- the octets wait after those that did
-pub kept : (xs : List ℕ) (reported : Option (List ℕ)) (b : Bool) (o o' : Out) → o.broken ≡ false → o'.broken ≡ false → take o'.len o'.waiting ≡ take o.len o.waiting ++ xs → o'.written ≡ o.written
-    → Adds xs (sending reported b o) (sending reported b o')
+left_more : (xs rest : List ℕ) (b : Bool) (o o' : Out) (x : Bool) → take o'.len o'.waiting ≡ take o.len o.waiting ++ xs
+    → (elim x as (λ _. Type 0) [ false ↦ rest ≡ take o.len o.waiting | true ↦ (0 < length rest) × IsTrue b ]) → (elim x as (λ _. Type 0) [ false ↦ rest ++ xs ≡ take o'.len o'.waiting | true ↦ (0 < length (rest ++ xs)) × IsTrue b ])
+left_more xs rest b o o' false w left = ap (λ z. z ++ xs) left ∙ sym w
+left_more xs rest b o o' true w left = (omega (arith, left.0, length-append rest xs), left.1)
+
+-- the octets wait after those that did, unless the sink broke
+pub kept : (xs : List ℕ) (reported : Option (List ℕ)) (b : Bool) (o o' : Out) → o'.broken ≡ o.broken → take o'.len o'.waiting ≡ take o.len o.waiting ++ xs → o'.written ≡ o.written → Adds xs (sending reported b o) (sending reported b o')
 unfolding Adds
-kept xs reported b o o' whole whole' w e = λ start given h.
-    let left = waits start given reported b o h whole in
-    record {
-      sent = h.sent;
-      rest = h.rest ++ xs;
-      in_sink = h.in_sink;
-      all = ap (λ z. z ++ xs) h.all ∙ append_assoc h.sent h.rest xs;
-      count = e ∙ h.count;
-      left = subst (λ (x : Bool). elim x as (λ _. Type 0) [ false ↦ h.rest ++ xs ≡ take o'.len o'.waiting | true ↦ (0 < length (h.rest ++ xs)) × IsTrue b ]) (sym whole') (ap (λ z. z ++ xs) left ∙ sym w);
-    }
+kept xs reported b o o' same w e = λ start given h. record {
+  sent = h.sent;
+  rest = h.rest ++ xs;
+  in_sink = h.in_sink;
+  all = ap (λ z. z ++ xs) h.all ∙ append_assoc h.sent h.rest xs;
+  count = e ∙ h.count;
+  left = subst (λ (x : Bool). elim x as (λ _. Type 0) [ false ↦ h.rest ++ xs ≡ take o'.len o'.waiting | true ↦ (0 < length (h.rest ++ xs)) × IsTrue b ]) (sym same) (left_more xs h.rest b o o' o.broken w h.left);
+}
 
 -- at the end: all is in the sink, or where it broke the first of it, as much as is counted
 pub all_sent : (E : List ℕ) (reported reported' : Option (List ℕ)) (b b' : Bool) (o o' : Out) → Stands reported [] (sending reported b o) → Adds E (sending reported b o) (sending reported' b' o') → o'.broken ≡ false → o'.len ≡ 0

@@ -1,11 +1,10 @@
 //! Leaves as lines.
-ghost use Rattle.std.specs.Prelude.{◌≡◌, ◌++◌, ◌<◌, ◌≤◌, ◌-◌, [], length, not, nat_eq, replicate, codes, flat_map, ◌∷◌, IsTrue, Option};
+ghost use Rattle.std.specs.Prelude.{◌≡◌, ◌++◌, ◌<◌, ◌≤◌, [], length, not, nat_eq, codes, flat_map, take, ◌∷◌, IsTrue, Option};
 ghost use Rattle.std.specs.Fmt.{signed_decimal};
 ghost use Rattle.std.specs.List.{list_all};
 ghost use Rattle.ber_leaf.specs.Content.{IsContent};
 ghost use Rattle.ber_leaf.specs.Leaf.{integer_of, value};
-ghost use Rattle.ber_leaf.specs.Simple.{flag};
-ghost use Rattle.ber_leaf.specs.code.Sign.{sign_octet};
+ghost use Rattle.ber_leaf.specs.Simple.{flag, whole};
 ghost use Rattle.ill_schema.specs.Content.{Content};
 ghost use Rattle.ill_schema.specs.Presence.{default_value};
 ghost use Rattle.ill_schema.specs.Table.{kind_of};
@@ -14,7 +13,7 @@ ghost use Rattle.ill_elements.specs.LeafTypes.{leaf_is};
 ghost use Rattle.ill_read.specs.Outline.{IsPassed};
 ghost use Rattle.ill_text.specs.Numbers.{number_name};
 ghost use Rattle.ill_text.specs.Shown.{escaped, in_brackets, leaf_text, line};
-ghost use Rattle.ill_text.specs.code.Marks.{entry_text, is_there, octets_in};
+ghost use Rattle.ill_text.specs.code.Marks.{entry_text, front_octets, is_octet, is_there, octets_in};
 ghost use Rattle.ill_text.specs.code.Sending.{Adds, sending};
 ghost use Rattle.ill_text.specs.code.Trails.{path_of, place_at};
 
@@ -23,58 +22,95 @@ use crate::outgoing::Out;
 use crate::trail::{Trail, put_line, put_path};
 use arrayvec::ArrayVec;
 use ber_core::Sink;
+use ber_leaf::Whole;
 use ill_read::{LeafType, Mark};
 use ill_schema::{Kind, LeafKind, NodeId, PartId, Presence, kind, row};
 use itoa::Buffer;
 
 const DIGITS: &[u8; 16] = b"0123456789abcdef";
 
-/// Puts the line of a leaf with these octets, in a row of this name.
+/// Puts the line of a leaf whose octets the marks begin with, in a row of this name, and returns how many octets it has.
+#[inline(always)]
 pub fn put_leaf<W: Sink>(
     leaf: LeafType,
-    octets: &[Mark],
+    marks: &[Mark],
     trail: &Trail<'_>,
     name: &str,
     out: &mut Out,
     sink: &mut W,
-)
-    ensures adds { IsContent (leaf_is leaf) (octets_in octets.now) → Adds (line (path_of trail.now) (leaf_text name.now (value (leaf_is leaf) (octets_in octets.now))))
+) -> usize
+    ensures exact { result ≡ front_octets marks.now }
+    ensures within { result ≤ length marks.now }
+    ensures adds { IsContent (leaf_is leaf) (octets_in (take result marks.now)) → Adds (line (path_of trail.now) (leaf_text name.now (value (leaf_is leaf) (octets_in (take result marks.now)))))
         (sending (W.contents sink.old) (W.is_broken sink.old) out.old) (sending (W.contents sink.new) (W.is_broken sink.new) out.new) }
     ensures stays { IsTrue (W.is_broken sink.old) → IsTrue (W.is_broken sink.new) }
 {
     match leaf {
-        LeafType::Boolean => put_line(trail, flag_text(is_set(octets)), out, sink),
-        LeafType::Integer => put_number(trail, name, number_in(octets), out, sink),
-        LeafType::Enumerated => put_number(trail, name, number_in(octets), out, sink),
-        LeafType::General => put_quoted(trail, "general \"", octets, out, sink),
-        LeafType::Visible => put_quoted(trail, "visible \"", octets, out, sink),
-        LeafType::Printable => put_quoted(trail, "\"", octets, out, sink),
-        LeafType::Date => put_plain(trail, octets, out, sink),
-        LeafType::Time => put_plain(trail, octets, out, sink),
+        LeafType::Boolean => {
+            let count = front_octets(marks);
+            put_line(trail, flag_text(is_set(&marks[..count])), out, sink);
+            count
+        }
+        LeafType::Integer => put_whole(trail, name, marks, out, sink),
+        LeafType::Enumerated => put_whole(trail, name, marks, out, sink),
+        LeafType::General => put_quoted(trail, "general \"", marks, out, sink),
+        LeafType::Visible => put_quoted(trail, "visible \"", marks, out, sink),
+        LeafType::Printable => put_quoted(trail, "\"", marks, out, sink),
+        LeafType::Date => put_plain(trail, marks, out, sink),
+        LeafType::Time => put_plain(trail, marks, out, sink),
     }
 }
 
-/// Puts the line of the default of a row that was passed, if it has one, and returns whether it has.
+/// How many marks of octets come first.
+pub fn front_octets(marks: &[Mark]) -> usize
+    ensures exact { result ≡ front_octets marks.now }
+    ensures within { result ≤ length marks.now }
+{
+    let mut count = 0;
+    for mark in marks {
+        if !is_octet(*mark) {
+            return count;
+        }
+        count += 1;
+    }
+    count
+}
+
+fn is_octet(mark: Mark) -> bool
+    ensures { result ≡ is_octet mark }
+{
+    matches!(&mark, Mark::Octet(_))
+}
+
+/// Whether a row that was passed has a default.
+pub fn has_default(part: PartId) -> bool
+    ensures { (e : Option Content) → IsPassed part e → result ≡ is_there e }
+{
+    match row(part) {
+        Some(row) => matches!(row.presence, Presence::Default(_)),
+        None => false,
+    }
+}
+
+/// Puts the line of the default of a row that was passed, if it has one.
 pub fn put_default<W: Sink>(
     part: PartId,
     trail: &Trail<'_>,
     name: &str,
     out: &mut Out,
     sink: &mut W,
-) -> bool
+)
     ensures adds { (e : Option Content) (node : NodeId) → IsPassed part e → Adds (entry_text (place_at trail.now name.now node) e)
         (sending (W.contents sink.old) (W.is_broken sink.old) out.old) (sending (W.contents sink.new) (W.is_broken sink.new) out.new) }
-    ensures there { (e : Option Content) → IsPassed part e → result ≡ is_there e }
     ensures stays { IsTrue (W.is_broken sink.old) → IsTrue (W.is_broken sink.new) }
 {
     let Some(row) = row(part) else {
-        return false;
+        return;
     };
     let Presence::Default(number) = row.presence else {
-        return false;
+        return;
     };
     put_value_of(row.node, number, trail, name, out, sink);
-    true
 }
 
 /// Puts the line of the value that the number of a default stands for.
@@ -124,6 +160,25 @@ fn has_set(mark: Mark) -> bool
     }
 }
 
+/// Puts a line with the number that the marks begin with, and returns how many octets it has.
+fn put_whole<W: Sink>(
+    trail: &Trail<'_>,
+    name: &str,
+    marks: &[Mark],
+    out: &mut Out,
+    sink: &mut W,
+) -> usize
+    ensures exact { result ≡ front_octets marks.now }
+    ensures within { result ≤ length marks.now }
+    ensures adds { 0 < length (octets_in (take result marks.now)) → length (octets_in (take result marks.now)) ≤ 8
+        → Adds (line (path_of trail.now) (leaf_text name.now (whole (integer_of (octets_in (take result marks.now)))))) (sending (W.contents sink.old) (W.is_broken sink.old) out.old) (sending (W.contents sink.new) (W.is_broken sink.new) out.new) }
+    ensures stays { IsTrue (W.is_broken sink.old) → IsTrue (W.is_broken sink.new) }
+{
+    let count = front_octets(marks);
+    put_number(trail, name, number_in(&marks[..count]), out, sink);
+    count
+}
+
 /// Puts a line with a number, and its name in the row, if it has one.
 fn put_number<W: Sink>(trail: &Trail<'_>, name: &str, number: i64, out: &mut Out, sink: &mut W)
     ensures adds { Adds (line (path_of trail.now) (signed_decimal number ++ in_brackets (number_name name.now number)))
@@ -153,33 +208,45 @@ fn put_name<W: Sink>(row: &str, number: i64, out: &mut Out, sink: &mut W)
     }
 }
 
-/// Puts a line with a string in quotation marks, after what it opens with.
+/// Puts a line with the string that the marks begin with in quotation marks, after what it opens with, and returns how many octets it has.
+#[inline(always)]
 fn put_quoted<W: Sink>(
     trail: &Trail<'_>,
     opening: &str,
-    octets: &[Mark],
+    marks: &[Mark],
     out: &mut Out,
     sink: &mut W,
-)
-    ensures adds { Adds (line (path_of trail.now) (opening.now ++ (flat_map escaped (octets_in octets.now) ++ codes "\"")))
+) -> usize
+    ensures exact { result ≡ front_octets marks.now }
+    ensures within { result ≤ length marks.now }
+    ensures adds { Adds (line (path_of trail.now) (opening.now ++ (flat_map escaped (octets_in (take result marks.now)) ++ codes "\"")))
         (sending (W.contents sink.old) (W.is_broken sink.old) out.old) (sending (W.contents sink.new) (W.is_broken sink.new) out.new) }
     ensures stays { IsTrue (W.is_broken sink.old) → IsTrue (W.is_broken sink.new) }
 {
     let _ = put_path(trail, out, sink);
     out.put(sink, b" = ");
     out.put(sink, opening.as_bytes());
-    put_escaped(octets, out, sink);
+    let count = put_escaped(marks, out, sink);
     out.put(sink, b"\"\n");
+    count
 }
 
-/// Puts the octets of a string, escaped.
-fn put_escaped<W: Sink>(octets: &[Mark], out: &mut Out, sink: &mut W)
-    ensures adds { Adds (flat_map escaped (octets_in octets.now)) (sending (W.contents sink.old) (W.is_broken sink.old) out.old) (sending (W.contents sink.new) (W.is_broken sink.new) out.new) }
+/// Puts the octets that come first, escaped, and returns how many there are.
+fn put_escaped<W: Sink>(marks: &[Mark], out: &mut Out, sink: &mut W) -> usize
+    ensures exact { result ≡ front_octets marks.now }
+    ensures within { result ≤ length marks.now }
+    ensures adds { Adds (flat_map escaped (octets_in (take result marks.now))) (sending (W.contents sink.old) (W.is_broken sink.old) out.old) (sending (W.contents sink.new) (W.is_broken sink.new) out.new) }
     ensures stays { IsTrue (W.is_broken sink.old) → IsTrue (W.is_broken sink.new) }
 {
-    for mark in octets {
+    let mut count = 0;
+    for mark in marks {
+        if !is_octet(*mark) {
+            return count;
+        }
         put_escaped_mark(*mark, out, sink);
+        count += 1;
     }
+    count
 }
 
 fn put_escaped_mark<W: Sink>(mark: Mark, out: &mut Out, sink: &mut W)
@@ -197,6 +264,18 @@ fn put_octet<W: Sink>(octet: u8, out: &mut Out, sink: &mut W)
     ensures stays { IsTrue (W.is_broken sink.old) → IsTrue (W.is_broken sink.new) }
 {
     match octet {
+        b' ' | b'!' | b'#'..=b'[' | b']'..=b'~' => out.put(sink, &[octet]),
+        _ => put_escape(octet, out, sink),
+    }
+}
+
+/// Puts an octet that isn't put as it is.
+#[inline(never)]
+fn put_escape<W: Sink>(octet: u8, out: &mut Out, sink: &mut W)
+    ensures adds { Adds (escaped octet) (sending (W.contents sink.old) (W.is_broken sink.old) out.old) (sending (W.contents sink.new) (W.is_broken sink.new) out.new) }
+    ensures stays { IsTrue (W.is_broken sink.old) → IsTrue (W.is_broken sink.new) }
+{
+    match octet {
         b'"' | b'\\' => out.put(sink, &[b'\\', octet]),
         b' '..=b'~' => out.put(sink, &[octet]),
         _ => {
@@ -207,25 +286,36 @@ fn put_octet<W: Sink>(octet: u8, out: &mut Out, sink: &mut W)
     }
 }
 
-/// Puts a line with the octets as they are.
-fn put_plain<W: Sink>(trail: &Trail<'_>, octets: &[Mark], out: &mut Out, sink: &mut W)
-    ensures adds { Adds (line (path_of trail.now) (octets_in octets.now)) (sending (W.contents sink.old) (W.is_broken sink.old) out.old) (sending (W.contents sink.new) (W.is_broken sink.new) out.new) }
+/// Puts a line with the octets that come first as they are, and returns how many there are.
+fn put_plain<W: Sink>(trail: &Trail<'_>, marks: &[Mark], out: &mut Out, sink: &mut W) -> usize
+    ensures exact { result ≡ front_octets marks.now }
+    ensures within { result ≤ length marks.now }
+    ensures adds { Adds (line (path_of trail.now) (octets_in (take result marks.now))) (sending (W.contents sink.old) (W.is_broken sink.old) out.old) (sending (W.contents sink.new) (W.is_broken sink.new) out.new) }
     ensures stays { IsTrue (W.is_broken sink.old) → IsTrue (W.is_broken sink.new) }
 {
     let _ = put_path(trail, out, sink);
     out.put(sink, b" = ");
-    put_octets(octets, out, sink);
+    let count = put_octets(marks, out, sink);
     out.put(sink, b"\n");
+    count
 }
 
-/// Puts the octets as they are.
-fn put_octets<W: Sink>(octets: &[Mark], out: &mut Out, sink: &mut W)
-    ensures adds { Adds (octets_in octets.now) (sending (W.contents sink.old) (W.is_broken sink.old) out.old) (sending (W.contents sink.new) (W.is_broken sink.new) out.new) }
+/// Puts the octets that come first as they are, and returns how many there are.
+fn put_octets<W: Sink>(marks: &[Mark], out: &mut Out, sink: &mut W) -> usize
+    ensures exact { result ≡ front_octets marks.now }
+    ensures within { result ≤ length marks.now }
+    ensures adds { Adds (octets_in (take result marks.now)) (sending (W.contents sink.old) (W.is_broken sink.old) out.old) (sending (W.contents sink.new) (W.is_broken sink.new) out.new) }
     ensures stays { IsTrue (W.is_broken sink.old) → IsTrue (W.is_broken sink.new) }
 {
-    for mark in octets {
+    let mut count = 0;
+    for mark in marks {
+        if !is_octet(*mark) {
+            return count;
+        }
         put_mark(*mark, out, sink);
+        count += 1;
     }
+    count
 }
 
 fn put_mark<W: Sink>(mark: Mark, out: &mut Out, sink: &mut W)
@@ -246,16 +336,7 @@ pub fn number_in(octets: &[Mark]) -> i64
     if octets.is_empty() {
         return 0;
     }
-    whole(octets.as_slice())
-}
-
-/// The number that the octets are in two's complement.
-fn whole(octets: &[u8]) -> i64
-    requires some { 0 < length octets.now }
-    requires few { length octets.now ≤ 8 }
-    ensures { result ≡ integer_of octets.now }
-{
-    i64::from_be_bytes(extended(octets))
+    Whole::read(octets.as_slice())
 }
 
 /// The octets, where they are eight at most.
@@ -278,16 +359,4 @@ fn push_mark(octets: &mut ArrayVec<u8, 8>, mark: Mark)
         }
         _ => {}
     }
-}
-
-/// The octets after as many copies of their sign octet as make eight in all.
-fn extended(octets: &[u8]) -> [u8; 8]
-    requires some { 0 < length octets.now }
-    requires few { length octets.now ≤ 8 }
-    ensures { result ≡ replicate (8 - length octets.now) (sign_octet octets.now) ++ octets.now }
-{
-    let sign = if octets[0] < 0x80 { 0x00 } else { 0xFF };
-    let mut bytes = [sign; 8];
-    bytes[8 - octets.len()..].copy_from_slice(octets);
-    bytes
 }

@@ -16,9 +16,9 @@ mod show;
 mod text;
 mod trail;
 
-pub use leaf::{is_set, number_in};
+pub use leaf::{front_octets, is_set, number_in};
 pub use message::show_text;
 pub use number::number_name;
 pub use part::{row_name, row_node};
-pub use show::{after_first, alternative, at_end, first_mark, front_octets, passed};
+pub use show::{after_first, alternative, at_end, first_mark, passed};
 pub use text::Text;

@@ -1,11 +1,11 @@
 //! Text on its way to a sink.
-ghost use Rattle.std.specs.Prelude.{◌≤◌};
+ghost use Rattle.std.specs.Prelude.{◌≡◌, ◌≤◌, true};
 
 use ber_core::Sink;
 use ill_write::put_all;
 
 /// How many octets wait at most.
-const ROOM: usize = 512;
+const ROOM: usize = 1024;
 
 /// How far a text is written: the octets that wait until there are more, and how many the sink has taken. Once the sink broke nothing
 /// more is put.
@@ -15,12 +15,13 @@ pub struct Out {
     len: usize,
     written: usize,
     broken: bool,
-    ghost within: { len ≤ 512 },
+    ghost within: { len ≤ 1024 },
+    ghost full: { broken ≡ true → len ≡ 1024 },
 }
 
 impl Out {
-    ghost use Rattle.std.specs.Prelude.{◌≡◌, ◌+◌, ◌-◌, ◌<◌, List, [], Option, length, false, IsTrue};
-    ghost use Rattle.ill_text.specs.code.Sending.{Adds, Stands, sending};
+    ghost use Rattle.std.specs.Prelude.{◌≡◌, ◌+◌, ◌-◌, ◌<◌, List, [], Option, length, false, true, IsTrue};
+    ghost use Rattle.ill_text.specs.code.Sending.{Adds, Stands, counted, sending};
 
     /// Nothing is put yet.
     pub fn new() -> Out
@@ -62,11 +63,18 @@ impl Out {
                 self.written = self.written.saturating_add(self.len);
                 self.len = 0;
             }
-            Err(count) => {
-                self.written = self.written.saturating_add(count);
-                self.broken = true;
-            }
+            Err(count) => self.end(count),
         }
+    }
+
+    /// Counts what the sink took before it broke. No room is left, so nothing more is put.
+    fn end(&mut self, count: usize)
+        ensures written { self.new.written ≡ counted (self.old.written + count) }
+        ensures broke { self.new.broken ≡ true }
+    {
+        self.written = self.written.saturating_add(count);
+        self.len = ROOM;
+        self.broken = true;
     }
 
     /// Puts octets where none wait.
@@ -78,10 +86,7 @@ impl Out {
     {
         match put_all(sink, octets) {
             Ok(()) => self.written = self.written.saturating_add(octets.len()),
-            Err(count) => {
-                self.written = self.written.saturating_add(count);
-                self.broken = true;
-            }
+            Err(count) => self.end(count),
         }
     }
 
@@ -91,7 +96,7 @@ impl Out {
         ensures adds { Adds octets.now (sending (W.contents sink.old) (W.is_broken sink.old) self.old) (sending (W.contents sink.new) (W.is_broken sink.new) self.new) }
         ensures stays { IsTrue (W.is_broken sink.old) → IsTrue (W.is_broken sink.new) }
     {
-        if !self.broken && octets.len() <= ROOM - self.len {
+        if octets.len() <= ROOM - self.len {
             self.keep(octets);
             return;
         }
@@ -115,10 +120,9 @@ impl Out {
         self.keep(octets);
     }
 
-    /// Keeps octets for which there is room.
+    /// Keeps octets for which there is room. There is none once the sink broke.
     fn keep(&mut self, octets: &[u8])
-        requires whole { self.old.broken ≡ false }
-        requires room { self.old.len + length octets.now ≤ 512 }
+        requires room { self.old.len + length octets.now ≤ 1024 }
         ensures { (reported : Option (List _)) (b : _) → Adds octets.now (sending reported b self.old) (sending reported b self.new) }
     {
         let end = self.len + octets.len();

@@ -1,9 +1,9 @@
 //! Outlines as lines.
-ghost use Rattle.std.specs.Prelude.{◌≡◌, ◌<◌, ◌≤◌, ℕ, List, [], ◌∷◌, ◌++◌, length, map, drop, slice_get, IsTrue, Option};
+ghost use Rattle.std.specs.Prelude.{◌≡◌, ◌<◌, ◌≤◌, ℕ, List, [], ◌∷◌, ◌++◌, length, map, drop, not, slice_get, IsTrue, Option};
 ghost use Rattle.ill_schema.specs.Content.{Content, Entries, Items, sequence, list};
 ghost use Rattle.ill_read.specs.Outline.{AreEntries, AreItems, IsMarked};
 ghost use Rattle.ill_read.specs.declared.mark.Mark.{Mark};
-ghost use Rattle.ill_text.specs.code.Marks.{IsEntry, alternative_in, entry_text, front_octets, is_at_end, is_octet, is_there, passed_in};
+ghost use Rattle.ill_text.specs.code.Marks.{IsEntry, alternative_in, entry_text, is_at_end, is_there, passed_in};
 ghost use Rattle.ill_text.specs.code.Sending.{Adds, sending};
 ghost use Rattle.ill_text.specs.code.Trails.{path_of, place_at};
 ghost use Rattle.ill_text.specs.Shown.{item_of, leaf_text, line, lines_of, part};
@@ -11,7 +11,7 @@ ghost use Rattle.ber_leaf.specs.Content.{IsContent};
 ghost use Rattle.ber_leaf.specs.Leaf.{value};
 ghost use Rattle.ill_elements.specs.LeafTypes.{leaf_is};
 
-use crate::leaf::{put_default, put_leaf};
+use crate::leaf::{has_default, put_default, put_leaf};
 use crate::outgoing::Out;
 use crate::part::{row_name, row_node};
 use crate::trail::{Trail, put_line};
@@ -21,6 +21,7 @@ use ill_schema::{NodeId, PartId};
 
 /// Puts the lines of the value that the marks begin with, of this node in a row of this name, and returns the marks after it.
 #[cycle(show)]
+#[inline(always)]
 pub fn put_value<'m, W: Sink>(
     marks: &'m [Mark],
     trail: &Trail<'_>,
@@ -42,10 +43,10 @@ pub fn put_value<'m, W: Sink>(
     match first {
         Mark::Leaf(leaf) => put_marked_leaf(leaf, rest, trail, name, out, sink),
         Mark::Passed(part) => {
-            let _ = put_default(part, trail, name, out, sink);
+            put_default(part, trail, name, out, sink);
             rest
         }
-        Mark::Alternative(row) => put_part(rest, trail, node, row as usize, out, sink),
+        Mark::Alternative(row) => put_alternative(rest, trail, node, row, out, sink),
         Mark::Sequence => put_entries(rest, trail, name, node, out, sink),
         Mark::List => put_items(rest, trail, name, node, out, sink),
         Mark::Octet(_) => rest,
@@ -54,6 +55,7 @@ pub fn put_value<'m, W: Sink>(
 }
 
 /// Puts the line of a leaf whose octets the marks begin with, and returns the marks after it.
+#[inline(always)]
 fn put_marked_leaf<'m, W: Sink>(
     leaf: LeafType,
     marks: &'m [Mark],
@@ -67,34 +69,33 @@ fn put_marked_leaf<'m, W: Sink>(
     ensures shorter { length result.now ≤ length marks.now }
     ensures stays { IsTrue (W.is_broken sink.old) → IsTrue (W.is_broken sink.new) }
 {
-    let count = front_octets(marks);
-    put_leaf(leaf, &marks[..count], trail, name, out, sink);
+    let count = put_leaf(leaf, marks, trail, name, out, sink);
     &marks[(count + 1).min(marks.len())..]
 }
 
-/// How many marks of octets come first.
-pub fn front_octets(marks: &[Mark]) -> usize
-    ensures exact { result ≡ front_octets marks.now }
-    ensures within { result ≤ length marks.now }
+/// Puts the lines of the alternative of a choice that is in a row.
+#[cycle(show)]
+#[inline(never)]
+fn put_alternative<'m, W: Sink>(
+    marks: &'m [Mark],
+    trail: &Trail<'_>,
+    node: NodeId,
+    row: u8,
+    out: &mut Out,
+    sink: &mut W,
+) -> &'m [Mark]
+    ensures adds { (c : Content) (ms rest : List Mark) → IsMarked c ms → marks.now ≡ ms ++ rest → (result.now ≡ rest)
+        × Adds (lines_of (part (place_at trail.now [] node) row) c) (sending (W.contents sink.old) (W.is_broken sink.old) out.old) (sending (W.contents sink.new) (W.is_broken sink.new) out.new) }
+    ensures shorter { 0 < length marks.now → length result.now < length marks.now }
+    ensures no_longer { length result.now ≤ length marks.now }
+    ensures stays { IsTrue (W.is_broken sink.old) → IsTrue (W.is_broken sink.new) }
 {
-    let mut count = 0;
-    for mark in marks {
-        if !is_octet(*mark) {
-            return count;
-        }
-        count += 1;
-    }
-    count
-}
-
-fn is_octet(mark: Mark) -> bool
-    ensures { result ≡ is_octet mark }
-{
-    matches!(&mark, Mark::Octet(_))
+    put_part(marks, trail, node, row as usize, out, sink)
 }
 
 /// Puts the lines of the value in a row.
 #[cycle(show)]
+#[inline(always)]
 fn put_part<'m, W: Sink>(
     marks: &'m [Mark],
     trail: &Trail<'_>,
@@ -129,19 +130,25 @@ fn put_entry<'m, W: Sink>(
     ensures shorter { 0 < length marks.now → length result.0.now < length marks.now }
     ensures stays { IsTrue (W.is_broken sink.old) → IsTrue (W.is_broken sink.new) }
 {
+    if is_absent(marks) {
+        return (after_first(marks), false);
+    }
+    (put_part(marks, trail, node, i, out, sink), true)
+}
+
+/// Whether a row that has no default was passed.
+fn is_absent(marks: &[Mark]) -> bool
+    ensures { (e : Option Content) (ms rest : List Mark) → IsEntry e ms → marks.now ≡ ms ++ rest → result ≡ not (is_there e) }
+{
     match passed(marks) {
-        Some(part) => {
-            let name = row_name(node, i);
-            let inside = Trail::Row(&*trail, name);
-            let there = put_default(part, &inside, name, out, sink);
-            (after_first(marks), there)
-        }
-        None => (put_part(marks, trail, node, i, out, sink), true),
+        Some(part) => !has_default(part),
+        None => false,
     }
 }
 
 /// Puts the lines of the entries that the marks begin with, up to their end, and returns the marks after it.
 #[cycle(show)]
+#[inline(never)]
 fn put_entries<'m, W: Sink>(
     marks: &'m [Mark],
     trail: &Trail<'_>,
@@ -173,6 +180,7 @@ fn put_entries<'m, W: Sink>(
 
 /// Puts the lines of the items that the marks begin with, up to their end, and returns the marks after it.
 #[cycle(show)]
+#[inline(never)]
 fn put_items<'m, W: Sink>(
     marks: &'m [Mark],
     trail: &Trail<'_>,

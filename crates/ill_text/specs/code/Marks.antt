@@ -1,11 +1,11 @@
 -- What marks say to who shows them.
-use Rattle.std.specs.Prelude.{◌≡◌, ℕ, suc, Bool, true, false, List, [], ◌∷◌, ◌++◌, Option, Some, None, Result, codes, if◌then◌else◌}
-use Rattle.ill_schema.specs.Content.{Content, Entries, no_entries, absent, present}
+use Rattle.std.specs.Prelude.{◌≡◌, ℕ, suc, Bool, true, false, List, [], ◌∷◌, Option, Some, None}
+use Rattle.ill_schema.specs.Content.{Content}
 use Rattle.ill_schema.specs.declared.part.PartId.{PartId}
 use Rattle.ill_read.specs.Outline.{IsMarked, IsPassed}
 use Rattle.ill_read.specs.declared.mark.Mark.{Mark}
 use Rattle.ill_read.specs.declared.mark.Mark.TheVariants as mark
-use Rattle.ill_text.specs.Shown.{Place, part, lines_of, item_of}
+use Rattle.ill_text.specs.Shown.{Place, part, lines_of}
 
 -- the octets of a leaf
 abbrev pub octets_in : List Mark → List ℕ

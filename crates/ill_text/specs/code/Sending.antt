@@ -1,5 +1,5 @@
 -- A text that is put into a sink, part by part.
-use Rattle.std.specs.Prelude.{◌≡◌, ℕ, ◌+◌, ◌-◌, ◌^◌, ◌<◌, min, Bool, true, false, List, ◌++◌, length, take, Option, IsTrue}
+use Rattle.std.specs.Prelude.{◌≡◌, ℕ, ◌-◌, ◌^◌, ◌<◌, min, Bool, true, false, List, ◌++◌, length, take, Option, IsTrue}
 use Rattle.std.specs.Io.KnownBytes.{Appends}
 use Rattle.ill_text.specs.declared.outgoing.Out.{Out}
 

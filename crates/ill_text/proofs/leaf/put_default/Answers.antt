@@ -1,9 +1,8 @@
-use Rattle.std.proofs.Common.{◌≡◌, ◌∙◌, ap, sym, subst, None, Option}
+use Rattle.std.proofs.Common.{◌∙◌, ap, sym, Option}
 use Rattle.ill_schema.specs.Content.{Content}
-use Rattle.ill_schema.specs.declared.part.Row.{Row}
 use Rattle.ill_elements.specs.Contents.{absent_content}
 use Rattle.ill_read.specs.Outline.{IsPassed}
-use Rattle.ill_text.specs.code.Marks.{entry_text, is_there}
+use Rattle.ill_text.specs.code.Marks.{entry_text}
 use Rattle.ill_text.specs.code.Trails.{place_at}
 use Rattle.ill_text.proofs.Lines.{no_default, same_row}
 use Rattle.ill_text.proofs.Sent.{adds_as, adds_nothing}
@@ -15,6 +14,5 @@ returns-in_default-presence g c =
     (ap absent_content (same_row _ c.in-Some.row h.0 (sym c.row.ensures ∙ c.in-Some.is) h.1) ∙ h.2) in
     record {
       adds = λ e node h. adds_as _ _ _ _ (ap (entry_text (place_at c.args.trail.now c.args.name.now node)) (sym (none e h))) (adds_nothing _);
-      there = λ e h. ap is_there (sym (none e h));
       stays = λ h. h;
     }

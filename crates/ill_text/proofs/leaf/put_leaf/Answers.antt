@@ -1,8 +1,6 @@
-use Rattle.std.proofs.Common.{◌∙◌, ap, sym, subst, ℤ, rules, FitsSigned, w64}
-use Rattle.std.proofs.lemmas.Int.{to_z-of_z}
+use Rattle.std.proofs.Common.{ap, sym, subst, take}
 use Rattle.ber_leaf.specs.Content.{IsContent}
 use Rattle.ber_leaf.specs.Leaf.{value}
-use Rattle.ber_leaf.specs.Simple.{whole}
 use Rattle.ill_elements.specs.LeafTypes.{leaf_is}
 use Rattle.ill_text.specs.Shown.{leaf_text, line}
 use Rattle.ill_text.specs.code.Marks.{octets_in}
@@ -13,20 +11,12 @@ use Rattle.ill_text.proofs.leaf.put_leaf.Goals as goal
 
 pub returns-in-Integer-clause-adds : goal.returns-in-Integer-clause-adds
 returns-in-Integer-clause-adds g c h =
-    let o = octets_in c.args.octets.now in
-    let p = path_of c.args.trail.now in
-    let content = subst (λ l. IsContent (leaf_is l) o) c.in-Integer.is h in
-    let few = few_octets o content in
-    let fits : FitsSigned w64 c.number_in.result = search rules in
-    let n = to_z-of_z w64 c.number_in.result fits ∙ c.number_in.ensures few.0 few.1 in
-    adds_as _ _ _ _ (ap (λ (z : ℤ). line p (leaf_text c.args.name.now (whole z))) n ∙ ap (λ l. line p (leaf_text c.args.name.now (value (leaf_is l) o))) (sym c.in-Integer.is)) c.put_number.ensures.adds
+    let o = octets_in (take c.put_whole.result c.args.marks.now) in
+    let few = few_octets o (subst (λ l. IsContent (leaf_is l) o) c.in-Integer.is h) in
+    adds_as _ _ _ _ (ap (λ l. line (path_of c.args.trail.now) (leaf_text c.args.name.now (value (leaf_is l) o))) (sym c.in-Integer.is)) (c.put_whole.ensures.adds few.0 few.1)
 
 pub returns-in-Enumerated-clause-adds : goal.returns-in-Enumerated-clause-adds
 returns-in-Enumerated-clause-adds g c h =
-    let o = octets_in c.args.octets.now in
-    let p = path_of c.args.trail.now in
-    let content = subst (λ l. IsContent (leaf_is l) o) c.in-Enumerated.is h in
-    let few = few_enumerated o content in
-    let fits : FitsSigned w64 c.number_in-in-Enumerated.result = search rules in
-    let n = to_z-of_z w64 c.number_in-in-Enumerated.result fits ∙ c.number_in-in-Enumerated.ensures few.0 few.1 in
-    adds_as _ _ _ _ (ap (λ (z : ℤ). line p (leaf_text c.args.name.now (whole z))) n ∙ ap (λ l. line p (leaf_text c.args.name.now (value (leaf_is l) o))) (sym c.in-Enumerated.is)) c.put_number-in-Enumerated.ensures.adds
+    let o = octets_in (take c.put_whole-in-Enumerated.result c.args.marks.now) in
+    let few = few_enumerated o (subst (λ l. IsContent (leaf_is l) o) c.in-Enumerated.is h) in
+    adds_as _ _ _ _ (ap (λ l. line (path_of c.args.trail.now) (leaf_text c.args.name.now (value (leaf_is l) o))) (sym c.in-Enumerated.is)) (c.put_whole-in-Enumerated.ensures.adds few.0 few.1)

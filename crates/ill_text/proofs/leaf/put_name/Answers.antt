@@ -1,4 +1,4 @@
-use Rattle.std.proofs.Common.{Some, None, sym, ap, ◌∙◌, ℤ, rules, FitsSigned, w64}
+use Rattle.std.proofs.Common.{Some, sym, ap, ◌∙◌, ℤ, rules, FitsSigned, w64}
 use Rattle.std.proofs.lemmas.Int.{to_z-of_z}
 use Rattle.ill_text.specs.Numbers.{number_name}
 use Rattle.ill_text.specs.Shown.{in_brackets}

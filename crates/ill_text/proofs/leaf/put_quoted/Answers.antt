@@ -1,4 +1,4 @@
-use Rattle.std.proofs.Common.{◌∙◌, ◌++◌, ap, List, ℕ, codes}
+use Rattle.std.proofs.Common.{◌∙◌, ◌++◌, ap, List, ℕ, codes, take}
 use Rattle.std.specs.Prelude.{flat_map}
 use Rattle.ill_text.specs.Shown.{escaped}
 use Rattle.ill_text.specs.code.Marks.{octets_in}
@@ -10,6 +10,6 @@ use Rattle.ill_text.proofs.leaf.put_quoted.Goals as goal
 pub returns-clause-adds : goal.returns-clause-adds
 returns-clause-adds g c =
     let p = path_of c.args.trail.now in
-    let e = flat_map escaped (octets_in c.args.octets.now) in
+    let e = flat_map escaped (octets_in (take c.put_escaped-count.result c.args.marks.now)) in
     adds_as _ _ _ _ (ap (λ (o : List ℕ). p ++ codes " = " ++ o ++ e ++ codes "\"\n") c.as_bytes.ensures.value ∙ line_quoted p c.args.opening.now e)
-    (adds_then _ _ _ _ _ (adds_then _ _ _ _ _ (adds_then _ _ _ _ _ (adds_then _ _ _ _ _ c.put_path.ensures.adds c.put.ensures.adds) c.put-2.ensures.adds) c.put_escaped.ensures.adds) c.put-3.ensures.adds)
+    (adds_then _ _ _ _ _ (adds_then _ _ _ _ _ (adds_then _ _ _ _ _ (adds_then _ _ _ _ _ c.put_path.ensures.adds c.put.ensures.adds) c.put-2.ensures.adds) c.put_escaped-count.ensures.adds) c.put-3.ensures.adds)

@@ -1,8 +1,5 @@
-use Rattle.std.proofs.Common.{◌≡◌, ◌∙◌, ◌++◌, ap, sym, subst, List, ℕ, Some, Option}
+use Rattle.std.proofs.Common.{subst, Some}
 use Rattle.std.specs.Io.KnownBytes.{Consumes}
-use Rattle.ber_leaf.specs.Profile.{profile_two}
-use Rattle.ill_schema.specs.Apdu.{Apdu, SpellsApdu, choice_of}
-use Rattle.ill_read.specs.Outline.{IsOutlineOf}
 use Rattle.ill_text.proofs.Messages.{one_outline}
 use Rattle.ill_text.proofs.message.outline_of.Goals as goal
 

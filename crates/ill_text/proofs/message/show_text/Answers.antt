@@ -1,6 +1,6 @@
-use Rattle.std.proofs.Common.{◌∙◌, ap, sym, subst, arith, ◌<◌, ◌^◌}
+use Rattle.std.proofs.Common.{◌∙◌, sym, subst}
 use Rattle.ber_leaf.specs.Profile.{profile_two}
-use Rattle.ill_schema.specs.Apdu.{SpellsApdu, normal_form}
+use Rattle.ill_schema.specs.Apdu.{SpellsApdu}
 use Rattle.ill_schema.specs.Message.{apdu_of}
 use Rattle.ill_text.specs.Shown.{shown_text}
 use Rattle.ill_text.proofs.Messages.{message_spells}

@@ -1,12 +1,9 @@
-use Rattle.std.proofs.Common.{◌≡◌, ◌<◌, ◌+◌, ◌∙◌, refl, ap, sym, subst, true, false, not, ◌++◌, ◌∷◌, List, [], Some, None, length, drop, slice_get, arith, rules, Bool, ℕ, codes}
-use Rattle.ill_schema.specs.Content.{Content, simple, sequence, list, alternative}
-use Rattle.ill_read.specs.declared.mark.Mark.{Mark}
+use Rattle.std.proofs.Common.{◌≡◌, ◌∙◌, refl, ap, sym, true, false, not, ◌∷◌, [], Some, drop, arith, rules, Bool}
 use Rattle.ill_read.specs.declared.mark.Mark.TheVariants as mark
-use Rattle.ill_text.specs.Shown.{lines_of, part, row_node}
-use Rattle.ill_text.specs.code.Marks.{entry_text, is_at_end, is_there}
-use Rattle.ill_text.specs.code.Sending.{Adds, sending}
+use Rattle.ill_text.specs.Shown.{lines_of, part}
+use Rattle.ill_text.specs.code.Marks.{entry_text, is_there}
 use Rattle.ill_text.specs.code.Trails.{place_at}
-use Rattle.ill_text.proofs.Lines.{alternative_first, entries_ended, entries_more, entries_none, entry_passed, entry_value, item_place, items_end, items_line, items_more, items_none, items_some, leaf_first, list_first, no_mark, none_begins, not_some, nothing_begins, part_place, passed_first, sequence_first, sequence_none, sequence_some, some_left, starts}
+use Rattle.ill_text.proofs.Lines.{alternative_first, entries_ended, entries_more, entries_none, entry_absent, entry_there, item_place, items_end, items_line, items_more, items_none, items_some, leaf_first, list_first, no_mark, none_begins, not_false, not_some, not_true, nothing_begins, part_place, passed_first, sequence_first, sequence_none, sequence_some, some_left, starts}
 use Rattle.ill_text.proofs.Sent.{adds_as, adds_nothing}
 use Rattle.ill_text.proofs.show.+show.Goals as goal
 
@@ -60,18 +57,16 @@ put_item-returns-clause-adds g t c x ms rest h e =
     let done = c.put_value.ensures.adds x ms rest h e in
     (done.0, adds_as _ _ _ _ (ap (λ p. lines_of p x) (item_place c.args.trail c.args.name.now c.args.node c.row_node.result c.args.i c.row_node.ensures)) done.1)
 
-pub put_entry-returns-in-Some-clause-adds : goal.put_entry-returns-in-Some-clause-adds
-put_entry-returns-in-Some-clause-adds g t c e ms rest h q =
-    let is = entry_passed e ms rest c.args.marks.now c.in-Some.part h q (sym c.passed.ensures ∙ c.in-Some.is) in
-    let inner = row_node c.args.node c.args.i in (
-      c.after_first.ensures ∙ is.1,
-      c.put_default-there.ensures.there e is.0,
-      adds_as _ _ _ _ (ap (λ p. entry_text p e) (part_place c.args.trail c.row_name-name.result c.args.node inner c.args.i c.row_name-name.ensures refl)) (c.put_default-there.ensures.adds e inner is.0),
-    )
+pub put_entry-returns-then-is_absent-clause-adds : goal.put_entry-returns-then-is_absent-clause-adds
+put_entry-returns-then-is_absent-clause-adds g t c e ms rest h q =
+    let yes : c.is_absent.result ≡ true = search rules in
+    let a = entry_absent e ms rest c.args.marks.now h q (not_true (is_there e) _ (c.is_absent.ensures e ms rest h q) yes) in
+    (c.after_first.ensures ∙ a.1, sym (ap is_there a.0), adds_as _ _ _ _ (ap (entry_text (part (place_at c.args.trail.now [] c.args.node) c.args.i)) (sym a.0)) (adds_nothing _))
 
-pub put_entry-returns-in-None-clause-adds : goal.put_entry-returns-in-None-clause-adds
-put_entry-returns-in-None-clause-adds g t c e ms rest h q =
-    let v = entry_value e ms rest c.args.marks.now h q (sym c.passed.ensures ∙ c.in-None.is) in
+pub put_entry-returns-clause-adds : goal.put_entry-returns-clause-adds
+put_entry-returns-clause-adds g t c e ms rest h q =
+    let no : c.is_absent.result ≡ false = search rules in
+    let v = entry_there e ms h (not_false (is_there e) _ (c.is_absent.ensures e ms rest h q) no) in
     let done = c.put_part.ensures.adds v.0 ms rest v.2 q in
     (done.0, sym (ap is_there v.1), adds_as _ _ _ _ (ap (entry_text (part (place_at c.args.trail.now [] c.args.node) c.args.i)) (sym v.1)) done.1)
 
@@ -134,7 +129,7 @@ put_value-returns-in-Alternative-clause-adds g t c x ms rest h q =
     let tail = drop 1 c.args.marks.now in
     let all = starts c.args.marks.now c.in-Some.first (sym c.first_mark.ensures ∙ c.in-Some.is) ∙ ap (λ m. m ∷ tail) c.in-Alternative.is in
     let f = alternative_first x ms rest tail c.in-Alternative.row h (sym all ∙ q) in
-    let done = c.put_part.ensures.adds f.0 f.1 rest f.3 (c.after_first-rest.ensures ∙ f.4) in
+    let done = c.put_alternative.ensures.adds f.0 f.1 rest f.3 (c.after_first-rest.ensures ∙ f.4) in
     (done.0, adds_as _ _ _ _ (ap (lines_of (place_at c.args.trail.now c.args.name.now c.args.node)) (sym f.2)) done.1)
 
 pub put_value-returns-in-Sequence-clause-adds : goal.put_value-returns-in-Sequence-clause-adds

@@ -1,4 +1,4 @@
-use Rattle.std.proofs.Common.{◌≡◌, ◌+◌, ◌*◌, ◌≤◌, ◌<◌, ◌++◌, ◌∷◌, ℕ, List, [], length, IsTrue}
+use Rattle.std.proofs.Common.{◌≡◌, ◌+◌, ◌*◌, ◌≤◌, ◌++◌, ◌∷◌, List, length, IsTrue}
 use Rattle.ill_schema.specs.Content.{Entries, Items}
 use Rattle.ill_read.specs.Outline.{AreEntries, AreItems}
 use Rattle.ill_read.specs.declared.mark.Mark.{Mark}
@@ -13,6 +13,9 @@ decreases-put_value g l = 4 * length l.marks.now
 
 abbrev pub decreases-put_part : goal.decreases-put_part
 decreases-put_part g l = 4 * length l.marks.now + 1
+
+abbrev pub decreases-put_alternative : goal.decreases-put_alternative
+decreases-put_alternative g l = 4 * length l.marks.now + 2
 
 abbrev pub decreases-put_item : goal.decreases-put_item
 decreases-put_item g l = 4 * length l.marks.now + 1

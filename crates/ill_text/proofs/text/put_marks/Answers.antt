@@ -1,4 +1,4 @@
-use Rattle.std.proofs.Common.{◌≡◌, ◌∙◌, ◌++◌, ◌-◌, ap, ap₂, sym, append-nil, Some, None, drop, [], List, ℕ, Option}
+use Rattle.std.proofs.Common.{◌≡◌, ◌∙◌, ◌++◌, ◌-◌, ap, ap₂, sym, append-nil, Some, None, drop, [], List, ℕ}
 use Rattle.ill_schema.specs.declared.node.NodeId.{NodeId}
 use Rattle.ill_text.specs.Shown.{Place, lines_of}
 use Rattle.ill_text.specs.code.Marks.{alternative_in}

@@ -1,5 +1,4 @@
 use Rattle.std.proofs.Common.{◌≡◌, ◌∙◌, ◌++◌, ap, sym, codes, List, ℕ, rules, true, false}
-use Rattle.ill_text.specs.Shown.{within}
 use Rattle.ill_text.specs.code.Trails.{path_of, is_nothing}
 use Rattle.ill_text.proofs.Lines.{not_false, not_true, path_of-Start, path_of-Row, path_of-Item, within_some, within_none}
 use Rattle.ill_text.proofs.Sent.{adds_as, adds_nothing, adds_then}

@@ -1,4 +1,4 @@
-use Rattle.std.proofs.Common.{◌≡◌, ◌≤◌, ◌+◌, true, false, refl, length, IsTrue, arith, rules}
+use Rattle.std.proofs.Common.{◌≡◌, ◌≤◌, ◌+◌, true, false, refl, length, arith, rules}
 use Rattle.ill_text.specs.code.Sending.{counted}
 use Rattle.ill_text.proofs.Sent.{adds_broken, flushed_all, flushed_some}
 use Rattle.ill_text.proofs.outgoing.Out.flush.Goals as goal
@@ -18,5 +18,4 @@ pub returns-in-Err-clause-adds : goal.returns-in-Err-clause-adds
 returns-in-Err-clause-adds g c =
     let o = c.args.self.now in
     let whole : o.broken ≡ false = search rules in
-    let n : c.saturating_add-self-in-Err.result ≡ counted (o.written + c.in-Err.count) = omega (arith, c.saturating_add-self-in-Err.ensures) in
-    flushed_some _ _ _ _ o _ c.in-Err.count whole refl c.in-Err.ensures.some c.in-Err.ensures.fewer n (c.in-Err.ensures.breaks refl)
+    flushed_some _ _ _ _ o _ c.in-Err.count whole c.end.ensures.broke c.in-Err.ensures.some c.in-Err.ensures.fewer c.end.ensures.written (c.in-Err.ensures.breaks refl)

@@ -10,4 +10,4 @@ returns c reported b =
     let same : c.copy_from_slice.new.self ≡ xs = search rules in
     let bound : p.len ≤ length p.waiting = search rules in
     let w = take-put_mid p.len (p.len + length xs - p.len) p.waiting c.copy_from_slice.new.self (p.len + length xs) (ap (λ z. p.len + length z) (sym same)) bound ∙ ap (λ z. take p.len p.waiting ++ z) same in
-    kept xs reported b p _ c.requires.whole c.requires.whole w refl
+    kept xs reported b p _ refl w refl

@@ -1,4 +1,4 @@
-use Rattle.std.proofs.Common.{◌≡◌, true, false, [], rules}
+use Rattle.std.proofs.Common.{◌≡◌, true, [], rules}
 use Rattle.ill_text.proofs.Sent.{adds_broken, adds_then}
 use Rattle.ill_text.proofs.outgoing.Out.put_more.Goals as goal
 

@@ -12,5 +12,4 @@ returns-in-Ok-clause-adds g c =
 pub returns-in-Err-clause-adds : goal.returns-in-Err-clause-adds
 returns-in-Err-clause-adds g c =
     let o = c.args.self.now in
-    let n : c.saturating_add-self-in-Err.result ≡ counted (o.written + c.in-Err.count) = omega (arith, c.saturating_add-self-in-Err.ensures) in
-    empty_some c.args.octets.now _ _ _ _ o _ c.in-Err.count c.requires.empty c.requires.whole refl c.in-Err.ensures.some c.in-Err.ensures.fewer n (c.in-Err.ensures.breaks refl)
+    empty_some c.args.octets.now _ _ _ _ o _ c.in-Err.count c.requires.empty c.requires.whole c.end.ensures.broke c.in-Err.ensures.some c.in-Err.ensures.fewer c.end.ensures.written (c.in-Err.ensures.breaks refl)

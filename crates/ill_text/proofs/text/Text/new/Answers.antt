@@ -1,4 +1,4 @@
-use Rattle.std.proofs.Common.{◌≤◌, ◌<◌, ◌^◌, length, refl, ap, arith, ◌∙◌}
+use Rattle.std.proofs.Common.{◌≤◌, ◌<◌, ◌^◌, length, refl, ap, arith}
 use Rattle.ill_text.proofs.Bounds.{text_bound}
 use Rattle.ill_text.proofs.text.Text.new.Goals as goal
 

@@ -1,7 +1,6 @@
-use Rattle.std.proofs.Common.{◌≡◌, ◌<◌, ◌≤◌, ◌^◌, ◌∙◌, ap, sym, subst, length, take, true, false, refl, arith, rules, ℕ, List}
+use Rattle.std.proofs.Common.{◌≡◌, ◌<◌, sym, subst, length, take, true, false, arith, rules, ℕ}
 use Rattle.std.specs.Io.KnownBytes.{Appends}
 use Rattle.ill_text.specs.code.Sending.{Adds, sending}
-use Rattle.ill_text.specs.TextOf.{IsTextOf}
 use Rattle.ill_text.proofs.Sent.{all_sent, some_sent}
 use Rattle.ill_text.proofs.text.Text.put.Goals as goal
 
