@@ -13,7 +13,7 @@ use Rattle.ill_read.specs.Outline.{AreEntries, AreItems, IsMarked}
 use Rattle.ill_read.specs.declared.mark.Mark.{Mark}
 use Rattle.ill_read.specs.declared.mark.Mark.TheVariants as mark
 use Rattle.ill_text.specs.Shown.{row_name, row_node}
-use Rattle.ill_text.specs.code.Marks.{IsEntry, is_at_end, is_there, octets_in}
+use Rattle.ill_text.specs.Marks.{IsEntry, is_at_end, is_there, octets_in}
 use Rattle.ill_text.proofs.Lines.{mark_step, no_entry, no_item}
 use Rattle.ill_json.specs.Json.{characters, entry_members, item_values, json_line_of, line_json, value_json}
 use Rattle.ill_json.specs.code.Adding.{Adds, entry_tokens, file_tokens, head_tokens, part_tokens, value_tokens}

@@ -10,7 +10,7 @@ ghost use Rattle.ill_schema.specs.declared.node.NodeId.{NodeId};
 ghost use Rattle.ill_elements.specs.LeafTypes.{leaf_is};
 ghost use Rattle.ill_read.specs.Outline.{IsPassed};
 ghost use Rattle.ill_text.specs.Numbers.{number_name};
-ghost use Rattle.ill_text.specs.code.Marks.{is_there, octets_in};
+ghost use Rattle.ill_text.specs.Marks.{is_there, octets_in};
 ghost use Rattle.ill_json.specs.Json.{leaf_json, number_json, text_json};
 ghost use Rattle.ill_json.specs.code.Adding.{Adds, value_tokens};
 

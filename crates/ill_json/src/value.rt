@@ -6,7 +6,7 @@ ghost use Rattle.ill_schema.specs.Content.{Content, Entries, Items, alternative,
 ghost use Rattle.ill_elements.specs.LeafTypes.{leaf_is};
 ghost use Rattle.ill_read.specs.Outline.{AreEntries, AreItems, IsMarked, IsPassed};
 ghost use Rattle.ill_read.specs.declared.mark.Mark.{Mark};
-ghost use Rattle.ill_text.specs.code.Marks.{IsEntry};
+ghost use Rattle.ill_text.specs.Marks.{IsEntry};
 ghost use Rattle.json.specs.Tree.{json_tokens};
 ghost use Rattle.ill_json.specs.Json.{leaf_json, value_json};
 ghost use Rattle.ill_json.specs.code.Adding.{Adds, entry_tokens, part_tokens};

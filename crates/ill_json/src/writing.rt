@@ -4,7 +4,7 @@ ghost use Rattle.std.specs.Fmt.{signed_decimal};
 ghost use Rattle.json.specs.Print.{IsPrintable, print};
 ghost use Rattle.json.specs.Reads.{token_of};
 ghost use Rattle.json.specs.Token.{number, string};
-ghost use Rattle.ill_text.specs.code.Marks.{octets_in};
+ghost use Rattle.ill_text.specs.Marks.{octets_in};
 ghost use Rattle.ill_json.specs.Json.{characters};
 ghost use Rattle.ill_json.specs.code.Adding.{Adds};
 

@@ -23,7 +23,7 @@ use Rattle.ill_read.specs.Outline.{AreEntries, AreItems, IsMarked, IsPassed}
 use Rattle.ill_read.specs.declared.mark.Mark.{Mark}
 use Rattle.ill_read.specs.declared.mark.Mark.TheVariants as mark
 use Rattle.ill_text.specs.Shown.{Place, entry_lines, is_empty, item_lines, item_of, line, lines_of, part, within}
-use Rattle.ill_text.specs.code.Marks.{IsEntry, entry_text, front_octets, is_at_end, is_there, octets_in, passed_in}
+use Rattle.ill_text.specs.Marks.{IsEntry, entry_text, front_octets, is_at_end, is_there, octets_in, passed_in}
 use Rattle.ill_schema.specs.declared.part.PartId.{PartId}
 use Rattle.ill_elements.specs.declared.leaf_type.LeafType.{LeafType}
 use Rattle.ill_text.specs.Shown.{row_name, row_node}

@@ -1,4 +1,5 @@
 pub mod Numbers
 pub mod Shown
 pub mod TextOf
+pub mod Marks
 pub mod code

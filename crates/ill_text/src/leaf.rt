@@ -13,7 +13,7 @@ ghost use Rattle.ill_elements.specs.LeafTypes.{leaf_is};
 ghost use Rattle.ill_read.specs.Outline.{IsPassed};
 ghost use Rattle.ill_text.specs.Numbers.{number_name};
 ghost use Rattle.ill_text.specs.Shown.{escaped, in_brackets, leaf_text, line};
-ghost use Rattle.ill_text.specs.code.Marks.{entry_text, front_octets, is_octet, is_there, octets_in};
+ghost use Rattle.ill_text.specs.Marks.{entry_text, front_octets, is_octet, is_there, octets_in};
 ghost use Rattle.ill_text.specs.code.Sending.{Adds, sending};
 ghost use Rattle.ill_text.specs.code.Trails.{path_of, place_at};
 

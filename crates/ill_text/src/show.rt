@@ -3,7 +3,7 @@ ghost use Rattle.std.specs.Prelude.{◌≡◌, ◌<◌, ◌≤◌, ℕ, List, []
 ghost use Rattle.ill_schema.specs.Content.{Content, Entries, Items, sequence, list};
 ghost use Rattle.ill_read.specs.Outline.{AreEntries, AreItems, IsMarked};
 ghost use Rattle.ill_read.specs.declared.mark.Mark.{Mark};
-ghost use Rattle.ill_text.specs.code.Marks.{IsEntry, alternative_in, entry_text, is_at_end, is_there, passed_in};
+ghost use Rattle.ill_text.specs.Marks.{IsEntry, alternative_in, entry_text, is_at_end, is_there, passed_in};
 ghost use Rattle.ill_text.specs.code.Sending.{Adds, sending};
 ghost use Rattle.ill_text.specs.code.Trails.{path_of, place_at};
 ghost use Rattle.ill_text.specs.Shown.{item_of, leaf_text, line, lines_of, part};

@@ -1,5 +1,5 @@
 use Rattle.std.proofs.Common.{◌≡◌, ◌∙◌, ◌-◌, [], ap, sym, append-nil, Some, None, drop}
-use Rattle.ill_text.specs.code.Marks.{alternative_in}
+use Rattle.ill_text.specs.Marks.{alternative_in}
 use Rattle.ill_json.proofs.Added.{adds_as, adds_then}
 use Rattle.ill_json.proofs.Tokens.{line_same}
 use Rattle.ill_json.proofs.line.put_line.Goals as goal

@@ -1,5 +1,5 @@
 use Rattle.std.proofs.Common.{◌≡◌, ◌≤◌, length, take}
-use Rattle.ill_text.specs.code.Marks.{octets_in}
+use Rattle.ill_text.specs.Marks.{octets_in}
 use Rattle.ill_text.proofs.leaf.first_eight.Given as goal
 
 abbrev pub invariant-loop-mark : goal.invariant-loop-mark

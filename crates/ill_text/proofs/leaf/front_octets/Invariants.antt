@@ -1,5 +1,5 @@
 use Rattle.std.proofs.Common.{◌≡◌, ◌+◌, drop}
-use Rattle.ill_text.specs.code.Marks.{front_octets}
+use Rattle.ill_text.specs.Marks.{front_octets}
 use Rattle.ill_text.proofs.leaf.front_octets.Given as goal
 
 abbrev pub invariant-loop-mark : goal.invariant-loop-mark

@@ -1,6 +1,6 @@
 use Rattle.std.proofs.Common.{◌≡◌, drop, nat_eq}
 use Rattle.std.specs.List.{list_all}
-use Rattle.ill_text.specs.code.Marks.{octets_in}
+use Rattle.ill_text.specs.Marks.{octets_in}
 use Rattle.ill_text.proofs.leaf.is_set.Given as goal
 
 abbrev pub invariant-loop-mark : goal.invariant-loop-mark

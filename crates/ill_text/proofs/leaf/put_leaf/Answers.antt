@@ -3,7 +3,7 @@ use Rattle.ber_leaf.specs.Content.{IsContent}
 use Rattle.ber_leaf.specs.Leaf.{value}
 use Rattle.ill_elements.specs.LeafTypes.{leaf_is}
 use Rattle.ill_text.specs.Shown.{leaf_text, line}
-use Rattle.ill_text.specs.code.Marks.{octets_in}
+use Rattle.ill_text.specs.Marks.{octets_in}
 use Rattle.ill_text.specs.code.Trails.{path_of}
 use Rattle.ill_text.proofs.Lines.{few_enumerated, few_octets}
 use Rattle.ill_text.proofs.Sent.{adds_as}

@@ -1,7 +1,7 @@
 use Rattle.std.proofs.Common.{◌≡◌, ◌∙◌, refl, ap, sym, true, false, not, ◌∷◌, [], Some, drop, arith, rules, Bool}
 use Rattle.ill_read.specs.declared.mark.Mark.TheVariants as mark
 use Rattle.ill_text.specs.Shown.{lines_of, part}
-use Rattle.ill_text.specs.code.Marks.{entry_text, is_there}
+use Rattle.ill_text.specs.Marks.{entry_text, is_there}
 use Rattle.ill_text.specs.code.Trails.{place_at}
 use Rattle.ill_text.proofs.Lines.{alternative_first, entries_ended, entries_more, entries_none, entry_absent, entry_there, item_place, items_end, items_line, items_more, items_none, items_some, leaf_first, list_first, no_mark, none_begins, not_false, not_some, not_true, nothing_begins, part_place, passed_first, sequence_first, sequence_none, sequence_some, some_left, starts}
 use Rattle.ill_text.proofs.Sent.{adds_as, adds_nothing}

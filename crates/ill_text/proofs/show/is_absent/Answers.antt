@@ -1,5 +1,5 @@
 use Rattle.std.proofs.Common.{◌∙◌, ap, sym, not}
-use Rattle.ill_text.specs.code.Marks.{is_there}
+use Rattle.ill_text.specs.Marks.{is_there}
 use Rattle.ill_text.proofs.Lines.{entry_passed, entry_value}
 use Rattle.ill_text.proofs.show.is_absent.Goals as goal
 

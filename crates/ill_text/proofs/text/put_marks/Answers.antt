@@ -1,7 +1,7 @@
 use Rattle.std.proofs.Common.{◌≡◌, ◌∙◌, ◌++◌, ◌-◌, ap, ap₂, sym, append-nil, Some, None, drop, [], List, ℕ}
 use Rattle.ill_schema.specs.declared.node.NodeId.{NodeId}
 use Rattle.ill_text.specs.Shown.{Place, lines_of}
-use Rattle.ill_text.specs.code.Marks.{alternative_in}
+use Rattle.ill_text.specs.Marks.{alternative_in}
 use Rattle.ill_text.specs.code.Trails.{head_line, place_at}
 use Rattle.ill_text.specs.declared.trail.Trail.{Start}
 use Rattle.ill_text.proofs.Lines.{body_lines, path_of-Start}

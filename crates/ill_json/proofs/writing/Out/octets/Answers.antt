@@ -1,7 +1,7 @@
 use Rattle.std.proofs.Common.{◌≡◌, ◌∙◌, ◌∷◌, [], refl, ap, rules}
 use Rattle.std.specs.Prelude.{string_bytes}
 use Rattle.json.specs.Token.{string}
-use Rattle.ill_text.specs.code.Marks.{octets_in}
+use Rattle.ill_text.specs.Marks.{octets_in}
 use Rattle.ill_json.specs.Json.{characters}
 use Rattle.ill_json.proofs.Added.{adds_as, adds_failed, adds_one}
 use Rattle.ill_json.proofs.writing.Out.octets.Goals as goal
