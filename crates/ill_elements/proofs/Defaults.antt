@@ -101,7 +101,7 @@ default_left f t n l o due after = go (slot_of f) refl n due after
     go _ e (Either w) due after = refl
     go _ e _ due after = refl
 
--- what was found has this default, is of no choice, stands in a row, and has the default's value
+-- what was found has this default, is of no choice, is in a row, and has the default's value
 abbrev pub is_left : Option ℤ → Option ℕ → CellSlot → Leaf → List ℕ → Bool
 is_left default alternative slot l o = elim default as (λ _. Bool) [
   | None ↦ false

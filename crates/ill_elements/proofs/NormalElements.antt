@@ -50,7 +50,7 @@ kind_tree node g t (Kind.Leaf l) n c T e other at h =
     rw h.3 (leaf_tree node g t (Kind.Leaf l) n (text T) e (λ x. elim x [ inl q ↦ cc | inr (inl q) ↦ cc | inr (inr q) ↦ cc ]) at)
 kind_tree node g t _ n c T e other at h = rw h.4 (at _)
 
--- an explicit tag holds the one tree, also where it may stand bare
+-- an explicit tag holds the one tree, also where it may be bare
 wrapped_tree : (g : Tagging) (t : Tag) (c : Content) (node : NodeId) → ((own : Tag) (f : Tag → Tree) → tag_tree g own f ≡ constructed t (more (f own) none))
     → normal_tree c node g ≡ constructed t (more (normal_tree c node untagged) none)
 wrapped_tree g t (simple v) node at = at _ _

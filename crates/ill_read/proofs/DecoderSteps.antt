@@ -1,4 +1,4 @@
--- Where the decoder stands after a step.
+-- Where the decoder is after a step.
 use Rattle.std.proofs.Common.{◌≡◌, ℕ, ◌+◌, ◌-◌, ◌≤◌, List, [], ◌∷◌, ◌++◌, length, take, drop, Option, Some, None, Ok, Err, true, false, refl, sym, ap, subst, ◌∙◌, inl, arith}
 use Rattle.std.proofs.lemmas.List.{length-drop, length-take-le}
 use Rattle.ber_core.specs.Id.{tag_of_id}
@@ -72,7 +72,7 @@ means_apdu (simple v) T h = absurd (let q : None ≡ Some h.0 = h.1 in cc)
 means_apdu (content.sequence es) T h = absurd (let q : Kind.Choice ≡ Kind.Seq = h.0 in cc)
 means_apdu (content.list is) T h = absurd (let q : Kind.Choice ≡ Kind.SeqOf = h.0 in cc)
 
--- the step of what stands there
+-- the step of what is there
 record IsMade (at : ℕ) (s rest : List ℕ) (judgement : CodeJudgement) (st : Step) : Type 0 where
   placed : Placed profile_two s st
   ends : EndsAt (at + size_of judgement) (drop (size_of judgement) rest) st
@@ -85,7 +85,7 @@ made Stands frames at s rest judgement b p h = record {
   ends = moved_end frames b.place at rest judgement (judge profile_two b.place at rest) p h;
 }
 
--- it stands at the next place
+-- it is at the next place
 pub goes_on : {D : Type 0} (holds : D → List Level → List ℕ → Type 0) (path new : Path D) (at : ℕ) (s rest : List ℕ) (judgement : CodeJudgement) → (b : StandsBefore (HoldsAt holds path) at s rest)
     → IsProgress (depth_of path.frames) (length rest) judgement → IsJudgement path.frames b.place at rest judgement (judge profile_two b.place at rest)
     → IsStep holds new (Ok false) (moved (judge profile_two b.place at rest) b.place at rest)

@@ -56,7 +56,7 @@ passed-more rows from n row entry old mid new h is p e a =
           ∙ sym (map-append absent_content (drop from (take n rows)) (row ∷ [])) ∙ ap (map absent_content) (sym more);
     }
 
--- after the last row there is none to pass
+-- after the last row there is no row to pass
 pub passed-past : (rows : List Row) (from n : ℕ) (old new : List (Option Value)) → slice_get rows n ≡ None → HasPassed (drop from (take n rows)) old new → HasPassed (drop from (take (n + 1) rows)) old new
 passed-past rows from n old new is p =
     let s : suc n ≡ n + 1 = omega arith in

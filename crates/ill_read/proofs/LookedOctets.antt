@@ -50,7 +50,7 @@ ends_here p path k rest f e c lt = go (definite_end p path k) refl
         (h, nothing ∙ first_when _ _ _ q, ap (λ (x : Fault). x.cause) (let s : h ≡ f = cc in s) ∙ c)
     go sound q = absurd (let none : None ≡ Some f = sym (first_when _ _ _ q) ∙ e in cc)
 
--- a path that the octets at hand don't take further stands at the end of those that were passed
+-- a path that the octets at hand don't take further is at the end of those that were passed
 pub last_here : (Stands : List Open → Type 0) (at : ℕ) (s rest u : List ℕ) → s ≡ u ++ rest → StandsLast Stands at s rest → StandsLast Stands at u []
 last_here Stands at s rest u e h =
     let b = h.0 in

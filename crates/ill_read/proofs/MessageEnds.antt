@@ -98,7 +98,7 @@ after_end has r s A h = go r.state h
     go state.Open h = absurd h
     go _ h = h
 
--- the refusal of the place where a path stands
+-- the refusal of the place where a path is
 pub stops_refused : (Stands : List Open → Type 0) (at : ℕ) (s rest : List ℕ) (r : Refusal) → (b : StandsBefore Stands at s rest) → judge profile_two b.place at rest ≡ faulty (fault_of r) → r.cause ≢ Cause.Truncated
     → IsRefused s (Failure.Refused r)
 stops_refused Stands at s rest r b e n = (

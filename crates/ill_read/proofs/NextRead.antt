@@ -1,4 +1,4 @@
--- What holds of a call that reads the next message holds of a call that stands on it.
+-- What holds of a call that reads the next message holds of a call that is made of it.
 use Rattle.std.proofs.Common.{ℕ, Bool, List, Option, Some, None, Result, Ok, Err}
 use Rattle.ill_read.specs.Answers.{ReadsNext}
 use Rattle.ill_read.specs.declared.failure.ReadFailure.{ReadFailure}

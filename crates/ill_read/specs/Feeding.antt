@@ -10,7 +10,7 @@ use Rattle.ill_read.specs.declared.reader.Reader.{Reader}
 use Rattle.ill_read.specs.declared.reader.State.TheVariants as state
 use Rattle.ill_read.specs.declared.failure.Failure.{Failure}
 
--- a reader is open, and stands at the last place of the octets that it was fed
+-- a reader is open, and is at the last place of the octets that it was fed
 abbrev pub IsOpenAt : {D : Type 0} → (D → List Level → List ℕ → Type 0) → Reader D → List ℕ → Type 0
 IsOpenAt holds r fed = (r.state ≡ state.Open) × StandsLast (HoldsAt holds r.path) r.at fed r.pending.items
 

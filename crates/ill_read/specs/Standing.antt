@@ -82,7 +82,7 @@ IsHeld (LooseWrapper w) (Rows same n) entries ts = (same ≡ w.node) × Matches 
 IsHeld (LooseWrapper w) Nothing entries ts = HoldsPart w entries ts
 IsHeld _ _ _ _ = ⊥
 
--- a message stands in no element
+-- a message is in no element
 abbrev pub top_level : Level
 top_level = record { element = Wrapper top_part; tag = sequence_tag; next = top; base = 0; entries = [] }
 
@@ -119,7 +119,7 @@ AreFrames [] frames levels = (frames ≡ []) × (levels ≡ top_level ∷ [])
 AreFrames (o ∷ path) frames levels = (outer : List Frame) × (f : Frame) × (below : List Level) × (entries : List (Option Content))
     × (frames ≡ outer ++ f ∷ []) × (levels ≡ pushed (level_of f o.tag entries) below) × IsFrame f o path outer entries × AreFrames path outer below
 
--- the frames stand at a place where these elements are open
+-- the frames are at a place where these elements are open
 abbrev pub StandsAt : Frames → List Open → Type 0
 StandsAt frames opens = (levels : List Level) × AreFrames opens frames.open.items levels
 
@@ -141,7 +141,7 @@ pub record AreValues (values : Values) (levels : List Level) (joined : List ℕ)
 abbrev pub AreMessage : Values → Apdu → ℕ → Type 0
 AreMessage values a n = (m : Message) × (values.message ≡ Some m) × (apdu_of m ≡ a) × (octets_of m ≡ n)
 
--- what stands at a place of the octets, with the rest of them after it
+-- what is at a place of the octets, with the rest of them after it
 pub record StandsBefore (Stands : List Open → Type 0) (at : ℕ) (s rest : List ℕ) : Type 0 where
   pub place : List Open
   pub before : List ℕ

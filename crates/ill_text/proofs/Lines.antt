@@ -478,7 +478,7 @@ pub entry_there : (e : Option Content) (ms : List Mark) → IsEntry e ms → is_
 entry_there None ms h on = absurd cc
 entry_there (Some c) ms h on = (c, refl, h)
 
--- ---- where a part and an item stand
+-- ---- where a part and an item are
 
 pub part_place : (trail : Bor Trail) (name : Bor (List ℕ)) (node inner : NodeId) (i : ℕ) → name.now ≡ row_name node i → inner ≡ row_node node i → place_at (Row trail name) name.now inner ≡ part (place_at trail.now [] node) i
 part_place trail name node inner i n k =

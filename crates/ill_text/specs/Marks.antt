@@ -17,7 +17,7 @@ abbrev pub is_octet : Mark → Bool
 is_octet (mark.Octet octet) = true
 is_octet _ = false
 
--- how many marks of octets stand first
+-- how many marks of octets come first
 abbrev pub front_octets : List Mark → ℕ
 front_octets [] = 0
 front_octets (mark.Octet octet ∷ ms) = suc (front_octets ms)
@@ -37,18 +37,18 @@ abbrev pub is_there : Option Content → Bool
 is_there None = false
 is_there (Some c) = true
 
--- no mark is left, or the end stands first
+-- no mark is left, or the end comes first
 abbrev pub is_at_end : List Mark → Bool
 is_at_end [] = true
 is_at_end (mark.End ∷ ms) = true
 is_at_end (_ ∷ ms) = false
 
--- the row that was passed, where its mark stands first
+-- the row that was passed, where its mark comes first
 abbrev pub passed_in : List Mark → Option PartId
 passed_in (mark.Passed part ∷ ms) = Some part
 passed_in _ = None
 
--- the alternative, where its mark stands first
+-- the alternative, where its mark comes first
 abbrev pub alternative_in : List Mark → Option ℕ
 alternative_in (mark.Alternative n ∷ ms) = Some n
 alternative_in _ = None

@@ -36,7 +36,7 @@ leaf_text row (printable text) = quoted text
 leaf_text row (general text) = codes "general " ++ quoted text
 leaf_text row (visible text) = codes "visible " ++ quoted text
 
--- where a value stands: its path, the name of its row and its type
+-- where a value is: its path, the name of its row and its type
 pub record Place : Type 0 where
   pub path : List ℕ
   pub name : List ℕ
@@ -99,7 +99,7 @@ abbrev mutual
   item_lines p i no_items = []
   item_lines p i (item c is) = lines_of (item_of p i) c ++ item_lines p (suc i) is
 
--- the body stands in the row of ILL-APDU that the APDU's number, from 1, says
+-- the body is in the row of ILL-APDU that the APDU's number, from 1, says
 abbrev pub body_place : Apdu → Place
 body_place a = record { path = []; name = []; node = row_node IllApdu (a.number - 1) }
 

@@ -1,4 +1,4 @@
--- What the decoder's functions answer of the place that the path stands at, in the words of the definitions.
+-- What the decoder's functions return of the place that the path is at, in the words of the definitions.
 use Rattle.std.specs.Option.{ForSome}
 use Rattle.std.specs.Prelude.{◌≡◌, ℕ, ◌+◌, ◌-◌, ◌<◌, ◌≤◌, Bool, true, false, not, nat_eq, nat_le, List, [], ◌∷◌, length, Option, Some, None, Result, Ok, Err, if◌then◌else◌}
 use Rattle.ber_core.specs.Id.{tag_of_id, form_of_id}
@@ -23,7 +23,7 @@ use Rattle.ill_read.specs.declared.judge.Extent.{Extent}
 use Rattle.ill_read.specs.declared.judge.Extent.TheVariants.{Opens, Reads}
 use Rattle.ill_read.specs.declared.frames.Frames.{Frames}
 
--- a fact of the place that the path stands at
+-- a fact of the place that the path is at
 abbrev pub WhereItStands : Frames → (List Open → Type 0) → Type 0
 WhereItStands frames P = (place : List Open) → StandsAt frames place → P place
 

@@ -59,7 +59,7 @@ IsApart l = l.tag.class ≡ Universal → l.tag.number ≡ 0 → form_of l.eleme
 abbrev pub IsApartAs : Opening → Type 0
 IsApartAs o = (tag_of_id o.id).class ≡ Universal → (tag_of_id o.id).number ≡ 0 → form_of (read_as o.found) ≡ true
 
--- the octets are those of the levels, outermost first: each has its identifier, an octet for its length, and its entries; the message stands in no element
+-- the octets are those of the levels, outermost first: each has its identifier, an octet for its length, and its entries; the message is in no element
 abbrev pub AreWritten : List Level → List ℕ → Type 0
 AreWritten [] octets = ⊥
 AreWritten (l ∷ []) octets = (octets ≡ written l.element l.next l.entries) × (l.base ≡ 0)

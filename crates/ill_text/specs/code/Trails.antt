@@ -17,7 +17,7 @@ abbrev pub is_nothing : List ℕ → Bool
 is_nothing [] = true
 is_nothing (octet ∷ path) = false
 
--- a value of this type stands there, in a row of this name
+-- a value of this type is there, in a row of this name
 abbrev pub place_at : Trail → List ℕ → NodeId → Place
 place_at trail name node = record { path = path_of trail; name = name; node = node }
 

@@ -10,7 +10,7 @@ use Rattle.ill_read.proofs.HeadersRead.{whole_header_read, no_identifier_read, n
 use Rattle.ill_refusals.proofs.Headers.{octets_left}
 use Rattle.ill_read.proofs.header.read_any.Goals as goal
 
--- A push that answers nothing leaves a part of a header.
+-- A push that returns nothing leaves a part of a header.
 pub loop-i-preserved : goal.loop-i-preserved
 loop-i-preserved c =
     let w = c.args.octets.now in

@@ -7,7 +7,7 @@ use Rattle.ill_read.specs.declared.reader.Reader.{Reader}
 use Rattle.ill_read.proofs.NeededOctets.{few, needs_after, need_open, need_at_least}
 use Rattle.ill_read.proofs.reader.Reader.need.Goals as goal
 
--- The frames of a path stand where it does.
+-- The frames of a path are where it is.
 abbrev frames_stand : {D : Type 0} (holds : D → List Level → List ℕ → Type 0) (path : Path D) (at : ℕ) (s rest : List ℕ) → StandsLast (HoldsAt holds path) at s rest → StandsLast (StandsAt path.frames) at s rest
 frames_stand holds path at s rest l =
     let b = l.0 in
