@@ -1,6 +1,5 @@
 -- The marks that an outline has, as elements open, are read and end.
 use Rattle.std.proofs.Common.{◌≡◌, ℕ, List, [], ◌∷◌, ◌++◌, length, map, append_assoc, append-nil, Option, Some, None, refl, sym, ap, subst, ◌∙◌, inl, inr, true, false, Bool}
-use Rattle.std.proofs.lemmas.List.{map-append}
 use Rattle.std.proofs.lemmas.Option.{slice_get_cases}
 use Rattle.ber_core.specs.Id.{tag_of_id}
 use Rattle.ber_core.specs.Identifier.{Tag}
@@ -24,7 +23,7 @@ use Rattle.ill_elements.specs.LeafTypes.{leaf_is}
 use Rattle.ill_read.specs.Outline.{AreEntries, AreItems, IsMarked, leaf_marks}
 use Rattle.ill_read.specs.Standing.{Level, IsHeld}
 use Rattle.ill_elements.specs.Contents.{with_alternative, absent_content}
-use Rattle.ill_read.specs.code.Drafts.{HasOpened, HasText, HasClosed, HasLeaf, HoldsApdu, HasEnded, IsContentOf, IsDueAt, IsOpeningIn, IsRightText, rows_before, rows_left, with_entry}
+use Rattle.ill_read.specs.code.Drafts.{HasOpened, HasClosed, HasLeaf, HoldsApdu, HasEnded, IsContentOf, IsDueAt, IsOpeningIn, IsRightText, rows_before, rows_left, with_entry}
 use Rattle.ill_elements.specs.Due.{due_with}
 use Rattle.ill_read.specs.code.OctetDrafts.{AreNormal, AreOctets}
 use Rattle.ill_read.specs.code.Outlines.{AreFronts, AreLed, AreOutlined, ArePassed, HasLed, HasOutline, HasPassed, HasRear, IsLed, alternative_marks, first_marks, last_marks, late_marks, start_marks}
@@ -43,7 +42,7 @@ use Rattle.ill_read.specs.declared.mark.Mark.{Mark}
 use Rattle.ill_read.specs.declared.mark.Mark.TheVariants as mark
 use Rattle.ill_read.specs.declared.outline.Outlining.{Outlining}
 use Rattle.ber_leaf.proofs.Leaves.{content as content_is}
-use Rattle.ill_read.proofs.DeliveredEntries.{pushed_apart, pushed_segment}
+use Rattle.ill_read.proofs.DeliveredEntries.{pushed_apart}
 use Rattle.ill_read.proofs.HeldEntries.{drop-take-more}
 use Rattle.ill_read.proofs.AddedEntries.{one_due}
 use Rattle.std.proofs.Common.{suc, ◌+◌, ◌<◌, ◌≤◌, take, drop, slice_get, arith}
@@ -228,23 +227,6 @@ outline_opened old new next o base mid whole octets led e levels text h opening 
     is_led : IsLed (tag_of_id o.id) (read_as o.found) i.level.next h.front mid
     is_led = subst (λ n. IsLed (tag_of_id o.id) (read_as o.found) n h.front mid) (sym i.next)
         (record { slot = slot_in o.found; alternative = alternative_of o.found; is_due = i.is_due; led = subst (λ ms. HasLed next (slot_in o.found) (alternative_of o.found) ms mid) front led })
-
-pub outline_segment : (old new : Outlining) (next : Next) (o : Opening) (base : ℕ) → read_as o.found ≡ Segment → HasOpened AreOctets old.octets next o base new.octets → new.marks.items ≡ old.marks.items
-    → HasOpened AreOutlined old next o base new
-outline_segment old new next o base is octets same levels text h opening = record {
-  octets = octets levels text h.octets opening;
-  front = h.front;
-  joined = same ∙ h.joined;
-  are = subst (λ ls. AreFronts ls h.front) (sym (pushed_segment _ levels is)) h.are;
-}
-
-pub outline_text : (old new : Outlining) (octets : List ℕ) → HasText AreOctets old.octets octets new.octets → new.marks.items ≡ old.marks.items ++ map mark.Octet octets → HasText AreOutlined old octets new
-outline_text old new octets has e levels text h = record {
-  octets = has levels text h.octets;
-  front = h.front;
-  joined = e ∙ ap (λ ms. ms ++ map mark.Octet octets) h.joined ∙ append_assoc h.front (map mark.Octet text) (map mark.Octet octets) ∙ ap (λ ms. h.front ++ ms) (sym (map-append mark.Octet text octets));
-  are = h.are;
-}
 
 pub outline_leaf : (old new : Outlining) (next : Next) (r : Reading) (leaf : LeafType) (octets : List ℕ) (mid : List Mark) → IsContent (leaf_is leaf) octets → HasLeaf AreOctets old.octets next r leaf octets new.octets
     → HasLed next (slot_in r.found) (alternative_of r.found) old.marks.items mid → new.marks.items ≡ mid ++ leaf_marks leaf octets → HasLeaf AreOutlined old next r leaf octets new

@@ -9,12 +9,12 @@ use Rattle.ber_leaf.specs.Leaf.{value, content_fault}
 use Rattle.ber_leaf.specs.Profile.{profile_two}
 use Rattle.ill_schema.specs.Content.{Content, simple, alternative}
 use Rattle.ill_schema.specs.Content as content
-use Rattle.ill_schema.specs.Value.{content_of, entries_of, items_of}
+use Rattle.ill_schema.specs.Value.{content_of, items_of}
 use Rattle.ill_schema.specs.declared.node.NodeId.{NodeId}
 use Rattle.ill_schema.specs.declared.value.Value.{Value}
 use Rattle.ill_elements.specs.LeafTypes.{leaf_is}
-use Rattle.ill_read.specs.code.Drafts.{HasOpened, IsContentOf, IsRightText, rows_before, rows_left, with_entry}
-use Rattle.ill_read.specs.code.Held.{EndsExactly, HasAdded, IsFound, IsLast, IsList, IsSequence}
+use Rattle.ill_read.specs.code.Drafts.{HasOpened, IsContentOf, IsRightText, rows_before, with_entry}
+use Rattle.ill_read.specs.code.Held.{EndsExactly, HasAdded, IsFound, IsLast, IsList}
 use Rattle.ill_read.specs.Standing.{Level, level_of, whole_level, AreHeld, AreValues, IsHeld}
 use Rattle.ill_elements.specs.Contents.{absent_content}
 use Rattle.ill_elements.specs.declared.due.Next.{Next}
@@ -66,21 +66,6 @@ values_added old new l below next slot v c h e is added text =
 -- the entries that were taken leave those below
 left : (new : Values) (below : List Level) (under : List (Option Value)) → AreHeld below under → new.held.entries.items ≡ under → new.text.items ≡ [] → AreValues new below []
 left new below under h e text = record { held = subst (AreHeld below) (sym e) h; text = text }
-
-sequence_left : (old new : Values) (f : Frame) (tag : Tag) (entries : List (Option Content)) (below : List Level) (text : List ℕ) (v : Value) (c : Content)
-    → AreValues old (level_of f tag entries ∷ below) text → IsSequence (rows_left (shape f.place)) f.base v old.held.entries.items new.held.entries.items → new.text.items ≡ old.text.items
-    → text ≡ [] → c ≡ content.sequence (entries_of (entries ++ map absent_content (rows_left (shape f.place)))) → (content_of v ≡ c) × AreValues new below []
-sequence_left old new f tag entries below text v c h s same empty is =
-    let g : Option Value → Option Content = option_map content_of in
-    let x = h.held in
-    let taken = s.is x.0 x.1 x.2 (sym x.3) in
-    let all : map g (x.1 ++ s.entries) ≡ entries ++ map absent_content (rows_left (shape f.place)) = map-append g x.1 s.entries ∙ ap₂ (λ (xs ys : List (Option Content)). xs ++ ys) x.4 s.are in
-    (taken.1 ∙ ap (λ es. content.sequence (entries_of es)) all ∙ sym is, left new below x.0 x.5 taken.0 (same ∙ h.text ∙ empty))
-
-loose_content : (w : Wrapped) (n : Next) (entries : List (Option Content)) (text : List ℕ) (c : Content) → (n ≡ Nothing → ⊥) → IsContentOf (LooseWrapper w) n entries text c
-    → (text ≡ []) × (c ≡ content.sequence (entries_of (entries ++ map absent_content (rows_left n))))
-loose_content w Nothing entries text c apart k = absurd (apart refl)
-loose_content w _ entries text c apart k = k
 
 -- entries that are all there are values
 all_there : (es : List (Option Value)) (cs : List Content) → map (option_map content_of) es ≡ map Some cs → (vs : List Value) × (es ≡ map Some vs) × (map content_of vs ≡ cs)
