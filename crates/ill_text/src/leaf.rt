@@ -269,7 +269,7 @@ fn put_octet<W: Sink>(octet: u8, out: &mut Out, sink: &mut W)
     }
 }
 
-/// Puts an octet that isn't put as it is.
+/// Puts an octet, escaped where it has to be.
 #[inline(never)]
 fn put_escape<W: Sink>(octet: u8, out: &mut Out, sink: &mut W)
     ensures adds { Adds (escaped octet) (sending (W.contents sink.old) (W.is_broken sink.old) out.old) (sending (W.contents sink.new) (W.is_broken sink.new) out.new) }
