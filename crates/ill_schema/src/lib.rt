@@ -34,7 +34,7 @@ pub use laws::{
 };
 pub use lookup::{kind, row, rows};
 pub use message::Message;
-pub use names::{apdu_name, apdu_node, part_name};
+pub use names::{apdu_name, apdu_node, part_name, row_names};
 pub use node::{Kind, LeafKind, NodeId};
 pub use part::{Mode, PartId, Presence, Row};
 pub use refusal::{Cause, Refusal};

@@ -392,7 +392,7 @@ fn node_name(node: NodeId) -> &'static str
 }
 
 /// The names of a node's rows, in order.
-fn row_names(node: NodeId) -> &'static [&'static str]
+pub fn row_names(node: NodeId) -> &'static [&'static str]
     ensures { map (λ name. name.now) result.now ≡ (names_of node).1 }
 {
     match node {

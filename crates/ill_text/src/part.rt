@@ -2,17 +2,14 @@
 ghost use Rattle.std.specs.Prelude.{◌≡◌};
 ghost use Rattle.ill_text.specs.Shown.{row_name, row_node};
 
-use ill_schema::{NodeId, PartId, part_name, rows, rows_of};
+use ill_schema::{NodeId, row_names, rows_of};
 
 /// The name of a row; empty where the node has no such row.
 pub fn row_name(node: NodeId, i: usize) -> &'static str
     ensures { result.now ≡ row_name node i }
 {
-    if i >= rows(node) as usize {
-        return "";
-    }
-    match part_name(PartId { node, row: i as u8 }) {
-        Some((_, row)) => row,
+    match row_names(node).get(i) {
+        Some(name) => *name,
         None => "",
     }
 }
