@@ -8,34 +8,7 @@ cd "$(dirname "$0")/../crates" || exit 2
 (cd illcanon && rt run -- --version >/dev/null 2>&1) || exit 2
 folder=$(mktemp -d) || exit 2
 trap 'rm -rf "$folder"' EXIT
-cc -shared -fPIC -O1 -o "$folder/refuse.so" -x c - -ldl <<'C' || exit 2
-#define _GNU_SOURCE
-#include <dlfcn.h>
-#include <stdlib.h>
-#include <unistd.h>
-static int refused(void) {
-    static long left = -2;
-    if (left == -2) {
-        const char *text = getenv("REFUSE");
-        left = text ? atol(text) : 0;
-    }
-    if (left <= 0 || --left > 0)
-        return 0;
-    return write(2, "refused\n", 8) > 0;
-}
-void *malloc(size_t size) {
-    static void *(*inner)(size_t);
-    if (!inner)
-        inner = dlsym(RTLD_NEXT, "malloc");
-    return refused() ? NULL : inner(size);
-}
-void *realloc(void *old, size_t size) {
-    static void *(*inner)(void *, size_t);
-    if (!inner)
-        inner = dlsym(RTLD_NEXT, "realloc");
-    return refused() ? NULL : inner(old, size);
-}
-C
+cc -shared -fPIC -O1 -o "$folder/refuse.so" ../tests/refuse.c -ldl || exit 2
 
 # Makes the program of tests/NAME, a crate with these dependencies, in a copy of the crates.
 mkdir "$folder/copy" && cp -r . "$folder/copy/crates" && cp ../crates.txt "$folder/copy" || exit 2
