@@ -59,6 +59,7 @@ pub fn text_octets(alloc: Global, text: &[u8]) -> Result<Vec<u8>, RunFault>
     // A text of digits alone needs no copy.
     match hex::decode(alloc, text) {
         Ok(octets) => Ok(octets),
+        Err(FromHexError::OutOfMemory) => Err(RunFault::OutOfMemory),
         Err(_) => spaced_octets(alloc, text),
     }
 }
