@@ -18,7 +18,7 @@ import tempfile
 
 ROOT = pathlib.Path(__file__).resolve().parent.parent
 DOCUMENTS = [ROOT / "README.md", ROOT / "CHANGELOG.md", ROOT / "vectors/README.md", *sorted((ROOT / "docs").glob("*.md"))]
-# A word list is quoted in CONTRIBUTING.md.
+# Words that the documents don't use, each with one to use in its place.
 WORDS = [
     (re.compile(r"\bwant of\b|\bwanting\b"), "missing"),
     (re.compile(r"\bso many\b"), "a number"),
@@ -92,8 +92,6 @@ def check_names(path, text, names):
 
 
 def check_words(path, text):
-    if path.name == "CONTRIBUTING.md":
-        return
     for number, line in prose(text):
         for word, instead in WORDS:
             if word.search(line):
