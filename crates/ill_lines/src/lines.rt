@@ -106,7 +106,7 @@ impl Lines {
     }
 }
 
-/// How many octets come before the first line feed, or all where there is none.
+/// How many octets come before the first line feed, or all where there is no line feed.
 #[inline(always)]
 fn line_size(octets: &[u8]) -> usize
     ensures bound { result ≤ length octets.now }

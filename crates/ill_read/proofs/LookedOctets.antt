@@ -8,7 +8,7 @@ use Rattle.ber_core.specs.Octets.{are_octets}
 use Rattle.ber_leaf.specs.Profile.{Profile, profile_two}
 use Rattle.ill_schema.specs.declared.refusal.Cause.{Cause}
 use Rattle.ill_schema.specs.Apdu.{Apdu, Encodes}
-use Rattle.ill_refusals.specs.Fault.{Fault, fault, fault_at, Finding, passes, finds, sound, first_fault, definite_end, conditions, wanting, past_end}
+use Rattle.ill_refusals.specs.Fault.{Fault, fault, fault_at, Finding, passes, finds, sound, first_fault, definite_end, conditions, cut_fault, past_end}
 use Rattle.ill_refusals.specs.Outcome.{OnlyAccepts}
 use Rattle.ill_refusals.specs.Place.{Open, bound}
 use Rattle.ill_refusals.specs.code.Judge.{faulty, judge}
@@ -36,15 +36,15 @@ ends_here : (p : Profile) (path : List Open) (k : ℕ) (rest : List ℕ) (f : Fa
     → (g : Fault) × (fault_at p path k [] ≡ Some g) × (g.cause ≡ Cause.Truncated)
 ends_here p path k rest f e c lt = go (definite_end p path k) refl
   where
-    nothing : fault_at p path k [] ≡ first_fault (conditions p path k (wanting p path k []) [])
-    nothing = ap (λ w. first_fault (conditions p path k (wanting p path k []) w)) (take-nil (bound p path - k))
+    nothing : fault_at p path k [] ≡ first_fault (conditions p path k (cut_fault p path k []) [])
+    nothing = ap (λ w. first_fault (conditions p path k (cut_fault p path k []) w)) (take-nil (bound p path - k))
 
     early : (b : Bool) → nat_le (bound p path - k) 0 ≡ b → (if b then fault (past_end path) k else fault Cause.Truncated (k + 0)).cause ≡ Cause.Truncated
     early true q = absurd (grind (arith, q, lt))
     early false q = refl
 
     go : (d : Finding) → definite_end p path k ≡ d → (g : Fault) × (fault_at p path k [] ≡ Some g) × (g.cause ≡ Cause.Truncated)
-    go passes q = (wanting p path k [], nothing ∙ first_when _ _ _ q, early (nat_le (bound p path - k) 0) refl)
+    go passes q = (cut_fault p path k [], nothing ∙ first_when _ _ _ q, early (nat_le (bound p path - k) 0) refl)
     go (finds h) q =
         let same : Some h ≡ Some f = sym (first_when _ _ _ q) ∙ e in
         (h, nothing ∙ first_when _ _ _ q, ap (λ (x : Fault). x.cause) (let s : h ≡ f = cc in s) ∙ c)

@@ -39,7 +39,7 @@ use Rattle.ill_refusals.proofs.Judgements.{Judged, judged, bound_some}
 use Rattle.ill_refusals.proofs.Headers.{identifier_longer, length_longer, identifier_read, length_read, octets_right, take-all, drop-all}
 use Rattle.ill_refusals.proofs.Machine.{step}
 use Rattle.ill_refusals.proofs.Rows.{two_cases}
-use Rattle.ill_refusals.proofs.Truncation.{Wants, in_mark as in_end_mark, in_identifier, in_element, LengthWants, truncated_at, truncated_in}
+use Rattle.ill_refusals.proofs.Truncation.{IsCutShort, in_mark as in_end_mark, in_identifier, in_element, IsLengthCut, truncated_at, truncated_in}
 
 -- the ends of the open elements
 has_outermost : (place : List Open) (e : ℕ) → outermost place ≡ Some e → HasEnd e place
@@ -56,7 +56,7 @@ bound_before p (o ∷ path) u e h (inl k) = let q = bound_some p o path e k in o
 bound_before p (o ∷ path) u e h (inr k) = let i = h.4.inside in let r = bound_before p path h.0 e h.3 k in omega arith
 
 -- the octets end before the bound, in the midst of something
-short : (Stands : List Open → Type 0) (at : ℕ) (s octets : List ℕ) → (l : StandsLast Stands at s octets) → (at + length octets < bound profile_two l.0.place) × Wants profile_two l.0.place octets
+short : (Stands : List Open → Type 0) (at : ℕ) (s octets : List ℕ) → (l : StandsLast Stands at s octets) → (at + length octets < bound profile_two l.0.place) × IsCutShort profile_two l.0.place octets
 short Stands at s octets l =
     let judged = is_judged profile_two l.0.place at octets _ l.1 in
     ((truncated_at profile_two l.0.place at octets _ judged refl).0, truncated_in profile_two l.0.place at octets _ judged refl)
@@ -71,15 +71,15 @@ few Stands at s octets l =
 abbrev InElement : List Open → List ℕ → Type 0
 InElement place octets =
     (read_identifier octets ≡ part_identifier)
-    ⊎ ((tag : Tag) × (f : Bool) × (r : List ℕ) × (read_identifier octets ≡ identified tag f r) × LengthWants profile_two place f r)
+    ⊎ ((tag : Tag) × (f : Bool) × (r : List ℕ) × (read_identifier octets ≡ identified tag f r) × IsLengthCut profile_two place f r)
 
-wants_element : (place : List Open) (octets : List ℕ) → Wants profile_two place octets → in_mark place octets ≡ false → InElement place octets
+wants_element : (place : List Open) (octets : List ℕ) → IsCutShort profile_two place octets → in_mark place octets ≡ false → InElement place octets
 wants_element place octets (in_end_mark i e) h = absurd (let q : in_mark place octets ≡ true = ap (in_mark place) e ∙ ap (λ b. b && true) i in let r : true ≡ false = sym q ∙ h in cc)
 wants_element place octets (in_identifier q) h = inl q
 wants_element place octets (in_element tag f r q w) h = inr (tag, f, r, q, w)
 
 -- what is read of a length
-length_needs : (place : List Open) (f : Bool) (r octets : List ℕ) (id : Id) (read : Length) → bound profile_two place ≤ 1_048_576 → LengthWants profile_two place f r → IsLengthRead read (read_length f r) octets
+length_needs : (place : List Open) (f : Bool) (r octets : List ℕ) (id : Id) (read : Length) → bound profile_two place ≤ 1_048_576 → IsLengthCut profile_two place f r → IsLengthRead read (read_length f r) octets
     → NeedsOfLength (read_length f r) octets (need_read (Identified id read) (length octets))
 length_needs place f r octets id NoLength small (inl q) h = absurd (let e : part_length ≡ no_length = sym q ∙ h in cc)
 length_needs place f r octets id NoLength small (inr w) h = absurd (let e : definite w.0 w.1 ≡ no_length = sym w.3 ∙ h in cc)
@@ -106,8 +106,8 @@ element_needs place octets (Identified id read) small (inr w) h =
     let e : identified w.0 w.1 w.2 ≡ identified (tag_of_id id) (form_of_id id) h.0 = sym w.3 ∙ h.1 in
     let f : w.1 ≡ form_of_id id = cc in
     let r : w.2 ≡ h.0 = cc in
-    let want : LengthWants profile_two place (form_of_id id) h.0 = subst (LengthWants profile_two place (form_of_id id)) r (subst (λ x. LengthWants profile_two place x w.2) f w.4) in
-    subst (λ x. NeedsOfElement x octets (need_read (Identified id read) (length octets))) (sym h.1) (length_needs place (form_of_id id) h.0 octets id read small want h.2)
+    let cut : IsLengthCut profile_two place (form_of_id id) h.0 = subst (IsLengthCut profile_two place (form_of_id id)) r (subst (λ x. IsLengthCut profile_two place x w.2) f w.4) in
+    subst (λ x. NeedsOfElement x octets (need_read (Identified id read) (length octets))) (sym h.1) (length_needs place (form_of_id id) h.0 octets id read small cut h.2)
 
 -- where a definite element is open
 pub need_to_end : (frames : Frames) (at : ℕ) (s octets : List ℕ) (l : StandsLast (StandsAt frames) at s octets) (e : ℕ) → outermost_end frames.open.items ≡ Some e → IsNeed l.0.place at octets (e - at - length octets)
@@ -288,12 +288,12 @@ content_end p path k n size tag w r b more (reads t h content) lt m q l need j =
 abbrev ReachesNeed : List Open → ℕ → List ℕ → List ℕ → ℕ → Type 0
 ReachesNeed place k w more n = (j : Judgement) → Judged profile_two place k (w ++ more) j → Reaches (k + length w + n) k j
 
-mark_needs : (place : List Open) (k n : ℕ) (w more : List ℕ) → k < bound profile_two place → Wants profile_two place w → begins_zero w ≡ true → n ≡ 1 → ReachesNeed place k w more n
-mark_needs place k n [] more lt want z one j r = absurd cc
-mark_needs place k n (a ∷ w) more lt want z one j r =
+mark_needs : (place : List Open) (k n : ℕ) (w more : List ℕ) → k < bound profile_two place → IsCutShort profile_two place w → begins_zero w ≡ true → n ≡ 1 → ReachesNeed place k w more n
+mark_needs place k n [] more lt cut z one j r = absurd cc
+mark_needs place k n (a ∷ w) more lt cut z one j r =
     let e : a ≡ 0 = grind (arith, z) in
     let none : read_identifier (a ∷ w) ≡ no_identifier = rw z refl in
-    let alone : w ≡ [] = elim want [
+    let alone : w ≡ [] = elim cut [
       | in_end_mark i q ↦ cc
       | in_identifier q ↦ absurd (let d : no_identifier ≡ part_identifier = sym none ∙ q in cc)
       | in_element tag f x q y ↦ absurd (let d : no_identifier ≡ identified tag f x = sym none ∙ q in cc)
@@ -310,9 +310,9 @@ element_reaches place k n w more lt m (inr (tag, f, x, q, inr (size, b, shut, l,
     let rest : size ≡ length b + n = subst (λ z. NeedsOfLength z w n) l2 (subst (λ z. NeedsOfElement z w n) q2 need) in
     content_end profile_two place k n size tag w x b more j lt m q2 l2 rest r
 
-inside_reaches : (place : List Open) (k n : ℕ) (w more : List ℕ) → k < bound profile_two place → Wants profile_two place w → (b : Bool) → in_mark place w ≡ b → NeedsAfterMark b w n → ReachesNeed place k w more n
-inside_reaches place k n w more lt want true m one = mark_needs place k n w more lt want (and_parts (is_indefinite place) (begins_zero w) m).1 one
-inside_reaches place k n w more lt want false m need = element_reaches place k n w more lt m (wants_element place w want m) need
+inside_reaches : (place : List Open) (k n : ℕ) (w more : List ℕ) → k < bound profile_two place → IsCutShort profile_two place w → (b : Bool) → in_mark place w ≡ b → NeedsAfterMark b w n → ReachesNeed place k w more n
+inside_reaches place k n w more lt cut true m one = mark_needs place k n w more lt cut (and_parts (is_indefinite place) (begins_zero w) m).1 one
+inside_reaches place k n w more lt cut false m need = element_reaches place k n w more lt m (wants_element place w cut m) need
 
 -- what each judgement reaches, a message does
 reaches_at_least : (Stands : List Open → Type 0) (at : ℕ) (s octets : List ℕ) (l : StandsLast Stands at s octets) (n : ℕ) (more : List ℕ) → ReachesNeed l.0.place (length l.0.before) octets more n
@@ -389,7 +389,7 @@ two_at_least Stands at s l more a m ok h =
     reaches_at_least Stands at s [] l 2 more (λ j r. subst (λ z. Reaches z (length l.0.before) j) size (two_reach profile_two l.0.place (length l.0.before) more j lt r)) a m ok h
 
 -- of a part of a length, or of a content, octets are missing
-length_open : (place : List Open) (octets r : List ℕ) (f : Bool) (n : ℕ) → LengthWants profile_two place f r → (tag : Tag) → read_identifier octets ≡ identified tag f r → NeedsOfLength (read_length f r) octets n → 0 < n
+length_open : (place : List Open) (octets r : List ℕ) (f : Bool) (n : ℕ) → IsLengthCut profile_two place f r → (tag : Tag) → read_identifier octets ≡ identified tag f r → NeedsOfLength (read_length f r) octets n → 0 < n
 length_open place octets r f n (inr w) tag q h =
     let size : w.0 ≡ length w.1 + n = subst (λ x. NeedsOfLength x octets n) w.3 h in
     let lt = w.4 in

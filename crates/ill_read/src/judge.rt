@@ -43,7 +43,7 @@ pub enum Extent {
 impl Frames {
     ghost use Rattle.std.specs.Prelude.{◌+◌, ◌<◌, ℕ, List, ◌++◌, min, drop};
     ghost use Rattle.ill_read.specs.code.Progress.{depth_of, HeaderIsIn};
-    ghost use Rattle.ill_refusals.specs.Fault.{fault_of, wanting};
+    ghost use Rattle.ill_refusals.specs.Fault.{fault_of, cut_fault};
     ghost use Rattle.ill_refusals.specs.code.Judge.{judge_length, judge_size};
     ghost use Rattle.ill_read.specs.code.JudgeCode.{WhereItStands, EndsAs, Fits, Reaches, IsIdentified, IsRoom};
     ghost use Rattle.ber_core.specs.Id.{tag_of_id};
@@ -55,8 +55,8 @@ impl Frames {
 
     /// The fault where an octet is missing: the bound comes first, or the input's end.
     #[cold]
-    pub fn wanting(&self, at: u32, came: usize) -> Refusal
-        ensures { (rest : List ℕ) → length rest ≡ came → WhereItStands self.now (λ place. fault_of result ≡ wanting profile_two place at rest) }
+    pub fn cut_fault(&self, at: u32, came: usize) -> Refusal
+        ensures { (rest : List ℕ) → length rest ≡ came → WhereItStands self.now (λ place. fault_of result ≡ cut_fault profile_two place at rest) }
     {
         let room = self.bound().saturating_sub(at);
         if came >= room as usize {
@@ -128,11 +128,11 @@ impl Frames {
         requires form { (header : ℕ) → length_read ≡ LengthRead.Whole Len.Indefinite header → form_of_id id ≡ true }
         ensures exact { (rest front behind : List ℕ) → length rest ≡ came → window.now ≡ front ++ behind
             → IsLengthRead length_read (read_length (form_of_id id) behind) window.now → Reaches self.now id at room window.now result
-            (λ found place. judge_length profile_two place (element_is (read_as found)) (tag_of_id id) (form_of_id id) at (length front) (wanting profile_two place at rest) behind) }
+            (λ found place. judge_length profile_two place (element_is (read_as found)) (tag_of_id id) (form_of_id id) at (length front) (cut_fault profile_two place at rest) behind) }
         ensures fits { IfOk result (Fits id (length window.now)) }
     {
         match length_read {
-            LengthRead::PartLength(_) => Err(self.wanting(at, came)),
+            LengthRead::PartLength(_) => Err(self.cut_fault(at, came)),
             LengthRead::NoLength => Err(Refusal {
                 at,
                 cause: Cause::BadLength,
@@ -159,7 +159,7 @@ impl Frames {
         requires fits { IsRoom at room window.now }
         requires header { (0 < header) × (header ≤ length window.now) }
         ensures exact { (rest : List ℕ) (n : ℕ) → length rest ≡ came → size ≡ min n 4_294_967_295 → Reaches self.now id at room window.now result
-            (λ found place. judge_size profile_two place (element_is (read_as found)) (tag_of_id id) (form_of_id id) at header (wanting profile_two place at rest) n (drop header window.now)) }
+            (λ found place. judge_size profile_two place (element_is (read_as found)) (tag_of_id id) (form_of_id id) at header (cut_fault profile_two place at rest) n (drop header window.now)) }
         ensures fits { IfOk result (Fits id (length window.now)) }
     {
         if size > room - header {
@@ -172,7 +172,7 @@ impl Frames {
             return Ok(Extent::Opens(header, Some(at + header + size)));
         }
         if window.len() - (header as usize) < size as usize {
-            return Err(self.wanting(at, came));
+            return Err(self.cut_fault(at, came));
         }
         Ok(Extent::Reads(header, size))
     }

@@ -247,10 +247,10 @@ impl<D: Draft> Reader<D> {
         requires fits { IsRoom self.old.at room window.now }
         ensures pending { self.new.pending ≡ self.old.pending }
         ensures progress { Progresses (length window.now) self.old.path.frames self.new.path.frames result }
-        ensures goes { LeadsOn D.holds D.has self.old window.now room came self.new result (λ place want. judge_octets profile_two place self.old.at want window.now) }
+        ensures goes { LeadsOn D.holds D.has self.old window.now room came self.new result (λ place cut. judge_octets profile_two place self.old.at cut window.now) }
     {
         let Some(first) = window.first() else {
-            return self.want(came);
+            return self.cut(came);
         };
         if *first == 0 && self.path.frames.awaits_end_mark() {
             return self.end_mark(window, came);
@@ -267,10 +267,10 @@ impl<D: Draft> Reader<D> {
         ensures pending { self.new.pending ≡ self.old.pending }
         ensures progress { Progresses (length window.now) self.old.path.frames self.new.path.frames result }
         ensures goes { (room : ℕ) → LeadsOn D.holds D.has self.old window.now room came self.new result
-            (λ place want. judge_mark profile_two place self.old.at want (drop 1 window.now)) }
+            (λ place cut. judge_mark profile_two place self.old.at cut (drop 1 window.now)) }
     {
         let Some(second) = window.get(1) else {
-            return self.want(came);
+            return self.cut(came);
         };
         if *second == 0 {
             return self.end_element(2);
@@ -290,7 +290,7 @@ impl<D: Draft> Reader<D> {
         ensures pending { self.new.pending ≡ self.old.pending }
         ensures progress { Progresses marks self.old.path.frames self.new.path.frames result }
         ensures goes { (window : List ℕ) (room came : ℕ) → marks ≤ length window
-            → LeadsOn D.holds D.has self.old window room came self.new result (λ place want. judge_end profile_two place self.old.at marks) }
+            → LeadsOn D.holds D.has self.old window room came self.new result (λ place cut. judge_end profile_two place self.old.at marks) }
     {
         match self.path.frames.end_fault(self.at) {
             Some(refusal) => self.refuse(refusal),
@@ -305,7 +305,7 @@ impl<D: Draft> Reader<D> {
         requires fits { IsRoom self.old.at room window.now }
         ensures pending { self.new.pending ≡ self.old.pending }
         ensures progress { Progresses (length window.now) self.old.path.frames self.new.path.frames result }
-        ensures goes { LeadsOn D.holds D.has self.old window.now room came self.new result (λ place want. judge_element profile_two place self.old.at want window.now) }
+        ensures goes { LeadsOn D.holds D.has self.old window.now room came self.new result (λ place cut. judge_element profile_two place self.old.at cut window.now) }
     {
         let Some(id) = first_identifier(window) else {
             return self.rare_element(window, room, came);
@@ -324,10 +324,10 @@ impl<D: Draft> Reader<D> {
         requires fits { IsRoom self.old.at room window.now }
         ensures pending { self.new.pending ≡ self.old.pending }
         ensures progress { Progresses (length window.now) self.old.path.frames self.new.path.frames result }
-        ensures goes { LeadsOn D.holds D.has self.old window.now room came self.new result (λ place want. judge_element profile_two place self.old.at want window.now) }
+        ensures goes { LeadsOn D.holds D.has self.old window.now room came self.new result (λ place cut. judge_element profile_two place self.old.at cut window.now) }
     {
         match read_any(window) {
-            HeaderRead::PartIdentifier => self.want(came),
+            HeaderRead::PartIdentifier => self.cut(came),
             HeaderRead::NoIdentifier => self.refuse(Refusal {
                 at: self.at,
                 cause: Cause::BadTag,
@@ -353,7 +353,7 @@ impl<D: Draft> Reader<D> {
         requires header { IsHeaderRead (HeaderRead.Identified id length_read) window.now }
         ensures pending { self.new.pending ≡ self.old.pending }
         ensures progress { Progresses (length window.now) self.old.path.frames self.new.path.frames result }
-        ensures goes { LeadsOn D.holds D.has self.old window.now room came self.new result (λ place want. judge_element profile_two place self.old.at want window.now) }
+        ensures goes { LeadsOn D.holds D.has self.old window.now room came self.new result (λ place cut. judge_element profile_two place self.old.at cut window.now) }
     {
         let at = self.at;
         let found = match self.path.frames.judge_tag(at, id) {
@@ -469,13 +469,13 @@ impl<D: Draft> Reader<D> {
 
     /// Fails where an octet is missing before the bound, unless it is only that the octets end.
     #[cold]
-    fn want(&mut self, came: usize) -> Option<usize>
+    fn cut(&mut self, came: usize) -> Option<usize>
         requires open { self.old.state ≡ State.Open }
         ensures none { result ≡ None }
         ensures pending { self.new.pending ≡ self.old.pending }
-        ensures goes { (window : List ℕ) (room : ℕ) → LeadsOn D.holds D.has self.old window room came self.new result (λ place want. faulty want) }
+        ensures goes { (window : List ℕ) (room : ℕ) → LeadsOn D.holds D.has self.old window room came self.new result (λ place cut. faulty cut) }
     {
-        let refusal = self.path.frames.wanting(self.at, came);
+        let refusal = self.path.frames.cut_fault(self.at, came);
         self.refuse(refusal)
     }
 

@@ -8,7 +8,7 @@ use Rattle.ber_leaf.specs.Profile.{Profile}
 use Rattle.ill_schema.specs.declared.refusal.Cause.{Cause}
 use Rattle.ill_schema.specs.declared.part.PartId.{PartId}
 use Rattle.ill_refusals.specs.Element.{Element, leaf, sequence, list, wrapper, loose_wrapper, segment, left_out}
-use Rattle.ill_refusals.specs.Fault.{Fault, fault, Finding, passes, finds, first_fault, no_octet, innermost_ends, ended, second_zero, of_element, after_identifier, bad_form, bad_length, too_long, too_deep, bad_content, at_fault, bad_identifier, end_mark, ends_at, is_indefinite, past_end, wanting, element_fault, fault_at}
+use Rattle.ill_refusals.specs.Fault.{Fault, fault, Finding, passes, finds, first_fault, no_octet, innermost_ends, ended, second_zero, of_element, after_identifier, bad_form, bad_length, too_long, too_deep, bad_content, at_fault, bad_identifier, end_mark, ends_at, is_indefinite, past_end, cut_fault, element_fault, fault_at}
 use Rattle.ill_refusals.specs.code.Judge.{Judgement, faulty, closes, opens, reads, or_faulty, judge_end, judge_content, judge_size, judge_length, judge_form, judge_tag, judge_element, judge_mark, judge_octets, judge, fault_in}
 use Rattle.ill_refusals.specs.Next.{Due, element_of, due, missing}
 use Rattle.ill_refusals.specs.Place.{Open, next_in, bound, allows}
@@ -27,60 +27,60 @@ end_judged p (o ∷ path) k marks more = go (missing p (next_in p (o ∷ path)))
     go None (Some c) = refl
     go None None = refl
 
-content_judged : (p : Profile) (e : Element) (tag : Tag) (k h : ℕ) (want : Fault) (n : ℕ) (w : List ℕ)
-    → first_fault ((if nat_lt (length w) n then finds want else at_fault (element_fault p e (take n w)) k) ∷ []) ≡ fault_in (judge_content p e tag k h want n w)
-content_judged p e tag k h want n w = go (nat_lt (length w) n) (element_fault p e (take n w))
+content_judged : (p : Profile) (e : Element) (tag : Tag) (k h : ℕ) (cut : Fault) (n : ℕ) (w : List ℕ)
+    → first_fault ((if nat_lt (length w) n then finds cut else at_fault (element_fault p e (take n w)) k) ∷ []) ≡ fault_in (judge_content p e tag k h cut n w)
+content_judged p e tag k h cut n w = go (nat_lt (length w) n) (element_fault p e (take n w))
   where
     go : (b : Bool) (c : Option LeafFault)
-        → first_fault ((if b then finds want else at_fault c k) ∷ []) ≡ fault_in (if b then faulty want else or_faulty c k (reads tag h (take n w)))
+        → first_fault ((if b then finds cut else at_fault c k) ∷ []) ≡ fault_in (if b then faulty cut else or_faulty c k (reads tag h (take n w)))
     go true c = refl
     go false (Some c) = refl
     go false None = refl
 
-size_judged : (p : Profile) (path : List Open) (d : Due) (tag : Tag) (form : Bool) (k h : ℕ) (want : Fault) (n : ℕ) (w : List ℕ)
-    → first_fault ((if nat_lt (bound p path) (k + h + n) then finds (fault (past_end path) k) else passes) ∷ bad_content p k want form (Some d) (definite n w) ∷ [])
-    ≡ fault_in (judge_size p path (element_of d) tag form k h want n w)
-size_judged p path d tag form k h want n w = go (nat_lt (bound p path) (k + h + n)) form
+size_judged : (p : Profile) (path : List Open) (d : Due) (tag : Tag) (form : Bool) (k h : ℕ) (cut : Fault) (n : ℕ) (w : List ℕ)
+    → first_fault ((if nat_lt (bound p path) (k + h + n) then finds (fault (past_end path) k) else passes) ∷ bad_content p k cut form (Some d) (definite n w) ∷ [])
+    ≡ fault_in (judge_size p path (element_of d) tag form k h cut n w)
+size_judged p path d tag form k h cut n w = go (nat_lt (bound p path) (k + h + n)) form
   where
-    go : (b : Bool) (form : Bool) → first_fault ((if b then finds (fault (past_end path) k) else passes) ∷ bad_content p k want form (Some d) (definite n w) ∷ [])
-        ≡ fault_in (if b then faulty (fault (past_end path) k) else elim form as (λ _. Judgement) [ true ↦ opens tag (element_of d) h (Some (k + h + n)) | false ↦ judge_content p (element_of d) tag k h want n w ])
+    go : (b : Bool) (form : Bool) → first_fault ((if b then finds (fault (past_end path) k) else passes) ∷ bad_content p k cut form (Some d) (definite n w) ∷ [])
+        ≡ fault_in (if b then faulty (fault (past_end path) k) else elim form as (λ _. Judgement) [ true ↦ opens tag (element_of d) h (Some (k + h + n)) | false ↦ judge_content p (element_of d) tag k h cut n w ])
     go true form = refl
     go false true = refl
-    go false false = content_judged p (element_of d) tag k h want n w
+    go false false = content_judged p (element_of d) tag k h cut n w
 
-length_judged : (p : Profile) (path : List Open) (d : Due) (tag : Tag) (form : Bool) (k i : ℕ) (want : Fault) (w : List ℕ)
-    → first_fault (bad_length k want (read_length form w) ∷ too_long p path k i (length w) (read_length form w) ∷ bad_content p k want form (Some d) (read_length form w) ∷ [])
-    ≡ fault_in (judge_length p path (element_of d) tag form k i want w)
-length_judged p path d tag form k i want w = go (read_length form w) form
+length_judged : (p : Profile) (path : List Open) (d : Due) (tag : Tag) (form : Bool) (k i : ℕ) (cut : Fault) (w : List ℕ)
+    → first_fault (bad_length k cut (read_length form w) ∷ too_long p path k i (length w) (read_length form w) ∷ bad_content p k cut form (Some d) (read_length form w) ∷ [])
+    ≡ fault_in (judge_length p path (element_of d) tag form k i cut w)
+length_judged p path d tag form k i cut w = go (read_length form w) form
   where
     go : (l : LengthRead) (f : Bool)
-        → first_fault (bad_length k want l ∷ too_long p path k i (length w) l ∷ bad_content p k want f (Some d) l ∷ []) ≡ fault_in (elim l as (λ _. Judgement) [
-          | part_length ↦ faulty want
+        → first_fault (bad_length k cut l ∷ too_long p path k i (length w) l ∷ bad_content p k cut f (Some d) l ∷ []) ≡ fault_in (elim l as (λ _. Judgement) [
+          | part_length ↦ faulty cut
           | no_length ↦ faulty (fault Cause.BadLength k)
           | indefinite rest ↦ opens tag (element_of d) (i + (length w - length rest)) None
-          | definite n rest ↦ judge_size p path (element_of d) tag f k (i + (length w - length rest)) want n rest
+          | definite n rest ↦ judge_size p path (element_of d) tag f k (i + (length w - length rest)) cut n rest
         ])
     go part_length f = refl
     go no_length f = refl
     go (indefinite rest) true = refl
     go (indefinite rest) false = refl
-    go (definite n rest) f = size_judged p path d tag f k (i + (length w - length rest)) want n rest
+    go (definite n rest) f = size_judged p path d tag f k (i + (length w - length rest)) cut n rest
 
-form_judged : (p : Profile) (path : List Open) (d : Due) (tag : Tag) (form : Bool) (k i : ℕ) (want : Fault) (w : List ℕ)
-    → first_fault (after_identifier p path k want form i (length w) (Some d) (read_length form w)) ≡ fault_in (judge_form p path (element_of d) tag form k i want w)
-form_judged p path d tag form k i want w = go (element_of d)
+form_judged : (p : Profile) (path : List Open) (d : Due) (tag : Tag) (form : Bool) (k i : ℕ) (cut : Fault) (w : List ℕ)
+    → first_fault (after_identifier p path k cut form i (length w) (Some d) (read_length form w)) ≡ fault_in (judge_form p path (element_of d) tag form k i cut w)
+form_judged p path d tag form k i cut w = go (element_of d)
   where
     more : List Finding
-    more = bad_length k want (read_length form w) ∷ too_long p path k i (length w) (read_length form w) ∷ bad_content p k want form (Some d) (read_length form w) ∷ []
+    more = bad_length k cut (read_length form w) ∷ too_long p path k i (length w) (read_length form w) ∷ bad_content p k cut form (Some d) (read_length form w) ∷ []
 
     judged : (b : Bool) → first_fault ((if b then passes else finds (fault Cause.WrongForm k)) ∷ more)
-        ≡ fault_in (elim b as (λ _. Judgement) [ true ↦ judge_length p path (element_of d) tag form k i want w | false ↦ faulty (fault Cause.WrongForm k) ])
-    judged true = length_judged p path d tag form k i want w
+        ≡ fault_in (elim b as (λ _. Judgement) [ true ↦ judge_length p path (element_of d) tag form k i cut w | false ↦ faulty (fault Cause.WrongForm k) ])
+    judged true = length_judged p path d tag form k i cut w
     judged false = refl
 
     go : (e : Element) → first_fault (bad_form k form e ∷ more) ≡ fault_in (elim e as (λ _. Judgement) [
       | left_out part ↦ faulty (fault (Cause.LeftOut part) k)
-      | _ ↦ elim (allows e form) as (λ _. Judgement) [ true ↦ judge_length p path (element_of d) tag form k i want w | false ↦ faulty (fault Cause.WrongForm k) ]
+      | _ ↦ elim (allows e form) as (λ _. Judgement) [ true ↦ judge_length p path (element_of d) tag form k i cut w | false ↦ faulty (fault Cause.WrongForm k) ]
     ])
     go (leaf l) = judged (allows (leaf l) form)
     go (sequence n) = judged (allows (sequence n) form)
@@ -90,75 +90,75 @@ form_judged p path d tag form k i want w = go (element_of d)
     go segment = judged (allows segment form)
     go (left_out part) = refl
 
-tag_judged : (p : Profile) (path : List Open) (tag : Tag) (form : Bool) (k i : ℕ) (want : Fault) (w : List ℕ)
-    → first_fault (after_identifier p path k want form i (length w) (due p tag (next_in p path)) (read_length form w)) ≡ fault_in (judge_tag p path tag form k i want w)
-tag_judged p path tag form k i want w = go (due p tag (next_in p path))
+tag_judged : (p : Profile) (path : List Open) (tag : Tag) (form : Bool) (k i : ℕ) (cut : Fault) (w : List ℕ)
+    → first_fault (after_identifier p path k cut form i (length w) (due p tag (next_in p path)) (read_length form w)) ≡ fault_in (judge_tag p path tag form k i cut w)
+tag_judged p path tag form k i cut w = go (due p tag (next_in p path))
   where
-    go : (x : Option Due) → first_fault (after_identifier p path k want form i (length w) x (read_length form w))
-        ≡ fault_in (elim x as (λ _. Judgement) [ None ↦ faulty (fault Cause.UnexpectedTag k) | Some d ↦ judge_form p path (element_of d) tag form k i want w ])
+    go : (x : Option Due) → first_fault (after_identifier p path k cut form i (length w) x (read_length form w))
+        ≡ fault_in (elim x as (λ _. Judgement) [ None ↦ faulty (fault Cause.UnexpectedTag k) | Some d ↦ judge_form p path (element_of d) tag form k i cut w ])
     go None = refl
-    go (Some d) = form_judged p path d tag form k i want w
+    go (Some d) = form_judged p path d tag form k i cut w
 
-element_judged : (p : Profile) (path : List Open) (k : ℕ) (want : Fault) (w : List ℕ)
-    → first_fault (bad_identifier k want (read_identifier w) ∷ too_deep path k ∷ of_element p path k want (length w) (read_identifier w)) ≡ fault_in (judge_element p path k want w)
-element_judged p path k want w = go (read_identifier w)
+element_judged : (p : Profile) (path : List Open) (k : ℕ) (cut : Fault) (w : List ℕ)
+    → first_fault (bad_identifier k cut (read_identifier w) ∷ too_deep path k ∷ of_element p path k cut (length w) (read_identifier w)) ≡ fault_in (judge_element p path k cut w)
+element_judged p path k cut w = go (read_identifier w)
   where
     deep : (b : Bool) (tag : Tag) (form : Bool) (rest : List ℕ)
-        → first_fault ((if b then finds (fault Cause.TooDeep k) else passes) ∷ of_element p path k want (length w) (identified tag form rest))
-        ≡ fault_in (if b then faulty (fault Cause.TooDeep k) else judge_tag p path tag form k (length w - length rest) want rest)
+        → first_fault ((if b then finds (fault Cause.TooDeep k) else passes) ∷ of_element p path k cut (length w) (identified tag form rest))
+        ≡ fault_in (if b then faulty (fault Cause.TooDeep k) else judge_tag p path tag form k (length w - length rest) cut rest)
     deep true tag form rest = refl
-    deep false tag form rest = tag_judged p path tag form k (length w - length rest) want rest
+    deep false tag form rest = tag_judged p path tag form k (length w - length rest) cut rest
 
-    go : (x : IdentifierRead) → first_fault (bad_identifier k want x ∷ too_deep path k ∷ of_element p path k want (length w) x) ≡ fault_in (elim x as (λ _. Judgement) [
-      | part_identifier ↦ faulty want
+    go : (x : IdentifierRead) → first_fault (bad_identifier k cut x ∷ too_deep path k ∷ of_element p path k cut (length w) x) ≡ fault_in (elim x as (λ _. Judgement) [
+      | part_identifier ↦ faulty cut
       | no_identifier ↦ faulty (fault Cause.BadTag k)
       | identified tag constructed rest ↦
           if nat_le 32 (length path) then faulty (fault Cause.TooDeep k)
-          else judge_tag p path tag constructed k (length w - length rest) want rest
+          else judge_tag p path tag constructed k (length w - length rest) cut rest
     ])
     go part_identifier = refl
     go no_identifier = refl
     go (identified tag form rest) = deep (nat_le 32 (length path)) tag form rest
 
-mark_judged : (p : Profile) (path : List Open) (k : ℕ) (want : Fault) (w : List ℕ) (more : List Finding)
-    → first_fault (second_zero p path k want w ∷ more) ≡ fault_in (judge_mark p path k want w)
-mark_judged p path k want [] more = refl
-mark_judged p path k want (a ∷ w) more = go (nat_eq a 0)
+mark_judged : (p : Profile) (path : List Open) (k : ℕ) (cut : Fault) (w : List ℕ) (more : List Finding)
+    → first_fault (second_zero p path k cut w ∷ more) ≡ fault_in (judge_mark p path k cut w)
+mark_judged p path k cut [] more = refl
+mark_judged p path k cut (a ∷ w) more = go (nat_eq a 0)
   where
     go : (b : Bool) → first_fault ((if b then innermost_ends p path k else finds (fault Cause.BadEnd k)) ∷ more)
         ≡ fault_in (elim b as (λ _. Judgement) [ true ↦ judge_end p path k 2 | false ↦ faulty (fault Cause.BadEnd k) ])
     go true = end_judged p path k 2 more
     go false = refl
 
-octets_judged : (p : Profile) (path : List Open) (k : ℕ) (want : Fault) (a : ℕ) (w : List ℕ)
-    → first_fault (end_mark p path k want (a ∷ w) ∷ bad_identifier k want (read_identifier (a ∷ w)) ∷ too_deep path k
-    ∷ of_element p path k want (length (a ∷ w)) (read_identifier (a ∷ w)))
-    ≡ fault_in (judge_octets p path k want (a ∷ w))
-octets_judged p path k want a w = go (is_indefinite path && nat_eq a 0)
+octets_judged : (p : Profile) (path : List Open) (k : ℕ) (cut : Fault) (a : ℕ) (w : List ℕ)
+    → first_fault (end_mark p path k cut (a ∷ w) ∷ bad_identifier k cut (read_identifier (a ∷ w)) ∷ too_deep path k
+    ∷ of_element p path k cut (length (a ∷ w)) (read_identifier (a ∷ w)))
+    ≡ fault_in (judge_octets p path k cut (a ∷ w))
+octets_judged p path k cut a w = go (is_indefinite path && nat_eq a 0)
   where
     more : List Finding
-    more = bad_identifier k want (read_identifier (a ∷ w)) ∷ too_deep path k ∷ of_element p path k want (length (a ∷ w)) (read_identifier (a ∷ w))
+    more = bad_identifier k cut (read_identifier (a ∷ w)) ∷ too_deep path k ∷ of_element p path k cut (length (a ∷ w)) (read_identifier (a ∷ w))
 
-    go : (b : Bool) → first_fault ((if b then second_zero p path k want w else passes) ∷ more)
-        ≡ fault_in (elim b as (λ _. Judgement) [ true ↦ judge_mark p path k want w | false ↦ judge_element p path k want (a ∷ w) ])
-    go true = mark_judged p path k want w more
-    go false = element_judged p path k want (a ∷ w)
+    go : (b : Bool) → first_fault ((if b then second_zero p path k cut w else passes) ∷ more)
+        ≡ fault_in (elim b as (λ _. Judgement) [ true ↦ judge_mark p path k cut w | false ↦ judge_element p path k cut (a ∷ w) ])
+    go true = mark_judged p path k cut w more
+    go false = element_judged p path k cut (a ∷ w)
 
 -- the fault at a place is that of what is done there
 pub fault_judged : (p : Profile) (path : List Open) (k : ℕ) (rest : List ℕ) → fault_at p path k rest ≡ fault_in (judge p path k rest)
 fault_judged p path k rest = go (ends_at path k) (take (bound p path - k) rest)
   where
-    want : Fault
-    want = wanting p path k rest
+    cut : Fault
+    cut = cut_fault p path k rest
 
     more : List ℕ → List Finding
-    more w = no_octet want w ∷ end_mark p path k want w ∷ bad_identifier k want (read_identifier w) ∷ too_deep path k ∷ of_element p path k want (length w) (read_identifier w)
+    more w = no_octet cut w ∷ end_mark p path k cut w ∷ bad_identifier k cut (read_identifier w) ∷ too_deep path k ∷ of_element p path k cut (length w) (read_identifier w)
 
     go : (b : Bool) (w : List ℕ) → first_fault ((if b then innermost_ends p path k else passes) ∷ more w)
-        ≡ fault_in (elim b as (λ _. Judgement) [ true ↦ judge_end p path k 0 | false ↦ judge_octets p path k want w ])
+        ≡ fault_in (elim b as (λ _. Judgement) [ true ↦ judge_end p path k 0 | false ↦ judge_octets p path k cut w ])
     go true w = end_judged p path k 0 (more w)
     go false [] = refl
-    go false (a ∷ w) = octets_judged p path k want a w
+    go false (a ∷ w) = octets_judged p path k cut a w
 
 is_faulty : (j : Judgement) (f : Fault) → fault_in j ≡ Some f → j ≡ faulty f
 is_faulty (faulty g) f e = let q : g ≡ f = cc in ap faulty q

@@ -11,7 +11,7 @@ use Rattle.ber_leaf.specs.declared.fault.LeafFault.{LeafFault}
 use Rattle.ill_schema.specs.declared.refusal.Cause.{Cause}
 use Rattle.ill_schema.specs.declared.part.PartId.{PartId}
 use Rattle.ill_refusals.specs.Element.{Element, leaf, sequence, list, wrapper, loose_wrapper, segment, left_out}
-use Rattle.ill_refusals.specs.Fault.{Fault, fault, ends_at, is_indefinite, past_end, wanting, element_fault}
+use Rattle.ill_refusals.specs.Fault.{Fault, fault, ends_at, is_indefinite, past_end, cut_fault, element_fault}
 use Rattle.ill_refusals.specs.code.Judge.{Judgement, faulty, closes, opens, reads, or_faulty, judge_end, judge_content, judge_size, judge_length, judge_form, judge_tag, judge_element, judge_mark, judge_octets, judge}
 use Rattle.ber_core.specs.Octets.{are_octets}
 use Rattle.ill_refusals.specs.Next.{Due, element_of, due, missing}
@@ -45,7 +45,7 @@ end_judged p o outer k m h =
 abbrev judge_body : Profile → List Open → ℕ → List ℕ → Bool → Judgement
 judge_body p path k rest b = elim b as (λ _. Judgement) [
   | true ↦ judge_end p path k 0
-  | false ↦ judge_octets p path k (wanting p path k rest) (take (bound p path - k) rest)
+  | false ↦ judge_octets p path k (cut_fault p path k rest) (take (bound p path - k) rest)
 ]
 
 same_end : (o : Open) (outer : List Open) (k : ℕ) → o.end ≡ Some k → ends_at (o ∷ outer) k ≡ true
@@ -69,7 +69,7 @@ no_end p (o ∷ outer) k h = go o.end refl
         let b : bound p (o ∷ outer) ≡ n = bound_some p o outer n e in
         ap (λ x. elim x as (λ _. Bool) [ Some e ↦ nat_eq e k | None ↦ false ]) e ∙ (let q : nat_eq n k ≡ false = grind (arith, b, h) in q)
 
-not_ended : (p : Profile) (path : List Open) (k : ℕ) (rest : List ℕ) → k < bound p path → judge p path k rest ≡ judge_octets p path k (wanting p path k rest) (take (bound p path - k) rest)
+not_ended : (p : Profile) (path : List Open) (k : ℕ) (rest : List ℕ) → k < bound p path → judge p path k rest ≡ judge_octets p path k (cut_fault p path k rest) (take (bound p path - k) rest)
 not_ended p path k rest h = ap (judge_body p path k rest) (no_end p path k h)
 
 take_two : (m a b : ℕ) (w : List ℕ) → 2 ≤ m → take m (a ∷ b ∷ w) ≡ a ∷ b ∷ take (m - 2) w
@@ -79,65 +79,65 @@ take_two m a b w h = let e : 2 + (m - 2) ≡ m = omega arith in ap (λ n. take n
 pub mark_judged : (p : Profile) (o : Open) (outer : List Open) (k : ℕ) (w : List ℕ) → o.end ≡ None → k + 2 ≤ bound p (o ∷ outer) → MayEnd p o outer → judge p (o ∷ outer) k (0 ∷ 0 ∷ w) ≡ closes 2
 mark_judged p o outer k w e le h =
     not_ended p (o ∷ outer) k (0 ∷ 0 ∷ w) (omega arith)
-    ∙ ap (judge_octets p (o ∷ outer) k (wanting p (o ∷ outer) k (0 ∷ 0 ∷ w))) (take_two (bound p (o ∷ outer) - k) 0 0 w (omega arith))
+    ∙ ap (judge_octets p (o ∷ outer) k (cut_fault p (o ∷ outer) k (0 ∷ 0 ∷ w))) (take_two (bound p (o ∷ outer) - k) 0 0 w (omega arith))
     ∙ ap (λ x. elim (elim x as (λ _. Bool) [ Some e ↦ false | None ↦ true ] && true) as (λ _. Judgement) [
       | true ↦ judge_end p (o ∷ outer) k 2
-      | false ↦ judge_element p (o ∷ outer) k (wanting p (o ∷ outer) k (0 ∷ 0 ∷ w)) (0 ∷ 0 ∷ take (bound p (o ∷ outer) - k - 2) w)
+      | false ↦ judge_element p (o ∷ outer) k (cut_fault p (o ∷ outer) k (0 ∷ 0 ∷ w)) (0 ∷ 0 ∷ take (bound p (o ∷ outer) - k - 2) w)
     ]) e
     ∙ end_judged p o outer k 2 h
 
 -- an element's first octet is no end mark's
-no_mark : (p : Profile) (path : List Open) (k : ℕ) (want : Fault) (w : List ℕ) → (IsEnd w → ⊥) → judge_octets p path k want w ≡ judge_element p path k want w
-no_mark p path k want [] h = absurd (h tt)
-no_mark p path k want (a ∷ w) h =
+no_mark : (p : Profile) (path : List Open) (k : ℕ) (cut : Fault) (w : List ℕ) → (IsEnd w → ⊥) → judge_octets p path k cut w ≡ judge_element p path k cut w
+no_mark p path k cut [] h = absurd (h tt)
+no_mark p path k cut (a ∷ w) h =
     let e : nat_eq a 0 ≡ false = elim (two_cases (nat_eq a 0)) [ inr i ↦ i | inl i ↦ absurd (h (let z : a ≡ 0 = grind (arith, i) in z)) ] in
-    ap (λ x. elim (is_indefinite path && x) as (λ _. Judgement) [ true ↦ judge_mark p path k want w | false ↦ judge_element p path k want (a ∷ w) ]) e
-    ∙ ap (λ x. elim x as (λ _. Judgement) [ true ↦ judge_mark p path k want w | false ↦ judge_element p path k want (a ∷ w) ]) (and_false (is_indefinite path))
+    ap (λ x. elim (is_indefinite path && x) as (λ _. Judgement) [ true ↦ judge_mark p path k cut w | false ↦ judge_element p path k cut (a ∷ w) ]) e
+    ∙ ap (λ x. elim x as (λ _. Judgement) [ true ↦ judge_mark p path k cut w | false ↦ judge_element p path k cut (a ∷ w) ]) (and_false (is_indefinite path))
   where
     and_false : (b : Bool) → b && false ≡ false
     and_false true = refl
     and_false false = refl
 
-pub form_judged : (p : Profile) (path : List Open) (e : Element) (tag : Tag) (f : Bool) (k i : ℕ) (want : Fault) (w : List ℕ) → allows e f ≡ true
-    → judge_form p path e tag f k i want w ≡ judge_length p path e tag f k i want w
-form_judged p path (leaf l) tag f k i want w h = ap (λ x. elim x as (λ _. Judgement) [ true ↦ judge_length p path (leaf l) tag f k i want w | false ↦ faulty (fault Cause.WrongForm k) ]) h
-form_judged p path (sequence node) tag f k i want w h = ap (λ x. elim x as (λ _. Judgement) [ true ↦ judge_length p path (sequence node) tag f k i want w | false ↦ faulty (fault Cause.WrongForm k) ]) h
-form_judged p path (list node) tag f k i want w h = ap (λ x. elim x as (λ _. Judgement) [ true ↦ judge_length p path (list node) tag f k i want w | false ↦ faulty (fault Cause.WrongForm k) ]) h
-form_judged p path (wrapper c) tag f k i want w h = ap (λ x. elim x as (λ _. Judgement) [ true ↦ judge_length p path (wrapper c) tag f k i want w | false ↦ faulty (fault Cause.WrongForm k) ]) h
-form_judged p path (loose_wrapper c) tag f k i want w h = ap (λ x. elim x as (λ _. Judgement) [ true ↦ judge_length p path (loose_wrapper c) tag f k i want w | false ↦ faulty (fault Cause.WrongForm k) ]) h
-form_judged p path segment tag f k i want w h = ap (λ x. elim x as (λ _. Judgement) [ true ↦ judge_length p path segment tag f k i want w | false ↦ faulty (fault Cause.WrongForm k) ]) h
-form_judged p path (left_out x) tag f k i want w h = absurd cc
+pub form_judged : (p : Profile) (path : List Open) (e : Element) (tag : Tag) (f : Bool) (k i : ℕ) (cut : Fault) (w : List ℕ) → allows e f ≡ true
+    → judge_form p path e tag f k i cut w ≡ judge_length p path e tag f k i cut w
+form_judged p path (leaf l) tag f k i cut w h = ap (λ x. elim x as (λ _. Judgement) [ true ↦ judge_length p path (leaf l) tag f k i cut w | false ↦ faulty (fault Cause.WrongForm k) ]) h
+form_judged p path (sequence node) tag f k i cut w h = ap (λ x. elim x as (λ _. Judgement) [ true ↦ judge_length p path (sequence node) tag f k i cut w | false ↦ faulty (fault Cause.WrongForm k) ]) h
+form_judged p path (list node) tag f k i cut w h = ap (λ x. elim x as (λ _. Judgement) [ true ↦ judge_length p path (list node) tag f k i cut w | false ↦ faulty (fault Cause.WrongForm k) ]) h
+form_judged p path (wrapper c) tag f k i cut w h = ap (λ x. elim x as (λ _. Judgement) [ true ↦ judge_length p path (wrapper c) tag f k i cut w | false ↦ faulty (fault Cause.WrongForm k) ]) h
+form_judged p path (loose_wrapper c) tag f k i cut w h = ap (λ x. elim x as (λ _. Judgement) [ true ↦ judge_length p path (loose_wrapper c) tag f k i cut w | false ↦ faulty (fault Cause.WrongForm k) ]) h
+form_judged p path segment tag f k i cut w h = ap (λ x. elim x as (λ _. Judgement) [ true ↦ judge_length p path segment tag f k i cut w | false ↦ faulty (fault Cause.WrongForm k) ]) h
+form_judged p path (left_out x) tag f k i cut w h = absurd cc
 
-element_judged : (p : Profile) (path : List Open) (tag : Tag) (f : Bool) (d : Due) (k : ℕ) (want : Fault) (w : List ℕ) → IsStarted p path tag f d
-    → judge_element p path k want (identifier tag f ++ w) ≡ judge_length p path (element_of d) tag f k (length (identifier tag f)) want w
-element_judged p path tag f d k want w h =
+element_judged : (p : Profile) (path : List Open) (tag : Tag) (f : Bool) (d : Due) (k : ℕ) (cut : Fault) (w : List ℕ) → IsStarted p path tag f d
+    → judge_element p path k cut (identifier tag f ++ w) ≡ judge_length p path (element_of d) tag f k (length (identifier tag f)) cut w
+element_judged p path tag f d k cut w h =
     let s : nat_le 32 (length path) ≡ false = let l = h.shallow in grind (arith, l) in
     let i : length (identifier tag f ++ w) - length w ≡ length (identifier tag f) = omega (arith, length-append (identifier tag f) w) in
     ap (λ r. elim r as (λ _. Judgement) [
-      | part_identifier ↦ faulty want
+      | part_identifier ↦ faulty cut
       | no_identifier ↦ faulty (fault Cause.BadTag k)
       | identified t form rest ↦
           if nat_le 32 (length path) then faulty (fault Cause.TooDeep k)
-          else judge_tag p path t form k (length (identifier tag f ++ w) - length rest) want rest
+          else judge_tag p path t form k (length (identifier tag f ++ w) - length rest) cut rest
     ]) (identifier_read tag f w h.has_identifier)
-    ∙ ap (λ (b : Bool). if b then faulty (fault Cause.TooDeep k) else judge_tag p path tag f k (length (identifier tag f ++ w) - length w) want w) s
-    ∙ ap (λ n. judge_tag p path tag f k n want w) i
-    ∙ ap (λ x. elim x as (λ _. Judgement) [ None ↦ faulty (fault Cause.UnexpectedTag k) | Some d ↦ judge_form p path (element_of d) tag f k (length (identifier tag f)) want w ]) h.is_due
-    ∙ form_judged p path (element_of d) tag f k (length (identifier tag f)) want w h.allowed
+    ∙ ap (λ (b : Bool). if b then faulty (fault Cause.TooDeep k) else judge_tag p path tag f k (length (identifier tag f ++ w) - length w) cut w) s
+    ∙ ap (λ n. judge_tag p path tag f k n cut w) i
+    ∙ ap (λ x. elim x as (λ _. Judgement) [ None ↦ faulty (fault Cause.UnexpectedTag k) | Some d ↦ judge_form p path (element_of d) tag f k (length (identifier tag f)) cut w ]) h.is_due
+    ∙ form_judged p path (element_of d) tag f k (length (identifier tag f)) cut w h.allowed
 
 abbrev pub length_body : Profile → List Open → Element → Tag → Bool → ℕ → ℕ → Fault → List ℕ → LengthRead → Judgement
-length_body p path e tag f k i want w r = elim r as (λ _. Judgement) [
-  | part_length ↦ faulty want
+length_body p path e tag f k i cut w r = elim r as (λ _. Judgement) [
+  | part_length ↦ faulty cut
   | no_length ↦ faulty (fault Cause.BadLength k)
   | indefinite rest ↦ opens tag e (i + (length w - length rest)) None
-  | definite n rest ↦ judge_size p path e tag f k (i + (length w - length rest)) want n rest
+  | definite n rest ↦ judge_size p path e tag f k (i + (length w - length rest)) cut n rest
 ]
 
-definite_judged : (p : Profile) (path : List Open) (e : Element) (tag : Tag) (f : Bool) (k i : ℕ) (want : Fault) (n : ℕ) (os w : List ℕ) → IsLength n os
-    → judge_length p path e tag f k i want (os ++ w) ≡ judge_size p path e tag f k (i + length os) want n w
-definite_judged p path e tag f k i want n os w h =
+definite_judged : (p : Profile) (path : List Open) (e : Element) (tag : Tag) (f : Bool) (k i : ℕ) (cut : Fault) (n : ℕ) (os w : List ℕ) → IsLength n os
+    → judge_length p path e tag f k i cut (os ++ w) ≡ judge_size p path e tag f k (i + length os) cut n w
+definite_judged p path e tag f k i cut n os w h =
     let j : length (os ++ w) - length w ≡ length os = omega (arith, length-append os w) in
-    ap (length_body p path e tag f k i want (os ++ w)) (length_read f n os w h) ∙ ap (λ x. judge_size p path e tag f k (i + x) want n w) j
+    ap (length_body p path e tag f k i cut (os ++ w)) (length_read f n os w h) ∙ ap (λ x. judge_size p path e tag f k (i + x) cut n w) j
 
 -- the octets as far as the bound reaches
 take_through : (m : ℕ) (a b : List ℕ) → length a ≤ m → take m (a ++ b) ≡ a ++ take (m - length a) b
@@ -157,20 +157,20 @@ length_size n os (long h k s e) = omega arith
 -- an element's header, and what is judged after its identifier
 started_judged : (p : Profile) (path : List Open) (tag : Tag) (f : Bool) (d : Due) (k : ℕ) (os w : List ℕ) → IsStarted p path tag f d → k + length (identifier tag f) + length os ≤ bound p path
     → judge p path k (identifier tag f ++ (os ++ w))
-    ≡ judge_length p path (element_of d) tag f k (length (identifier tag f)) (wanting p path k (identifier tag f ++ (os ++ w)))
+    ≡ judge_length p path (element_of d) tag f k (length (identifier tag f)) (cut_fault p path k (identifier tag f ++ (os ++ w)))
     (os ++ take (bound p path - k - length (identifier tag f) - length os) w)
 started_judged p path tag f d k os w h le =
     let id = identifier tag f in
     let s = id_size tag f h.has_identifier in
     let m = bound p path - k in
-    let want = wanting p path k (id ++ (os ++ w)) in
+    let cut = cut_fault p path k (id ++ (os ++ w)) in
     let z = os ++ take (m - length id - length os) w in
     let t : take m (id ++ (os ++ w)) ≡ id ++ z =
     take_through m id (os ++ w) (omega arith) ∙ ap (λ y. id ++ y) (take_through (m - length id) os w (omega arith)) in
     not_ended p path k (id ++ (os ++ w)) (omega arith)
-    ∙ ap (judge_octets p path k want) t
-    ∙ no_mark p path k want (id ++ z) (λ e. identifier_no_end tag f z h.has_identifier e)
-    ∙ element_judged p path tag f d k want z h
+    ∙ ap (judge_octets p path k cut) t
+    ∙ no_mark p path k cut (id ++ z) (λ e. identifier_no_end tag f z h.has_identifier e)
+    ∙ element_judged p path tag f d k cut z h
 
 -- a constructed element of a definite length
 pub opens_judged : (p : Profile) (path : List Open) (tag : Tag) (d : Due) (k n : ℕ) (os w : List ℕ) → IsStarted p path tag true d → IsLength n os
@@ -197,16 +197,16 @@ pub reads_judged : (p : Profile) (path : List Open) (tag : Tag) (d : Due) (k : �
 reads_judged p path tag d k os content w h l ok le =
     let i = length (identifier tag false) in
     let n = length content in
-    let want = wanting p path k (identifier tag false ++ (os ++ (content ++ w))) in
+    let cut = cut_fault p path k (identifier tag false ++ (os ++ (content ++ w))) in
     let b : nat_lt (bound p path) (k + (i + length os) + n) ≡ false = not_less _ _ le in
     let m = bound p path - k - i - length os in
     let t : take m (content ++ w) ≡ content ++ take (m - n) w = take_through m content w (omega arith) in
     let c : nat_lt (length (content ++ take (m - n) w)) n ≡ false = not_less _ _ (omega (arith, length-append content (take (m - n) w))) in
     started_judged p path tag false d k os (content ++ w) h (omega arith)
-    ∙ definite_judged p path (element_of d) tag false k i want n os _ l
-    ∙ ap (λ (x : Bool). if x then faulty (fault (past_end path) k) else judge_content p (element_of d) tag k (i + length os) want n (take m (content ++ w))) b
-    ∙ ap (judge_content p (element_of d) tag k (i + length os) want n) t
-    ∙ ap (λ (x : Bool). if x then faulty want else or_faulty (element_fault p (element_of d) (take n (content ++ take (m - n) w))) k (reads tag (i + length os) (take n (content ++ take (m - n) w)))) c
+    ∙ definite_judged p path (element_of d) tag false k i cut n os _ l
+    ∙ ap (λ (x : Bool). if x then faulty (fault (past_end path) k) else judge_content p (element_of d) tag k (i + length os) cut n (take m (content ++ w))) b
+    ∙ ap (judge_content p (element_of d) tag k (i + length os) cut n) t
+    ∙ ap (λ (x : Bool). if x then faulty cut else or_faulty (element_fault p (element_of d) (take n (content ++ take (m - n) w))) k (reads tag (i + length os) (take n (content ++ take (m - n) w)))) c
     ∙ ap (λ x. or_faulty (element_fault p (element_of d) x) k (reads tag (i + length os) x)) (take-append_seam content (take (m - n) w))
     ∙ ap (λ x. or_faulty x k (reads tag (i + length os) content)) ok
 
@@ -262,16 +262,16 @@ end_says p o outer k rest m how = go (missing p (next_in p (o ∷ outer))) refl
         record { innermost = o; outer = outer; is_path = refl; may_end = record { complete = e; no_fault = f }; how = how })
 
 abbrev form_body : Profile → List Open → Element → Tag → Bool → ℕ → ℕ → Fault → List ℕ → Bool → Judgement
-form_body p path e tag f k i want w b = elim b as (λ _. Judgement) [ true ↦ judge_length p path e tag f k i want w | false ↦ faulty (fault Cause.WrongForm k) ]
+form_body p path e tag f k i cut w b = elim b as (λ _. Judgement) [ true ↦ judge_length p path e tag f k i cut w | false ↦ faulty (fault Cause.WrongForm k) ]
 
-form_cases : (p : Profile) (path : List Open) (e : Element) (tag : Tag) (f : Bool) (k i : ℕ) (want : Fault) (w : List ℕ) → (allows e f ≡ true) ⊎ ((x : Fault) × (judge_form p path e tag f k i want w ≡ faulty x))
-form_cases p path (leaf l) tag f k i want w = elim (two_cases (allows (leaf l) f)) [ inl h ↦ inl h | inr h ↦ inr (fault Cause.WrongForm k, ap (form_body p path (leaf l) tag f k i want w) h) ]
-form_cases p path (sequence node) tag f k i want w = elim (two_cases (allows (sequence node) f)) [ inl h ↦ inl h | inr h ↦ inr (fault Cause.WrongForm k, ap (form_body p path (sequence node) tag f k i want w) h) ]
-form_cases p path (list node) tag f k i want w = elim (two_cases (allows (list node) f)) [ inl h ↦ inl h | inr h ↦ inr (fault Cause.WrongForm k, ap (form_body p path (list node) tag f k i want w) h) ]
-form_cases p path (wrapper c) tag f k i want w = elim (two_cases (allows (wrapper c) f)) [ inl h ↦ inl h | inr h ↦ inr (fault Cause.WrongForm k, ap (form_body p path (wrapper c) tag f k i want w) h) ]
-form_cases p path (loose_wrapper c) tag f k i want w = elim (two_cases (allows (loose_wrapper c) f)) [ inl h ↦ inl h | inr h ↦ inr (fault Cause.WrongForm k, ap (form_body p path (loose_wrapper c) tag f k i want w) h) ]
-form_cases p path segment tag f k i want w = inl refl
-form_cases p path (left_out x) tag f k i want w = inr (fault (Cause.LeftOut x) k, refl)
+form_cases : (p : Profile) (path : List Open) (e : Element) (tag : Tag) (f : Bool) (k i : ℕ) (cut : Fault) (w : List ℕ) → (allows e f ≡ true) ⊎ ((x : Fault) × (judge_form p path e tag f k i cut w ≡ faulty x))
+form_cases p path (leaf l) tag f k i cut w = elim (two_cases (allows (leaf l) f)) [ inl h ↦ inl h | inr h ↦ inr (fault Cause.WrongForm k, ap (form_body p path (leaf l) tag f k i cut w) h) ]
+form_cases p path (sequence node) tag f k i cut w = elim (two_cases (allows (sequence node) f)) [ inl h ↦ inl h | inr h ↦ inr (fault Cause.WrongForm k, ap (form_body p path (sequence node) tag f k i cut w) h) ]
+form_cases p path (list node) tag f k i cut w = elim (two_cases (allows (list node) f)) [ inl h ↦ inl h | inr h ↦ inr (fault Cause.WrongForm k, ap (form_body p path (list node) tag f k i cut w) h) ]
+form_cases p path (wrapper c) tag f k i cut w = elim (two_cases (allows (wrapper c) f)) [ inl h ↦ inl h | inr h ↦ inr (fault Cause.WrongForm k, ap (form_body p path (wrapper c) tag f k i cut w) h) ]
+form_cases p path (loose_wrapper c) tag f k i cut w = elim (two_cases (allows (loose_wrapper c) f)) [ inl h ↦ inl h | inr h ↦ inr (fault Cause.WrongForm k, ap (form_body p path (loose_wrapper c) tag f k i cut w) h) ]
+form_cases p path segment tag f k i cut w = inl refl
+form_cases p path (left_out x) tag f k i cut w = inr (fault (Cause.LeftOut x) k, refl)
 
 -- octets that may be read: the front of the rest, within the bound
 pub record IsFront (p : Profile) (path : List Open) (k : ℕ) (rest : List ℕ) (w : List ℕ) : Type 0 where
@@ -280,10 +280,10 @@ pub record IsFront (p : Profile) (path : List Open) (k : ℕ) (rest : List ℕ) 
   pub near : length w ≤ bound p path - k
   pub octets : IsTrue (are_octets w)
 
-primitive_says : (p : Profile) (path : List Open) (tag : Tag) (d : Due) (k : ℕ) (rest : List ℕ) (want : Fault) (n h : ℕ) (os r : List ℕ) → IsStarted p path tag false d
+primitive_says : (p : Profile) (path : List Open) (tag : Tag) (d : Due) (k : ℕ) (rest : List ℕ) (cut : Fault) (n h : ℕ) (os r : List ℕ) → IsStarted p path tag false d
     → IsFront p path k rest (identifier tag false ++ (os ++ r)) → IsLength n os → h ≡ length (identifier tag false) + length os
-    → Judged p path k rest (judge_content p (element_of d) tag k h want n r)
-primitive_says p path tag d k rest want n h os r s w l size = elim (two_cases (nat_lt (length r) n)) [
+    → Judged p path k rest (judge_content p (element_of d) tag k h cut n r)
+primitive_says p path tag d k rest cut n h os r s w l size = elim (two_cases (nat_lt (length r) n)) [
   | inl e ↦ rw e tt
   | inr e ↦ rw e (or_judged p path k rest (element_fault p (element_of d) (take n r)) k (reads tag h (take n r)) (λ f.
       let id = identifier tag false in
@@ -306,16 +306,16 @@ primitive_says p path tag d k rest want n h os r s w l size = elim (two_cases (n
       }))
 ]
 
-size_says : (p : Profile) (path : List Open) (tag : Tag) (f : Bool) (d : Due) (k : ℕ) (rest : List ℕ) (want : Fault) (n h : ℕ) (os r : List ℕ) → IsStarted p path tag f d
+size_says : (p : Profile) (path : List Open) (tag : Tag) (f : Bool) (d : Due) (k : ℕ) (rest : List ℕ) (cut : Fault) (n h : ℕ) (os r : List ℕ) → IsStarted p path tag f d
     → IsFront p path k rest (identifier tag f ++ (os ++ r)) → IsLength n os → h ≡ length (identifier tag f) + length os
-    → Judged p path k rest (judge_size p path (element_of d) tag f k h want n r)
-size_says p path tag f d k rest want n h os r s w l size = elim (two_cases (nat_lt (bound p path) (k + h + n))) [
+    → Judged p path k rest (judge_size p path (element_of d) tag f k h cut n r)
+size_says p path tag f d k rest cut n h os r s w l size = elim (two_cases (nat_lt (bound p path) (k + h + n))) [
   | inl e ↦ rw e tt
   | inr e ↦ rw e (go f s w size (ltb-false _ _ e))
 ]
   where
     go : (f : Bool) → IsStarted p path tag f d → IsFront p path k rest (identifier tag f ++ (os ++ r)) → h ≡ length (identifier tag f) + length os → k + h + n ≤ bound p path
-        → Judged p path k rest (elim f as (λ _. Judgement) [ true ↦ opens tag (element_of d) h (Some (k + h + n)) | false ↦ judge_content p (element_of d) tag k h want n r ])
+        → Judged p path k rest (elim f as (λ _. Judgement) [ true ↦ opens tag (element_of d) h (Some (k + h + n)) | false ↦ judge_content p (element_of d) tag k h cut n r ])
     go true s w size le = record {
       found = d;
       started = s;
@@ -327,11 +327,11 @@ size_says p path tag f d k rest want n h os r s w l size = elim (two_cases (nat_
       within = omega arith;
       how = inr (n, l, refl, le);
     }
-    go false s w size le = primitive_says p path tag d k rest want n h os r s w l size
+    go false s w size le = primitive_says p path tag d k rest cut n h os r s w l size
 
-length_says : (p : Profile) (path : List Open) (tag : Tag) (f : Bool) (d : Due) (k i : ℕ) (rest : List ℕ) (want : Fault) (w : List ℕ) → IsStarted p path tag f d
-    → IsFront p path k rest (identifier tag f ++ w) → i ≡ length (identifier tag f) → Judged p path k rest (judge_length p path (element_of d) tag f k i want w)
-length_says p path tag f d k i rest want w s front e = go (read_length f w) refl
+length_says : (p : Profile) (path : List Open) (tag : Tag) (f : Bool) (d : Due) (k i : ℕ) (rest : List ℕ) (cut : Fault) (w : List ℕ) → IsStarted p path tag f d
+    → IsFront p path k rest (identifier tag f ++ w) → i ≡ length (identifier tag f) → Judged p path k rest (judge_length p path (element_of d) tag f k i cut w)
+length_says p path tag f d k i rest cut w s front e = go (read_length f w) refl
   where
     marked : (f : Bool) (r : List ℕ) → f ≡ true → w ≡ 128 ∷ r → IsStarted p path tag f d → IsFront p path k rest (identifier tag f ++ w) → i ≡ length (identifier tag f)
         → Opens p path k rest tag (element_of d) (i + (length w - length r)) None
@@ -351,37 +351,37 @@ length_says p path tag f d k i rest want w s front e = go (read_length f w) refl
           how = inl (refl, refl);
         }
 
-    go : (x : LengthRead) → read_length f w ≡ x → Judged p path k rest (length_body p path (element_of d) tag f k i want w x)
+    go : (x : LengthRead) → read_length f w ≡ x → Judged p path k rest (length_body p path (element_of d) tag f k i cut w x)
     go part_length q = tt
     go no_length q = tt
     go (indefinite r) q = let u = read_is_indefinite f w r (octets_right (identifier tag f) w front.octets) q in marked f r u.0 u.1 s front e
     go (definite n r) q =
         let u = read_is_length f w n r (octets_right (identifier tag f) w front.octets) q in
-        size_says p path tag f d k rest want n (i + (length w - length r)) u.0 r s (subst (λ z. IsFront p path k rest (identifier tag f ++ z)) u.2 front) u.1
+        size_says p path tag f d k rest cut n (i + (length w - length r)) u.0 r s (subst (λ z. IsFront p path k rest (identifier tag f ++ z)) u.2 front) u.1
         (omega (arith, ap length u.2, length-append u.0 r))
 
-tag_says : (p : Profile) (path : List Open) (tag : Tag) (f : Bool) (k i : ℕ) (rest : List ℕ) (want : Fault) (w : List ℕ) → HasIdentifier tag f → length path < 32
-    → IsFront p path k rest (identifier tag f ++ w) → i ≡ length (identifier tag f) → Judged p path k rest (judge_tag p path tag f k i want w)
-tag_says p path tag f k i rest want w h deep front e = go (due p tag (next_in p path)) refl
+tag_says : (p : Profile) (path : List Open) (tag : Tag) (f : Bool) (k i : ℕ) (rest : List ℕ) (cut : Fault) (w : List ℕ) → HasIdentifier tag f → length path < 32
+    → IsFront p path k rest (identifier tag f ++ w) → i ≡ length (identifier tag f) → Judged p path k rest (judge_tag p path tag f k i cut w)
+tag_says p path tag f k i rest cut w h deep front e = go (due p tag (next_in p path)) refl
   where
     go : (x : Option Due) → due p tag (next_in p path) ≡ x
-        → Judged p path k rest (elim x as (λ _. Judgement) [ None ↦ faulty (fault Cause.UnexpectedTag k) | Some d ↦ judge_form p path (element_of d) tag f k i want w ])
+        → Judged p path k rest (elim x as (λ _. Judgement) [ None ↦ faulty (fault Cause.UnexpectedTag k) | Some d ↦ judge_form p path (element_of d) tag f k i cut w ])
     go None q = tt
-    go (Some d) q = elim (form_cases p path (element_of d) tag f k i want w) [
-      | inl a ↦ subst (Judged p path k rest) (sym (form_judged p path (element_of d) tag f k i want w a))
-          (length_says p path tag f d k i rest want w (record { has_identifier = h; is_due = q; allowed = a; shallow = deep }) front e)
+    go (Some d) q = elim (form_cases p path (element_of d) tag f k i cut w) [
+      | inl a ↦ subst (Judged p path k rest) (sym (form_judged p path (element_of d) tag f k i cut w a))
+          (length_says p path tag f d k i rest cut w (record { has_identifier = h; is_due = q; allowed = a; shallow = deep }) front e)
       | inr x ↦ subst (Judged p path k rest) (sym x.1) tt
     ]
 
-element_says : (p : Profile) (path : List Open) (k : ℕ) (rest : List ℕ) (want : Fault) (w : List ℕ) → IsFront p path k rest w → Judged p path k rest (judge_element p path k want w)
-element_says p path k rest want w front = go (read_identifier w) refl
+element_says : (p : Profile) (path : List Open) (k : ℕ) (rest : List ℕ) (cut : Fault) (w : List ℕ) → IsFront p path k rest w → Judged p path k rest (judge_element p path k cut w)
+element_says p path k rest cut w front = go (read_identifier w) refl
   where
     go : (x : IdentifierRead) → read_identifier w ≡ x → Judged p path k rest (elim x as (λ _. Judgement) [
-      | part_identifier ↦ faulty want
+      | part_identifier ↦ faulty cut
       | no_identifier ↦ faulty (fault Cause.BadTag k)
       | identified tag constructed r ↦
           if nat_le 32 (length path) then faulty (fault Cause.TooDeep k)
-          else judge_tag p path tag constructed k (length w - length r) want r
+          else judge_tag p path tag constructed k (length w - length r) cut r
     ])
     go part_identifier q = tt
     go no_identifier q = tt
@@ -389,14 +389,14 @@ element_says p path k rest want w front = go (read_identifier w) refl
       | inl e ↦ rw e tt
       | inr e ↦ rw e (
           let u = read_is_identifier w tag f r front.octets q in
-          tag_says p path tag f k (length w - length r) rest want r u.0 (let z : length path < 32 = grind (arith, e) in z)
+          tag_says p path tag f k (length w - length r) rest cut r u.0 (let z : length path < 32 = grind (arith, e) in z)
           (subst (IsFront p path k rest) u.1 front) (omega (arith, ap length u.1, length-append (identifier tag f) r)))
     ]
 
-mark_says : (p : Profile) (o : Open) (outer : List Open) (k : ℕ) (rest : List ℕ) (want : Fault) (w : List ℕ) → o.end ≡ None → IsFront p (o ∷ outer) k rest (0 ∷ w)
-    → Judged p (o ∷ outer) k rest (judge_mark p (o ∷ outer) k want w)
-mark_says p o outer k rest want [] e front = tt
-mark_says p o outer k rest want (a ∷ w) e front = go (nat_eq a 0) refl
+mark_says : (p : Profile) (o : Open) (outer : List Open) (k : ℕ) (rest : List ℕ) (cut : Fault) (w : List ℕ) → o.end ≡ None → IsFront p (o ∷ outer) k rest (0 ∷ w)
+    → Judged p (o ∷ outer) k rest (judge_mark p (o ∷ outer) k cut w)
+mark_says p o outer k rest cut [] e front = tt
+mark_says p o outer k rest cut (a ∷ w) e front = go (nat_eq a 0) refl
   where
     go : (b : Bool) → nat_eq a 0 ≡ b → Judged p (o ∷ outer) k rest (elim b as (λ _. Judgement) [ true ↦ judge_end p (o ∷ outer) k 2 | false ↦ faulty (fault Cause.BadEnd k) ])
     go false i = tt
@@ -409,19 +409,19 @@ open_end : (o : Open) (outer : List Open) (x : Option ℕ) → o.end ≡ x → i
 open_end o outer None q h = q
 open_end o outer (Some e) q h = absurd (let r : false ≡ true = sym (ap (λ x. elim x as (λ _. Bool) [ Some e ↦ false | None ↦ true ]) q) ∙ h in cc)
 
-octets_say : (p : Profile) (path : List Open) (k : ℕ) (rest : List ℕ) (want : Fault) (w : List ℕ) → IsFront p path k rest w → Judged p path k rest (judge_octets p path k want w)
-octets_say p path k rest want [] front = tt
-octets_say p [] k rest want (a ∷ w) front = element_says p [] k rest want (a ∷ w) front
-octets_say p (o ∷ outer) k rest want (a ∷ w) front = go (is_indefinite (o ∷ outer) && nat_eq a 0) refl
+octets_say : (p : Profile) (path : List Open) (k : ℕ) (rest : List ℕ) (cut : Fault) (w : List ℕ) → IsFront p path k rest w → Judged p path k rest (judge_octets p path k cut w)
+octets_say p path k rest cut [] front = tt
+octets_say p [] k rest cut (a ∷ w) front = element_says p [] k rest cut (a ∷ w) front
+octets_say p (o ∷ outer) k rest cut (a ∷ w) front = go (is_indefinite (o ∷ outer) && nat_eq a 0) refl
   where
     go : (b : Bool) → is_indefinite (o ∷ outer) && nat_eq a 0 ≡ b
-        → Judged p (o ∷ outer) k rest (elim b as (λ _. Judgement) [ true ↦ judge_mark p (o ∷ outer) k want w | false ↦ judge_element p (o ∷ outer) k want (a ∷ w) ])
-    go false i = element_says p (o ∷ outer) k rest want (a ∷ w) front
+        → Judged p (o ∷ outer) k rest (elim b as (λ _. Judgement) [ true ↦ judge_mark p (o ∷ outer) k cut w | false ↦ judge_element p (o ∷ outer) k cut (a ∷ w) ])
+    go false i = element_says p (o ∷ outer) k rest cut (a ∷ w) front
     go true i =
         let q = and_parts (is_indefinite (o ∷ outer)) (nat_eq a 0) i in
         let n : nat_eq a 0 ≡ true = q.1 in
         let z : a ≡ 0 = grind (arith, n) in
-        mark_says p o outer k rest want w (open_end o outer o.end refl q.0) (subst (λ (x : ℕ). IsFront p (o ∷ outer) k rest (x ∷ w)) z front)
+        mark_says p o outer k rest cut w (open_end o outer o.end refl q.0) (subst (λ (x : ℕ). IsFront p (o ∷ outer) k rest (x ∷ w)) z front)
 
 ended_says : (p : Profile) (path : List Open) (k : ℕ) (rest : List ℕ) → ends_at path k ≡ true → Judged p path k rest (judge_end p path k 0)
 ended_says p [] k rest e = absurd cc
@@ -441,7 +441,7 @@ judged p path k rest h = go (ends_at path k) refl
     go true e = ended_says p path k rest e
     go false e =
         let t : take (bound p path - k) rest ++ drop (bound p path - k) rest ≡ rest = take-append-drop (bound p path - k) rest in
-        octets_say p path k rest (wanting p path k rest) (take (bound p path - k) rest) (record {
+        octets_say p path k rest (cut_fault p path k rest) (take (bound p path - k) rest) (record {
           remaining = drop (bound p path - k) rest;
           whole = sym t;
           near = omega (arith, length-take (bound p path - k) rest);

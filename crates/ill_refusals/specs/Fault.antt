@@ -40,8 +40,8 @@ abbrev pub past_end : List Open → Cause
 past_end path = if is_some (innermost_end path) then Cause.Overrun else Cause.TooLong
 
 -- the fault where an octet is missing: that end or the limit comes first, or the input's end
-abbrev pub wanting : Profile → List Open → ℕ → List ℕ → Fault
-wanting p path k rest =
+abbrev pub cut_fault : Profile → List Open → ℕ → List ℕ → Fault
+cut_fault p path k rest =
     if nat_le (bound p path - k) (length rest) then fault (past_end path) k
     else fault Cause.Truncated (k + length rest)
 
@@ -82,24 +82,24 @@ definite_end p path k = if ends_at path k then innermost_ends p path k else pass
 
 -- 2. no octet is here
 abbrev pub no_octet : Fault → List ℕ → Finding
-no_octet want [] = finds want
-no_octet want (octet ∷ w) = passes
+no_octet cut [] = finds cut
+no_octet cut (octet ∷ w) = passes
 
 -- the second octet of an end mark
 abbrev pub second_zero : Profile → List Open → ℕ → Fault → List ℕ → Finding
-second_zero p path k want [] = finds want
-second_zero p path k want (octet ∷ w) = if nat_eq octet 0 then innermost_ends p path k else finds (fault Cause.BadEnd k)
+second_zero p path k cut [] = finds cut
+second_zero p path k cut (octet ∷ w) = if nat_eq octet 0 then innermost_ends p path k else finds (fault Cause.BadEnd k)
 
 -- 3. the innermost element is indefinite, and 00 is here (X.690, 8.1.5)
 abbrev pub end_mark : Profile → List Open → ℕ → Fault → List ℕ → Finding
-end_mark p path k want [] = passes
-end_mark p path k want (octet ∷ w) = if is_indefinite path && nat_eq octet 0 then second_zero p path k want w else passes
+end_mark p path k cut [] = passes
+end_mark p path k cut (octet ∷ w) = if is_indefinite path && nat_eq octet 0 then second_zero p path k cut w else passes
 
 -- 4. the identifier ends too early, or none begins so (8.1.2)
 abbrev pub bad_identifier : ℕ → Fault → IdentifierRead → Finding
-bad_identifier k want part_identifier = finds want
-bad_identifier k want no_identifier = finds (fault Cause.BadTag k)
-bad_identifier k want (identified tag form w) = passes
+bad_identifier k cut part_identifier = finds cut
+bad_identifier k cut no_identifier = finds (fault Cause.BadTag k)
+bad_identifier k cut (identified tag form w) = passes
 
 -- 5. 32 elements are open
 abbrev pub too_deep : List Open → ℕ → Finding
@@ -116,9 +116,9 @@ bad_tag k form (Some d) = bad_form k form (element_of d)
 
 -- 7. the length ends too early, or none begins so (8.1.3)
 abbrev pub bad_length : ℕ → Fault → LengthRead → Finding
-bad_length k want part_length = finds want
-bad_length k want no_length = finds (fault Cause.BadLength k)
-bad_length k want l = passes
+bad_length k cut part_length = finds cut
+bad_length k cut no_length = finds (fault Cause.BadLength k)
+bad_length k cut l = passes
 
 -- 8. a definite length reaches past the innermost definite end, or past the limit; the identifier has i octets, and `size` follow it
 abbrev pub too_long : Profile → List Open → ℕ → ℕ → ℕ → LengthRead → Finding
@@ -131,31 +131,31 @@ at_fault (Some c) k = finds (fault (cause_of c) k)
 at_fault None k = passes
 
 abbrev pub bad_content : Profile → ℕ → Fault → Bool → Option Due → LengthRead → Finding
-bad_content p k want false (Some d) (definite n w) = if nat_lt (length w) n then finds want else at_fault (element_fault p (element_of d) (take n w)) k
-bad_content p k want form d l = passes
+bad_content p k cut false (Some d) (definite n w) = if nat_lt (length w) n then finds cut else at_fault (element_fault p (element_of d) (take n w)) k
+bad_content p k cut form d l = passes
 
 -- the conditions after an identifier of i octets, of the element that is due and the length that is read
 abbrev pub after_identifier : Profile → List Open → ℕ → Fault → Bool → ℕ → ℕ → Option Due → LengthRead → List Finding
-after_identifier p path k want form i size d l = bad_tag k form d ∷ bad_length k want l ∷ too_long p path k i size l ∷ bad_content p k want form d l ∷ []
+after_identifier p path k cut form i size d l = bad_tag k form d ∷ bad_length k cut l ∷ too_long p path k i size l ∷ bad_content p k cut form d l ∷ []
 
 abbrev pub of_element : Profile → List Open → ℕ → Fault → ℕ → IdentifierRead → List Finding
-of_element p path k want size (identified tag form w) =
-    after_identifier p path k want form (size - length w) (length w) (due p tag (next_in p path)) (read_length form w)
-of_element p path k want size i = []
+of_element p path k cut size (identified tag form w) =
+    after_identifier p path k cut form (size - length w) (length w) (due p tag (next_in p path)) (read_length form w)
+of_element p path k cut size i = []
 
 -- the conditions in their order, of the octets that may be read at offset k
 abbrev pub conditions : Profile → List Open → ℕ → Fault → List ℕ → List Finding
-conditions p path k want w =
+conditions p path k cut w =
     definite_end p path k
-    ∷ no_octet want w
-    ∷ end_mark p path k want w
-    ∷ bad_identifier k want (read_identifier w)
+    ∷ no_octet cut w
+    ∷ end_mark p path k cut w
+    ∷ bad_identifier k cut (read_identifier w)
     ∷ too_deep path k
-    ∷ of_element p path k want (length w) (read_identifier w)
+    ∷ of_element p path k cut (length w) (read_identifier w)
 
 -- the fault at offset k, where these elements are open and the rest of the input follows
 abbrev pub fault_at : Profile → List Open → ℕ → List ℕ → Option Fault
-fault_at p path k rest = first_fault (conditions p path k (wanting p path k rest) (take (bound p path - k) rest))
+fault_at p path k rest = first_fault (conditions p path k (cut_fault p path k rest) (take (bound p path - k) rest))
 
 -- the normal form of what is encoded passes the limit
 abbrev pub HasLongNormal : Profile → List ℕ → Type 0

@@ -120,7 +120,7 @@ impl Out {
         self.keep(octets);
     }
 
-    /// Keeps octets for which there is room. There is none once the sink broke.
+    /// Keeps octets for which there is room. There is no room once the sink broke.
     fn keep(&mut self, octets: &[u8])
         requires room { self.old.len + length octets.now ≤ 1024 }
         ensures { (reported : Option (List _)) (b : _) → Adds octets.now (sending reported b self.old) (sending reported b self.new) }

@@ -63,18 +63,18 @@ has_form _ constructed = constructed
 abbrev pub IsFormed : Found → Bool → Option Cause → Type 0
 IsFormed f constructed None = (found_in f ≡ found.Element (read_as f)) × (allows (element_is (read_as f)) constructed ≡ true)
 IsFormed f constructed (Some cause) =
-    (p : Profile) (place : List Open) (tag : Tag) (at i : ℕ) (want : Fault) (w : List ℕ) → judge_form p place (found_is (found_in f)) tag constructed at i want w ≡ faulty (fault cause at)
+    (p : Profile) (place : List Open) (tag : Tag) (at i : ℕ) (cut : Fault) (w : List ℕ) → judge_form p place (found_is (found_in f)) tag constructed at i cut w ≡ faulty (fault cause at)
 
 -- what is judged after an identifier of i octets
 abbrev pub judge_identified : List Open → Tag → Bool → ℕ → ℕ → Fault → List ℕ → Judgement
-judge_identified place tag constructed at i want w =
-    if nat_le 32 (length place) then faulty (fault Cause.TooDeep at) else judge_tag profile_two place tag constructed at i want w
+judge_identified place tag constructed at i cut w =
+    if nat_le 32 (length place) then faulty (fault Cause.TooDeep at) else judge_tag profile_two place tag constructed at i cut w
 
 -- an element with the identifier may begin there, or is at fault
 abbrev pub IsIdentified : Frames → List Open → ℕ → Id → Result Found Refusal → Type 0
 IsIdentified frames place at id (Ok f) = IsBegin frames place (tag_of_id id) f (form_of_id id)
 IsIdentified frames place at id (Err refusal) =
-    (i : ℕ) (want : Fault) (w : List ℕ) → judge_identified place (tag_of_id id) (form_of_id id) at i want w ≡ faulty (fault_of refusal)
+    (i : ℕ) (cut : Fault) (w : List ℕ) → judge_identified place (tag_of_id id) (form_of_id id) at i cut w ≡ faulty (fault_of refusal)
 
 -- what is judged of an element of this extent, in these octets
 abbrev pub IsExtent : Found → Id → ℕ → List ℕ → Result Extent Refusal → Judgement → Type 0

@@ -7,7 +7,7 @@ use Rattle.ill_schema.specs.declared.refusal.Refusal.{Refusal}
 use Rattle.ill_schema.specs.Apdu.{Apdu, SpellsApdu, normal_form}
 use Rattle.ill_schema.specs.Message.{apdu_of, octets_of}
 use Rattle.ill_schema.specs.Value.{apdu_with}
-use Rattle.ill_refusals.specs.Fault.{Fault, fault_of, wanting}
+use Rattle.ill_refusals.specs.Fault.{Fault, fault_of, cut_fault}
 use Rattle.ill_refusals.specs.Outcome.{OnlyAccepts, OnlyRefuses}
 use Rattle.ill_refusals.specs.Place.{Open, bound}
 use Rattle.ill_refusals.specs.code.Judge.{Judgement as Judged, faulty, judge}
@@ -67,7 +67,7 @@ Steps holds has old judgement new result = (s rest : List ℕ) → CanStep holds
 abbrev pub LeadsOn : {D : Type 0} → (D → List Level → List ℕ → Type 0) → (D → Apdu → ℕ → Type 0) → Reader D → List ℕ → ℕ → ℕ → Reader D → Option ℕ → (List Open → Fault → Judged) → Type 0
 LeadsOn holds has old window room came new result judged = (s rest more : List ℕ) (b : StandsBefore (HoldsAt holds old.path) old.at s rest) → length rest ≡ came
     → rest ≡ window ++ more → room ≡ bound profile_two b.place - old.at
-    → judge profile_two b.place old.at rest ≡ judged b.place (wanting profile_two b.place old.at rest) → HasAdvanced holds has new s rest result
+    → judge profile_two b.place old.at rest ≡ judged b.place (cut_fault profile_two b.place old.at rest) → HasAdvanced holds has new s rest result
 
 -- at most `room` octets are passed: at least one, or an element is closed
 abbrev pub Progresses : ℕ → Frames → Frames → Option ℕ → Type 0

@@ -8,8 +8,8 @@ ghost use Rattle.ill_schema.specs.Value.{apdu_with, content_of};
 
 use ill_schema::{
     Message, NodeId, PartId, Presence, Row, Unfit, Value, apdu_name, apdu_node, equal, fits,
-    is_carried, is_default, kind, may_lack, normal_size, part_name, replacement, row, rows,
-    rows_of, wrapper,
+    is_carried, is_default, kind, may_lack, normal_size, part_name, replacement, row, row_names,
+    rows, rows_of, wrapper,
 };
 
 /// The tables say one thing of each node, part and number.
@@ -18,6 +18,7 @@ fn tables_say_one_thing(node: NodeId, part: PartId, number: u8) {
     prove!(rows(node) == rows(node));
     prove!(rows_of(node) == rows_of(node));
     prove!(row(part) == row(part));
+    prove!(row_names(node) == row_names(node));
     prove!(part_name(part) == part_name(part));
     prove!(apdu_node(number) == apdu_node(number));
     prove!(apdu_name(number) == apdu_name(number));

@@ -7,7 +7,7 @@ use Rattle.ill_elements.specs.Elements.{element_is}
 use Rattle.ill_read.specs.HeaderCode.{IsLengthRead, IsWholeLength}
 use Rattle.ber_leaf.specs.Profile.{profile_two}
 use Rattle.ill_elements.specs.Due.{read_as}
-use Rattle.ill_refusals.specs.Fault.{wanting}
+use Rattle.ill_refusals.specs.Fault.{cut_fault}
 use Rattle.ill_read.specs.code.JudgeCode.{IsExtent}
 use Rattle.ill_refusals.specs.Reading.{read_length}
 use Rattle.ill_read.specs.declared.header.LengthRead.TheVariants.{Whole}
@@ -29,5 +29,5 @@ returns-in-Whole-Definite-default-clause-exact c rest front behind came spelled 
     let is : c.args.length_read ≡ Whole (Definite size) header = c.in-Whole-Definite-default.is ∙ ap (λ l. Whole l header) field in
     let whole = subst (λ l. IsLengthRead l (read_length f behind) w) is read in
     let length : IsWholeLength (read_length f behind) (Definite size) (drop header w) = whole.2 in
-    let same = definite_judged place e (tag_of_id id) f c.args.at (wanting profile_two place c.args.at rest) w front behind header length.0 right spelled whole.1 length.1 in
+    let same = definite_judged place e (tag_of_id id) f c.args.at (cut_fault profile_two place c.args.at rest) w front behind header length.0 right spelled whole.1 length.1 in
     subst (IsExtent found id c.args.at w c.judge_size.result) (sym same) (c.judge_size.ensures.exact rest length.0 came length.2 found place h room)

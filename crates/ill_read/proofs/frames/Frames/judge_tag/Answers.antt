@@ -10,19 +10,19 @@ use Rattle.ill_read.proofs.Judgements.{deep_judged, unexpected_judged, formed_ju
 use Rattle.ill_read.proofs.frames.Frames.judge_tag.Goals as goal
 
 pub returns-then-depth-ge-DEPTH : goal.returns-then-depth-ge-DEPTH
-returns-then-depth-ge-DEPTH c place h i want w =
-    deep_judged place _ _ c.args.at i want w (subst (λ (x : ℕ). 32 ≤ x) (c.depth.ensures ∙ frames_open place _ _ h.1) c.if-depth-ge-DEPTH.true)
+returns-then-depth-ge-DEPTH c place h i cut w =
+    deep_judged place _ _ c.args.at i cut w (subst (λ (x : ℕ). 32 ≤ x) (c.depth.ensures ∙ frames_open place _ _ h.1) c.if-depth-ge-DEPTH.true)
 
 pub returns-in_default : goal.returns-in_default
-returns-in_default c place h i want w =
-    unexpected_judged c.args.self.now place _ _ c.args.at i want w h (subst (λ (x : ℕ). x < 32) (c.depth.ensures ∙ frames_open place _ _ h.1) c.if-depth-ge-DEPTH.false)
+returns-in_default c place h i cut w =
+    unexpected_judged c.args.self.now place _ _ c.args.at i cut w h (subst (λ (x : ℕ). x < 32) (c.depth.ensures ∙ frames_open place _ _ h.1) c.if-depth-ge-DEPTH.false)
     (ap (λ n. due profile_two (tag_of_id c.args.id) (next_is n)) (sym c.place.ensures) ∙ ap (due profile_two (tag_of_id c.args.id)) (sym (shape-next c.place.result)) ∙ c.in_default.ensures)
 
 pub returns-in-Some-form_fault : goal.returns-in-Some-form_fault
-returns-in-Some-form_fault c place h i want w =
+returns-in-Some-form_fault c place h i cut w =
     let f = c.in-Some.found in
     misformed_judged c.args.self.now place c.place.result c.args.at c.args.id f _ h (subst (λ (x : ℕ). x < 32) (c.depth.ensures ∙ frames_open place _ _ h.1) c.if-depth-ge-DEPTH.false) c.place.ensures
-    (is-coming (tag_of_id c.args.id) c.place.result f c.in-Some.ensures) (subst (λ b. IsFormed f b (Some c.in-Some-form_fault.cause)) c.constructed.ensures (subst (IsFormed f c.constructed.result) c.in-Some-form_fault.is c.form_fault.ensures)) i want w
+    (is-coming (tag_of_id c.args.id) c.place.result f c.in-Some.ensures) (subst (λ b. IsFormed f b (Some c.in-Some-form_fault.cause)) c.constructed.ensures (subst (IsFormed f c.constructed.result) c.in-Some-form_fault.is c.form_fault.ensures)) i cut w
 
 pub returns-in-None : goal.returns-in-None
 returns-in-None c place h =

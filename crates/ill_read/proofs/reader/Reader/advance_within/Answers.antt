@@ -1,6 +1,6 @@
 use Rattle.std.proofs.Common.{◌≡◌, ◌⊎◌, false, nat_eq, Some, slice_get, sym, ap, inl, inr, ◌∙◌}
 use Rattle.ber_leaf.specs.Profile.{profile_two}
-use Rattle.ill_refusals.specs.Fault.{is_indefinite, wanting}
+use Rattle.ill_refusals.specs.Fault.{is_indefinite, cut_fault}
 use Rattle.ill_read.proofs.Judgements.{empty_judged, mark_judged, not_zero, other_judged}
 use Rattle.ill_read.proofs.reader.Reader.advance_within.Goals as goal
 use Rattle.ill_read.proofs.reader.Reader.advance_within.Goals.{else-first-eq0-via-then-first-eq0+else-awaits_end_mark, else-first-eq0-via-else-first-eq0}
@@ -8,14 +8,14 @@ use Rattle.ill_read.proofs.reader.Reader.advance_within.Goals.{else-first-eq0-vi
 pub returns-in_default-clause-goes : goal.returns-in_default-clause-goes
 returns-in_default-clause-goes g c s rest more b came joined bounded judged =
     let at = c.args.self.now.at in let w = c.args.window.now in
-    c.want.ensures.goes w c.args.room s rest more b came joined bounded (judged ∙ empty_judged b.place at (wanting profile_two b.place at rest) w (sym c.in_default.ensures.value))
+    c.cut.ensures.goes w c.args.room s rest more b came joined bounded (judged ∙ empty_judged b.place at (cut_fault profile_two b.place at rest) w (sym c.in_default.ensures.value))
 
 pub returns-then-awaits_end_mark-clause-goes : goal.returns-then-awaits_end_mark-clause-goes
 returns-then-awaits_end_mark-clause-goes g c s rest more b came joined bounded judged =
     let at = c.args.self.now.at in let w = c.args.window.now in
     let first : slice_get w 0 ≡ Some 0 = sym c.in-Some.ensures.value ∙ ap Some c.if-first-eq0.true in
     c.end_mark.ensures.goes c.args.room s rest more b came joined bounded
-    (judged ∙ mark_judged b.place at (wanting profile_two b.place at rest) w first (sym (c.awaits_end_mark.ensures.exact b.place (b.stands.0, b.stands.1)) ∙ c.if-awaits_end_mark.true))
+    (judged ∙ mark_judged b.place at (cut_fault profile_two b.place at rest) w first (sym (c.awaits_end_mark.ensures.exact b.place (b.stands.0, b.stands.1)) ∙ c.if-awaits_end_mark.true))
 
 pub returns-clause-goes : goal.returns-clause-goes
 returns-clause-goes g c s rest more b came joined bounded judged =
@@ -26,4 +26,4 @@ returns-clause-goes g c s rest more b came joined bounded judged =
       | else-first-eq0-via-then-first-eq0+else-awaits_end_mark x ↦ inl (sym (x.awaits_end_mark.ensures.exact b.place (b.stands.0, b.stands.1)) ∙ x.if-awaits_end_mark.false)
       | else-first-eq0-via-else-first-eq0 x ↦ inr (not_zero first x.if-first-eq0.false)
     ] in
-    c.element.ensures.goes s rest more b came joined bounded (judged ∙ other_judged b.place at (wanting profile_two b.place at rest) w first is other)
+    c.element.ensures.goes s rest more b came joined bounded (judged ∙ other_judged b.place at (cut_fault profile_two b.place at rest) w first is other)

@@ -4,7 +4,7 @@ use Rattle.ber_core.specs.Identifier.{identifier}
 use Rattle.ber_core.specs.Octets.{are_octets}
 use Rattle.ber_leaf.proofs.Leaves.{octets_fit}
 use Rattle.ber_leaf.specs.Profile.{profile_two}
-use Rattle.ill_refusals.specs.Fault.{wanting}
+use Rattle.ill_refusals.specs.Fault.{cut_fault}
 use Rattle.ill_refusals.proofs.Headers.{read_is_identifier}
 use Rattle.ill_read.specs.Standing.{StandsAt}
 use Rattle.ill_refusals.specs.code.Judge.{judge_length}
@@ -20,13 +20,13 @@ returns-in-Err-clause-goes g c s rest more b came joined bounded judged =
     let w = c.args.window.now in let id = c.args.id in let at = c.args.self.now.at in
     let ok : IsTrue (are_octets w) = octets_fit w (λ k. let l : get_or w k 0 < 256 = omega (arith, c.type_inv.window k) in l) in
     let read = c.requires.header in
-    let want = wanting profile_two b.place at rest in
+    let cut = cut_fault profile_two b.place at rest in
     let front = identifier (tag_of_id id) (form_of_id id) in
     let spelled : w ≡ front ++ read.0 = (read_is_identifier w (tag_of_id id) (form_of_id id) read.0 ok read.1).1 in
     c.refuse.ensures.goes s rest (
       b,
-      judged ∙ behind_identifier b.place at want w front read.0 (tag_of_id id) (form_of_id id) spelled read.1
-          ∙ c.in-Err.ensures b.place (b.stands.0, b.stands.1) (length front) want read.0,
+      judged ∙ behind_identifier b.place at cut w front read.0 (tag_of_id id) (form_of_id id) spelled read.1
+          ∙ c.in-Err.ensures b.place (b.stands.0, b.stands.1) (length front) cut read.0,
     )
 
 pub returns-in-Err-judge_length-clause-goes : goal.returns-in-Err-judge_length-clause-goes
@@ -37,7 +37,7 @@ returns-in-Err-judge_length-clause-goes g c s rest more b came joined bounded ju
     let front = identifier (tag_of_id id) (form_of_id id) in
     let spelled : w ≡ front ++ read.0 = (read_is_identifier w (tag_of_id id) (form_of_id id) read.0 ok read.1).1 in
     let stands : StandsAt c.args.self.now.path.frames b.place = (b.stands.0, b.stands.1) in
-    let same = headed_judged c.args.self.now.path.frames b.place (tag_of_id id) c.in-Ok.found (form_of_id id) at (wanting profile_two b.place at rest) w front read.0 stands (c.in-Ok.ensures b.place stands) spelled read.1 in
+    let same = headed_judged c.args.self.now.path.frames b.place (tag_of_id id) c.in-Ok.found (form_of_id id) at (cut_fault profile_two b.place at rest) w front read.0 stands (c.in-Ok.ensures b.place stands) spelled read.1 in
     c.refuse-in-Err-judge_length.ensures.goes s rest (b, judged ∙ same ∙ c.in-Err-judge_length.ensures.exact rest front read.0 came spelled read.2 c.in-Ok.found b.place stands bounded)
 
 pub returns-in-Opens-clause-goes : goal.returns-in-Opens-clause-goes
@@ -50,9 +50,9 @@ returns-in-Opens-clause-goes g c s rest more b came joined bounded judged =
     let spelled : w ≡ front ++ read.0 = (read_is_identifier w (tag_of_id id) (form_of_id id) read.0 ok read.1).1 in
     let stands : StandsAt c.args.self.now.path.frames b.place = (b.stands.0, b.stands.1) in
     let begun = c.in-Ok.ensures b.place stands in
-    let same = headed_judged frames b.place (tag_of_id id) c.in-Ok.found (form_of_id id) at (wanting profile_two b.place at rest) w front read.0 stands begun spelled read.1 in
+    let same = headed_judged frames b.place (tag_of_id id) c.in-Ok.found (form_of_id id) at (cut_fault profile_two b.place at rest) w front read.0 stands begun spelled read.1 in
     let fits = subst (Fits id (length w)) c.in-Opens.is c.in-Ok-judge_length.ensures.fits in
-    let extent = subst (λ x. IsExtent c.in-Ok.found id at w (Ok x) (judge_length profile_two b.place (element_is (read_as c.in-Ok.found)) (tag_of_id id) (form_of_id id) at (length front) (wanting profile_two b.place at rest) read.0)) c.in-Opens.is
+    let extent = subst (λ x. IsExtent c.in-Ok.found id at w (Ok x) (judge_length profile_two b.place (element_is (read_as c.in-Ok.found)) (tag_of_id id) (form_of_id id) at (length front) (cut_fault profile_two b.place at rest) read.0)) c.in-Opens.is
     (c.in-Ok-judge_length.ensures.exact rest front read.0 came spelled read.2 c.in-Ok.found b.place stands bounded) in
     c.open.ensures.goes s rest (b, (subst (IsBegin frames b.place (tag_of_id id) c.in-Ok.found) fits.0 begun, judged ∙ same ∙ extent))
     (fits.1, omega (arith, fits.2, ap length joined, length-append w more))
@@ -67,8 +67,8 @@ returns-in-Reads-clause-goes g c s rest more b came joined bounded judged =
     let spelled : w ≡ front ++ read.0 = (read_is_identifier w (tag_of_id id) (form_of_id id) read.0 ok read.1).1 in
     let stands : StandsAt c.args.self.now.path.frames b.place = (b.stands.0, b.stands.1) in
     let begun = c.in-Ok.ensures b.place stands in
-    let same = headed_judged frames b.place (tag_of_id id) c.in-Ok.found (form_of_id id) at (wanting profile_two b.place at rest) w front read.0 stands begun spelled read.1 in
+    let same = headed_judged frames b.place (tag_of_id id) c.in-Ok.found (form_of_id id) at (cut_fault profile_two b.place at rest) w front read.0 stands begun spelled read.1 in
     let fits = subst (Fits id (length w)) c.in-Reads.is c.in-Ok-judge_length.ensures.fits in
-    let extent = subst (λ x. IsExtent c.in-Ok.found id at w (Ok x) (judge_length profile_two b.place (element_is (read_as c.in-Ok.found)) (tag_of_id id) (form_of_id id) at (length front) (wanting profile_two b.place at rest) read.0)) c.in-Reads.is
+    let extent = subst (λ x. IsExtent c.in-Ok.found id at w (Ok x) (judge_length profile_two b.place (element_is (read_as c.in-Ok.found)) (tag_of_id id) (form_of_id id) at (length front) (cut_fault profile_two b.place at rest) read.0)) c.in-Reads.is
     (c.in-Ok-judge_length.ensures.exact rest front read.0 came spelled read.2 c.in-Ok.found b.place stands bounded) in
     c.read.ensures.goes s rest more b joined (subst (IsBegin frames b.place (tag_of_id id) c.in-Ok.found) fits.0 begun, judged ∙ same ∙ extent)

@@ -1,15 +1,15 @@
 use Rattle.std.proofs.Common.{◌∙◌, ap}
 use Rattle.ber_leaf.specs.Profile.{profile_two}
-use Rattle.ill_refusals.specs.Fault.{wanting}
+use Rattle.ill_refusals.specs.Fault.{cut_fault}
 use Rattle.ill_read.proofs.Judgements.{element_body}
 use Rattle.ill_read.proofs.reader.Reader.rare_element.Goals as goal
 
 pub returns-in-PartIdentifier-clause-goes : goal.returns-in-PartIdentifier-clause-goes
 returns-in-PartIdentifier-clause-goes g c s rest more b came joined bounded judged =
     let at = c.args.self.now.at in let w = c.args.window.now in
-    c.want.ensures.goes w c.args.room s rest more b came joined bounded (judged ∙ ap (element_body b.place at (wanting profile_two b.place at rest) w) c.in-PartIdentifier.ensures)
+    c.cut.ensures.goes w c.args.room s rest more b came joined bounded (judged ∙ ap (element_body b.place at (cut_fault profile_two b.place at rest) w) c.in-PartIdentifier.ensures)
 
 pub returns-in-NoIdentifier-clause-goes : goal.returns-in-NoIdentifier-clause-goes
 returns-in-NoIdentifier-clause-goes g c s rest more b came joined bounded judged =
     let at = c.args.self.now.at in let w = c.args.window.now in
-    c.refuse.ensures.goes s rest (b, judged ∙ ap (element_body b.place at (wanting profile_two b.place at rest) w) c.in-NoIdentifier.ensures)
+    c.refuse.ensures.goes s rest (b, judged ∙ ap (element_body b.place at (cut_fault profile_two b.place at rest) w) c.in-NoIdentifier.ensures)
