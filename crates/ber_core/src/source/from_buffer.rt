@@ -1,4 +1,4 @@
-ghost use Rattle.std.specs.Prelude.{◌≡◌, [], false, IfOk};
+ghost use Rattle.std.specs.Prelude.{◌≡◌, [], false, max, IfOk};
 ghost use Rattle.std.specs.Io.Buffered.{reader_buffer, reader_capacity, reader_inner, reader_remaining};
 
 use super::{Ahead, Broken, Source};
@@ -42,7 +42,7 @@ impl<R: Read> FromBuffer<R> {
         FromBuffer::with_capacity(alloc, CAPACITY, inner)
     }
 
-    /// The reader as a source that reads up to `capacity` octets at once, with nothing at hand yet.
+    /// The reader as a source that reads up to `capacity` octets at once, or one where that is 0, with nothing at hand yet.
     ///
     /// # Errors
     ///
@@ -58,9 +58,9 @@ impl<R: Read> FromBuffer<R> {
         ensures left { IfOk result (λ source. reader_remaining R.remaining (buffer_of source) ≡ R.remaining inner) }
         ensures hand { IfOk result (λ source. reader_buffer (buffer_of source) ≡ []) }
         ensures whole { IfOk result (λ source. is_buffer_broken source ≡ false) }
-        ensures capacity { IfOk result (λ source. reader_capacity (buffer_of source) ≡ capacity) }
+        ensures capacity { IfOk result (λ source. reader_capacity (buffer_of source) ≡ max capacity 1) }
     {
-        match BufReader::with_capacity(alloc, capacity, inner) {
+        match BufReader::with_capacity(alloc, capacity.max(1), inner) {
             Ok(inner) => Ok(FromBuffer {
                 inner,
                 broken: false,
