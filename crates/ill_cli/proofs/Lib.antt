@@ -1,4 +1,2 @@
-pub mod Canonicalised
-pub mod Found
 pub mod ListedNames
 pub mod Worst

@@ -7,38 +7,10 @@ use clap::Error as LineError;
 use clap::error::ErrorKind;
 use ill_jobs::{RunFault, Verdict};
 use ill_normal::{Cause, PartId, Refusal, Side, part_name};
+use ill_orders::LineFault;
 use std::alloc::Global;
 use std::{fmt, io};
 use thiserror::Error;
-
-/// Why a command line gives no order.
-#[derive(Debug, Drop, Error)]
-pub enum LineFault {
-    /// What `clap` reports: a mistake, or help that was asked for, or that memory ran out.
-    #[error("{0}")]
-    Line(LineError),
-    /// Two files are named by the same word.
-    #[error("the same word twice")]
-    SameWord,
-    /// A file is missing. The text is that of clap for an argument that is required.
-    #[error("{0}")]
-    Missing(LineError),
-    /// `canonicalise` has more words than IN and OUT. The text is that of clap for an argument that is unknown.
-    #[error("{0}")]
-    Unexpected(LineError),
-    /// Lines are texts of their own.
-    #[error("--lines excludes --hex")]
-    LinesAndHex,
-    /// Each line has its result, and none is passed over.
-    #[error("--lines excludes --keep-going")]
-    LinesAndKeepGoing,
-    /// Each line has its result, and is not counted.
-    #[error("--lines excludes --summary")]
-    LinesAndSummary,
-    /// The lines of none or of several files.
-    #[error("--lines reads one FILE")]
-    NotOneFile,
-}
 
 /// Why the program has not done what its words say. Each is printed as one line.
 #[derive(Debug, Drop, Error)]

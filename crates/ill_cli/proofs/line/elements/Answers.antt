@@ -1,5 +1,0 @@
-use Rattle.std.proofs.Common.{refl}
-use Rattle.ill_cli.proofs.line.elements.Goals as goal
-
-pub returns : goal.returns
-returns c = (c.in_ok-inputs.inputs, refl, c.in_ok-inputs.ensures)

@@ -1,0 +1,2 @@
+pub mod Canonicalised
+pub mod Found

@@ -1,0 +1,27 @@
+use Rattle.std.proofs.Common.{◌≡◌, ◌∙◌, true, refl, ap, map, subst}
+use Rattle.std.proofs.lemmas.Result.{IfOk-weaker}
+use Rattle.std.specs.String.{string_bytes}
+use Rattle.clap.specs.Simple.{App}
+use Rattle.clap.specs.Words.{FailsBy, app_of, fault_of, is_simple, is_simple_and_free, subcommand_of}
+use Rattle.ill_orders.specs.CommandLine.{program}
+use Rattle.ill_orders.proofs.matches.matches_of.Goals as goal
+
+-- no argument of the program has a rule on another
+simple : is_simple_and_free program ≡ true
+simple = refl
+
+-- only the last positional of a command has several values
+plain : is_simple program ≡ true
+plain = refl
+
+pub returns-clause-found : goal.returns-clause-found
+returns-clause-found c =
+    let same : app_of c.in_ok-program.field-0 ≡ program = c.in_ok-program.ensures in
+    let words = map string_bytes c.args.words.now in
+    IfOk-weaker c.try_get_matches_from.result _ _ (λ m h. (h (ap is_simple same ∙ plain)).1 ∙ ap (λ (a : App). subcommand_of a words) same) c.try_get_matches_from.ensures.matches
+
+pub returns-clause-faults : goal.returns-clause-faults
+returns-clause-faults c =
+    let same : app_of c.in_ok-program.field-0 ≡ program = c.in_ok-program.ensures in
+    let words = map string_bytes c.args.words.now in
+    subst (λ (a : App). FailsBy (fault_of a words) c.try_get_matches_from.result) same (c.try_get_matches_from.ensures.kinds (ap is_simple_and_free same ∙ simple))

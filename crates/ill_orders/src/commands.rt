@@ -1,0 +1,221 @@
+//! The commands and their flags, as clap takes them.
+ghost use Rattle.std.specs.Prelude.{◌≡◌, codes, false, IfOk};
+ghost use Rattle.clap.specs.Words.{app_of, rule_of};
+ghost use Rattle.clap.specs.declared.builder.command.Command.TheViews.{out-Command as fields_of};
+ghost use Rattle.ill_orders.specs.CommandLine.{each_file, each_going, each_line, file_rule, files_rule, flag_rule, into_one, list_rule, output_rule, program, topic, two_files, with_going, with_lines};
+
+use crate::{help, topics};
+use clap::{Arg, ArgAction, Command};
+use std::alloc::{AllocError, Global};
+
+const HEX: &str = "The input is hexadecimal text, in either case, with or without blanks";
+
+const KEEP_GOING: &str =
+    "Reports a message that is refused, and goes on with the next one, where its end is known";
+
+const SUMMARY: &str =
+    "Writes a line to standard error at the end: how many files, messages and octets there were";
+
+const JSON: &str = "Writes a line of JSON for each message";
+
+const MESSAGES: &str = "The messages; `-` is standard input";
+
+const LINES: &str =
+    "Each line of the input is a message in hexadecimal, and each line of the output its result";
+
+/// The flag `--NAME`.
+fn flag<'a>(alloc: Global, name: &'a str, help: &'a str) -> Arg<'a>
+    ensures rule { rule_of result ≡ flag_rule name.entry.now }
+    ensures local { result.global ≡ false }
+{
+    Arg::new(alloc, name)
+        .long(name)
+        .action(ArgAction::SetTrue)
+        .help(help)
+}
+
+fn file<'a>(alloc: Global, id: &'a str, name: &'a str, help: &'a str) -> Arg<'a>
+    ensures rule { rule_of result ≡ file_rule id.entry.now }
+    ensures local { result.global ≡ false }
+{
+    Arg::new(alloc, id)
+        .value_name(name)
+        .required(true)
+        .help(help)
+}
+
+fn list<'a>(alloc: Global) -> Arg<'a>
+    ensures rule { rule_of result ≡ list_rule }
+    ensures local { result.global ≡ false }
+{
+    Arg::new(alloc, "files-from")
+        .long("files-from")
+        .value_name("LIST")
+        .help("Reads names of files from LIST, each ended by a NUL; `-` is standard input")
+}
+
+fn output<'a>(alloc: Global) -> Arg<'a>
+    ensures rule { rule_of result ≡ output_rule }
+    ensures local { result.global ≡ false }
+{
+    Arg::new(alloc, "output")
+        .short('o')
+        .long("output")
+        .value_name("OUT")
+        .help("Writes the normal forms of the messages of each FILE to OUT; `-` is standard output")
+}
+
+fn files<'a>(alloc: Global, help: &'a str) -> Arg<'a>
+    ensures rule { rule_of result ≡ files_rule }
+    ensures local { result.global ≡ false }
+{
+    Arg::new(alloc, "file")
+        .value_name("FILE")
+        .action(ArgAction::Append)
+        .help(help)
+}
+
+fn on_each<'a>(
+    alloc: Global,
+    name: &'a str,
+    about: &'a str,
+    after: &'a str,
+) -> Result<Command<'a>, AllocError>
+    ensures { IfOk result (λ c. (app_of c ≡ each_file name.entry.now) × ((fields_of c).has_globals ≡ false)) }
+{
+    Command::new(alloc, name)
+        .about(about)
+        .after_help(after)
+        .arg(flag(alloc, "hex", HEX))?
+        .arg(list(alloc))?
+        .arg(files(alloc, MESSAGES))
+}
+
+/// A command that goes on after a message that is refused, and counts messages.
+fn by_messages<'a>(
+    alloc: Global,
+    name: &'a str,
+    about: &'a str,
+    after: &'a str,
+) -> Result<Command<'a>, AllocError>
+    ensures { IfOk result (λ c. (app_of c ≡ with_going name.entry.now) × ((fields_of c).has_globals ≡ false)) }
+{
+    Command::new(alloc, name)
+        .about(about)
+        .after_help(after)
+        .arg(flag(alloc, "hex", HEX))?
+        .arg(flag(alloc, "keep-going", KEEP_GOING))?
+        .arg(flag(alloc, "summary", SUMMARY))
+}
+
+/// A command that goes on after a message that is refused, counts messages, and reads lines, too.
+fn by_lines<'a>(
+    alloc: Global,
+    name: &'a str,
+    about: &'a str,
+    after: &'a str,
+) -> Result<Command<'a>, AllocError>
+    ensures { IfOk result (λ c. (app_of c ≡ with_lines name.entry.now) × ((fields_of c).has_globals ≡ false)) }
+{
+    by_messages(alloc, name, about, after)?.arg(flag(alloc, "lines", LINES))
+}
+
+fn on_each_or_lines<'a>(
+    alloc: Global,
+    name: &'a str,
+    about: &'a str,
+    after: &'a str,
+) -> Result<Command<'a>, AllocError>
+    ensures { IfOk result (λ c. (app_of c ≡ each_line name.entry.now) × ((fields_of c).has_globals ≡ false)) }
+{
+    by_lines(alloc, name, about, after)?
+        .arg(list(alloc))?
+        .arg(files(alloc, MESSAGES))
+}
+
+pub fn show<'a>(alloc: Global) -> Result<Command<'a>, AllocError>
+    ensures { IfOk result (λ c. (app_of c ≡ each_going (codes "show")) × ((fields_of c).has_globals ≡ false)) }
+{
+    on_each(alloc, "show", "Writes the messages as text", help::SHOW)?
+        .arg(flag(alloc, "keep-going", KEEP_GOING))?
+        .arg(flag(alloc, "summary", SUMMARY))?
+        .arg(flag(alloc, "json", JSON))
+}
+
+pub fn check<'a>(alloc: Global) -> Result<Command<'a>, AllocError>
+    ensures { IfOk result (λ c. (app_of c ≡ each_line (codes "check")) × ((fields_of c).has_globals ≡ false)) }
+{
+    let about = "Reports for each message whether it is in normal form";
+    on_each_or_lines(alloc, "check", about, help::CHECK)
+}
+
+pub fn digest<'a>(alloc: Global) -> Result<Command<'a>, AllocError>
+    ensures { IfOk result (λ c. (app_of c ≡ each_line (codes "digest")) × ((fields_of c).has_globals ≡ false)) }
+{
+    let about = "Writes the digest of each message, the same however it is spelled";
+    on_each_or_lines(alloc, "digest", about, help::DIGEST)
+}
+
+pub fn dump<'a>(alloc: Global) -> Result<Command<'a>, AllocError>
+    ensures { IfOk result (λ c. (app_of c ≡ each_file (codes "dump")) × ((fields_of c).has_globals ≡ false)) }
+{
+    let about = "Writes each element of the messages as it is spelled, and why one is refused";
+    on_each(alloc, "dump", about, help::DUMP)
+}
+
+fn same<'a>(alloc: Global) -> Result<Command<'a>, AllocError>
+    ensures { IfOk result (λ c. (app_of c ≡ two_files (codes "same")) × ((fields_of c).has_globals ≡ false)) }
+{
+    Command::new(alloc, "same")
+        .about("Reports whether two files hold the same message, however it is spelled")
+        .after_help(help::SAME)
+        .arg(flag(alloc, "hex", HEX))?
+        .arg(file(alloc, "first", "FILE", "A message; `-` is standard input"))?
+        .arg(file(alloc, "second", "OTHER", "Another; `-` is standard input"))
+}
+
+pub fn canonicalise<'a>(alloc: Global) -> Result<Command<'a>, AllocError>
+    ensures { IfOk result (λ c. (app_of c ≡ into_one (codes "canonicalise")) × ((fields_of c).has_globals ≡ false)) }
+{
+    let about = "Writes the normal form (DER) of each message in IN, or in each FILE, to OUT";
+    let words = "IN and OUT; or with `-o OUT` the messages; `-` is standard input or output";
+    by_lines(alloc, "canonicalise", about, help::CANONICALISE)?
+        .override_usage(help::CANONICALISE_USAGE)
+        .arg(output(alloc))?
+        .arg(list(alloc))?
+        .arg(files(alloc, words))
+}
+
+/// A topic of `help`: a command that only has a help text.
+fn topic<'a>(alloc: Global, name: &'a str, text: &'a str) -> Command<'a>
+    ensures app { app_of result ≡ topic name.entry.now }
+    ensures local { (fields_of result).has_globals ≡ false }
+{
+    Command::new(alloc, name)
+        .hide(true)
+        .override_help(text)
+        .subcommand_required(true)
+        .arg_required_else_help(true)
+}
+
+pub fn program<'a>(alloc: Global) -> Result<Command<'a>, AllocError>
+    ensures { IfOk result (λ c. app_of c ≡ program) }
+{
+    Command::new(alloc, "illcanon")
+        .bin_name("illcanon")?
+        .version("0.1.0")
+        .about(
+            "The canonical form of ISO interlibrary loan messages (ILL APDUs of ISO 10161-1 in BER)",
+        )
+        .after_help(help::PROGRAM)
+        .subcommand_required(true)
+        .arg_required_else_help(true)
+        .subcommand(show(alloc)?)?
+        .subcommand(check(alloc)?)?
+        .subcommand(digest(alloc)?)?
+        .subcommand(dump(alloc)?)?
+        .subcommand(same(alloc)?)?
+        .subcommand(canonicalise(alloc)?)?
+        .subcommand(topic(alloc, "causes", topics::CAUSES))?
+        .subcommand(topic(alloc, "profile", topics::PROFILE))
+}

@@ -1,0 +1,21 @@
+//! The command line of the program `illcanon`: which order its words give, or why they give none.
+//!
+//! ```
+//! match order(alloc, &words) {
+//!     Ok(order) => println!(rt; "{order:?}"),
+//!     Err(fault) => println!(rt; "{fault}"),
+//! }
+//! ```
+#![tactic(auto)]
+
+mod commands;
+mod fault;
+mod help;
+mod line;
+mod matches;
+mod orders;
+mod topics;
+
+pub use fault::LineFault;
+pub use line::order;
+pub use orders::{EachJob, Inputs, Order, Task, Verb};

@@ -1,0 +1,159 @@
+//! The order that the words of a command line give.
+ghost use Rattle.std.specs.Prelude.{◌≡◌, map, IfOk, IfErr, IsTrue, ◌↔◌};
+ghost use Rattle.std.specs.String.{string_bytes};
+ghost use Rattle.clap.specs.Words.{fault_of, kind_of, subcommand_of};
+ghost use Rattle.clap.specs.declared.error.kind.ErrorKind.{ErrorKind};
+ghost use Rattle.ill_orders.specs.CommandLine.{program};
+ghost use Rattle.ill_orders.specs.Orders.{reads, IsBoth, IsOrderOf, IsRead, IsReadAgain, IsTwice, LinesAreCounted, LinesGoOn, NamesNotOne, NamesNothing};
+ghost use Rattle.ill_orders.specs.Refused.{IsFaultOf, IsRefusedBy};
+
+use crate::commands::{canonicalise, check, digest, dump, show};
+use crate::fault::LineFault;
+use crate::help;
+use crate::matches::read;
+use crate::orders::{EachJob, Inputs, Order, Task};
+use clap::Error;
+use clap::error::ErrorKind;
+use std::alloc::{AllocError, Global};
+
+/// Reads the words of a command line, the program's own name first.
+///
+/// # Errors
+///
+/// What `clap` reports of words that are no command line, or that ask for help. Or a file is missing, or `canonicalise` has a word more
+/// than IN and OUT. Or two files are named by the same word: `-` for a file that is read, any but `-` for `canonicalise`. Or `--lines`
+/// has no file, several, or a list, or is given with `--hex`, `--keep-going` or `--summary`.
+pub fn order<'a>(alloc: Global, words: &'a [String]) -> Result<Order<'a>, LineFault>
+    // The words have the order's command, flags and files; standard input is not read twice, no file is written that is read by the same
+    // word, and there are files. Lines are those of one file, are no hexadecimal text, have no messages to pass over, and are not counted.
+    ensures order { IfOk result (IsOrderOf (subcommand_of program (map string_bytes words.entry.now))) }
+    ensures not_twice { IfOk result (λ order. IsTwice order → ⊥) }
+    ensures some { IfOk result (λ order. NamesNothing order → ⊥) }
+    ensures not_both { IfOk result (λ order. IsBoth order → ⊥) }
+    ensures not_on { IfOk result (λ order. LinesGoOn order → ⊥) }
+    ensures not_counted { IfOk result (λ order. LinesAreCounted order → ⊥) }
+    ensures one { IfOk result (λ order. NamesNotOne order → ⊥) }
+    ensures fault { IfErr result (IsFaultOf (subcommand_of program (map string_bytes words.entry.now))) }
+    // What clap finds wrong is refused, and nothing else, unless memory runs out.
+    ensures faults { IsRefusedBy (fault_of program (map string_bytes words.entry.now)) result }
+{
+    let order = match read(alloc, words) {
+        Ok(order) => order,
+        Err(fault) => return Err(fault),
+    };
+    if is_twice(&order) {
+        return Err(LineFault::SameWord);
+    }
+    if names_nothing(&order) {
+        return Err(match no_file(alloc, &order.task) {
+            Ok(error) => LineFault::Missing(error),
+            Err(AllocError) => LineFault::Line(Error::from(AllocError)),
+        });
+    }
+    if order.lines && order.hex {
+        return Err(LineFault::LinesAndHex);
+    }
+    if order.lines && order.keep_going {
+        return Err(LineFault::LinesAndKeepGoing);
+    }
+    if order.lines && order.summary {
+        return Err(LineFault::LinesAndSummary);
+    }
+    if names_not_one(&order) {
+        return Err(LineFault::NotOneFile);
+    }
+    Ok(order)
+}
+
+/// Whether standard input is read twice, or the output is the input, by the same word.
+fn is_twice(order: &Order<'_>) -> bool
+    ensures { IsTrue result ↔ IsTwice order.now }
+{
+    match &order.task {
+        Task::Each { inputs, .. } => reads(inputs, "-") > 1,
+        Task::Collect { inputs, output } => is_read_again(inputs, output),
+        Task::Canonicalise { input, output } => *input != "-" && *output == *input,
+        Task::Compare { first, second } => *first == "-" && *second == "-",
+    }
+}
+
+/// Whether standard input is read twice, or the output, too.
+fn is_read_again(inputs: &Inputs<'_>, output: &str) -> bool
+    ensures { IsTrue result ↔ IsReadAgain inputs.now output.now }
+{
+    reads(inputs, "-") > 1 || is_read(inputs, output)
+}
+
+/// Whether a file of this name is read, which isn't standard output.
+fn is_read(inputs: &Inputs<'_>, output: &str) -> bool
+    ensures { IsTrue result ↔ IsRead inputs.now output.now }
+{
+    output != "-" && reads(inputs, output) > 0
+}
+
+/// How often a file of this name is read.
+fn reads(inputs: &Inputs<'_>, name: &str) -> usize
+    ensures { result ≡ reads inputs.now name.now }
+{
+    let mut count = 0;
+    for word in &inputs.files {
+        if *word == name {
+            count += 1;
+        }
+    }
+    if inputs.list == Some(name) {
+        count += 1;
+    }
+    count
+}
+
+/// Whether there is neither a file nor a list of files.
+fn names_nothing(order: &Order<'_>) -> bool
+    ensures { IsTrue result ↔ NamesNothing order.now }
+{
+    match &order.task {
+        Task::Each { inputs, .. } | Task::Collect { inputs, .. } => {
+            inputs.files.is_empty() && inputs.list.is_none()
+        }
+        Task::Canonicalise { .. } | Task::Compare { .. } => false,
+    }
+}
+
+/// Whether the lines are to be read of no file, or of several.
+fn names_not_one(order: &Order<'_>) -> bool
+    ensures { IsTrue result ↔ NamesNotOne order.now }
+{
+    if !order.lines {
+        return false;
+    }
+    match &order.task {
+        Task::Each { inputs, .. } | Task::Collect { inputs, .. } => {
+            inputs.files.len() != 1 || inputs.list.is_some()
+        }
+        Task::Canonicalise { .. } | Task::Compare { .. } => false,
+    }
+}
+
+/// That a job has no file, in clap's words.
+fn no_file(alloc: Global, task: &Task<'_>) -> Result<Error, AllocError>
+    ensures { IfOk result (λ e. kind_of e ≡ ErrorKind.MissingRequiredArgument) }
+{
+    let mut command = match task {
+        Task::Each {
+            job: EachJob::Show, ..
+        } => show(alloc)?.bin_name("illcanon show")?,
+        Task::Each {
+            job: EachJob::Check, ..
+        } => check(alloc)?.bin_name("illcanon check")?,
+        Task::Each {
+            job: EachJob::Digest, ..
+        } => digest(alloc)?.bin_name("illcanon digest")?,
+        Task::Each {
+            job: EachJob::Dump, ..
+        } => dump(alloc)?.bin_name("illcanon dump")?,
+        Task::Canonicalise { .. } | Task::Collect { .. } | Task::Compare { .. } => {
+            canonicalise(alloc)?
+        }
+    };
+    command.error(ErrorKind::MissingRequiredArgument, help::NO_FILE)
+}

@@ -1,0 +1,64 @@
+//! What a command line says.
+
+/// A command of the program.
+#[derive(Clone, Copy, Debug, PartialEq, Eq)]
+pub enum Verb {
+    Show,
+    Check,
+    Digest,
+    Dump,
+    Same,
+    Canonicalise,
+}
+
+/// What a command line asks for. The word `-` is standard input, or standard output for the output of
+/// `canonicalise`.
+#[derive(Debug, Drop)]
+pub struct Order<'a> {
+    /// Whether inputs are hexadecimal text.
+    pub hex: bool,
+    /// Whether each line of the input is a message in hexadecimal, and each line of the output its result.
+    pub lines: bool,
+    /// Whether a message that is refused is reported, and the next one read.
+    pub keep_going: bool,
+    /// Whether `show` writes a line of JSON for each message.
+    pub json: bool,
+    /// Whether a line at the end says how many files and messages there were.
+    pub summary: bool,
+    pub task: Task<'a>,
+}
+
+/// What is written of each message.
+#[derive(Clone, Copy, Debug, PartialEq, Eq)]
+pub enum EachJob {
+    /// Its text.
+    Show,
+    /// Whether it is in normal form.
+    Check,
+    /// The digest of its normal form.
+    Digest,
+    /// Its elements.
+    Dump,
+}
+
+/// What a command does with its files.
+#[derive(Debug, Drop)]
+pub enum Task<'a> {
+    /// What is written of the messages of each file, in turn.
+    Each { job: EachJob, inputs: Inputs<'a> },
+    /// The normal forms of the messages of one file, into another.
+    Canonicalise { input: &'a str, output: &'a str },
+    /// The normal forms of the messages of each file, in turn, into one file.
+    Collect { inputs: Inputs<'a>, output: &'a str },
+    /// A comparison of two files.
+    Compare { first: &'a str, second: &'a str },
+}
+
+/// The files that a job reads.
+#[derive(Debug, Drop)]
+pub struct Inputs<'a> {
+    /// Those that the command line names.
+    pub files: Vec<&'a str>,
+    /// The file that has the names of more, each ended by a NUL.
+    pub list: Option<&'a str>,
+}
