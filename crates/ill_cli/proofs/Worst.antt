@@ -3,8 +3,8 @@ use Rattle.std.proofs.Common.{◌≡◌, ◌==◌, ◌||◌, ◌≤◌, ◌+◌,
 use Rattle.std.specs.List.{list_any}
 use Rattle.std.proofs.lemmas.List.{map-append}
 use Rattle.ill_jobs.specs.declared.job.Verdict.{Verdict}
-use Rattle.ill_cli.specs.Status.{IsStatusOfEach, status_is, worst}
-use Rattle.ill_cli.specs.declared.fault.Fault.{Fault}
+use Rattle.ill_files.specs.Status.{IsStatusOfEach, status_is, worst}
+use Rattle.ill_files.specs.declared.fault.Fault.{Fault}
 
 abbrev worst_by : Bool → Bool → ℕ
 worst_by three one = if three then 3 else (if one then 1 else 0)

@@ -1,3 +1,1 @@
-pub mod Status
-pub mod Opened
 pub mod code

@@ -1,15 +1,11 @@
 //! The normal forms of the messages of several files, in one file.
-use crate::commands::{How, canonicalise, put_all};
+use crate::commands::canonicalise;
+use crate::doing::{How, put_all};
 use crate::each::{is_dash_twice, list_of, names_of, text_of, worse};
-use crate::fault::{Fault, LineFault, RunLine, status_of};
-use crate::input::open;
-use crate::names::printed;
-use crate::orders::Inputs;
-use crate::output::{self, Output, OutputOf, begin};
-use crate::progress::Console;
-use crate::same_file::FileId;
 use crate::tally::Tally;
+use ill_files::{Console, Fault, FileId, Output, OutputOf, RunLine, close_output, open_input, open_output, printed, status_of};
 use ill_jobs::{Job, RunFault, Verdict};
+use ill_orders::{Inputs, LineFault};
 use std::rt::Files;
 use std::str;
 
@@ -103,7 +99,7 @@ fn each_into<R: Print + Eprint + Input + Files + AllocGlobal + Console>(
         }
     }
     let ended = match begun {
-        Some(Begun { part }) => output::end(rt, &output, part, name_of_output, lost),
+        Some(Begun { part }) => close_output(rt, &output, part, name_of_output, lost),
         None => lost,
     };
     worse(status, tally.end(rt, &ended))
@@ -128,7 +124,7 @@ fn next_into<'r, R: Print + Eprint + Input + Files + AllocGlobal + Console>(
         Ok(file) => file,
         Err(fault) => return Ok(Err(fault)),
     };
-    let mut source = match open(rt, file, output, tally.progress) {
+    let mut source = match open_input(rt, file, output, tally.progress) {
         Ok(source) => source,
         Err(fault) => return Ok(Err(fault)),
     };
@@ -137,7 +133,7 @@ fn next_into<'r, R: Print + Eprint + Input + Files + AllocGlobal + Console>(
     };
     if begun.is_none() {
         *begun = Some(Begun {
-            part: begin(rt, output, name_of_output)?,
+            part: open_output(rt, output, name_of_output)?,
         });
     }
     let doing = how.doing(Job::Canonicalise, &name, true);

@@ -3,22 +3,16 @@ ghost use Rattle.std.specs.Prelude.{◌≡◌};
 ghost use Rattle.ill_cli.specs.code.Lined.{line_job_of};
 
 use crate::collect::collect;
-use crate::each::{Each, each_input};
-use crate::fault::{Fault, LineFault};
-use crate::going::Printed;
-use crate::input::{Shared, open, open_alone, open_and_identify};
-use crate::line::order;
-use crate::orders::{Order, Task};
-use crate::output::{self, Output, ToOutput, begin, begin_standard};
-use crate::progress::{Console, Progress};
-use crate::same_file::FileId;
+use crate::doing::{Doing, How, put_all};
+use crate::each::each_input;
 use crate::tally::{Tally, end};
 use crate::words::words_of;
-use ber_core::{AtHand, ToWrite};
-use ill_dump::{Dump, run_dump};
-use ill_jobs::{Job, RunFault, Verdict, Work, run_by, run_on_by, run_same, verdict_of};
-use ill_lines::{LineJob, LinesFault, run_lines};
-use std::io::{self, BufWriter, Read, Write};
+use ber_core::ToWrite;
+use ill_files::{Console, Fault, FileId, Output, Progress, close_output, open_alone, open_and_identify, open_input, open_output, open_standard_output};
+use ill_jobs::{Job, RunFault, Verdict, run_same};
+use ill_lines::LineJob;
+use ill_orders::{EachJob, LineFault, Order, Task, order};
+use std::io::{self, BufWriter, Write};
 use std::rt::{Env, Files};
 
 /// Does what the process's words say, prints the line of each fault, and returns the exit status: 0, 1, 2 or 3, as [`status_of`] says.
@@ -81,12 +75,7 @@ fn do_task<R: Print + Eprint + Input + Files + AllocGlobal + Console>(
     tally: &mut Tally<'_>,
 ) -> u8 {
     match task {
-        Task::Each {
-            job: Job::Show,
-            inputs,
-        } if how.json => each_input(rt, Each::Job(Job::Json), how, inputs, tally),
-        Task::Each { job, inputs } => each_input(rt, Each::Job(*job), how, inputs, tally),
-        Task::Dump { inputs } => each_input(rt, Each::Dump, how, inputs, tally),
+        Task::Each { job, inputs } => each_input(rt, *job, how, inputs, tally),
         Task::Canonicalise { input, output } => {
             let doing = how.doing(Job::Canonicalise, "-", false);
             let done = canonicalise(rt, doing, input, output, tally);
@@ -116,62 +105,19 @@ fn each_line<R: Print + Eprint + Input + Files + AllocGlobal + Console>(
             [input] => canonicalise(rt, canonical, input, output, tally),
             _ => Err(Fault::from(LineFault::NotOneFile)),
         },
-        Task::Dump { .. } | Task::Compare { .. } => Err(Fault::from(LineFault::NotOneFile)),
+        Task::Compare { .. } => Err(Fault::from(LineFault::NotOneFile)),
     };
     end(rt, &done)
 }
 
-/// How the messages of inputs are read.
-#[derive(Clone, Copy)]
-pub(crate) struct How {
-    pub hex: bool,
-    pub keep_going: bool,
-    /// Whether each message is compared with its normal form.
-    pub compares: bool,
-    /// Whether what is shown is JSON.
-    pub json: bool,
-}
-
-impl How {
-    /// What is done with the messages of the input of this name.
-    pub(crate) fn doing(self, job: Job, name: &str, is_named: bool) -> Doing<'_> {
-        let work = Work {
-            job,
-            hex: self.hex,
-            name,
-            is_named,
-            compares: self.compares,
-        };
-        if self.keep_going {
-            Doing::Going(work)
-        } else {
-            Doing::Messages(work)
-        }
-    }
-}
-
-/// What is done with the messages of an input.
-#[derive(Clone, Copy)]
-pub(crate) enum Doing<'a> {
-    /// A job with one message after another, up to one that is refused.
-    Messages(Work<'a>),
-    /// A job with each message that isn't refused. A line is printed for each of the others.
-    Going(Work<'a>),
-    /// The elements of one message after another.
-    Dump(Dump<'a>),
-    /// A result for each line.
-    Lines(LineJob),
-}
-
-/// What a job does with lines; None for `show`, which has none.
-fn line_job(job: Job) -> Option<LineJob>
+/// What a job does with lines; None for `show` and `dump`, which have none.
+fn line_job(job: EachJob) -> Option<LineJob>
     ensures { result ≡ line_job_of job }
 {
     match job {
-        Job::Show | Job::Json => None,
-        Job::Check => Some(LineJob::Check),
-        Job::Digest => Some(LineJob::Digest),
-        Job::Canonicalise => Some(LineJob::Canonicalise),
+        EachJob::Show | EachJob::Dump => None,
+        EachJob::Check => Some(LineJob::Check),
+        EachJob::Digest => Some(LineJob::Digest),
     }
 }
 
@@ -183,8 +129,8 @@ fn print_lines<R: Print + Eprint + Input + Files + AllocGlobal + Console>(
     tally: &mut Tally<'_>,
 ) -> Result<Verdict, Fault> {
     let output = Output::new();
-    let mut source = open(rt, input, &output, tally.progress)?;
-    begin_standard(rt, &output)?;
+    let mut source = open_input(rt, input, &output, tally.progress)?;
+    open_standard_output(rt, &output)?;
     let done = put_all(rt, Doing::Lines(job), &mut source, &output, tally);
     output.finish(done)
 }
@@ -237,74 +183,7 @@ pub(crate) fn canonicalise<R: Print + Eprint + Input + Files + AllocGlobal + Con
     if read.is_some() && read == written {
         return Err(Fault::SameFile);
     }
-    let part = begin(rt, &output, name)?;
+    let part = open_output(rt, &output, name)?;
     let done = put_all(rt, doing, &mut source, &output, tally);
-    output::end(rt, &output, part, name, done)
-}
-
-/// Does a job with an input, and counts its messages.
-pub(crate) fn put_all<'o, R, I: Read, J: Read, S: Write + Drop, F: Write + Drop>(
-    rt: &R,
-    doing: Doing<'_>,
-    source: &mut Shared<'o, I, J, S, F>,
-    output: &'o Output<S, F>,
-    tally: &mut Tally<'_>,
-) -> Result<Verdict, Fault>
-where
-    R: Eprint + AllocGlobal,
-{
-    tally.add_file();
-    let alloc = rt.alloc();
-    let mut sink = ToWrite::new(ToOutput {
-        output,
-        // The results of lines are there before more input is waited for.
-        is_direct: matches!(doing, Doing::Lines(_)),
-    });
-    match doing {
-        Doing::Messages(work) => {
-            let ran = run_by::<Shared<'o, I, J, S, F>, AtHand, _>(alloc, work, source, &mut sink);
-            tally.summary.add(ran.counts);
-            match ran.result {
-                Ok(verdict) => Ok(verdict),
-                Err(fault) => {
-                    tally.summary.add_fault(fault);
-                    Err(Fault::from(fault))
-                }
-            }
-        }
-        Doing::Going(work) => {
-            let name = work.is_named.then_some(work.name);
-            let progress = tally.progress;
-            let mut reports = Printed { rt, name, progress };
-            match run_on_by::<Shared<'o, I, J, S, F>, AtHand, _, _>(
-                alloc,
-                work,
-                source,
-                &mut sink,
-                &mut reports,
-            ) {
-                Ok(gone) => {
-                    tally.summary.add_gone(gone);
-                    Ok(verdict_of(work.job, gone))
-                }
-                Err(halt) => {
-                    tally.summary.add_gone(halt.before);
-                    Err(Fault::from(halt.fault))
-                }
-            }
-        }
-        Doing::Dump(dump) => match run_dump::<Shared<'o, I, J, S, F>, AtHand, _>(
-            alloc, dump, source, &mut sink,
-        ) {
-            Ok(()) => Ok(Verdict::Good),
-            Err(fault) => Err(Fault::from(fault)),
-        },
-        Doing::Lines(job) => match run_lines(alloc, job, source, &mut sink) {
-            Ok(true) => Ok(Verdict::Good),
-            Ok(false) => Ok(Verdict::NotGood),
-            Err(LinesFault::OutOfMemory) => Err(Fault::out_of_memory()),
-            Err(LinesFault::ReadFault) => Err(Fault::from(RunFault::ReadFault)),
-            Err(LinesFault::WriteFault) => Err(Fault::Flush),
-        },
-    }
+    close_output(rt, &output, part, name, done)
 }

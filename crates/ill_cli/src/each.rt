@@ -1,50 +1,21 @@
 //! A job with each of several files, in turn.
 ghost use Rattle.std.specs.Prelude.{◌≡◌, ◌<◌, ◌++◌, [], ◌∷◌, map, length, IfOk, IfNone, IfSome};
 ghost use Rattle.ill_cli.specs.code.Listed.{names_in};
-ghost use Rattle.ill_cli.specs.Status.{IsStatusOfEach, worst};
+ghost use Rattle.ill_files.specs.Status.{IsStatusOfEach, worst};
 
-use crate::commands::{Doing, How, put_all};
-use crate::fault::{Fault, LineFault, is_output_lost, status_of};
-use crate::input::{open, read_whole};
-use crate::names::{Name, printed};
-use crate::orders::Inputs;
-use crate::output::{Output, begin_standard};
-use crate::progress::Console;
-use crate::same_file::FileId;
+use crate::doing::{How, put_all};
 use crate::tally::Tally;
-use ill_dump::Dump;
-use ill_jobs::{Job, Verdict};
+use ill_files::{Console, Fault, FileId, Name, Output, is_output_lost, open_input, open_standard_output, printed, read_whole, status_of};
+use ill_jobs::Verdict;
+use ill_orders::{EachJob, Inputs, LineFault};
 use std::alloc::{AllocError, Global};
 use std::rt::Files;
 use std::str;
 
-/// What is done with each file.
-#[derive(Clone, Copy)]
-pub(crate) enum Each {
-    Job(Job),
-    /// The elements of the messages are written.
-    Dump,
-}
-
-impl Each {
-    /// What is done with the messages of the file of this name.
-    fn doing(self, how: How, name: &str, is_named: bool) -> Doing<'_> {
-        let hex = how.hex;
-        match self {
-            Each::Job(job) => how.doing(job, name, is_named),
-            Each::Dump => Doing::Dump(Dump {
-                hex,
-                name,
-                is_named,
-            }),
-        }
-    }
-}
-
 /// Does a job with each input, prints the line of each fault, and returns the exit status. Of several files each line names its file.
 pub fn each_input<R: Print + Eprint + Input + Files + AllocGlobal + Console>(
     rt: &R,
-    each: Each,
+    job: EachJob,
     how: How,
     inputs: &Inputs<'_>,
     tally: &mut Tally<'_>,
@@ -62,10 +33,10 @@ pub fn each_input<R: Print + Eprint + Input + Files + AllocGlobal + Console>(
     }
     match names.as_slice() {
         [name] => {
-            let done = one_file(rt, each, how, name, false, tally);
+            let done = one_file(rt, job, how, name, false, tally);
             tally.end(rt, &done)
         }
-        names => each_file(rt, each, how, names, tally),
+        names => each_file(rt, job, how, names, tally),
     }
 }
 
@@ -135,7 +106,7 @@ pub fn is_dash_twice(names: &[&[u8]], list: Option<&str>) -> bool {
 /// file more is done.
 fn each_file<R: Print + Eprint + Input + Files + AllocGlobal + Console>(
     rt: &R,
-    each: Each,
+    job: EachJob,
     how: How,
     names: &[&[u8]],
     tally: &mut Tally<'_>,
@@ -144,7 +115,7 @@ fn each_file<R: Print + Eprint + Input + Files + AllocGlobal + Console>(
 {
     let mut status = 0;
     for name in names {
-        let done = one_file(rt, each, how, name, true, tally);
+        let done = one_file(rt, job, how, name, true, tally);
         tally.print_of(rt, name, &done);
         status = worse(status, status_of(&done));
         if is_output_lost(&done) {
@@ -170,7 +141,7 @@ pub fn worse(before: u8, next: u8) -> u8
 /// Does a job with the file of this name, and writes to standard output.
 fn one_file<R: Print + Eprint + Input + Files + AllocGlobal + Console>(
     rt: &R,
-    each: Each,
+    job: EachJob,
     how: How,
     name: &[u8],
     is_named: bool,
@@ -179,10 +150,10 @@ fn one_file<R: Print + Eprint + Input + Files + AllocGlobal + Console>(
     let alloc = rt.alloc();
     let file = text_of(alloc, name)?;
     let output = Output::new();
-    let mut source = open(rt, file, &output, tally.progress)?;
+    let mut source = open_input(rt, file, &output, tally.progress)?;
     let name = printed(alloc, file).map_err(|_| Fault::out_of_memory())?;
-    begin_standard(rt, &output)?;
-    let doing = each.doing(how, &name, is_named);
+    open_standard_output(rt, &output)?;
+    let doing = how.each(job, &name, is_named);
     let done = put_all(rt, doing, &mut source, &output, tally);
     output.finish(done)
 }

@@ -1,6 +1,5 @@
 //! The lines of messages that are refused, where the work goes on after them.
-use crate::fault::RunLine;
-use crate::progress::Progress;
+use ill_files::{Progress, RunLine};
 use ill_jobs::{Report, Reports, RunFault};
 use std::fmt;
 

@@ -1,4 +1,5 @@
 //! What a command came to, in numbers.
+use ill_files::Count;
 use ill_jobs::{Counts, Gone, RunFault};
 use std::fmt;
 
@@ -88,20 +89,5 @@ impl fmt::Display for Summary {
             f,
             "{files}, {messages}, {normal} normal, {not_normal} not normal, {refused} refused, {octets}"
         )
-    }
-}
-
-/// A number of things of this name: `1 file`, `2 files`.
-#[derive(Clone, Copy)]
-pub(crate) struct Count(pub u64, pub &'static str);
-
-impl fmt::Display for Count {
-    fn fmt<W: fmt::Write>(&self, f: &mut fmt::Formatter<W>) -> fmt::Result {
-        let Count(number, name) = *self;
-        if number == 1 {
-            write!(f, "1 {name}")
-        } else {
-            write!(f, "{number} {name}s")
-        }
     }
 }

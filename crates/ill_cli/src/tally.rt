@@ -1,10 +1,9 @@
 //! What a command counts while it works.
 ghost use Rattle.std.specs.Prelude.{◌≡◌};
-ghost use Rattle.ill_cli.specs.Status.{status_is};
+ghost use Rattle.ill_files.specs.Status.{status_is};
 
-use crate::fault::{Fault, print, print_of, status_of};
-use crate::progress::Progress;
 use crate::summary::Summary;
+use ill_files::{Fault, Progress, print_fault, print_fault_of, status_of};
 use ill_jobs::Verdict;
 
 /// What a command has counted, and the line that says how far it is.
@@ -42,7 +41,7 @@ impl<'p> Tally<'p> {
         if let Err(fault) = done {
             self.progress.clear(rt);
             // Where standard error is closed, the status alone reports it.
-            let _ = print_of(rt, name, fault);
+            let _ = print_fault_of(rt, name, fault);
         }
     }
 }
@@ -53,7 +52,7 @@ pub(crate) fn end<R: Print + Eprint>(rt: &R, done: &Result<Verdict, Fault>) -> u
 {
     if let Err(fault) = done {
         // Where standard error is closed, the status alone reports it.
-        let _ = print(rt, fault);
+        let _ = print_fault(rt, fault);
     }
     status_of(done)
 }

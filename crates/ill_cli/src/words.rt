@@ -1,6 +1,5 @@
 //! The words of the command line.
-use crate::fault::Fault;
-use crate::names::Name;
+use ill_files::{Fault, Name};
 use std::alloc::Global;
 use std::env::FillError;
 use std::rt::Env;

@@ -2,7 +2,8 @@
 //! files can be made to fail.
 ghost use Rattle.std.specs.Prelude.{◌≤◌, length, IfOk};
 
-use ill_cli::{Console, run_program};
+use ill_cli::run_program;
+use ill_files::Console;
 use std::alloc::{Alloc, Allocator, Global};
 use std::cell::{Cell, RefCell};
 use std::env::FillError;

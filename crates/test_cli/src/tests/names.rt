@@ -1,6 +1,6 @@
 //! How names of files are printed, and words that are long.
 use super::fake::{NO_FAULTS, Start, run};
-use ill_cli::Name;
+use ill_files::Name;
 use std::alloc::{AllocError, Global};
 use std::test::Fail;
 

@@ -1,5 +1,5 @@
 //! The lines that the program prints where a job fails, and its statuses.
-use ill_cli::{Fault, RunLine, status_of};
+use ill_files::{Fault, RunLine, status_of};
 use ill_jobs::RunFault;
 use ill_normal::{Cause, NodeId, PartId, Refusal, Side};
 use std::alloc::{AllocError, Global};

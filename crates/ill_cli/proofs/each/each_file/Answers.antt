@@ -1,5 +1,5 @@
 use Rattle.std.proofs.Common.{◌+◌, ◌∙◌, ℕ, [], ◌∷◌, length, sym, ap, subst, arith}
-use Rattle.ill_cli.specs.Status.{IsStatusOfEach, status_is, worst}
+use Rattle.ill_files.specs.Status.{IsStatusOfEach, status_is, worst}
 use Rattle.ill_cli.proofs.Worst.{no_more, one_more}
 use Rattle.ill_cli.proofs.each.each_file.Goals as goal
 

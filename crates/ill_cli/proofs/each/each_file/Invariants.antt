@@ -1,4 +1,4 @@
-use Rattle.ill_cli.specs.Status.{IsStatusOfEach}
+use Rattle.ill_files.specs.Status.{IsStatusOfEach}
 use Rattle.ill_cli.proofs.each.each_file.Given as goal
 
 abbrev pub invariant-loop-name : goal.invariant-loop-name

@@ -1,13 +1,12 @@
 -- Tasks that are one.
 use Rattle.std.specs.Prelude.{◌≡◌, List, [], ◌∷◌, map, Option, Some, None, option_map}
 use Rattle.clap.specs.Walk.{Text}
-use Rattle.ill_cli.specs.Orders.{verb}
-use Rattle.ill_cli.specs.declared.orders.Task.{Task}
+use Rattle.ill_orders.specs.Orders.{verb}
+use Rattle.ill_orders.specs.declared.orders.Task.{Task}
 
 -- the files that a task names, the list of more, and an output that has an option of its own
 abbrev pub named : Task → List Text × (Option Text × Option Text)
 named (Task.Each job inputs) = (map (λ word. word.now) inputs.files.items, (option_map (λ word. word.now) inputs.list, None))
-named (Task.Dump inputs) = (map (λ word. word.now) inputs.files.items, (option_map (λ word. word.now) inputs.list, None))
 named (Task.Canonicalise input output) = (input.now ∷ output.now ∷ [], (None, None))
 named (Task.Collect inputs output) = (map (λ word. word.now) inputs.files.items, (option_map (λ word. word.now) inputs.list, Some output.now))
 named (Task.Compare first second) = (first.now ∷ second.now ∷ [], (None, None))

@@ -1,5 +1,5 @@
 //! The line on a terminal that says how far the work is.
-use crate::summary::Count;
+use crate::count::Count;
 use std::cell::Cell;
 use std::io::{self, IsTerminal, Read};
 use std::time::{Clock, Duration, Instant};

@@ -1,7 +1,7 @@
 -- What is left in an input, whichever it is.
 use Rattle.std.specs.Prelude.{ℕ, Bool, List, Option}
-use Rattle.ill_cli.specs.declared.input.Opened.{Opened}
-use Rattle.ill_cli.specs.declared.input.Opened.TheVariants.{Standard, File}
+use Rattle.ill_files.specs.declared.input.Opened.{Opened}
+use Rattle.ill_files.specs.declared.input.Opened.TheVariants.{Standard, File}
 
 abbrev pub left_of : {S F : Type 0} → (S → Option (List ℕ)) → (F → Option (List ℕ)) → Opened S F → Option (List ℕ)
 left_of standard file (Standard source) = standard source

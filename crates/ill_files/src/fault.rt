@@ -1,6 +1,6 @@
 //! The line that the program prints where it fails, and the status that it ends with.
 ghost use Rattle.std.specs.Prelude.{◌≡◌};
-ghost use Rattle.ill_cli.specs.Status.{is_output_lost, line_status_is, run_status_is, status_is};
+ghost use Rattle.ill_files.specs.Status.{is_output_lost, line_status_is, run_status_is, status_is};
 
 use crate::names::{Name, NameOf};
 use clap::Error as LineError;
@@ -60,7 +60,7 @@ impl Fault {
 
 impl From<LineFault> for Fault {
     ghost use Rattle.std.specs.Prelude.{◌≡◌};
-    ghost use Rattle.ill_cli.specs.declared.fault.Fault.{Fault};
+    ghost use Rattle.ill_files.specs.declared.fault.Fault.{Fault};
 
     ghost from_gives = { λ fault result. result ≡ Fault.Line fault };
 
@@ -71,7 +71,7 @@ impl From<LineFault> for Fault {
 
 impl From<RunFault> for Fault {
     ghost use Rattle.std.specs.Prelude.{◌≡◌};
-    ghost use Rattle.ill_cli.specs.declared.fault.Fault.{Fault};
+    ghost use Rattle.ill_files.specs.declared.fault.Fault.{Fault};
 
     ghost from_gives = { λ fault result. result ≡ Fault.Run (record { 0 = fault }) };
 
@@ -180,7 +180,7 @@ fn line_status(error: &LineError) -> u8
 }
 
 /// Whether some of the output was not written, so that it must not replace a file.
-pub(crate) fn is_output_lost(done: &Result<Verdict, Fault>) -> bool
+pub fn is_output_lost(done: &Result<Verdict, Fault>) -> bool
     ensures { result ≡ is_output_lost done.now }
 {
     matches!(
@@ -190,15 +190,15 @@ pub(crate) fn is_output_lost(done: &Result<Verdict, Fault>) -> bool
 }
 
 /// Prints the fault of one of several files as one line, which names the file.
-pub(crate) fn print_of<R: Print + Eprint>(rt: &R, name: &[u8], fault: &Fault) -> io::Result<()> {
+pub fn print_fault_of<R: Print + Eprint>(rt: &R, name: &[u8], fault: &Fault) -> io::Result<()> {
     match fault {
-        Fault::CannotOpen(_) => print(rt, fault),
+        Fault::CannotOpen(_) => print_fault(rt, fault),
         _ => eprintln!(rt; "illcanon: {}: {fault}", NameOf(name)),
     }
 }
 
 /// Prints clap's text as it is, and any other fault as one line on standard error.
-pub fn print<R: Print + Eprint>(rt: &R, fault: &Fault) -> io::Result<()> {
+pub fn print_fault<R: Print + Eprint>(rt: &R, fault: &Fault) -> io::Result<()> {
     match fault {
         Fault::Line(
             LineFault::Line(error) | LineFault::Missing(error) | LineFault::Unexpected(error),

@@ -1,6 +1,6 @@
 //! Inputs that are files or standard input.
 ghost use Rattle.std.specs.Prelude.{◌≡◌};
-ghost use Rattle.ill_cli.specs.Opened.{left_of, is_broken_of};
+ghost use Rattle.ill_files.specs.Opened.{left_of, is_broken_of};
 
 use crate::fault::Fault;
 use crate::output::{Flushing, Output, OutputOf};
@@ -41,7 +41,7 @@ impl<S: Source, F: Source> Source for Opened<S, F> {
 }
 
 impl<S: Ahead, F: Ahead> Ahead for Opened<S, F> {
-    ghost use Rattle.ill_cli.specs.Opened.{hand_of};
+    ghost use Rattle.ill_files.specs.Opened.{hand_of};
 
     ghost hand = { λ opened. hand_of S.hand F.hand opened };
 
@@ -80,7 +80,7 @@ pub type InputSource<'o, 'r, R> = Shared<
 /// # Errors
 ///
 /// There is no file of this name that can be read, or memory ran out.
-pub fn open<'o, 'r: 'o, R: Print + Eprint + Input + Files + AllocGlobal + Console>(
+pub fn open_input<'o, 'r: 'o, R: Print + Eprint + Input + Files + AllocGlobal + Console>(
     rt: &'r R,
     name: &str,
     output: &'o OutputOf<'r, R>,
@@ -109,6 +109,9 @@ pub fn read_whole<R: Input + Files + AllocGlobal>(
 /// The source of an input that has no output to share.
 pub type AloneSource<R> = Opened<FromBuffer<<R as Input>::Reader>, FromBuffer<<R as Files>::File>>;
 
+/// How many octets are read at once of an input that has no output to share: one message, or names of files.
+const CAPACITY: usize = 4096;
+
 /// Opens an input as [`open_and_identify`] does, whose reads wait for nothing.
 pub fn open_alone<R: Input + Files + AllocGlobal>(
     rt: &R,
@@ -117,16 +120,18 @@ pub fn open_alone<R: Input + Files + AllocGlobal>(
     let alloc = rt.alloc();
     if name == "-" {
         let file = FileId::of_standard_input(rt);
-        let source = FromBuffer::new(alloc, rt.reader()).map_err(|_| Fault::out_of_memory())?;
+        let source = FromBuffer::with_capacity(alloc, CAPACITY, rt.reader())
+            .map_err(|_| Fault::out_of_memory())?;
         return Ok((Opened::Standard(source), file));
     }
     let opened = fs::open(rt, name).map_err(|_| Fault::cannot_open(alloc, name))?;
     let file = FileId::of(opened.metadata());
-    let source = FromBuffer::new(alloc, opened).map_err(|_| Fault::out_of_memory())?;
+    let source = FromBuffer::with_capacity(alloc, CAPACITY, opened)
+        .map_err(|_| Fault::out_of_memory())?;
     Ok((Opened::File(source), file))
 }
 
-/// Opens an input as [`open`] does, and returns which regular file it is, None where it is not one.
+/// Opens an input as [`open_input`] does, and returns which regular file it is, None where it is not one.
 pub fn open_and_identify<'o, 'r: 'o, R: Print + Eprint + Input + Files + AllocGlobal + Console>(
     rt: &'r R,
     name: &str,

@@ -1,13 +1,13 @@
 use Rattle.std.proofs.Common.{◌≡◌, ℕ, IfOk, List, [], ◌∷◌, Option, Some, None, Result, Ok, unwrap_or, option_map, codes, length, slice_index, arith, refl, sym, ap, ap₂, subst, ◌∙◌}
 use Rattle.clap.specs.Walk.{Row, Text, first_of}
-use Rattle.ill_cli.specs.Orders.{files_in, HasFiles, IsOrderOf, verb, verb_name}
-use Rattle.ill_cli.specs.declared.fault.LineFault.{LineFault}
-use Rattle.ill_cli.specs.declared.orders.Order.{Order}
-use Rattle.ill_cli.specs.declared.orders.Task.{Task}
-use Rattle.ill_cli.specs.declared.orders.Verb.{Verb}
-use Rattle.ill_jobs.specs.declared.job.Job.{Job}
-use Rattle.test_cli.specs.Tasks.{IsSameTask, named}
-use Rattle.test_cli.proofs.tests.contracts.words_give_one_order.Goals as goal
+use Rattle.ill_orders.specs.Orders.{files_in, HasFiles, IsOrderOf, verb, verb_name}
+use Rattle.ill_orders.specs.declared.fault.LineFault.{LineFault}
+use Rattle.ill_orders.specs.declared.orders.EachJob.{EachJob}
+use Rattle.ill_orders.specs.declared.orders.Order.{Order}
+use Rattle.ill_orders.specs.declared.orders.Task.{Task}
+use Rattle.ill_orders.specs.declared.orders.Verb.{Verb}
+use Rattle.test_orders.specs.Tasks.{IsSameTask, named}
+use Rattle.test_orders.proofs.tests.contracts.words_give_one_order.Goals as goal
 
 verb_is : (v w : Verb) → verb_name v ≡ verb_name w → v ≡ w
 verb_is Verb.Show Verb.Show e = refl
@@ -72,12 +72,10 @@ three : (a b : List Text) (c d e f : Option Text) → a ≡ b → c ≡ d → e 
 three a b c d e f p q r = rw (p, q, r) refl
 
 named_is : (rows : List Row) (t : Task) → HasFiles rows t → named_by (verb t) rows ≡ named t
-named_is rows (Task.Each Job.Show inputs) h = three _ _ _ _ _ _ h.0 h.1 refl
-named_is rows (Task.Each Job.Json inputs) h = three _ _ _ _ _ _ h.0 h.1 refl
-named_is rows (Task.Each Job.Check inputs) h = three _ _ _ _ _ _ h.0 h.1 refl
-named_is rows (Task.Each Job.Digest inputs) h = three _ _ _ _ _ _ h.0 h.1 refl
-named_is rows (Task.Each Job.Canonicalise inputs) h = absurd h
-named_is rows (Task.Dump inputs) h = three _ _ _ _ _ _ h.0 h.1 refl
+named_is rows (Task.Each EachJob.Show inputs) h = three _ _ _ _ _ _ h.0 h.1 refl
+named_is rows (Task.Each EachJob.Check inputs) h = three _ _ _ _ _ _ h.0 h.1 refl
+named_is rows (Task.Each EachJob.Digest inputs) h = three _ _ _ _ _ _ h.0 h.1 refl
+named_is rows (Task.Each EachJob.Dump inputs) h = three _ _ _ _ _ _ h.0 h.1 refl
 named_is rows (Task.Canonicalise input output) h = three _ _ _ _ _ _ h.0 h.1 h.2
 named_is rows (Task.Collect inputs output) h = three _ _ _ _ _ _ h.0.0 h.0.1 h.1
 named_is rows (Task.Compare first second) h = three _ _ _ _ _ _ (two rows first.now second.now h.0 h.1) refl refl

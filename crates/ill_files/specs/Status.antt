@@ -6,8 +6,8 @@ use Rattle.clap.specs.declared.error.Error.{Error}
 use Rattle.clap.specs.declared.error.kind.ErrorKind.{ErrorKind}
 use Rattle.ill_jobs.specs.declared.fault.RunFault.{RunFault}
 use Rattle.ill_jobs.specs.declared.job.Verdict.{Verdict}
-use Rattle.ill_cli.specs.declared.fault.Fault.{Fault}
-use Rattle.ill_cli.specs.declared.fault.LineFault.{LineFault}
+use Rattle.ill_files.specs.declared.fault.Fault.{Fault}
+use Rattle.ill_orders.specs.declared.fault.LineFault.{LineFault}
 
 -- of a job: 3 for memory, the source and the sink, 1 for the messages and their text
 abbrev pub run_status_is : RunFault → ℕ

@@ -181,7 +181,7 @@ impl<I: Read, S: Write + Drop, F: Write + Drop> Read for Flushing<'_, I, S, F> {
 }
 
 /// Opens standard output.
-pub fn begin_standard<'r, R: Print + Files + AllocGlobal>(
+pub fn open_standard_output<'r, R: Print + Files + AllocGlobal>(
     rt: &'r R,
     output: &OutputOf<'r, R>,
 ) -> Result<(), Fault> {
@@ -189,14 +189,14 @@ pub fn begin_standard<'r, R: Print + Files + AllocGlobal>(
 }
 
 /// Opens the output of this name, `-` for standard output. Returns the name of the new file that is written in place of a regular file.
-pub fn begin<'r, R: Print + Files + AllocGlobal>(
+pub fn open_output<'r, R: Print + Files + AllocGlobal>(
     rt: &'r R,
     output: &OutputOf<'r, R>,
     name: &str,
 ) -> Result<Option<String>, Fault> {
     let alloc = rt.alloc();
     if name == "-" {
-        begin_standard(rt, output)?;
+        open_standard_output(rt, output)?;
         return Ok(None);
     }
     let Some(Replacement { name: part, file }) = replacement::begin(rt, name)? else {
@@ -215,7 +215,7 @@ pub fn begin<'r, R: Print + Files + AllocGlobal>(
 
 /// Writes what is still in the buffer, and gives a new file the name of the output. Where not all of the output reached the disk, the new
 /// file is removed, and the old one stays as it was.
-pub fn end<'r, R: Print + Files + AllocGlobal>(
+pub fn close_output<'r, R: Print + Files + AllocGlobal>(
     rt: &'r R,
     output: &OutputOf<'r, R>,
     part: Option<String>,

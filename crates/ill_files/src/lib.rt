@@ -1,0 +1,25 @@
+//! The files of the program `illcanon`: its inputs and outputs, the line that a fault is printed as, and the exit status.
+//!
+//! All of it is generic over the runtime, so that tests run it on streams and files of their own. To print a file:
+//!
+//! ```
+//! let (mut source, _) = open_alone(rt, "messages.ber")?;
+//! ```
+#![tactic(auto)]
+
+mod count;
+mod fault;
+mod input;
+mod names;
+mod output;
+mod progress;
+mod replacement;
+mod same_file;
+
+pub use count::Count;
+pub use fault::{CauseName, Fault, RunLine, is_output_lost, print_fault, print_fault_of, status_of};
+pub use input::{AloneSource, InputSource, Opened, Shared, open_alone, open_and_identify, open_input, read_whole};
+pub use names::{Name, NameOf, printed};
+pub use output::{Flushing, Output, OutputOf, ToOutput, close_output, open_output, open_standard_output};
+pub use progress::{Console, Progress, Watched};
+pub use same_file::FileId;

@@ -1,0 +1,2 @@
+//! What the contracts of `ill_orders` say.
+mod contracts;
