@@ -116,7 +116,7 @@ def check_sizes(path, text):
 
 
 def check_version():
-    wanted = re.search(r'\.version\("([^"]+)"\)', (ROOT / "crates/ill_cli/src/line.rt").read_text()).group(1)
+    wanted = re.search(r'\.version\("([^"]+)"\)', (ROOT / "crates/ill_orders/src/commands.rt").read_text()).group(1)
     for file, pattern in [
         ("bindings/c/Makefile", r"^VERSION = (\S+)"),
         ("bindings/c/illcanon.h", r'ILLCANON_VERSION "([^"]+)"'),
@@ -125,7 +125,7 @@ def check_version():
         path = ROOT / file
         found = re.search(pattern, path.read_text(), re.M)
         if not found or found.group(1) != wanted:
-            fault(path, 1, f"the version is not {wanted}, that of crates/ill_cli/src/line.rt")
+            fault(path, 1, f"the version is not {wanted}, that of crates/ill_orders/src/commands.rt")
 
 
 def blocks(text):

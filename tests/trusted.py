@@ -238,7 +238,7 @@ def section(title, text, seeds):
 
 APDU = "Rattle.ill_schema.specs.Apdu"
 HEADLINE = [(APDU, name) for name in ("SpellsApdu", "Accepts", "normal_form", "IsStream")]
-PRODUCT = "ber_core ber_frame ber_leaf ill_schema ill_refusals ill_read ill_write ill_normal ill_going ill_text ill_json ill_jobs ill_dump ill_lines ill_cli ill_digest ill_c ill_parts ill_apdu_results ill_apdu_requests ill_apdu".split()
+PRODUCT = "ber_core ber_frame ber_leaf ill_schema ill_refusals ill_read ill_write ill_normal ill_going ill_text ill_json ill_jobs ill_dump ill_lines ill_orders ill_files ill_cli ill_digest ill_c ill_parts ill_apdu_results ill_apdu_requests ill_apdu".split()
 
 
 def document():

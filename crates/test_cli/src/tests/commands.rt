@@ -135,6 +135,12 @@ static ROWS: [Row; 32] = [
         ..QUIET
     },
     Row {
+        words: "dump",
+        status: 2,
+        errors: "error: the following required arguments were not provided:\n  <FILE>...\n\nUsage: illcanon dump [OPTIONS] [FILE]...\n\nFor more information, try '--help'.\n",
+        ..QUIET
+    },
+    Row {
         words: "check --hex A",
         status: 1,
         errors: "illcanon: hex: odd number of digits\n",
