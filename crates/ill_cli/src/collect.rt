@@ -3,7 +3,10 @@ use crate::commands::canonicalise;
 use crate::doing::{How, put_all};
 use crate::each::{is_dash_twice, list_of, names_of, text_of, worse};
 use crate::tally::Tally;
-use ill_files::{Console, Fault, FileId, Output, OutputOf, RunLine, close_output, open_input, open_output, printed, status_of};
+use ill_files::{
+    Console, Fault, FileId, Output, OutputOf, RunLine, close_output, open_input, open_output,
+    printed, status_of,
+};
 use ill_jobs::{Job, RunFault, Verdict};
 use ill_orders::{Inputs, LineFault};
 use std::rt::Files;

@@ -8,7 +8,10 @@ use crate::each::each_input;
 use crate::tally::{Tally, end};
 use crate::words::words_of;
 use ber_core::ToWrite;
-use ill_files::{Console, Fault, FileId, Output, Progress, close_output, open_alone, open_and_identify, open_input, open_output, open_standard_output};
+use ill_files::{
+    Console, Fault, FileId, Output, Progress, close_output, open_alone, open_and_identify,
+    open_input, open_output, open_standard_output,
+};
 use ill_jobs::{Job, RunFault, Verdict, run_same};
 use ill_lines::LineJob;
 use ill_orders::{EachJob, LineFault, Order, Task, order};

@@ -5,7 +5,10 @@ ghost use Rattle.ill_files.specs.Status.{IsStatusOfEach, worst};
 
 use crate::doing::{How, put_all};
 use crate::tally::Tally;
-use ill_files::{Console, Fault, FileId, Name, Output, is_output_lost, open_input, open_standard_output, printed, read_whole, status_of};
+use ill_files::{
+    Console, Fault, FileId, Name, Output, is_output_lost, open_input, open_standard_output,
+    printed, read_whole, status_of,
+};
 use ill_jobs::Verdict;
 use ill_orders::{EachJob, Inputs, LineFault};
 use std::alloc::{AllocError, Global};

@@ -120,14 +120,16 @@ pub fn open_alone<R: Input + Files + AllocGlobal>(
     let alloc = rt.alloc();
     if name == "-" {
         let file = FileId::of_standard_input(rt);
-        let source = FromBuffer::with_capacity(alloc, CAPACITY, rt.reader())
-            .map_err(|_| Fault::out_of_memory())?;
+        let source = FromBuffer::with_capacity(alloc, CAPACITY, rt.reader()).map_err(
+            |_| Fault::out_of_memory(),
+        )?;
         return Ok((Opened::Standard(source), file));
     }
     let opened = fs::open(rt, name).map_err(|_| Fault::cannot_open(alloc, name))?;
     let file = FileId::of(opened.metadata());
-    let source = FromBuffer::with_capacity(alloc, CAPACITY, opened)
-        .map_err(|_| Fault::out_of_memory())?;
+    let source = FromBuffer::with_capacity(alloc, CAPACITY, opened).map_err(
+        |_| Fault::out_of_memory(),
+    )?;
     Ok((Opened::File(source), file))
 }
 

@@ -17,9 +17,15 @@ mod replacement;
 mod same_file;
 
 pub use count::Count;
-pub use fault::{CauseName, Fault, RunLine, is_output_lost, print_fault, print_fault_of, status_of};
-pub use input::{AloneSource, InputSource, Opened, Shared, open_alone, open_and_identify, open_input, read_whole};
+pub use fault::{
+    CauseName, Fault, RunLine, is_output_lost, print_fault, print_fault_of, status_of,
+};
+pub use input::{
+    AloneSource, InputSource, Opened, Shared, open_alone, open_and_identify, open_input, read_whole,
+};
 pub use names::{Name, NameOf, printed};
-pub use output::{Flushing, Output, OutputOf, ToOutput, close_output, open_output, open_standard_output};
+pub use output::{
+    Flushing, Output, OutputOf, ToOutput, close_output, open_output, open_standard_output,
+};
 pub use progress::{Console, Progress, Watched};
 pub use same_file::FileId;
