@@ -146,8 +146,8 @@ fn compare<R: Print + Input + Files + AllocGlobal>(
     second: &str,
 ) -> Result<Verdict, Fault> {
     let alloc = rt.alloc();
-    let (mut first, _) = open_alone(rt, first)?;
-    let (mut second, _) = open_alone(rt, second)?;
+    let mut first = open_alone(rt, first)?;
+    let mut second = open_alone(rt, second)?;
     let mut writer = BufWriter::new(alloc, io::writer(rt)).map_err(|_| Fault::out_of_memory())?;
     let mut sink = ToWrite::new(&mut writer);
     let done = run_same(alloc, hex, &mut first, &mut second, &mut sink);

@@ -6,7 +6,7 @@ use crate::fault::Fault;
 use crate::output::{Flushing, Output, OutputOf};
 use crate::progress::{Console, Progress, Watched};
 use crate::same_file::FileId;
-use ber_core::{Ahead, Broken, FromBuffer, Source};
+use ber_core::{Ahead, Broken, FromBuffer, FromRead, Source};
 use ill_jobs::{RunFault, read_most};
 use std::alloc::Global;
 use std::fs::{self, OpenFile};
@@ -69,7 +69,7 @@ pub type Shared<'o, I, J, S, F> = Opened<
 /// The source of an input under the runtime `R`, which shares the output, and shows how far it is.
 pub type InputSource<'o, 'r, R> = Shared<
     'o,
-    Watched<'o, R, <R as Input>::Reader>,
+    Watched<'o, R, Box<<R as Input>::Reader>>,
     Watched<'o, R, <R as Files>::File>,
     Printer<'r, R>,
     <R as Files>::File,
@@ -99,38 +99,52 @@ pub fn read_whole<R: Input + Files + AllocGlobal>(
     rt: &R,
     name: &str,
 ) -> Result<(Vec<u8>, Option<FileId>), Fault> {
-    let (mut source, file) = open_alone(rt, name)?;
-    match read_most(rt.alloc(), &mut source, usize::MAX) {
-        Ok(octets) => Ok((octets, file)),
+    let alloc = rt.alloc();
+    if name == "-" {
+        let file = FileId::of_standard_input(rt);
+        return Ok((read_all(alloc, FromRead::new(rt.reader()))?, file));
+    }
+    let opened = open_file(rt, name)?;
+    let file = FileId::of(opened.metadata());
+    Ok((read_all(alloc, FromRead::new(opened))?, file))
+}
+
+/// Reads a source to its end.
+fn read_all<S: Source + Drop>(alloc: Global, source: S) -> Result<Vec<u8>, Fault> {
+    let mut source = source;
+    match read_most(alloc, &mut source, usize::MAX) {
+        Ok(octets) => Ok(octets),
         Err(why) => Err(Fault::from(RunFault::from(why))),
     }
 }
 
-/// The source of an input that has no output to share.
-pub type AloneSource<R> = Opened<FromBuffer<<R as Input>::Reader>, FromBuffer<<R as Files>::File>>;
+/// The source of an input that has no output to share. Its reader reads as many octets as are asked for.
+pub type AloneSource<R> = Opened<FromRead<Box<<R as Input>::Reader>>, FromRead<<R as Files>::File>>;
 
-/// How many octets are read at once of an input that has no output to share: one message, or names of files.
-const CAPACITY: usize = 4096;
-
-/// Opens an input as [`open_and_identify`] does, whose reads wait for nothing.
+/// Opens the input of this name, standard input for `-`, whose reads wait for nothing.
+///
+/// # Errors
+///
+/// There is no file of this name that can be read, or memory ran out.
 pub fn open_alone<R: Input + Files + AllocGlobal>(
     rt: &R,
     name: &str,
-) -> Result<(AloneSource<R>, Option<FileId>), Fault> {
-    let alloc = rt.alloc();
+) -> Result<AloneSource<R>, Fault> {
     if name == "-" {
-        let file = FileId::of_standard_input(rt);
-        let source = FromBuffer::with_capacity(alloc, CAPACITY, rt.reader()).map_err(
-            |_| Fault::out_of_memory(),
-        )?;
-        return Ok((Opened::Standard(source), file));
+        let reader = standard_input(rt)?;
+        return Ok(Opened::Standard(FromRead::new(reader)));
     }
-    let opened = fs::open(rt, name).map_err(|_| Fault::cannot_open(alloc, name))?;
-    let file = FileId::of(opened.metadata());
-    let source = FromBuffer::with_capacity(alloc, CAPACITY, opened).map_err(
-        |_| Fault::out_of_memory(),
-    )?;
-    Ok((Opened::File(source), file))
+    Ok(Opened::File(FromRead::new(open_file(rt, name)?)))
+}
+
+/// The reader of standard input. It is large, so that memory is taken for it, and no file has room for it.
+fn standard_input<R: Input + AllocGlobal>(rt: &R) -> Result<Box<R::Reader>, Fault> {
+    Box::new(rt.alloc(), rt.reader()).map_err(|_| Fault::out_of_memory())
+}
+
+/// Opens the file of this name.
+fn open_file<R: Files + AllocGlobal>(rt: &R, name: &str) -> Result<R::File, Fault> {
+    fs::open(rt, name).map_err(|_| Fault::cannot_open(rt.alloc(), name))
 }
 
 /// Opens an input as [`open_input`] does, and returns which regular file it is, None where it is not one.
@@ -143,7 +157,7 @@ pub fn open_and_identify<'o, 'r: 'o, R: Print + Eprint + Input + Files + AllocGl
     let alloc = rt.alloc();
     if name == "-" {
         let file = FileId::of_standard_input(rt);
-        let inner = rt.reader();
+        let inner = standard_input(rt)?;
         let source = buffered(
             alloc,
             Watched {
@@ -155,7 +169,7 @@ pub fn open_and_identify<'o, 'r: 'o, R: Print + Eprint + Input + Files + AllocGl
         )?;
         return Ok((Opened::Standard(source), file));
     }
-    let inner = fs::open(rt, name).map_err(|_| Fault::cannot_open(alloc, name))?;
+    let inner = open_file(rt, name)?;
     let file = FileId::of(inner.metadata());
     let source = buffered(
         alloc,

@@ -1,21 +1,21 @@
-ghost use Rattle.std.specs.Prelude.{◌≡◌, [], false, max, IfOk};
-ghost use Rattle.std.specs.Io.Buffered.{reader_buffer, reader_capacity, reader_inner, reader_remaining};
+ghost use Rattle.std.specs.Prelude.{◌≡◌, [], false, IfOk};
+ghost use Rattle.std.specs.Io.Buffered.{reader_buffer, reader_inner, reader_remaining};
 
 use super::{Ahead, Broken, Source};
 use std::alloc::{AllocError, Global};
 use std::io::{BufRead, BufReader, Read};
 
-/// How many octets [`FromBuffer::new`] reads at once.
+/// How many octets are read at once.
 const CAPACITY: usize = 65_536;
 
-/// A reader as a source that reads many octets at once, and has at hand those of them that were not yet taken.
+/// A reader as a source that reads up to 65,536 octets at once, and has at hand those of them that were not yet taken.
 ///
 /// The contract says: the octets at hand, and after them what the reader has left, are what `take` and `pass` give, each octet once and
 /// in order; `take` returns [`Broken`] exactly where the source is broken after the call, and then nothing was taken; a broken source
 /// stays broken. As for [`FromRead`](super::FromRead), it doesn't say when the source breaks. The tests in the crate `test_core` show
 /// the rest: the source breaks where a read returned an error, also that of an interrupted read, and nowhere else, and then no further
 /// call reaches the reader; no read is made while octets are at hand, so a source that broke has none; with nothing at hand, a `take`
-/// with a buffer of as many octets as are read at once, or of more, reads straight into that.
+/// with a buffer of 65,536 octets or more reads straight into that.
 #[derive(Drop)]
 pub struct FromBuffer<R> {
     inner: BufReader<R>,
@@ -25,7 +25,7 @@ pub struct FromBuffer<R> {
 impl<R: Read> FromBuffer<R> {
     ghost use Rattle.ber_core.specs.Supply.{buffer_of, is_buffer_broken};
 
-    /// The reader as a source that reads up to 65,536 octets at once, with nothing at hand yet.
+    /// The reader as a source with nothing at hand yet.
     ///
     /// # Errors
     ///
@@ -37,30 +37,8 @@ impl<R: Read> FromBuffer<R> {
         ensures left { IfOk result (λ source. reader_remaining R.remaining (buffer_of source) ≡ R.remaining inner) }
         ensures hand { IfOk result (λ source. reader_buffer (buffer_of source) ≡ []) }
         ensures whole { IfOk result (λ source. is_buffer_broken source ≡ false) }
-        ensures capacity { IfOk result (λ source. reader_capacity (buffer_of source) ≡ 65536) }
     {
-        FromBuffer::with_capacity(alloc, CAPACITY, inner)
-    }
-
-    /// The reader as a source that reads up to `capacity` octets at once, or one where that is 0, with nothing at hand yet.
-    ///
-    /// # Errors
-    ///
-    /// [`AllocError`], where there is no memory for the buffer.
-    pub fn with_capacity(
-        alloc: Global,
-        capacity: usize,
-        inner: R,
-    ) -> Result<FromBuffer<R>, AllocError>
-    where
-        R: Drop,
-        ensures reader { IfOk result (λ source. reader_inner (buffer_of source) ≡ inner) }
-        ensures left { IfOk result (λ source. reader_remaining R.remaining (buffer_of source) ≡ R.remaining inner) }
-        ensures hand { IfOk result (λ source. reader_buffer (buffer_of source) ≡ []) }
-        ensures whole { IfOk result (λ source. is_buffer_broken source ≡ false) }
-        ensures capacity { IfOk result (λ source. reader_capacity (buffer_of source) ≡ max capacity 1) }
-    {
-        match BufReader::with_capacity(alloc, capacity.max(1), inner) {
+        match BufReader::with_capacity(alloc, CAPACITY, inner) {
             Ok(inner) => Ok(FromBuffer {
                 inner,
                 broken: false,

@@ -162,22 +162,6 @@ fn buffered_readers_show_what_they_read(rt: HostRuntime) -> Result<(), Fail> {
     Ok(())
 }
 
-/// Whether a source that is asked for an octet reads as many as this, where its buffer has the capacity.
-fn reads_at_once(alloc: Global, capacity: usize, octets: usize) -> Result<bool, AllocError> {
-    let log = Log::new(alloc);
-    let script = &[Moves(1)];
-    let mut source = FromBuffer::with_capacity(alloc, capacity, Scripted { script, log: &log })?;
-    Ok(source.take(&mut [0]) == Ok(1) && log.has_calls(&[octets]))
-}
-
-#[test]
-fn buffers_have_the_size_that_was_asked_for(rt: HostRuntime) -> Result<(), Fail> {
-    for (capacity, octets) in [(0, 1), (1, 1), (2, 2), (4096, 4096)] {
-        assert!(rt; reads_at_once(rt.alloc(), capacity, octets)?, "{capacity}");
-    }
-    Ok(())
-}
-
 #[test]
 fn slices_show_all_that_is_left(rt: HostRuntime) {
     let octets = [1, 2, 3, 4, 5];

@@ -244,11 +244,10 @@ fn buffers_lose_nothing(
     one: &mut [u8],
     other: &mut [u8],
     alloc: Global,
-    capacity: usize,
 ) -> Option<(usize, Vec<u8>, usize)>
     ensures { IfSome result (λ r. (rest : List ℕ) × (octets.now ≡ take r.0 one.new ++ (r.1.items ++ (take r.2 other.new ++ rest)))) }
 {
-    let Ok(mut source) = FromBuffer::with_capacity(alloc, capacity, octets) else {
+    let Ok(mut source) = FromBuffer::new(alloc, octets) else {
         return None;
     };
     let Ok(first) = source.take(one) else {
