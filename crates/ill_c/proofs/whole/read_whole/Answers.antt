@@ -1,4 +1,4 @@
-use Rattle.std.proofs.Common.{inl, subst, sym}
+use Rattle.std.proofs.Common.{inl, subst}
 use Rattle.ill_schema.specs.declared.refusal.Cause.{Cause}
 use Rattle.ill_refusals.specs.Fault.{fault, fault_of}
 use Rattle.ill_read.specs.Answers.{RefusesWhole}
