@@ -1,5 +1,7 @@
 //! What is made of a message, and written to the caller's buffer.
-ghost use Rattle.ill_schema.specs.Apdu.{normal_form};
+ghost use Rattle.std.specs.Prelude.{◌≡◌, IfOk};
+ghost use Rattle.ill_schema.specs.Apdu.{Apdu, normal_form};
+ghost use Rattle.ill_read.specs.Outline.{IsOutlineOf};
 ghost use Rattle.ill_text.specs.Shown.{shown_text};
 ghost use Rattle.ill_c.specs.Calls.{Writes, digest};
 ghost use Rattle.ill_c.specs.Memory.{change};
@@ -8,11 +10,11 @@ ghost use Rattle.ill_c.specs.Status.{EndsWith};
 use crate::put::put;
 use crate::refusal::{IllcanonRefusal, report};
 use crate::status::Status;
-use crate::whole::read_whole;
+use crate::whole::{read_whole, read_whole_outline};
 use ill_digest::message_digest;
-use ill_normal::decode;
-use ill_text::show_text;
-use std::alloc::Global;
+use ill_read::Outline;
+use ill_text::Text;
+use std::alloc::{AllocError, Global};
 
 /// Writes the normal form of the message that the octets are.
 #[unsafe(no_mangle)]
@@ -68,14 +70,21 @@ fn show(
 ) -> Status
     ensures { Writes (shown_text number) octets.now (change buffer.old buffer.new) (change size.old size.new) (change refusal.old refusal.new) result }
 {
-    let message = match decode(alloc, octets) {
-        Ok(message) => message,
+    let outline = match read_whole_outline(alloc, octets) {
+        Ok(outline) => outline,
         Err(failure) => return report(failure, refusal),
     };
-    match show_text(alloc, number, &message) {
+    match text_octets(alloc, number, outline) {
         Ok(text) => put(&text, buffer, size),
-        Err(_) => Status::OutOfMemory,
+        Err(AllocError) => Status::OutOfMemory,
     }
+}
+
+/// The text of the message that the outline is of.
+fn text_octets(alloc: Global, number: u32, outline: Outline) -> Result<Vec<u8>, AllocError>
+    ensures { (a : Apdu) → IsOutlineOf outline a → IfOk result (λ text. text.items ≡ shown_text number a) }
+{
+    Text::new(number, outline)?.octets(alloc)
 }
 
 /// Writes the digest of the message that the octets are, of 32 octets.

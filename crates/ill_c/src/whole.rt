@@ -1,10 +1,14 @@
-//! The normal form of octets that are one message.
+//! What is read of octets that are one message.
 ghost use Rattle.std.specs.Prelude.{◌≡◌, List, ℕ, ◌++◌, length};
 ghost use Rattle.ill_read.specs.Answers.{IsNormalOf, NormalAnswers};
+ghost use Rattle.ill_read.specs.Outlined.{IsOutlined};
+ghost use Rattle.ill_read.specs.declared.failure.Failure.{Failure};
+ghost use Rattle.ill_c.specs.code.Steps.{OutlineAnswers};
 
 use ill_normal::{
     AtHand, Cause, Failure, FromSlice, LIMIT, Normal, ReadFailure, Refusal, read_normal_in,
 };
+use ill_read::{Outline, Outlined, read_outline_in};
 use std::alloc::Global;
 
 /// The normal form of the message that the octets are, as [`decode_normal`](ill_normal::decode_normal) gives it. Memory is taken once,
@@ -16,7 +20,21 @@ pub(crate) fn read_whole(alloc: Global, octets: &[u8]) -> Result<Normal, Failure
     let mut source = FromSlice::new(octets);
     match read_normal_in::<FromSlice, AtHand>(alloc, &mut source, room) {
         Ok(Some(normal)) => whole(normal, octets.len()),
-        Ok(None) => refused(0, Cause::Truncated),
+        Ok(None) => Err(refused(0, Cause::Truncated)),
+        Err(ReadFailure::Refused(refusal)) => Err(Failure::Refused(refusal)),
+        // A slice doesn't break.
+        Err(ReadFailure::OutOfMemory | ReadFailure::ReadFault) => Err(Failure::OutOfMemory),
+    }
+}
+
+/// The outline of the message that the octets are.
+pub(crate) fn read_whole_outline(alloc: Global, octets: &[u8]) -> Result<Outline, Failure>
+    ensures { OutlineAnswers octets.now result }
+{
+    let mut source = FromSlice::new(octets);
+    match read_outline_in::<FromSlice, AtHand>(alloc, &mut source, Outline::new(alloc)) {
+        Ok(Some(outlined)) => whole_outline(outlined, octets.len()),
+        Ok(None) => Err(refused(0, Cause::Truncated)),
         Err(ReadFailure::Refused(refusal)) => Err(Failure::Refused(refusal)),
         // A slice doesn't break.
         Err(ReadFailure::OutOfMemory | ReadFailure::ReadFault) => Err(Failure::OutOfMemory),
@@ -30,12 +48,23 @@ fn whole(normal: Normal, count: usize) -> Result<Normal, Failure>
     if normal.read as usize == count {
         Ok(normal)
     } else {
-        refused(normal.read, Cause::TrailingBytes)
+        Err(refused(normal.read, Cause::TrailingBytes))
     }
 }
 
-fn refused(at: u32, cause: Cause) -> Result<Normal, Failure>
-    ensures { result ≡ Err (Failure.Refused (record { at = at; cause = cause })) }
+/// The outline of a message at the front of octets, if there are no more.
+fn whole_outline(outlined: Outlined, count: usize) -> Result<Outline, Failure>
+    ensures { (front rest : List ℕ) → count ≡ length (front ++ rest) → IsOutlined outlined front → OutlineAnswers (front ++ rest) result }
 {
-    Err(Failure::Refused(Refusal { at, cause }))
+    if outlined.read as usize == count {
+        Ok(outlined.outline)
+    } else {
+        Err(refused(outlined.read, Cause::TrailingBytes))
+    }
+}
+
+fn refused(at: u32, cause: Cause) -> Failure
+    ensures { result ≡ Failure.Refused (record { at = at; cause = cause }) }
+{
+    Failure::Refused(Refusal { at, cause })
 }

@@ -10,6 +10,7 @@
 mod leaf;
 mod message;
 mod number;
+mod octets;
 mod outgoing;
 mod part;
 mod show;

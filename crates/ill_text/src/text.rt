@@ -8,6 +8,7 @@ ghost use Rattle.ill_text.specs.TextOf.{IsTextOf};
 ghost use Rattle.ill_text.specs.code.Sending.{Adds, sending};
 ghost use Rattle.ill_text.specs.code.Trails.{head_line};
 
+use crate::octets::Octets;
 use crate::outgoing::Out;
 use crate::part::{row_name, row_node};
 use crate::show::{after_first, alternative, put_value};
@@ -16,7 +17,7 @@ use ber_core::Sink;
 use ill_read::{Mark, Outline};
 use ill_schema::NodeId;
 use itoa::Buffer;
-use std::alloc::AllocError;
+use std::alloc::{AllocError, Global};
 
 /// How many marks an outline may have: more than that of any message.
 const MARKS: usize = 16_777_216;
@@ -47,6 +48,24 @@ impl Text {
     pub fn into_outline(self) -> Outline {
         let Text { number: _, outline } = self;
         outline
+    }
+
+    /// Its octets.
+    ///
+    /// # Errors
+    ///
+    /// Only out of memory.
+    pub fn octets(&self, alloc: Global) -> Result<Vec<u8>, AllocError>
+        ensures { (octets : List ℕ) → IsTextOf self.now octets → IfOk result (λ v. v.items ≡ octets) }
+    {
+        let mut sink = Octets {
+            octets: Vec::new(alloc),
+            broken: false,
+        };
+        match self.put(&mut sink) {
+            Ok(_) => Ok(sink.octets),
+            Err(_) => Err(AllocError),
+        }
     }
 
     /// Puts it into the sink, and returns how many octets it has. No memory is taken.

@@ -1,11 +1,13 @@
 -- What the steps of a call do.
 use Rattle.std.specs.Prelude.{◌≡◌, ℕ, List, Option, Some, None, Result, Ok, Err}
 use Rattle.ber_leaf.specs.Profile.{profile_two}
-use Rattle.ill_schema.specs.Apdu.{Apdu, Accepts, normal_form}
+use Rattle.ill_schema.specs.Apdu.{Apdu, Accepts, SpellsApdu, normal_form}
 use Rattle.ill_refusals.specs.Fault.{fault_of}
-use Rattle.ill_read.specs.Answers.{IsPart, IsRefused}
+use Rattle.ill_read.specs.Answers.{IsPart, IsRefused, RefusesWhole}
+use Rattle.ill_read.specs.Outline.{IsOutlineOf}
 use Rattle.ill_read.specs.declared.failure.Failure.{Failure}
 use Rattle.ill_read.specs.declared.normal.Normal.{Normal}
+use Rattle.ill_read.specs.declared.outline.Outline.{Outline}
 use Rattle.ill_c.specs.declared.refusal.IllcanonRefusal.{IllcanonRefusal}
 use Rattle.ill_c.specs.declared.status.Status.{Status}
 use Rattle.ill_c.specs.Memory.{Change, Stays, Fills, Lacks}
@@ -27,3 +29,9 @@ abbrev pub FrontAnswers : List ℕ → Result (Option Normal) Failure → Type 0
 FrontAnswers s (Ok (Some normal)) = (a : Apdu) × Accepts profile_two s a normal.read × (normal.octets.items ≡ normal_form a)
 FrontAnswers s (Ok None) = IsPart s
 FrontAnswers s (Err failure) = IsRefused s failure
+
+-- of octets that are to be one message, whose outline is read
+abbrev pub OutlineAnswers : List ℕ → Result Outline Failure → Type 0
+OutlineAnswers s (Ok outline) = (a : Apdu) × SpellsApdu profile_two a s × IsOutlineOf outline a
+OutlineAnswers s (Err (Failure.Refused refusal)) = RefusesWhole s (fault_of refusal)
+OutlineAnswers s (Err Failure.OutOfMemory) = Unit {0}

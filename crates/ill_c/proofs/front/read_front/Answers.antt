@@ -1,4 +1,4 @@
-use Rattle.std.proofs.Common.{refl, subst}
+use Rattle.std.proofs.Common.{subst}
 use Rattle.ber_leaf.specs.Profile.{profile_two}
 use Rattle.ill_refusals.specs.Fault.{fault_of}
 use Rattle.ill_refusals.specs.Outcome.{OnlyRefuses}

@@ -11,4 +11,4 @@ returns c =
     let a = apdu_of c.args.message.now in
     let spells = subst (SpellsApdu profile_two a) (sym (c.deref.ensures.value ∙ c.in_ok-normal.ensures)) (message_spells a c.body.ensures.fits c.body.ensures.within) in
     let outline = c.in_ok-outline.ensures a spells in
-    c.text_octets.ensures (shown_text c.args.number a) (c.in_ok-new.ensures a outline)
+    c.octets.ensures (shown_text c.args.number a) (c.in_ok-new.ensures a outline)

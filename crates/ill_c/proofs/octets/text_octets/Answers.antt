@@ -1,0 +1,5 @@
+use Rattle.ill_text.specs.Shown.{shown_text}
+use Rattle.ill_c.proofs.octets.text_octets.Goals as goal
+
+pub returns : goal.returns
+returns c a h = c.octets.ensures (shown_text c.args.number a) (c.in_ok-new.ensures a h)
