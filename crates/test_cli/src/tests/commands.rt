@@ -5,7 +5,7 @@ use super::runs::{INDEFINITE, QUIET, Row, first_wrong};
 use std::test::Fail;
 
 /// Commands with no output of their own. O is absent.
-static ROWS: [Row; 32] = [
+static ROWS: [Row; 33] = [
     Row {
         words: "show A",
         output: Text(
