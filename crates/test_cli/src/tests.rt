@@ -1,7 +1,6 @@
 //! The whole program over a runtime of ours, with files of the host; and what it prints where it fails.
 mod commands;
 mod contracts;
-mod fake;
 mod files;
 mod going;
 mod lines;

@@ -1,8 +1,8 @@
 //! What each command prints, and how it ends.
-use super::fake::{Faults, NO_FAULTS};
 use super::runs::Octets::Text;
 use super::runs::{INDEFINITE, QUIET, Row, first_wrong};
 use std::test::Fail;
+use test_runtime::{Faults, NO_FAULTS};
 
 /// Commands with no output of their own. O is absent.
 static ROWS: [Row; 33] = [

@@ -1,11 +1,11 @@
 //! Outputs that are files with a mode, with more than one name, or with another file beside them.
-use super::fake::{Ended, NO_FAULTS, Start, run};
 use super::runs::Octets::Repeated;
-use super::runs::{EXPIRED, INDEFINITE, enter, holds, leave};
+use super::runs::{EXPIRED, INDEFINITE, enter, holds, leave, run};
 use std::alloc::AllocError;
 use std::fs::{self, Permissions};
 use std::os::unix::fs::{MetadataExt, PermissionsExt, symlink};
 use std::test::Fail;
+use test_runtime::{Ended, NO_FAULTS, Start};
 
 fn canonicalise<'n>(rt: &HostRuntime, input: &'n [u8], output: &'n [u8]) -> Ended {
     let words: [&[u8]; 3] = [b"canonicalise", input, output];

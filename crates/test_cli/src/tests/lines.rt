@@ -1,8 +1,8 @@
 //! A result for each line.
-use super::fake::{Faults, NO_FAULTS};
 use super::runs::Octets::Text;
 use super::runs::{QUIET, Row, first_wrong, run_line};
 use std::test::Fail;
+use test_runtime::{Faults, NO_FAULTS};
 
 /// Lines: a message three times, in other spellings, two blank lines, and what is refused.
 const LINES: &[u8] = b"\

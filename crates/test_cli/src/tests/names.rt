@@ -1,8 +1,9 @@
 //! How names of files are printed, and words that are long.
-use super::fake::{NO_FAULTS, Start, run};
+use super::runs::run;
 use ill_files::Name;
 use std::alloc::{AllocError, Global};
 use std::test::Fail;
+use test_runtime::{NO_FAULTS, Start};
 
 /// Names, and their form in a fault's line, as bash reads it back.
 static NAMES: [(&[u8], &[u8]); 9] = [

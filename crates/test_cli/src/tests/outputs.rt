@@ -1,8 +1,8 @@
 //! Where normal forms go: an output is whole, or as it was.
-use super::fake::{Faults, NO_FAULTS};
 use super::runs::Octets::{Repeated, Text};
 use super::runs::{BEFORE, EXPIRED, INDEFINITE, QUIET, Row, first_wrong};
 use std::test::Fail;
+use test_runtime::{Faults, NO_FAULTS};
 
 /// Commands with an output. O is absent, and `none` is no folder.
 static ROWS: [Row; 41] = [

@@ -1,9 +1,17 @@
 //! Runs of the program in a folder with files.
-use super::fake::{Ended, Faults, NO_FAULTS, Start, folder, run};
+use ill_cli::run_program;
 use std::alloc::AllocError;
 use std::fs;
 use std::test::Fail;
+use test_runtime::{Ended, Fake, Faults, NO_FAULTS, Start, folder};
 use test_support::octets_of;
+
+/// Runs the program.
+pub fn run(host: &HostRuntime, start: Start<'_>) -> Ended {
+    let fake = Fake::new(host, start);
+    let status = run_program(&fake);
+    fake.ended(status)
+}
 
 /// An EXPIRED in normal form.
 pub const EXPIRED: &[u8] =

@@ -2,17 +2,14 @@
 //! files can be made to fail.
 ghost use Rattle.std.specs.Prelude.{◌≤◌, length, IfOk};
 
-use ill_cli::run_program;
 use ill_files::Console;
 use std::alloc::{Alloc, Allocator, Global};
 use std::cell::{Cell, RefCell};
 use std::env::FillError;
 use std::fmt::Display;
-use std::fs::{self, File, FileTimes, Files, Metadata, OpenFile, OpenOptions, Permissions};
+use std::fs::{File, FileTimes, Files, Metadata, OpenFile, OpenOptions, Permissions};
 use std::io::{self, BufRead, ErrorKind, Lines, Read, Seek, SeekFrom, Write};
-use std::process;
 use std::rt::Env;
-use std::test::Fail;
 use std::time::{Clock, Duration};
 
 /// Which calls fail.
@@ -50,6 +47,7 @@ pub struct Start<'a> {
     pub terminal: Option<u64>,
 }
 
+/// A runtime whose words and standard streams are values, and whose files are the host's.
 pub struct Fake<'a> {
     host: &'a HostRuntime,
     start: Start<'a>,
@@ -64,30 +62,6 @@ pub struct Ended {
     pub status: u8,
     pub output: Vec<u8>,
     pub errors: Vec<u8>,
-}
-
-/// Runs the program.
-pub fn run(host: &HostRuntime, start: Start<'_>) -> Ended {
-    let fake = Fake {
-        host,
-        start,
-        output: RefCell::new(Vec::new(host.alloc())),
-        errors: RefCell::new(Vec::new(host.alloc())),
-        milliseconds: Cell::new(0),
-    };
-    let status = run_program(&fake);
-    let Fake {
-        host: _,
-        start: _,
-        output,
-        errors,
-        milliseconds: _,
-    } = fake;
-    Ended {
-        status,
-        output: output.into_inner(),
-        errors: errors.into_inner(),
-    }
 }
 
 fn fails() -> io::Error {
@@ -295,6 +269,35 @@ impl OpenFile for FakeFile {
     }
 }
 
+impl<'a> Fake<'a> {
+    /// A runtime that starts so, over the files of the host.
+    pub fn new(host: &'a HostRuntime, start: Start<'a>) -> Fake<'a> {
+        Fake {
+            host,
+            start,
+            output: RefCell::new(Vec::new(host.alloc())),
+            errors: RefCell::new(Vec::new(host.alloc())),
+            milliseconds: Cell::new(0),
+        }
+    }
+
+    /// What a program left that returned this status.
+    pub fn ended(self, status: u8) -> Ended {
+        let Fake {
+            host: _,
+            start: _,
+            output,
+            errors,
+            milliseconds: _,
+        } = self;
+        Ended {
+            status,
+            output: output.into_inner(),
+            errors: errors.into_inner(),
+        }
+    }
+}
+
 impl Fake<'_> {
     /// The host's path of what the program asks for.
     fn path<'p>(&'p self, path: &'p str) -> io::Result<&'p str> {
@@ -364,16 +367,4 @@ impl Files for Fake<'_> {
     fn lchown(&self, path: &str, uid: Option<u32>, gid: Option<u32>) -> io::Result<()> {
         self.host.lchown(path, uid, gid)
     }
-}
-
-/// A folder of the test's own.
-pub fn folder(host: &HostRuntime) -> Result<String, Fail> {
-    let id = process::id(host.process());
-    for number in 0..1000u32 {
-        let path = format!(in host.alloc(); "/tmp/illcanon-test-{id}-{number}")?;
-        if fs::create_dir(host, path.as_str()).is_ok() {
-            return Ok(path);
-        }
-    }
-    Err(Fail::from("no folder"))
 }
