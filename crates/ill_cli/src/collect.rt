@@ -127,18 +127,14 @@ fn next_into<'r, R: Print + Eprint + Input + Files + AllocGlobal + Console>(
         Ok(file) => file,
         Err(fault) => return Ok(Err(fault)),
     };
+    let Ok(name) = printed(alloc, file) else {
+        return Ok(Err(Fault::out_of_memory()));
+    };
     let mut source = match open_input(rt, file, output, tally.progress) {
         Ok(source) => source,
         Err(fault) => return Ok(Err(fault)),
     };
-    let Ok(name) = printed(alloc, file) else {
-        return Ok(Err(Fault::out_of_memory()));
-    };
-    if begun.is_none() {
-        *begun = Some(Begun {
-            part: open_output(rt, output, name_of_output)?,
-        });
-    }
+    begin_once(rt, output, name_of_output, begun)?;
     let doing = how.doing(Job::Canonicalise, &name, true);
     match put_all(rt, doing, &mut source, output, tally) {
         Err(Fault::Run(RunLine(RunFault::WriteFault(count)))) => {
@@ -146,4 +142,19 @@ fn next_into<'r, R: Print + Eprint + Input + Files + AllocGlobal + Console>(
         }
         done => Ok(done),
     }
+}
+
+/// Opens the output, if it is not open yet.
+fn begin_once<'r, R: Print + Files + AllocGlobal>(
+    rt: &'r R,
+    output: &OutputOf<'r, R>,
+    name: &str,
+    begun: &mut Option<Begun>,
+) -> Result<(), Fault> {
+    if begun.is_none() {
+        *begun = Some(Begun {
+            part: open_output(rt, output, name)?,
+        });
+    }
+    Ok(())
 }

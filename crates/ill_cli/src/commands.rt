@@ -3,14 +3,14 @@ ghost use Rattle.std.specs.Prelude.{◌≡◌};
 ghost use Rattle.ill_cli.specs.code.Lined.{line_job_of};
 
 use crate::collect::collect;
-use crate::doing::{Doing, How, put_all};
+use crate::doing::{Doing, How, print_input, put_all};
 use crate::each::each_input;
 use crate::tally::{Tally, end};
 use crate::words::words_of;
 use ber_core::ToWrite;
 use ill_files::{
     Console, Fault, FileId, Output, Progress, close_output, open_alone, open_and_identify,
-    open_input, open_output, open_standard_output,
+    open_output,
 };
 use ill_jobs::{Job, RunFault, Verdict, run_same};
 use ill_lines::LineJob;
@@ -98,7 +98,7 @@ fn each_line<R: Print + Eprint + Input + Files + AllocGlobal + Console>(
     let canonical = Doing::Lines(LineJob::Canonicalise);
     let done = match task {
         Task::Each { job, inputs } => match (line_job(*job), inputs.files.as_slice()) {
-            (Some(job), [input]) => print_lines(rt, job, input, tally),
+            (Some(job), [input]) => print_input(rt, Doing::Lines(job), input, tally),
             _ => Err(Fault::from(LineFault::NotOneFile)),
         },
         Task::Canonicalise { input, output } => {
@@ -122,20 +122,6 @@ fn line_job(job: EachJob) -> Option<LineJob>
         EachJob::Check => Some(LineJob::Check),
         EachJob::Digest => Some(LineJob::Digest),
     }
-}
-
-/// Writes the result of each line of an input to standard output.
-fn print_lines<R: Print + Eprint + Input + Files + AllocGlobal + Console>(
-    rt: &R,
-    job: LineJob,
-    input: &str,
-    tally: &mut Tally<'_>,
-) -> Result<Verdict, Fault> {
-    let output = Output::new();
-    let mut source = open_input(rt, input, &output, tally.progress)?;
-    open_standard_output(rt, &output)?;
-    let done = put_all(rt, Doing::Lines(job), &mut source, &output, tally);
-    output.finish(done)
 }
 
 /// Compares two inputs. Both are opened before either is read.

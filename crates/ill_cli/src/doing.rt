@@ -3,12 +3,15 @@ use crate::going::Printed;
 use crate::tally::Tally;
 use ber_core::{Ahead, AtHand, Sink, ToWrite};
 use ill_dump::{Dump, run_dump};
-use ill_files::{Fault, Output, Shared, ToOutput};
+use ill_files::{
+    Console, Fault, Output, OutputOf, Shared, ToOutput, open_input, open_standard_output,
+};
 use ill_jobs::{Job, RunFault, Verdict, Work, run_by, run_on_by, verdict_of};
 use ill_lines::{LineJob, LinesFault, run_lines};
 use ill_orders::EachJob;
 use std::alloc::Global;
 use std::io::{Read, Write};
+use std::rt::Files;
 
 /// How the messages of inputs are read.
 #[derive(Clone, Copy)]
@@ -65,6 +68,31 @@ pub(crate) enum Doing<'a> {
     Dump(Dump<'a>),
     /// A result for each line.
     Lines(LineJob),
+}
+
+/// Does a job with the input of this name, and writes to standard output.
+pub(crate) fn print_input<R: Print + Eprint + Input + Files + AllocGlobal + Console>(
+    rt: &R,
+    doing: Doing<'_>,
+    input: &str,
+    tally: &mut Tally<'_>,
+) -> Result<Verdict, Fault> {
+    let output = Output::new();
+    let done = put_input(rt, doing, input, &output, tally);
+    output.finish(done)
+}
+
+/// Opens the input of this name, and then standard output, and does a job with the input.
+fn put_input<'r, R: Print + Eprint + Input + Files + AllocGlobal + Console>(
+    rt: &'r R,
+    doing: Doing<'_>,
+    input: &str,
+    output: &OutputOf<'r, R>,
+    tally: &mut Tally<'_>,
+) -> Result<Verdict, Fault> {
+    let mut source = open_input(rt, input, output, tally.progress)?;
+    open_standard_output(rt, output)?;
+    put_all(rt, doing, &mut source, output, tally)
 }
 
 /// Does a job with an input, and counts its messages.

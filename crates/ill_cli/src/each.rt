@@ -3,12 +3,9 @@ ghost use Rattle.std.specs.Prelude.{◌≡◌, ◌<◌, ◌++◌, [], ◌∷◌,
 ghost use Rattle.ill_cli.specs.code.Listed.{names_in};
 ghost use Rattle.ill_files.specs.Status.{IsStatusOfEach, worst};
 
-use crate::doing::{How, put_all};
+use crate::doing::{How, print_input};
 use crate::tally::Tally;
-use ill_files::{
-    Console, Fault, FileId, Name, Output, is_output_lost, open_input, open_standard_output,
-    printed, read_whole, status_of,
-};
+use ill_files::{Console, Fault, FileId, Name, is_output_lost, printed, read_whole, status_of};
 use ill_jobs::Verdict;
 use ill_orders::{EachJob, Inputs, LineFault};
 use std::alloc::{AllocError, Global};
@@ -152,13 +149,8 @@ fn one_file<R: Print + Eprint + Input + Files + AllocGlobal + Console>(
 ) -> Result<Verdict, Fault> {
     let alloc = rt.alloc();
     let file = text_of(alloc, name)?;
-    let output = Output::new();
-    let mut source = open_input(rt, file, &output, tally.progress)?;
     let name = printed(alloc, file).map_err(|_| Fault::out_of_memory())?;
-    open_standard_output(rt, &output)?;
-    let doing = how.each(job, &name, is_named);
-    let done = put_all(rt, doing, &mut source, &output, tally);
-    output.finish(done)
+    print_input(rt, how.each(job, &name, is_named), file, tally)
 }
 
 /// The name of a file as text. Other octets name no file that can be opened.
