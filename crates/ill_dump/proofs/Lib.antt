@@ -1,1 +1,1 @@
-pub mod RefusedRests
+pub mod DumpedMessages

@@ -1,1 +1,1 @@
-pub mod NoRefusal
+pub mod Failing

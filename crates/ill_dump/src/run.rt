@@ -1,11 +1,9 @@
 //! The messages of an input, one after another.
 ghost use Rattle.std.specs.Prelude.{◌≡◌, IfOk, IfErr, IfSome, IsTrue};
-ghost use Rattle.std.specs.Io.KnownBytes.{IsAtEnd};
 ghost use Rattle.ill_jobs.specs.declared.fault.RunFault.{RunFault};
-ghost use Rattle.ill_read.specs.declared.failure.ReadFailure.{ReadFailure};
-ghost use Rattle.ill_jobs.specs.Ran.{FailsText, TextOf};
-ghost use Rattle.ill_dump.specs.Dumped.{BreaksSink, DumpFails, IfRefused, IsRefusedIn};
-ghost use Rattle.ill_dump.specs.code.NoRefusal.{NoRefusal};
+ghost use Rattle.ill_jobs.specs.Ran.{FailsText, IsFault, TextOf};
+ghost use Rattle.ill_dump.specs.Dumped.{AreMessages, BreaksSink, DumpDone, DumpFails, StopsIn};
+ghost use Rattle.ill_dump.specs.code.Failing.{FollowsFrom};
 
 use crate::found::begin;
 use crate::label::label_of;
@@ -53,7 +51,8 @@ pub fn run_dump<R: Source, L: Look<R>, W: Sink>(
     source: &mut R,
     sink: &mut W,
 ) -> Result<(), RunFault>
-    // A message that is refused is so by the one fault of what was left.
+    // The input was messages to its end; or this is why it was not.
+    ensures done { IfOk result (λ _. DumpDone dump.entry.hex (R.left source.old) (R.left source.new)) }
     ensures fails { IfErr result (DumpFails dump.entry.hex (R.left source.old) (R.left source.new) (R.is_broken source.new)) }
     ensures breaks { IfErr result (λ fault. BreaksSink fault (W.is_broken sink.new)) }
     ensures source_stays { IsTrue (R.is_broken source.old) → IsTrue (R.is_broken source.new) }
@@ -83,8 +82,8 @@ fn dump_messages<R: Source, L: Look<R>, W: Sink>(
     source: &mut R,
     sink: &mut W,
 ) -> Result<(), RunFault>
-    ensures end { IfOk result (λ _. IsAtEnd (R.left source.new)) }
-    ensures refused { IfErr result (λ fault. IfSome (R.left source.old) (λ s. IfRefused fault (IsRefusedIn s))) }
+    ensures done { IfOk result (λ _. AreMessages (R.left source.old) (R.left source.new)) }
+    ensures stops { IfErr result (λ fault. IfSome (R.left source.old) (λ s. StopsIn s fault)) }
     ensures breaks { IfErr result (λ fault. BreaksSink fault (W.is_broken sink.new)) }
     ensures source_stays { IsTrue (R.is_broken source.old) → IsTrue (R.is_broken source.new) }
     ensures sink_stays { IsTrue (W.is_broken sink.old) → IsTrue (W.is_broken sink.new) }
@@ -129,7 +128,7 @@ impl Out {
     /// Writes the lines that were made.
     fn put<W: Sink>(&mut self, sink: &mut W) -> Result<(), RunFault>
         ensures breaks { IfErr result (λ fault. BreaksSink fault (W.is_broken sink.new)) }
-        ensures refuses { IfErr result NoRefusal }
+        ensures refuses { IfErr result IsFault }
         ensures stays { IsTrue (W.is_broken sink.old) → IsTrue (W.is_broken sink.new) }
     {
         match put_all(sink, &self.lines.octets) {
@@ -167,7 +166,7 @@ fn put_message<W: Sink>(
     sink: &mut W,
 ) -> Result<(), RunFault>
     ensures breaks { IfErr result (λ fault. BreaksSink fault (W.is_broken sink.new)) }
-    ensures refuses { IfErr result NoRefusal }
+    ensures refuses { IfErr result IsFault }
     ensures stays { IsTrue (W.is_broken sink.old) → IsTrue (W.is_broken sink.new) }
 {
     made(put_head(dump, message, &mut out.lines))?;
@@ -187,7 +186,7 @@ fn put_failure<W: Sink>(
     out: &mut Out,
     sink: &mut W,
 ) -> RunFault
-    ensures refused { IfRefused result (λ refusal. failure ≡ ReadFailure.Refused refusal) }
+    ensures follows { FollowsFrom message failure result }
     ensures breaks { BreaksSink result (W.is_broken sink.new) }
     ensures stays { IsTrue (W.is_broken sink.old) → IsTrue (W.is_broken sink.new) }
 {
@@ -213,7 +212,7 @@ fn put_refused<W: Sink>(
     sink: &mut W,
 ) -> Result<(), RunFault>
     ensures breaks { IfErr result (λ fault. BreaksSink fault (W.is_broken sink.new)) }
-    ensures refuses { IfErr result NoRefusal }
+    ensures refuses { IfErr result IsFault }
     ensures stays { IsTrue (W.is_broken sink.old) → IsTrue (W.is_broken sink.new) }
 {
     made(put_head(dump, message, &mut out.lines))?;
@@ -233,7 +232,7 @@ fn put_elements<W: Sink>(
     sink: &mut W,
 ) -> Result<(), RunFault>
     ensures breaks { IfErr result (λ fault. BreaksSink fault (W.is_broken sink.new)) }
-    ensures refuses { IfErr result NoRefusal }
+    ensures refuses { IfErr result IsFault }
     ensures stays { IsTrue (W.is_broken sink.old) → IsTrue (W.is_broken sink.new) }
 {
     for _ in 0..=octets.len() {

@@ -1,4 +1,7 @@
 //! Dumps out of sources and into sinks that break, and without memory.
+
+mod contracts;
+
 use ber_core::{Pieces, Room, Unseen};
 use ill_dump::{Dump, run_dump};
 use ill_jobs::RunFault;

@@ -1,19 +1,26 @@
-use Rattle.std.proofs.Common.{◌++◌}
-use Rattle.std.proofs.KnownBytes.{Consumes-trans}
-use Rattle.ill_dump.proofs.RefusedRests.{refused_after}
+use Rattle.std.proofs.Common.{◌+◌, refl, arith}
+use Rattle.ill_dump.proofs.DumpedMessages.{reached_all, reached_more, reached_none, stops_full, stops_next}
 use Rattle.ill_dump.proofs.run.dump_messages.Goals as goal
 
-pub returns-in-Err-clause-refused : goal.returns-in-Err-clause-refused
-returns-in-Err-clause-refused g c =
-    let now = c.loop-before.invariant.taken in
-    refused_after _ _ now.0 c.in-Err.failure c.put_failure.result now.1 c.in-Err.ensures.refused c.put_failure.ensures.refused
+pub returns-in-Err-clause-stops : goal.returns-in-Err-clause-stops
+returns-in-Err-clause-stops g c = stops_next _ _ _ _ c.in-Err.failure c.put_failure.result c.loop-before.invariant.reached refl c.in-Err.ensures.refused c.put_failure.ensures.follows
+
+pub loop-before-init : goal.loop-before-init
+loop-before-init g c = record {
+  reached = reached_none _;
+  source_stays = λ t. t;
+  sink_stays = λ t. t;
+}
 
 pub loop-before-preserved : goal.loop-before-preserved
 loop-before-preserved g c =
-    let now = c.loop-before.invariant.taken in
     let message = rw c.in-Ok-Some.field-0-is at c.in-Ok-Some.ensures.message in
     record {
-      taken = (now.0 ++ message.0, Consumes-trans _ _ _ now.0 message.0 now.1 message.1);
+      reached = reached_more _ _ _ _ _ _ c.loop-before.invariant.reached message.1 message.2.0.1;
       source_stays = λ t. c.read_kept_normal_in-read.ensures.stays (c.loop-before.invariant.source_stays t);
       sink_stays = λ t. c.put_message.ensures.stays (c.loop-before.invariant.sink_stays t);
     }
+
+pub returns-in-Ok-clause-stops : goal.returns-in-Ok-clause-stops
+returns-in-Ok-clause-stops g c =
+    stops_full _ _ _ _ c.in-Ok.field-0 _ c.loop-before.invariant.reached (omega arith) (omega (arith, c.in-Ok.field-0-test)) c.in-Ok.ensures.count c.in-Ok.ensures.octets.0
