@@ -140,16 +140,20 @@ fn no_file(alloc: Global, task: &Task<'_>) -> Result<Error, AllocError>
 {
     let mut command = match task {
         Task::Each {
-            job: EachJob::Show, ..
+            job: EachJob::Show,
+            ..
         } => show(alloc)?.bin_name("illcanon show")?,
         Task::Each {
-            job: EachJob::Check, ..
+            job: EachJob::Check,
+            ..
         } => check(alloc)?.bin_name("illcanon check")?,
         Task::Each {
-            job: EachJob::Digest, ..
+            job: EachJob::Digest,
+            ..
         } => digest(alloc)?.bin_name("illcanon digest")?,
         Task::Each {
-            job: EachJob::Dump, ..
+            job: EachJob::Dump,
+            ..
         } => dump(alloc)?.bin_name("illcanon dump")?,
         Task::Canonicalise { .. } | Task::Collect { .. } | Task::Compare { .. } => {
             canonicalise(alloc)?

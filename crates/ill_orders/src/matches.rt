@@ -153,7 +153,11 @@ fn task_of<'a>(
     }
 }
 
-fn each<'a>(alloc: Global, job: EachJob, words: &ArgMatches<'a>) -> Result<Option<Task<'a>>, AllocError>
+fn each<'a>(
+    alloc: Global,
+    job: EachJob,
+    words: &ArgMatches<'a>,
+) -> Result<Option<Task<'a>>, AllocError>
     ensures { IfOk result (λ found. (inputs : Inputs) × (found ≡ Some (Task.Each job inputs)) × HasInputs (rows_of (found_of words.now)) inputs) }
 {
     let inputs = inputs(alloc, words)?;

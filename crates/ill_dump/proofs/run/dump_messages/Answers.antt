@@ -1,5 +1,5 @@
-use Rattle.std.proofs.Common.{◌+◌, refl, arith}
-use Rattle.ill_dump.proofs.DumpedMessages.{reached_all, reached_more, reached_none, stops_full, stops_next}
+use Rattle.std.proofs.Common.{refl, arith}
+use Rattle.ill_dump.proofs.DumpedMessages.{reached_more, reached_none, stops_full, stops_next}
 use Rattle.ill_dump.proofs.run.dump_messages.Goals as goal
 
 pub returns-in-Err-clause-stops : goal.returns-in-Err-clause-stops
