@@ -1,9 +1,10 @@
 //! The files of the program `illcanon`: its inputs and outputs, the line that a fault is printed as, and the exit status.
 //!
-//! All of it is generic over the runtime, so that tests run it on streams and files of their own. To print a file:
+//! All of it is generic over the runtime, so that tests run it on streams and files of their own. A file is opened and read by
 //!
 //! ```
-//! let (mut source, _) = open_alone(rt, "messages.ber")?;
+//! let mut source = open_alone(rt, "messages.ber")?;
+//! let count = source.take(&mut buffer)?;
 //! ```
 #![tactic(auto)]
 

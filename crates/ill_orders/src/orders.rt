@@ -44,7 +44,7 @@ pub enum EachJob {
 /// What a command does with its files.
 #[derive(Debug, Drop)]
 pub enum Task<'a> {
-    /// What is written of the messages of each file, in turn.
+    /// A job with the messages of each file, in turn.
     Each { job: EachJob, inputs: Inputs<'a> },
     /// The normal forms of the messages of one file, into another.
     Canonicalise { input: &'a str, output: &'a str },
