@@ -5,7 +5,7 @@ The messages are valid test vectors of vectors/worked.json, in an order that the
 the vectors. `check`, `digest` and `canonicalise` go through all files in one process each: which messages are not
 in normal form, which are refused and where, the digests and the copies, the normal forms of all good ones, and the numbers of --summary.
 With valgrind, the instructions of each command over a smaller archive are compared with those of `canonicalise` on the same octets.
-Wants the program built.
+Needs the program built.
 Usage: archive.py [SEED]. Prints the seed, with which a run is made again.
 """
 import hashlib

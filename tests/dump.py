@@ -2,7 +2,7 @@
 """Compares `illcanon dump` with another writer of the dump, over spellings of random APDUs, good and changed, and over the examples of `illcanon help causes`.
 
 The writer goes by the judge of judge.py, the tables and the names. Each APDU, each note and each cause has to come at least once; a message has
-a note if and only if it is not in normal form; the line on standard error is that of `check`. Wants the program built.
+a note if and only if it is not in normal form; the line on standard error is that of `check`. Needs the program built.
 Usage: dump.py [SEED [COUNT]]. Prints the seed, with which a run is made again.
 """
 import copy

@@ -3,7 +3,7 @@
 
 A run in which a growth was refused does what it does without, or ends with status 3 and a line that says which file ran out of memory.
 Of every other file nothing is lost, and nothing is said of the wrong file or message: the lines of output are lines of the run without a
-refusal, in their order. Wants the program built, and `cc`.
+refusal, in their order. Needs the program built, and `cc`.
 """
 import os
 import re

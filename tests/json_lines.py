@@ -4,7 +4,7 @@
 The valid test vectors of vectors/ have their values, alone, one after another and in two files; random APDUs, spelled at random, have theirs
 as the tables and names of the crates say them. Each line is as docs/show.schema.json says, which is made here.
 Usage: json_lines.py [SEED [COUNT]], or json_lines.py --write, which writes the schema. Prints the seed, with which a run is made again.
-Wants the program built.
+Needs the program built.
 """
 import json
 import random

@@ -4,7 +4,7 @@
 A process is asked 10,000 times and must answer each line before it gets the next one; random lines, good and bad, have the results that
 each has by itself; the normal forms and digests of lines are those of the same messages as octets, and what `check` and the refusals say is
 what the program prints of a file that holds the message alone; and GNU parallel over four processes gives what one process gives, where it
-is installed. Wants the program built.
+is installed. Needs the program built.
 Usage: lines.py [SEED [COUNT]]. Prints the seed, with which a run is made again.
 """
 import random

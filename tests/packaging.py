@@ -4,7 +4,7 @@
 The commands and options of `illcanon --help` and of `illcanon COMMAND --help` have to be those of the man page's synopsis, and those
 that each completion offers. The completion for bash runs in bash, by itself and at a terminal; those for zsh and fish run in these
 shells, where they are installed. mandoc judges the man page, where it is installed. What isn't installed is skipped, and that is said.
-`make install` and `make uninstall` run with a DESTDIR. Wants the program built.
+`make install` and `make uninstall` run with a DESTDIR. Needs the program built.
 """
 import os
 import pty

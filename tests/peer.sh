@@ -1,7 +1,7 @@
 #!/bin/sh
 # Compares with another implementation: YAZ's ILL codec decodes each message of examples/every-part.ber and encodes it again, in indefinite
 # form, and `illcanon same` has to find the two the same. YAZ goes by the module of ISO 10161-1, from which the tables differ in three nodes
-# (docs/DEFINITIONS.md): the two messages with such a part it can't decode. Wants `cc` and YAZ's headers (Debian: libyaz-dev), and the program built.
+# (docs/DEFINITIONS.md): the two messages with such a part it can't decode. Needs `cc` and YAZ's headers (Debian: libyaz-dev), and the program built.
 top=$(cd "$(dirname "$0")/.." && pwd) || exit 2
 folder=$(mktemp -d) && cd "$folder" || exit 2
 trap 'rm -rf "$folder"' EXIT

@@ -3,7 +3,7 @@
 
 The program reads a slow pipe, with standard error at a pseudo-terminal. The line comes after two seconds and not before, is written over
 itself, never ends in a line feed, and is erased before the line of a fault and before the summary. Without `--summary`, and where standard
-error is no terminal, nothing is shown. Wants the program built. Takes about ten seconds.
+error is no terminal, nothing is shown. Needs the program built. Takes about ten seconds.
 """
 import os
 import pty

@@ -1,7 +1,7 @@
 #!/usr/bin/env python3
 """Spelled APDUs are changed at random, and `illcanon check` has to refuse each at the offset and for the cause that the judge of judge.py gives.
 
-Wants the program built. Usage: refusals.py [SEED [COUNT]]. Prints the seed, with which a run is made again.
+Needs the program built. Usage: refusals.py [SEED [COUNT]]. Prints the seed, with which a run is made again.
 """
 import random
 import subprocess

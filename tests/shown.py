@@ -1,7 +1,7 @@
 #!/usr/bin/env python3
 """Compares with another text: random APDUs, spelled at random, must be shown as it is written here.
 
-Goes by the tables and names of the crates, and the names beside numbers in crates/ill_text/src/number.rt. Wants the program built.
+Goes by the tables and names of the crates, and the names beside numbers in crates/ill_text/src/number.rt. Needs the program built.
 Usage: shown.py [SEED [COUNT]]. Prints the seed, with which a run is made again.
 """
 import random

@@ -1,7 +1,7 @@
 #!/usr/bin/env python3
 """Compares with another encoder: random APDUs, each spelled at random, must come to the normal form that is written here.
 
-Wants the program built. Usage: spellings.py [SEED [COUNT]]. Prints the seed, with which a run is made again.
+Needs the program built. Usage: spellings.py [SEED [COUNT]]. Prints the seed, with which a run is made again.
 """
 import random
 import subprocess

@@ -94,7 +94,7 @@ class Illcanon:
 
 
 class Yaz(Command):
-    """The codec of YAZ, which writes what it read in indefinite form. Wants `cc` and YAZ's headers (Debian: libyaz-dev)."""
+    """The codec of YAZ, which writes what it read in indefinite form. Needs `cc` and YAZ's headers (Debian: libyaz-dev)."""
 
     def __init__(self):
         self.folder = tempfile.TemporaryDirectory()

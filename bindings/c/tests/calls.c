@@ -1,4 +1,4 @@
-/* Each call on the messages of a file: `calls FILE FORMS` wants their normal forms one after another in FORMS; `calls show FILE` writes
+/* Each call on the messages of a file: `calls FILE FORMS` expects their normal forms one after another in FORMS; `calls show FILE` writes
  * their texts, and `calls digest FILE` their digests, a line for each. */
 #include "support.h"
 
