@@ -1,5 +1,5 @@
 -- A text that decodes as it is has no blanks.
-use Rattle.std.proofs.Common.{◌≡◌, ℕ, ◌+◌, ◌*◌, Bool, true, false, List, [], ◌∷◌, length, Result, Ok, Err, refl, arith}
+use Rattle.std.proofs.Common.{◌≡◌, ℕ, ◌+◌, ◌*◌, Bool, true, false, List, [], ◌∷◌, length, Result, Ok, Err, refl, sym, ◌∙◌, arith}
 use Rattle.std.specs.Prelude.{not, if◌then◌else◌, ◌==◌, ◌%◌, ◌≤◌, nat_lt}
 use Rattle.hex.specs.Hex.{decode_of, decode_pairs, pair_value, value_at, ◌>>=◌}
 use Rattle.hex.specs.declared.error.FromHexError.{FromHexError}
@@ -37,7 +37,9 @@ text_plain text octets h = even (length text % 2 == 1) h
     even true k = absurd cc
     even false k = pairs_plain 0 text octets k
 
-pub plain_octets : (text octets : List ℕ) → length text ≤ 4_194_304 → decode_of text ≡ Ok octets → hex_octets text ≡ Ok octets
-plain_octets text octets few h =
+-- a text that has the digits of a line, and blanks
+pub plain_octets : (text line octets : List ℕ) → length text ≤ 4_194_304 → without_blanks line ≡ without_blanks text → decode_of line ≡ Ok octets → hex_octets text ≡ Ok octets
+plain_octets text line octets few same h =
     let short : nat_lt 4_194_304 (length text) ≡ false = grind (arith) in
-    rw (short, text_plain text octets h, h) refl
+    let digits : without_blanks text ≡ line = sym same ∙ text_plain line octets h in
+    rw (short, digits, h) refl

@@ -1,5 +1,5 @@
 //! Hexadecimal text as an input.
-ghost use Rattle.std.specs.Prelude.{◌≡◌, ◌⊎◌, Ok, Err, IfOk, IfErr, IsTrue};
+ghost use Rattle.std.specs.Prelude.{◌≡◌, ◌≤◌, ◌⊎◌, length, Ok, Err, IfOk, IfErr, IsTrue};
 ghost use Rattle.hex.specs.Hex.{decode_of};
 ghost use Rattle.ill_jobs.specs.Hexadecimal.{hex_octets, is_blank, with_fault, without_blanks};
 ghost use Rattle.ill_jobs.specs.declared.fault.RunFault.{RunFault};
@@ -56,8 +56,9 @@ pub fn text_octets(alloc: Global, text: &[u8]) -> Result<Vec<u8>, RunFault>
     if text.len() > MOST {
         return Err(RunFault::HexTooLong);
     }
-    // A text of digits alone needs no copy.
-    match hex::decode(alloc, text) {
+    // Digits alone, and one line of them, need no copy.
+    let line = without_last_blank(without_last_blank(text));
+    match hex::decode(alloc, line) {
         Ok(octets) => Ok(octets),
         Err(FromHexError::OutOfMemory) => Err(RunFault::OutOfMemory),
         Err(_) => spaced_octets(alloc, text),
@@ -79,6 +80,17 @@ fn is_blank(octet: u8) -> bool
     ensures { result ≡ is_blank octet }
 {
     matches!(octet, b' ' | b'\t' | b'\r' | b'\n')
+}
+
+/// A text without its last octet, where that is a blank.
+fn without_last_blank(text: &[u8]) -> &[u8]
+    ensures same { without_blanks result.now ≡ without_blanks text.now }
+    ensures fewer { length result.now ≤ length text.now }
+{
+    match text.split_last() {
+        Some((last, front)) if is_blank(*last) => front,
+        _ => text,
+    }
 }
 
 fn without_blanks(alloc: Global, text: &[u8]) -> Result<Vec<u8>, AllocError>
