@@ -1,1 +1,2 @@
 pub mod OpenElements
+pub mod LongLengths

@@ -1,5 +1,5 @@
 use Rattle.std.proofs.Common.{◌≡◌, ℕ, suc, ◌+◌, ◌-◌, ◌<◌, ◌≤◌, List, [], ◌∷◌, ◌++◌, length, take, drop, get_or, set, sym, ap, ap₂, ◌∙◌, arith, length-append, append_assoc}
-use Rattle.std.proofs.lemmas.List.{take_at, drop_at, set_split, drop-set-lt}
+use Rattle.std.proofs.lemmas.List.{take_at, drop_at, drop_more, set_split, drop-set-lt}
 use Rattle.std.proofs.lemmas.Grind.{take-set_at}
 use Rattle.ber_core.specs.Length.{shortest_length}
 use Rattle.ber_core.proofs.Shortest.{is_short}
@@ -26,18 +26,13 @@ short_length_set old base n p w e h =
     let one : n ∷ [] ≡ shortest_length (length old - base) = sym (is_short n h) ∙ ap shortest_length e in
     set_split old (base - 1) n (omega (arith, p, w)) ∙ ap₂ (λ m z. take (base - 1) old ++ (z ++ drop m old)) after one
 
-pub some_length : (n : ℕ) → 1 ≤ length (shortest_length n)
-some_length n = grind arith
-
--- after an identifier of one octet: the first octet of the length takes the place before the contents, and the others are put after it
-pub length_set : (old out len rest : List ℕ) (base end id : ℕ) → 0 < base → base ≤ length old → out ≡ (id ∷ len) ++ rest → end ≡ length (id ∷ len) → 1 ≤ length len
-    → take base (set old (base - 1) (get_or out 1 0)) ++ (take (end - 2) (drop 2 out) ++ drop base (set old (base - 1) (get_or out 1 0)))
-    ≡ take (base - 1) old ++ (len ++ drop base old)
-length_set old out [] rest base end id p w e n some = absurd (omega (arith, some))
-length_set old out (x ∷ xs) rest base end id p w e n some =
-    let first : get_or out 1 0 ≡ x = ap (λ z. get_or z 1 0) e in
-    let others : take (end - 2) (drop 2 out) ≡ xs = ap (λ z. take (end - 2) (drop 2 z)) e ∙ take_at xs rest (end - 2) (omega (arith, n)) in
+-- the first octet of a longer length takes the place before the contents, and the others are put after it
+pub length_set : (old room : List ℕ) (base at : ℕ) → 0 < base → base ≤ length old → at < length room
+    → take base (set old (base - 1) (get_or room at 0)) ++ (drop (at + 1) room ++ drop base (set old (base - 1) (get_or room at 0)))
+    ≡ take (base - 1) old ++ (drop at room ++ drop base old)
+length_set old room base at p w within =
+    let x = get_or room at 0 in
     let kept : take base (set old (base - 1) x) ≡ take (base - 1) old ++ x ∷ [] = take-set_at old (base - 1) base x (omega (arith, p)) (omega (arith, p, w)) in
     let behind : drop base (set old (base - 1) x) ≡ drop base old = drop-set-lt base old (base - 1) x (omega (arith, p)) in
-    ap₂ (λ y z. take base (set old (base - 1) y) ++ (z ++ drop base (set old (base - 1) y))) first others
-    ∙ ap₂ (λ y z. y ++ (xs ++ z)) kept behind ∙ append_assoc (take (base - 1) old) (x ∷ []) _
+    ap₂ (λ y z. y ++ (drop (at + 1) room ++ z)) kept behind ∙ append_assoc (take (base - 1) old) (x ∷ []) (drop (at + 1) room ++ drop base old)
+    ∙ sym (ap (λ z. take (base - 1) old ++ (z ++ drop base old)) (drop_more room at 0 within))

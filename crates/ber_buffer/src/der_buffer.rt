@@ -7,7 +7,7 @@ ghost use Rattle.ber_core.specs.Header.{shortest_header};
 ghost use Rattle.ber_core.specs.Der.{encoding};
 ghost use Rattle.ber_core.specs.Tree.{primitive};
 
-use ber_core::{Class, Id, put_header, universal};
+use ber_core::{Class, Id, put_header};
 use std::alloc::{AllocError, Global};
 use std::marker::Model;
 
@@ -17,8 +17,8 @@ use std::marker::Model;
 ///
 /// # Errors
 ///
-/// A call that may need memory returns [`AllocError`] where memory runs out, or where the contents of an element are longer than
-/// 4,294,967,295 octets. What the buffer holds after an error is not said; [`DerBuffer::clear`] makes it usable again.
+/// A call that may need memory returns [`AllocError`] where memory runs out. What the buffer holds after an error is not said;
+/// [`DerBuffer::clear`] makes it usable again.
 ///
 /// # Examples
 ///
@@ -175,12 +175,13 @@ impl DerBuffer {
             → OnOk result (self.new ≡ before ++ (shortest_header id (length body) ++ body)) }
     {
         let base = base.min(self.octets.len());
-        let Ok(size) = u32::try_from(self.octets.len() - base) else {
-            return Err(AllocError);
-        };
+        let size = self.octets.len() - base;
+        let mut room = [0; 9];
+        let at = put_length(size, &mut room);
+        insert(&mut self.octets, base, &room[at..])?;
         let mut header = [0; 10];
-        let end = put_header(id, size, &mut header) as usize;
-        insert(&mut self.octets, base, &header[..end])
+        let end = put_header(id, 0, &mut header) as usize;
+        insert(&mut self.octets, base, &header[..end - 1])
     }
 }
 
@@ -234,13 +235,34 @@ fn append_content(octets: &mut Vec<u8>, content: &[u8]) -> Result<(), AllocError
 fn append_whole(octets: &mut Vec<u8>, id: Id, content: &[u8]) -> Result<(), AllocError>
     ensures { OnOk result (octets.new.items ≡ octets.old.items ++ (shortest_header id (length content.now) ++ content.now)) }
 {
-    let Ok(size) = u32::try_from(content.len()) else {
-        return Err(AllocError);
-    };
     let mut header = [0; 10];
-    let end = put_header(id, size, &mut header) as usize;
-    octets.extend_from_slice(&header[..end])?;
+    let end = put_header(id, 0, &mut header) as usize;
+    octets.extend_from_slice(&header[..end - 1])?;
+    let mut room = [0; 9];
+    let at = put_length(content.len(), &mut room);
+    octets.extend_from_slice(&room[at..])?;
     octets.extend_from_slice(content)
+}
+
+// Puts the fewest octets that spell a length at the end of the array (X.690, 8.1.3.3, 8.1.3.5 and 10.1), and returns how many octets come before them.
+fn put_length(size: usize, room: &mut [u8; 9]) -> usize
+    ensures some { result < 9 }
+    ensures octets { drop result room.new ≡ shortest_length size }
+{
+    if size < 128 {
+        room[8] = size as u8;
+        return 8;
+    }
+    let mut at = 9;
+    let mut rest = size;
+    'digits: while rest > 0 {
+        at -= 1;
+        room[at] = (rest % 256) as u8;
+        rest /= 256;
+    }
+    at -= 1;
+    room[at] = 128 + (8 - at) as u8;
+    at
 }
 
 // The octet before `base` becomes the length of what follows.
@@ -259,7 +281,7 @@ fn set_length(octets: &mut Vec<u8>, base: usize) -> Result<(), AllocError>
     set_long_length(octets, base)
 }
 
-// The same where the length may take more than one octet. It is that of a header whose identifier is of one octet.
+// The same where the length may take more than one octet.
 #[inline(never)]
 fn set_long_length(octets: &mut Vec<u8>, base: usize) -> Result<(), AllocError>
     requires opened { 0 < base }
@@ -267,16 +289,10 @@ fn set_long_length(octets: &mut Vec<u8>, base: usize) -> Result<(), AllocError>
     ensures { OnOk result (octets.new.items ≡ take (base - 1) octets.old.items
         ++ (shortest_length (length octets.old.items - base) ++ drop base octets.old.items)) }
 {
-    let Ok(size) = u32::try_from(octets.len() - base) else {
-        return Err(AllocError);
-    };
-    let Some(sequence) = Id::new(Class::Universal, true, universal::SEQUENCE) else {
-        return Err(AllocError);
-    };
-    let mut header = [0; 10];
-    let end = put_header(sequence, size, &mut header) as usize;
-    octets[base - 1] = header[1];
-    insert(octets, base, &header[2..end])
+    let mut room = [0; 9];
+    let at = put_length(octets.len() - base, &mut room);
+    octets[base - 1] = room[at];
+    insert(octets, base, &room[at + 1..])
 }
 
 // Puts octets before those from `at` on, which are moved.

@@ -1,20 +1,16 @@
-use Rattle.std.proofs.Common.{◌≡◌, [], ◌∷◌, ◌-◌, ◌++◌, length, take, drop, sym, ap, ap₂, ◌∙◌, arith}
-use Rattle.ber_core.specs.Identifier.{identifier}
-use Rattle.ber_core.specs.Id.{id_octets}
+use Rattle.std.proofs.Common.{◌≡◌, ◌+◌, ◌-◌, ◌++◌, length, take, drop, sym, ap, ◌∙◌, arith}
+use Rattle.std.proofs.lemmas.List.{length-drop, take_all}
 use Rattle.ber_core.specs.Length.{shortest_length}
-use Rattle.ber_core.specs.Header.{shortest_header}
-use Rattle.ber_buffer.proofs.OpenElements.{some_length, length_set}
+use Rattle.ber_buffer.proofs.OpenElements.{length_set}
 use Rattle.ber_buffer.proofs.der_buffer.set_long_length.Goals as goal
 
 pub returns : goal.returns
 returns c =
     let old = c.args.octets.now.items in
-    let out = c.put_header-end.new.out in
-    let size : c.in-Ok.size ≡ length old - c.args.base = omega (arith, c.in-Ok.ensures.1, c.len.ensures, c.args.octets.now.ok.0) in
-    let len = shortest_length c.in-Ok.size in
-    let id : id_octets c.in-Some.sequence ≡ 48 ∷ [] = ap₂ identifier c.in-Some.ensures.0 c.in-Some.ensures.1 in
-    let rest = drop (length (shortest_header c.in-Some.sequence c.in-Ok.size)) _ in
-    let written : out ≡ (48 ∷ len) ++ rest = c.put_header-end.ensures.written ∙ ap (λ z. (z ++ len) ++ rest) id in
-    let count : c.put_header-end.result ≡ length (48 ∷ len) = c.put_header-end.ensures.count ∙ ap (λ z. length (z ++ len)) id in
-    let set = length_set old out len rest c.args.base c.put_header-end.result 48 c.requires.opened c.requires.within written count (some_length c.in-Ok.size) in
-    rw (sym (set ∙ ap (λ n. take (c.args.base - 1) old ++ (shortest_length n ++ drop c.args.base old)) size)) c.insert.ensures
+    let base = c.args.base in
+    let set = length_set old c.put_length-at.new.room base c.put_length-at.result c.requires.opened c.requires.within (omega (arith, c.put_length-at.ensures.some, c.put_length-at.array_long)) in
+    let size : c.len.result - base ≡ length old - base = omega (arith, c.len.ensures, c.args.octets.now.ok.0) in
+    let at = c.put_length-at.result in
+    let room = c.put_length-at.new.room in
+    let rest = take_all (9 - (at + 1)) (drop (at + 1) room) (omega (arith, length-drop (at + 1) room, c.put_length-at.array_long)) in
+    rw (sym (set ∙ ap (λ z. take (base - 1) old ++ (z ++ drop base old)) (c.put_length-at.ensures.octets ∙ ap shortest_length size))) (rw rest at c.insert.ensures)
