@@ -11,6 +11,7 @@ pub mod DueSteps
 pub mod OneOutcome
 pub mod Prefixes
 pub mod PartHeaders
+pub mod ReadHeaders
 pub mod Continuations
 pub mod PlaceOrder
 pub mod HeaderFaults

@@ -2,6 +2,7 @@ pub mod Element
 pub mod Next
 pub mod Place
 pub mod Reading
+pub mod Headers
 pub mod Fault
 pub mod Outcome
 pub mod code

@@ -1,6 +1,7 @@
 //! What holds of each input. Each law is the contract of a function that does nothing.
 ghost use Rattle.ber_leaf.specs.Profile.{Profile};
 ghost use Rattle.ill_refusals.specs.Bounds.{ValuesAreSmall};
+ghost use Rattle.ill_refusals.specs.Headers.{IdentifiersAreRead, LengthsAreRead};
 ghost use Rattle.ill_refusals.specs.Outcome.{OutcomesAreExact, RefusalsStay, PrefixesAreTruncated, TruncatedIsAtTheEnd, PlacesAreApart, FaultsAreLast};
 
 /// Each input is accepted as one APDU of one size, or refused with one fault.
@@ -28,4 +29,10 @@ pub fn one_place()
 /// The texts of an APDU have at most as many octets as its encoding, and its lists at most half as many items.
 pub fn values_are_small()
     ensures { (p : Profile) → ValuesAreSmall p }
+{}
+
+/// What is read at the front of octets is an identifier or a length as X.690 spells it (8.1.2, 8.1.3), the front of one, or none.
+pub fn headers_are_read()
+    ensures identifiers { IdentifiersAreRead }
+    ensures lengths { LengthsAreRead }
 {}

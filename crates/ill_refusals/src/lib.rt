@@ -4,4 +4,6 @@
 
 mod laws;
 
-pub use laws::{one_outcome, one_place, refusals_stay, truncated_at_the_end, values_are_small};
+pub use laws::{
+    headers_are_read, one_outcome, one_place, refusals_stay, truncated_at_the_end, values_are_small,
+};
