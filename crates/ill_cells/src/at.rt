@@ -230,6 +230,27 @@ impl At {
     }
 }
 
+/// Where nothing may come: what an unused place of a fixed number of places holds.
+impl Default for At {
+    fn default() -> At {
+        At::nowhere()
+    }
+}
+
+/// What an unused place of a fixed number of places holds: a segment in a BOOLEAN, which is never found.
+impl Default for Found {
+    fn default() -> Found {
+        Found {
+            at: At {
+                round: &NOWHERE,
+                position: 1,
+            },
+            cell: &NOWHERE,
+            begun: &NOWHERE,
+        }
+    }
+}
+
 impl Found {
     ghost use Rattle.ill_refusals.specs.Next.{element_of, next_of, opening};
     ghost use Rattle.ill_cells.specs.Places.{IsAtRow, alternative_of, due_of, first_place, next_at, node_of, node_round, part_of, place_after, row_of, slot_of, what_of, where_of};

@@ -445,6 +445,7 @@ pub fn cells_of(node: NodeId) -> &'static [Cell]
 }
 
 /// The cells by which a node begins that has alternatives, or two types.
+#[inline(always)]
 pub fn alternatives_of(node: NodeId) -> &'static [Cell]
     ensures meant { starts_of_cells result.now ≡ nested_starts (kind_of node) node }
     ensures open { all_open 0 result.now ≡ true }
