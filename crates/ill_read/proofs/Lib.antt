@@ -16,6 +16,8 @@ pub mod MessageEnds
 pub mod Judgements
 pub mod DecoderSteps
 pub mod NeededOctets
+pub mod FedPieces
+pub mod OpenElements
 pub mod SourceReads
 pub mod NextRead
 pub mod LookedOctets

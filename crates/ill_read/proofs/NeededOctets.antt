@@ -381,6 +381,13 @@ two_reach p path k rest (reads tag h content) lt r =
     let size = r.size in
     omega (arith, length-append (identifier tag false) r.octets)
 
+-- The same of what these octets need, wherever a decoder keeps them.
+pub needed_at_least : (fed : List ℕ) (n : ℕ) → IsTrue (are_octets fed) → NeedsAfter fed n → (more : List ℕ) (a : Apdu) (m : ℕ) → IsTrue (are_octets (fed ++ more)) → Accepts profile_two (fed ++ more) a m → length fed + n ≤ m
+needed_at_least fed n ok x =
+    let last : StandsLast (λ _. Unit {0}) (length x.before) fed x.rest =
+    (record { place = x.place; before = x.before; joined = x.joined; octets = ok; offset = refl; stands = tt; is_place = x.is_place }, x.ends) in
+    need_at_least (λ _. Unit {0}) (length x.before) fed x.rest last n x.needed
+
 -- so two octets at least belong to the message where no definite element is open
 pub two_at_least : (Stands : List Open → Type 0) (at : ℕ) (s : List ℕ) (l : StandsLast Stands at s []) → (more : List ℕ) (a : Apdu) (m : ℕ) → IsTrue (are_octets (s ++ more)) → Accepts profile_two (s ++ more) a m → length s + 2 ≤ m
 two_at_least Stands at s l more a m ok h =

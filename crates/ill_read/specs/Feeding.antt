@@ -1,8 +1,9 @@
 -- The three states of a decoder, of which no two hold at once, and what each call makes of them.
-use Rattle.std.specs.Prelude.{◌≡◌, ℕ, List, [], ◌∷◌, length, Option, Some, None, Result, Ok, Err}
+use Rattle.std.specs.Prelude.{◌≡◌, ◌≤◌, ℕ, List, [], ◌∷◌, length, Option, Some, None, Result, Ok, Err}
 use Rattle.ill_schema.specs.declared.message.Message.{Message}
 use Rattle.ill_schema.specs.declared.refusal.Cause.{Cause}
-use Rattle.ill_read.specs.Answers.{IsPart, IsRead, IsRefused}
+use Rattle.ill_read.specs.Answers.{IsPart, IsRefused, IsSpelled}
+use Rattle.ill_read.specs.Need.{NeedsAfter}
 use Rattle.ill_read.specs.Standing.{AreValues, HoldsAt, Level, StandsLast}
 use Rattle.ill_read.specs.declared.decoder.Decoder.{Decoder}
 use Rattle.ill_read.specs.declared.decoder.Progress.{Progress}
@@ -26,11 +27,27 @@ IsWholeWith d m = (d.reader.state ≡ state.Whole) × (d.reader.path.draft.messa
 abbrev pub HasFailedWith : Decoder → Failure → Type 0
 HasFailedWith d f = d.reader.state ≡ state.Failed f
 
+-- the decoder needs this many octets: what is needed after those that it was fed, or none once it is whole or has failed
+pub record Needs (d : Decoder) (n : ℕ) : Type 0 where
+  pub exact : (fed : List ℕ) → IsOpenAfter d fed → NeedsAfter fed n
+  pub whole : (m : Message) → IsWholeWith d m → n ≡ 0
+  pub failed : (f : Failure) → HasFailedWith d f → n ≡ 0
+
+-- the piece is no longer than what the decoder needs
+abbrev pub MayTake : Decoder → List ℕ → Type 0
+MayTake d piece = (n : ℕ) × Needs d n × (length piece ≤ n)
+
 -- where a piece leads, of all the octets that were fed, and what is returned for it
 abbrev pub FeedsTo : Decoder → List ℕ → Result Progress Failure → Type 0
 FeedsTo d fed (Ok Progress.More) = IsOpenAfter d fed × IsPart fed
-FeedsTo d fed (Ok Progress.Done) = (m : Message) × IsWholeWith d m × IsRead fed m
+FeedsTo d fed (Ok Progress.Done) = (m : Message) × IsWholeWith d m × IsSpelled m fed
 FeedsTo d fed (Err failure) = HasFailedWith d failure × IsRefused fed failure
+
+-- the octets that were fed are a message, unless memory ran out
+abbrev pub IsDone : Result Progress Failure → Type 0
+IsDone (Ok Progress.Done) = Unit {0}
+IsDone (Ok Progress.More) = ⊥
+IsDone (Err failure) = failure ≡ Failure.OutOfMemory
 
 -- what an open decoder returns after the last octet: nothing where nothing was fed, else that the octets end too early, at their end
 abbrev pub ended : List ℕ → Result (Option Message) Failure

@@ -1,6 +1,7 @@
 pub mod Failures
 pub mod HeaderCode
 pub mod Standing
+pub mod OpenElements
 pub mod Feeding
 pub mod Need
 pub mod Answers

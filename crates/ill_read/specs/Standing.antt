@@ -1,6 +1,6 @@
 -- How the decoder's path stands for the elements that are open at a place.
 use Rattle.std.specs.Prelude.{◌≡◌, ℕ, List, [], ◌∷◌, ◌++◌, length, take, map, Option, Some, IsTrue, option_map}
-use Rattle.ber_core.specs.Tree.{Tree, Trees, none, more, tag_of, text, text_all, AreSegments}
+use Rattle.ber_core.specs.Tree.{Tree, Trees, none, more, tag_of, text_all, AreSegments}
 use Rattle.ber_core.specs.Identifier.{Tag}
 use Rattle.ber_core.specs.Octets.{are_octets}
 use Rattle.ber_leaf.specs.Leaf.{is_string}
@@ -15,8 +15,7 @@ use Rattle.ill_schema.specs.declared.message.Message.{Message}
 use Rattle.ill_schema.specs.declared.value.Value.{Value}
 use Rattle.ill_schema.specs.Value.{content_of, entries_of, items_of}
 use Rattle.ill_schema.specs.Content.{Content}
-use Rattle.ill_schema.specs.Content as content
-use Rattle.ill_refusals.specs.Element.{leaf, wrapper, segment}
+use Rattle.ill_refusals.specs.Element.{leaf, segment}
 use Rattle.ill_refusals.specs.Next.{due, next_of, opening}
 use Rattle.ill_refusals.specs.Next as following
 use Rattle.ill_refusals.specs.Place.{Open, next_in, bound, IsPlace}

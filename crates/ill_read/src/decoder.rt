@@ -34,14 +34,16 @@ impl Decoder {
     ghost use Rattle.std.specs.Prelude.{◌≡◌, ℕ, ◌+◌, ◌<◌, ◌≤◌, List, [], ◌++◌, length, IsTrue, Ok, Err, Some};
     ghost use Rattle.ber_core.specs.Octets.{are_octets};
     ghost use Rattle.ber_leaf.specs.Profile.{profile_two};
-    ghost use Rattle.ill_schema.specs.Apdu.{Apdu, Accepts};
+    ghost use Rattle.ill_schema.specs.Apdu.{Apdu, Accepts, SpellsApdu};
     ghost use Rattle.ill_schema.specs.declared.message.Message.{Message};
-    ghost use Rattle.ill_read.specs.Feeding.{ended, FeedsTo, HasFailedWith, IsOpenAfter, IsWholeWith};
-    ghost use Rattle.ill_read.specs.Need.{NeedsAfter};
+    ghost use Rattle.ill_read.specs.Feeding.{ended, FeedsTo, HasFailedWith, IsDone, IsOpenAfter, IsWholeWith, MayTake, Needs};
+    ghost use Rattle.ill_read.specs.OpenElements.{open_in};
 
-    /// An open decoder that nothing was fed.
+    /// An open decoder that nothing was fed. The elements that will be open stand in it, and take no memory.
+    #[inline(always)]
     pub fn new(alloc: Global) -> Decoder
         ensures open { IsOpenAfter result [] }
+        ensures few { open_in result ≤ 32 }
     {
         Decoder {
             reader: Reader::new(alloc, Values::new(alloc)),
@@ -52,28 +54,38 @@ impl Decoder {
     /// failure was returned.
     #[inline(always)]
     pub fn need(&self) -> u32
-        ensures exact { (fed : List ℕ) → IsOpenAfter self.now fed → NeedsAfter fed result }
+        ensures needs { Needs self.now result }
         ensures some { (fed : List ℕ) → IsOpenAfter self.now fed → 0 < result }
         ensures at_least { (fed more : List ℕ) (a : Apdu) (n : ℕ) → IsOpenAfter self.now fed → IsTrue (are_octets (fed ++ more))
             → Accepts profile_two (fed ++ more) a n → length fed + result ≤ n }
-        ensures whole { (m : Message) → IsWholeWith self.now m → result ≡ 0 }
-        ensures failed { (failure : Failure) → HasFailedWith self.now failure → result ≡ 0 }
     {
         self.reader.need()
     }
 
-    /// Takes the next piece. Returns Done once the octets that were fed begin with a message, and More while they may still begin with
-    /// one. A piece of at most [`need`](Decoder::need) octets holds none after the message. A decoder that is whole or has failed returns
-    /// the same again, and nothing changes it any more.
+    /// Takes the next piece, of at most [`need`](Decoder::need) octets, so that it holds none after the message. Returns Done once the
+    /// octets that were fed are a message, and More while they may still begin one. A decoder that is whole or has failed needs no octets,
+    /// and returns the same again for an empty piece.
+    ///
+    /// ```text
+    /// let mut decoder = Decoder::new(alloc);
+    /// while decoder.need() > 0 {
+    ///     let piece = input.next(decoder.need())?;
+    ///     decoder.feed(piece)?;
+    /// }
+    /// let message = decoder.finish()?;
+    /// ```
     ///
     /// # Errors
     ///
     /// The one fault of the octets that were fed, once no further octet mends it; or out of memory.
     #[inline(always)]
     pub fn feed(&mut self, piece: &[u8]) -> Result<Progress, Failure>
+        requires { MayTake self.old piece.now }
         ensures open { (fed : List ℕ) → IsOpenAfter self.old fed → FeedsTo self.new (fed ++ piece.now) result }
+        ensures done { (fed : List ℕ) (a : Apdu) → IsOpenAfter self.old fed → SpellsApdu profile_two a (fed ++ piece.now) → IsDone result }
         ensures whole { (m : Message) → IsWholeWith self.old m → (result ≡ Ok Progress.Done) × (self.new ≡ self.old) }
         ensures failed { (failure : Failure) → HasFailedWith self.old failure → (result ≡ Err failure) × (self.new ≡ self.old) }
+        ensures few { open_in self.new ≤ 32 }
     {
         self.reader.take(piece);
         match self.reader.state() {

@@ -43,3 +43,17 @@ impl Frame {
         }
     }
 }
+
+/// What a place holds where no element is open.
+impl Default for Frame {
+    fn default() -> Frame {
+        Frame {
+            found: Found::default(),
+            place: At::default(),
+            start: 0,
+            end: None,
+            bound: 0,
+            base: 0,
+        }
+    }
+}

@@ -1,54 +1,59 @@
 //! The open elements of a message, innermost last.
-ghost use Rattle.std.specs.Prelude.{◌≡◌, ◌≤◌, ◌++◌, List, [], ◌∷◌, length};
-ghost use Rattle.ill_elements.specs.Due.{shape};
-ghost use Rattle.ill_read.specs.Standing.{next_at};
-ghost use Rattle.ill_read.specs.declared.frame.Frame.{Frame};
+ghost use Rattle.std.specs.Prelude.{◌≤◌, length};
 
 use crate::frame::Frame;
+use arrayvec::ArrayVec;
 use ill_cells::At;
 use ill_elements::Next;
 use ill_schema::{Cause, LIMIT};
-use std::alloc::{AllocError, Global};
 
-/// How many elements may be open.
-pub const DEPTH: usize = 32;
+/// How many elements may be open at once.
+pub const MAX_DEPTH: usize = 32;
 
-/// For how many more open elements memory is taken: at first, more than a normal form has.
-const MORE: usize = 12;
-
-/// The open elements, innermost last.
+/// The open elements, innermost last. They take no memory.
 #[derive(Drop)]
 pub struct Frames {
-    pub open: Vec<Frame>,
+    pub open: ArrayVec<Frame, MAX_DEPTH>,
+    ghost few: { length open.items ≤ 32 },
 }
 
 impl Frames {
-    ghost use Rattle.std.specs.Prelude.{◌+◌, ◌-◌, ◌<◌, ◌↔◌, IfOk, IsNone, IsTrue, Some, slice_get, take};
+    ghost use Rattle.std.specs.Prelude.{◌≡◌, ◌+◌, ◌-◌, ◌<◌, ◌↔◌, ◌++◌, List, [], ◌∷◌, IsNone, IsTrue, Some, slice_get, take};
+    ghost use Rattle.ill_elements.specs.Due.{shape};
+    ghost use Rattle.ill_read.specs.Standing.{next_at};
+    ghost use Rattle.ill_read.specs.declared.frame.Frame.{Frame};
     ghost use Rattle.ber_leaf.specs.Profile.{profile_two};
     ghost use Rattle.ill_refusals.specs.Fault.{ends_at, is_indefinite, past_end};
     ghost use Rattle.ill_refusals.specs.Place.{bound};
     ghost use Rattle.ill_read.specs.code.JudgeCode.{WhereItStands, outermost_end};
     ghost use Rattle.ill_read.specs.code.Progress.{depth_of};
 
-    pub fn new(alloc: Global) -> Frames
+    /// No open element.
+    #[inline(always)]
+    pub fn new() -> Frames
         ensures { result.open.items ≡ [] }
     {
         Frames {
-            open: Vec::new(alloc),
+            open: ArrayVec::new(),
         }
+    }
+
+    /// Forgets all open elements.
+    #[inline(always)]
+    pub fn clear(&mut self)
+        ensures { self.new.open.items ≡ [] }
+    {
+        self.open.clear();
     }
 
     /// Opens an element in the innermost one.
     #[inline(always)]
-    pub fn push(&mut self, frame: Frame) -> Result<(), AllocError>
-        ensures items { IfOk result (λ _. self.new.open.items ≡ self.old.open.items ++ frame ∷ []) }
-        ensures depth { depth_of self.new ≤ depth_of self.old + 1 }
+    pub fn push(&mut self, frame: Frame)
+        requires { depth_of self.old < 32 }
+        ensures items { self.new.open.items ≡ self.old.open.items ++ frame ∷ [] }
+        ensures depth { depth_of self.new ≡ depth_of self.old + 1 }
     {
-        if self.open.len() == self.open.capacity() {
-            self.open.reserve(MORE)?;
-        }
-        self.open.push_reserved(frame);
-        Ok(())
+        self.open.push(frame);
     }
 
     /// Closes the innermost element.

@@ -4,7 +4,7 @@ ghost use Rattle.ber_core.specs.Id.{form_of_id};
 ghost use Rattle.std.specs.Option.{ForSome};
 
 use crate::form::form_fault;
-use crate::frames::{DEPTH, Frames};
+use crate::frames::{Frames, MAX_DEPTH};
 use crate::header::LengthRead;
 use ber_core::{Id, Len};
 use ill_cells::Found;
@@ -92,9 +92,10 @@ impl Frames {
     /// The depth, tag and form of an element.
     #[inline(always)]
     pub fn judge_tag(&self, at: u32, id: Id) -> Result<Found, Refusal>
-        ensures { WhereItStands self.now (λ place. IsIdentified self.now place at id result) }
+        ensures exact { WhereItStands self.now (λ place. IsIdentified self.now place at id result) }
+        ensures room { IfOk result (λ _. depth_of self.now < 32) }
     {
-        if self.depth() >= DEPTH {
+        if self.depth() >= MAX_DEPTH {
             return Err(Refusal {
                 at,
                 cause: Cause::TooDeep,

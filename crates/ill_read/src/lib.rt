@@ -41,8 +41,8 @@ pub use ill_refusals::{
 pub use laws::decoders_are_apart;
 pub use mark::Mark;
 pub use normal::{
-    Normal, decode_normal, read_kept_normal_by, read_kept_normal_in, read_normal_by, read_normal_in,
+    Normal, NormalReader, decode_normal, read_kept_normal_by, read_normal_by, read_normal_in,
 };
 pub use outline::Outline;
-pub use outlined::{Outlined, read_outline_in};
+pub use outlined::{OutlineReader, Outlined, read_outline_in};
 pub use read::{decode, read_kept, read_kept_by, read_message, read_message_by};

@@ -1,5 +1,5 @@
 //! Messages as their normal forms.
-ghost use Rattle.std.specs.Prelude.{◌≡◌, ℕ, List, ◌++◌, length};
+ghost use Rattle.std.specs.Prelude.{◌≡◌, ◌≤◌, ℕ, List, ◌++◌, length};
 ghost use Rattle.std.specs.Io.KnownBytes.{Appends};
 ghost use Rattle.ill_read.specs.Answers.{IsNormalOf, NormalAnswers, ReadsNext};
 
@@ -19,6 +19,127 @@ pub struct Normal {
     pub octets: Vec<u8>,
     /// How many octets the message had in the input.
     pub read: u32,
+}
+
+/// A reader of normal forms, one message after another. The elements that are open stand in it, so a stream of messages is best read by one
+/// reader that stays where it is.
+///
+/// ```text
+/// let mut reader = NormalReader::new(alloc);
+/// while let Some(normal) = reader.read::<R, L>(source, room)? {
+///     archive.put(&normal.octets)?;
+///     room = normal.octets;
+/// }
+/// ```
+#[derive(Drop)]
+pub struct NormalReader {
+    alloc: Global,
+    reader: Reader<Octets>,
+}
+
+impl NormalReader {
+    ghost use Rattle.ill_read.specs.OpenElements.{open_count};
+
+    /// A reader that has read nothing. That takes no memory.
+    #[inline(always)]
+    pub fn new(alloc: Global) -> NormalReader {
+        NormalReader {
+            alloc,
+            reader: Reader::new(alloc, Octets::new(Vec::new(alloc))),
+        }
+    }
+
+    /// Reads the normal form of the message at the front of what is left, as [`read_normal_by`] does, and writes it in the memory of `room`,
+    /// whose octets are forgotten. What was read before makes no difference.
+    ///
+    /// # Errors
+    ///
+    /// Those of [`read_message`](crate::read_message).
+    #[inline(always)]
+    pub fn read<R: Source, L: Look<R>>(
+        &mut self,
+        source: &mut R,
+        room: Vec<u8>,
+    ) -> Result<Option<Normal>, ReadFailure>
+        ensures next { ReadsNext (R.left source.old) (R.left source.new) (R.is_broken source.old) (R.is_broken source.new) IsNormalOf result }
+        ensures few { open_count self.new.reader ≤ 32 }
+    {
+        self.read_into::<R, L, Forget>(source, room, &mut Forget)
+    }
+
+    /// Reads a normal form as [`NormalReader::read`] does, and keeps the octets that the message had at the end of `kept`.
+    ///
+    /// # Errors
+    ///
+    /// Those of [`read_message`](crate::read_message); some octets may have been kept then.
+    #[inline(always)]
+    pub fn read_kept<R: Source, L: Look<R>>(
+        &mut self,
+        source: &mut R,
+        room: Vec<u8>,
+        kept: &mut Vec<u8>,
+    ) -> Result<Option<Normal>, ReadFailure>
+        ensures next { ReadsNext (R.left source.old) (R.left source.new) (R.is_broken source.old) (R.is_broken source.new)
+            (λ n octets. IsNormalOf n octets × (kept.new.items ≡ kept.old.items ++ octets)) result }
+        ensures few { open_count self.new.reader ≤ 32 }
+    {
+        self.read_into::<R, L, Vec<u8>>(source, room, kept)
+    }
+
+    /// Reads a normal form in the memory of `room`, and hands the octets that the message had to what keeps them.
+    #[inline(always)]
+    fn read_into<R: Source, L: Look<R>, K: Keep>(
+        &mut self,
+        source: &mut R,
+        room: Vec<u8>,
+        keep: &mut K,
+    ) -> Result<Option<Normal>, ReadFailure>
+        ensures next { ReadsNext (R.left source.old) (R.left source.new) (R.is_broken source.old) (R.is_broken source.new)
+            (λ n octets. IsNormalOf n octets × Appends (K.kept keep.old) (K.kept keep.new) octets) result }
+        ensures few { open_count self.new.reader ≤ 32 }
+    {
+        self.reader.restart(Octets::new(room));
+        match read_draft::<Octets, R, L, K>(&mut self.reader, source, keep) {
+            Ok(Some(read)) => Ok(Some(self.normal(read))),
+            Ok(None) => Ok(None),
+            Err(failure) => Err(failure),
+        }
+    }
+
+    /// Reads the normal form of the message that the whole slice is, as [`decode_normal`] does, in the memory of `room`.
+    ///
+    /// # Errors
+    ///
+    /// Those of [`decode`](crate::decode).
+    #[inline(always)]
+    pub fn decode(&mut self, octets: &[u8], room: Vec<u8>) -> Result<Normal, Failure>
+        ensures answers { NormalAnswers octets.now result }
+        ensures few { open_count self.new.reader ≤ 32 }
+    {
+        self.reader.restart(Octets::new(room));
+        let _ = self.reader.run(octets);
+        if !self.reader.outcome()? {
+            return Err(Failure::refused(octets.len() as u32, Cause::Truncated));
+        }
+        let read = self.reader.at();
+        if read as usize != octets.len() {
+            return Err(Failure::refused(read, Cause::TrailingBytes));
+        }
+        Ok(self.normal(read))
+    }
+
+    /// The normal form that was written, of a message that had this number of octets.
+    #[inline(always)]
+    fn normal(&mut self, read: u32) -> Normal
+        ensures octets { result.octets.items ≡ self.old.reader.path.draft.octets }
+        ensures read { result.read ≡ read }
+    {
+        let blank = Octets::new(Vec::new(self.alloc));
+        Normal {
+            octets: self.reader.exchange_draft(blank).into_octets(),
+            read,
+        }
+    }
 }
 
 /// Reads the normal form of the message at the front of what is left, as [`read_message_by`](crate::read_message_by) reads the message.
@@ -48,7 +169,7 @@ pub fn read_normal_in<R: Source, L: Look<R>>(
 ) -> Result<Option<Normal>, ReadFailure>
     ensures { ReadsNext (R.left source.old) (R.left source.new) (R.is_broken source.old) (R.is_broken source.new) IsNormalOf result }
 {
-    normal_into::<R, L, Forget>(alloc, source, room, &mut Forget)
+    NormalReader::new(alloc).read::<R, L>(source, room)
 }
 
 /// Reads a normal form as [`read_normal_by`] does, and keeps the octets that the message had at the end of `kept`.
@@ -64,46 +185,7 @@ pub fn read_kept_normal_by<R: Source, L: Look<R>>(
     ensures { ReadsNext (R.left source.old) (R.left source.new) (R.is_broken source.old) (R.is_broken source.new)
         (λ n octets. IsNormalOf n octets × (kept.new.items ≡ kept.old.items ++ octets)) result }
 {
-    read_kept_normal_in::<R, L>(alloc, source, Vec::new(alloc), kept)
-}
-
-/// Reads a normal form as [`read_normal_in`] does, and keeps the octets that the message had at the end of `kept`.
-///
-/// # Errors
-///
-/// Those of [`read_message`](crate::read_message); some octets may have been kept then.
-pub fn read_kept_normal_in<R: Source, L: Look<R>>(
-    alloc: Global,
-    source: &mut R,
-    room: Vec<u8>,
-    kept: &mut Vec<u8>,
-) -> Result<Option<Normal>, ReadFailure>
-    ensures { ReadsNext (R.left source.old) (R.left source.new) (R.is_broken source.old) (R.is_broken source.new)
-        (λ n octets. IsNormalOf n octets × (kept.new.items ≡ kept.old.items ++ octets)) result }
-{
-    normal_into::<R, L, Vec<u8>>(alloc, source, room, kept)
-}
-
-/// Reads a normal form in the memory of `room`, and hands the octets that the message had to what keeps them.
-#[inline(always)]
-fn normal_into<R: Source, L: Look<R>, K: Keep>(
-    alloc: Global,
-    source: &mut R,
-    room: Vec<u8>,
-    keep: &mut K,
-) -> Result<Option<Normal>, ReadFailure>
-    ensures { ReadsNext (R.left source.old) (R.left source.new) (R.is_broken source.old) (R.is_broken source.new)
-        (λ n octets. IsNormalOf n octets × Appends (K.kept keep.old) (K.kept keep.new) octets) result }
-{
-    let mut reader = Reader::new(alloc, Octets::new(room));
-    match read_draft::<Octets, R, L, K>(&mut reader, source, keep) {
-        Ok(Some(read)) => Ok(Some(Normal {
-            octets: reader.into_draft().into_octets(),
-            read,
-        })),
-        Ok(None) => Ok(None),
-        Err(failure) => Err(failure),
-    }
+    NormalReader::new(alloc).read_kept::<R, L>(source, Vec::new(alloc), kept)
 }
 
 /// The normal form of the message that the whole slice is.
@@ -119,17 +201,5 @@ fn normal_into<R: Source, L: Look<R>, K: Keep>(
 pub fn decode_normal(alloc: Global, octets: &[u8]) -> Result<Normal, Failure>
     ensures { NormalAnswers octets.now result }
 {
-    let mut reader = Reader::new(alloc, Octets::new(Vec::new(alloc)));
-    let _ = reader.run(octets);
-    if !reader.outcome()? {
-        return Err(Failure::refused(octets.len() as u32, Cause::Truncated));
-    }
-    let read = reader.at();
-    if read as usize != octets.len() {
-        return Err(Failure::refused(read, Cause::TrailingBytes));
-    }
-    Ok(Normal {
-        octets: reader.into_draft().into_octets(),
-        read,
-    })
+    NormalReader::new(alloc).decode(octets, Vec::new(alloc))
 }

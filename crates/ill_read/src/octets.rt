@@ -76,7 +76,7 @@ impl Octets {
             return Ok(());
         }
         let Some(sequence) = Id::new(Class::Universal, true, universal::SEQUENCE) else {
-            return Err(AllocError);
+            unreachable!()
         };
         self.octets.enclose(base, sequence)?;
         Ok(())

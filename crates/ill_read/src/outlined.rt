@@ -1,4 +1,5 @@
 //! Messages as their outlines.
+ghost use Rattle.std.specs.Prelude.{◌≡◌, ◌≤◌};
 ghost use Rattle.ill_read.specs.Answers.{ReadsNext};
 ghost use Rattle.ill_read.specs.Outlined.{IsOutlined};
 
@@ -19,6 +20,70 @@ pub struct Outlined {
     pub read: u32,
 }
 
+/// A reader of outlines, one message after another. The elements that are open stand in it, so a stream of messages is best read by one
+/// reader that stays where it is.
+///
+/// ```text
+/// let mut reader = OutlineReader::new(alloc);
+/// while let Some(read) = reader.read::<R, L>(source, room)? {
+///     show(read.outline.marks())?;
+///     room = read.outline;
+/// }
+/// ```
+#[derive(Drop)]
+pub struct OutlineReader {
+    alloc: Global,
+    reader: Reader<Outlining>,
+}
+
+impl OutlineReader {
+    ghost use Rattle.ill_read.specs.OpenElements.{open_count};
+
+    /// A reader that has read nothing. That takes no memory.
+    #[inline(always)]
+    pub fn new(alloc: Global) -> OutlineReader {
+        OutlineReader {
+            alloc,
+            reader: Reader::new(alloc, Outlining::new(Outline::new(alloc))),
+        }
+    }
+
+    /// Reads the outline of the message at the front of what is left, as [`read_outline_in`] does. What was read before makes no difference.
+    ///
+    /// # Errors
+    ///
+    /// Those of [`read_message`](crate::read_message).
+    #[inline(always)]
+    pub fn read<R: Source, L: Look<R>>(
+        &mut self,
+        source: &mut R,
+        room: Outline,
+    ) -> Result<Option<Outlined>, ReadFailure>
+        ensures next { ReadsNext (R.left source.old) (R.left source.new) (R.is_broken source.old) (R.is_broken source.new) IsOutlined result }
+        ensures few { open_count self.new.reader ≤ 32 }
+    {
+        self.reader.restart(Outlining::new(room));
+        match read_draft::<Outlining, R, L, Forget>(&mut self.reader, source, &mut Forget) {
+            Ok(Some(read)) => Ok(Some(self.outlined(read))),
+            Ok(None) => Ok(None),
+            Err(failure) => Err(failure),
+        }
+    }
+
+    /// The outline that was made, of a message that had this number of octets.
+    #[inline(always)]
+    fn outlined(&mut self, read: u32) -> Outlined
+        ensures outline { result.outline.marks.items ≡ self.old.reader.path.draft.marks.items }
+        ensures read { result.read ≡ read }
+    {
+        let blank = Outlining::new(Outline::new(self.alloc));
+        Outlined {
+            outline: self.reader.exchange_draft(blank).into_outline(),
+            read,
+        }
+    }
+}
+
 /// Reads the outline of the message at the front of what is left, as [`read_message_by`](crate::read_message_by) reads the message, in
 /// the memory of `room`, whose marks are forgotten. An outline takes two to four octets of memory for each octet of most messages.
 ///
@@ -32,13 +97,5 @@ pub fn read_outline_in<R: Source, L: Look<R>>(
 ) -> Result<Option<Outlined>, ReadFailure>
     ensures { ReadsNext (R.left source.old) (R.left source.new) (R.is_broken source.old) (R.is_broken source.new) IsOutlined result }
 {
-    let mut reader = Reader::new(alloc, Outlining::new(room));
-    match read_draft::<Outlining, R, L, Forget>(&mut reader, source, &mut Forget) {
-        Ok(Some(read)) => Ok(Some(Outlined {
-            outline: reader.into_draft().into_outline(),
-            read,
-        })),
-        Ok(None) => Ok(None),
-        Err(failure) => Err(failure),
-    }
+    OutlineReader::new(alloc).read::<R, L>(source, room)
 }

@@ -10,7 +10,7 @@ use crate::judge::{Opening, Reading};
 use ill_cells::At;
 use ill_elements::Element;
 use ill_schema::Cause;
-use std::alloc::{AllocError, Global};
+use std::alloc::AllocError;
 
 /// The open elements, innermost last, with the draft of what has been read in them.
 #[derive(Drop)]
@@ -23,13 +23,24 @@ impl<D: Draft> Path<D> {
     ghost use Rattle.ill_read.specs.code.Progress.{depth_of};
     ghost use Rattle.ill_read.specs.code.Stepping.{ClosesExactly, OpensExactly, ReadsExactly, GoesOn};
 
-    pub fn new(alloc: Global, draft: D) -> Path<D>
+    /// No open element, and a draft of nothing.
+    #[inline(always)]
+    pub fn new(draft: D) -> Path<D>
         ensures { D.holds draft (top_level ∷ []) [] → HoldsAt D.holds result [] }
     {
         Path {
-            frames: Frames::new(alloc),
+            frames: Frames::new(),
             draft,
         }
+    }
+
+    /// Forgets all open elements, and begins with a draft of nothing.
+    #[inline(always)]
+    pub fn restart(&mut self, draft: D)
+        ensures { D.holds draft (top_level ∷ []) [] → HoldsAt D.holds self.new [] }
+    {
+        self.frames.clear();
+        self.draft = draft;
     }
 
     pub fn into_draft(self) -> D
@@ -42,6 +53,7 @@ impl<D: Draft> Path<D> {
     /// Opens the element that is due and begins at `start`.
     #[inline(always)]
     pub fn open(&mut self, opening: Opening, start: u32) -> Result<(), AllocError>
+        requires { depth_of self.old.frames < 32 }
         ensures exact { IfOk result (λ _. OpensExactly D.holds self.old opening start self.new) }
         ensures depth { depth_of self.new.frames ≤ depth_of self.old.frames + 1 }
     {
@@ -54,7 +66,7 @@ impl<D: Draft> Path<D> {
             bound: opening.end.unwrap_or(self.frames.bound()),
             base,
         };
-        self.frames.push(frame)?;
+        self.frames.push(frame);
         Ok(())
     }
 

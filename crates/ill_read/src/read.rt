@@ -1,9 +1,10 @@
 //! Messages out of sources and slices.
-ghost use Rattle.std.specs.Prelude.{◌≡◌, ℕ, ◌<◌, ◌≤◌, List, [], ◌++◌, length, take, IfOk, IfErr, IsErr, IsErrOf, IsTrue};
+ghost use Rattle.std.specs.Prelude.{◌≡◌, ℕ, ◌<◌, ◌≤◌, List, [], ◌++◌, length, take, IfOk, IfErr, IfSome, IsErr, IsErrOf, IsTrue};
 ghost use Rattle.std.specs.Io.KnownBytes.{Appends, Consumes, Keeps};
 ghost use Rattle.ill_read.specs.Answers.{DecodeAnswers, IsRead, IsSpelled, IsUnfinished, ReadsNext, TakesFront, TakesNoMessage};
 ghost use Rattle.ill_read.specs.code.Filling.{HasKept, HasPulled, HasTaken, NoneEndsWithin};
 ghost use Rattle.ill_read.specs.Feeding.{IsOpenAt};
+ghost use Rattle.ill_read.specs.OpenElements.{HasFewOpen};
 ghost use Rattle.ill_read.specs.code.ReaderCode.{HasBegun, IsFed, IsReadOf};
 
 use crate::draft::Draft;
@@ -27,7 +28,8 @@ pub fn read_message<R: Source>(
     alloc: Global,
     source: &mut R,
 ) -> Result<Option<Message>, ReadFailure>
-    ensures { ReadsNext (R.left source.old) (R.left source.new) (R.is_broken source.old) (R.is_broken source.new) IsSpelled result }
+    ensures next { ReadsNext (R.left source.old) (R.left source.new) (R.is_broken source.old) (R.is_broken source.new) IsSpelled result }
+    ensures few { IfSome (R.left source.old) HasFewOpen }
 {
     read_message_by::<R, Unseen>(alloc, source)
 }
@@ -226,7 +228,8 @@ fn pull<D: Draft, R: Source>(
 ///
 /// The one fault of the octets, TrailingBytes at the end of a message that they only begin with, or out of memory.
 pub fn decode(alloc: Global, octets: &[u8]) -> Result<Message, Failure>
-    ensures { DecodeAnswers octets.now result }
+    ensures answers { DecodeAnswers octets.now result }
+    ensures few { HasFewOpen octets.now }
 {
     match begun(alloc, octets) {
         Ok(Some(message)) => whole(message, octets.len()),

@@ -54,16 +54,36 @@ impl<D: Draft> Reader<D> {
     ghost use Rattle.ill_read.specs.code.ReaderCode.{CanRefuse, CanStep, HasAdvanced, HasClosed, HasOutcome, HasStopped, IsFed, IsRunning, LeadsOn, Progresses, Steps, ended};
 
     /// Begins with nothing.
+    #[inline(always)]
     pub fn new(alloc: Global, draft: D) -> Reader<D>
         ensures { D.holds draft (top_level ∷ []) [] → IsOpenAt D.holds result [] }
     {
         Reader {
             alloc,
-            path: Path::new(alloc, draft),
+            path: Path::new(draft),
             at: 0,
             pending: Vec::new(alloc),
             state: State::Open,
         }
+    }
+
+    /// Begins with nothing again, whatever was read before.
+    #[inline(always)]
+    pub fn restart(&mut self, draft: D)
+        ensures { D.holds draft (top_level ∷ []) [] → IsOpenAt D.holds self.new [] }
+    {
+        self.path.restart(draft);
+        self.at = 0;
+        self.pending.clear();
+        self.state = State::Open;
+    }
+
+    /// What was made, in exchange for another draft. The reader has to be restarted before it reads again.
+    #[inline(always)]
+    pub fn exchange_draft(&mut self, draft: D) -> D
+        ensures { result ≡ self.old.path.draft }
+    {
+        mem::replace(&mut self.path.draft, draft)
     }
 
     /// What was made.
@@ -388,6 +408,7 @@ impl<D: Draft> Reader<D> {
     #[inline(always)]
     fn open(&mut self, opening: Opening) -> Option<usize>
         requires open { self.old.state ≡ State.Open }
+        requires room { depth_of self.old.path.frames < 32 }
         requires header { 0 < opening.header }
         requires fits { self.old.at + opening.header ≤ 1_048_576 }
         ensures pending { self.new.pending ≡ self.old.pending }

@@ -1,6 +1,9 @@
-use Rattle.std.proofs.Common.{◌∙◌, ◌++◌, sym}
+use Rattle.std.proofs.Common.{◌∙◌, ◌++◌, Ok, Err, sym}
 use Rattle.ill_read.specs.Standing.{AreMessage, AreValues, HoldsAt}
+use Rattle.ill_read.specs.declared.decoder.Decoder.{Decoder}
+use Rattle.ill_read.specs.declared.decoder.Progress.{Progress}
 use Rattle.ill_read.proofs.MessageEnds.{is_failed, is_fed, is_whole, message_is, open_stands, stands_part}
+use Rattle.ill_read.proofs.FedPieces.{spelled_done, spelled_whole}
 use Rattle.ill_read.proofs.decoder.Decoder.feed.Goals as goal
 
 pub returns-in-Failed-clause-open : goal.returns-in-Failed-clause-open
@@ -15,7 +18,7 @@ returns-in-Whole-clause-open c fed h =
     let s = fed ++ c.args.piece.now in
     let is = sym c.state.ensures ∙ c.in-Whole.is in
     let m = message_is r s (is_whole AreValues AreMessage r s r.pending.items (c.take.ensures.fed fed (is_fed AreValues AreMessage c.args.self.now.reader fed h)) is) in
-    (m.0, (is, m.1), m.2)
+    (m.0, (is, m.1), spelled_whole c.args.self.now fed c.args.piece.now m.0 h c.requires c.take.ensures.octets m.2)
 
 pub returns-in-Open-clause-open : goal.returns-in-Open-clause-open
 returns-in-Open-clause-open c fed h =
@@ -24,3 +27,22 @@ returns-in-Open-clause-open c fed h =
     let is = sym c.state.ensures ∙ c.in-Open.is in
     let last = open_stands AreValues AreMessage r s r.pending.items (c.take.ensures.fed fed (is_fed AreValues AreMessage c.args.self.now.reader fed h)) is in
     ((is, last), stands_part (HoldsAt AreValues r.path) r.at s r.pending.items last)
+
+pub returns-in-Failed-clause-done : goal.returns-in-Failed-clause-done
+returns-in-Failed-clause-done c fed a h spells =
+    let d : Decoder = record { reader = c.take.new.self } in
+    spelled_done d (fed ++ c.args.piece.now) a (Err c.in-Failed.failure) (returns-in-Failed-clause-open c fed h) spells
+
+pub returns-in-Open-clause-done : goal.returns-in-Open-clause-done
+returns-in-Open-clause-done c fed a h spells =
+    let d : Decoder = record { reader = c.take.new.self } in
+    spelled_done d (fed ++ c.args.piece.now) a (Ok Progress.More) (returns-in-Open-clause-open c fed h) spells
+
+pub returns-in-Failed-clause-few : goal.returns-in-Failed-clause-few
+returns-in-Failed-clause-few c = c.take.new.self.path.frames.few
+
+pub returns-in-Whole-clause-few : goal.returns-in-Whole-clause-few
+returns-in-Whole-clause-few c = c.take.new.self.path.frames.few
+
+pub returns-in-Open-clause-few : goal.returns-in-Open-clause-few
+returns-in-Open-clause-few c = c.take.new.self.path.frames.few

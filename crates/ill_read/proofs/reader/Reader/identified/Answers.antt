@@ -26,7 +26,7 @@ returns-in-Err-clause-goes g c s rest more b came joined bounded judged =
     c.refuse.ensures.goes s rest (
       b,
       judged ∙ behind_identifier b.place at cut w front read.0 (tag_of_id id) (form_of_id id) spelled read.1
-          ∙ c.in-Err.ensures b.place (b.stands.0, b.stands.1) (length front) cut read.0,
+          ∙ c.in-Err.ensures.exact b.place (b.stands.0, b.stands.1) (length front) cut read.0,
     )
 
 pub returns-in-Err-judge_length-clause-goes : goal.returns-in-Err-judge_length-clause-goes
@@ -37,7 +37,7 @@ returns-in-Err-judge_length-clause-goes g c s rest more b came joined bounded ju
     let front = identifier (tag_of_id id) (form_of_id id) in
     let spelled : w ≡ front ++ read.0 = (read_is_identifier w (tag_of_id id) (form_of_id id) read.0 ok read.1).1 in
     let stands : StandsAt c.args.self.now.path.frames b.place = (b.stands.0, b.stands.1) in
-    let same = headed_judged c.args.self.now.path.frames b.place (tag_of_id id) c.in-Ok.found (form_of_id id) at (cut_fault profile_two b.place at rest) w front read.0 stands (c.in-Ok.ensures b.place stands) spelled read.1 in
+    let same = headed_judged c.args.self.now.path.frames b.place (tag_of_id id) c.in-Ok.found (form_of_id id) at (cut_fault profile_two b.place at rest) w front read.0 stands (c.in-Ok.ensures.exact b.place stands) spelled read.1 in
     c.refuse-in-Err-judge_length.ensures.goes s rest (b, judged ∙ same ∙ c.in-Err-judge_length.ensures.exact rest front read.0 came spelled read.2 c.in-Ok.found b.place stands bounded)
 
 pub returns-in-Opens-clause-goes : goal.returns-in-Opens-clause-goes
@@ -49,7 +49,7 @@ returns-in-Opens-clause-goes g c s rest more b came joined bounded judged =
     let front = identifier (tag_of_id id) (form_of_id id) in
     let spelled : w ≡ front ++ read.0 = (read_is_identifier w (tag_of_id id) (form_of_id id) read.0 ok read.1).1 in
     let stands : StandsAt c.args.self.now.path.frames b.place = (b.stands.0, b.stands.1) in
-    let begun = c.in-Ok.ensures b.place stands in
+    let begun = c.in-Ok.ensures.exact b.place stands in
     let same = headed_judged frames b.place (tag_of_id id) c.in-Ok.found (form_of_id id) at (cut_fault profile_two b.place at rest) w front read.0 stands begun spelled read.1 in
     let fits = subst (Fits id (length w)) c.in-Opens.is c.in-Ok-judge_length.ensures.fits in
     let extent = subst (λ x. IsExtent c.in-Ok.found id at w (Ok x) (judge_length profile_two b.place (element_is (read_as c.in-Ok.found)) (tag_of_id id) (form_of_id id) at (length front) (cut_fault profile_two b.place at rest) read.0)) c.in-Opens.is
@@ -66,7 +66,7 @@ returns-in-Reads-clause-goes g c s rest more b came joined bounded judged =
     let front = identifier (tag_of_id id) (form_of_id id) in
     let spelled : w ≡ front ++ read.0 = (read_is_identifier w (tag_of_id id) (form_of_id id) read.0 ok read.1).1 in
     let stands : StandsAt c.args.self.now.path.frames b.place = (b.stands.0, b.stands.1) in
-    let begun = c.in-Ok.ensures b.place stands in
+    let begun = c.in-Ok.ensures.exact b.place stands in
     let same = headed_judged frames b.place (tag_of_id id) c.in-Ok.found (form_of_id id) at (cut_fault profile_two b.place at rest) w front read.0 stands begun spelled read.1 in
     let fits = subst (Fits id (length w)) c.in-Reads.is c.in-Ok-judge_length.ensures.fits in
     let extent = subst (λ x. IsExtent c.in-Ok.found id at w (Ok x) (judge_length profile_two b.place (element_is (read_as c.in-Ok.found)) (tag_of_id id) (form_of_id id) at (length front) (cut_fault profile_two b.place at rest) read.0)) c.in-Reads.is

@@ -7,16 +7,15 @@ use Rattle.ill_read.specs.Answers.{NormalAnswers}
 use Rattle.ill_read.specs.code.OctetDrafts.{AreNormal, AreOctets}
 use Rattle.ill_read.specs.code.ReaderCode.{HasOutcome}
 use Rattle.ill_read.specs.declared.failure.Failure.{Failure}
-use Rattle.ill_read.specs.declared.octets.Octets.{Octets}
 use Rattle.ill_read.proofs.ClosedElements.{handed_on}
 use Rattle.ill_read.proofs.MessageEnds.{normal_fails, normal_trails, normal_whole, runs}
-use Rattle.ill_read.proofs.normal.decode_normal.Goals as goal
+use Rattle.ill_read.proofs.normal.NormalReader.decode.Goals as goal
 
-pub returns-in_err-outcome : goal.returns-in_err-outcome
-returns-in_err-outcome c =
+pub returns-in_err-outcome-clause-answers : goal.returns-in_err-outcome-clause-answers
+returns-in_err-outcome-clause-answers c =
     let w = c.args.octets.now in
     let ok : IsTrue (are_octets w) = octets_fit w (λ k. let small : get_or w k 0 < 256 = omega (arith, c.type_inv.octets k) in small) in
-    let came = c.outcome.ensures w (drop c.run.result w) (c.run.ensures.stopped w (runs AreOctets AreNormal c.new-reader.result w ok (c.new-reader.ensures c.new-2.ensures))) in
+    let came = c.outcome.ensures w (drop c.run.result w) (c.run.ensures.stopped w (runs AreOctets AreNormal c.restart.new.self w ok (c.restart.ensures c.new.ensures))) in
     let refused = subst (λ (e : Result Bool Failure). HasOutcome AreNormal c.run.new.self w e) c.in_err-outcome.was came in
     handed_on (NormalAnswers w) c.from_residual.result c.in_err-outcome.field-0.0 c.from_residual.ensures.1 (normal_fails w c.in_err-outcome.field-0.0 refused)
 
@@ -24,24 +23,24 @@ pub overflow_cast-octets : goal.overflow_cast-octets
 overflow_cast-octets c =
     let w = c.args.octets.now in
     let ok : IsTrue (are_octets w) = octets_fit w (λ k. let small : get_or w k 0 < 256 = omega (arith, c.type_inv.octets k) in small) in
-    let came = c.outcome.ensures w (drop c.run.result w) (c.run.ensures.stopped w (runs AreOctets AreNormal c.new-reader.result w ok (c.new-reader.ensures c.new-2.ensures))) in
+    let came = c.outcome.ensures w (drop c.run.result w) (c.run.ensures.stopped w (runs AreOctets AreNormal c.restart.new.self w ok (c.restart.ensures c.new.ensures))) in
     let read = subst (λ (e : Result Bool Failure). HasOutcome AreNormal c.run.new.self w e) (c.in_ok-outcome.was ∙ ap Ok c.if-not-branch.true) came in
     let small = read.1 in
     omega (arith, small)
 
-pub returns-then-not-branch : goal.returns-then-not-branch
-returns-then-not-branch c =
+pub returns-then-not-branch-clause-answers : goal.returns-then-not-branch-clause-answers
+returns-then-not-branch-clause-answers c =
     let w = c.args.octets.now in
     let ok : IsTrue (are_octets w) = octets_fit w (λ k. let small : get_or w k 0 < 256 = omega (arith, c.type_inv.octets k) in small) in
-    let came = c.outcome.ensures w (drop c.run.result w) (c.run.ensures.stopped w (runs AreOctets AreNormal c.new-reader.result w ok (c.new-reader.ensures c.new-2.ensures))) in
+    let came = c.outcome.ensures w (drop c.run.result w) (c.run.ensures.stopped w (runs AreOctets AreNormal c.restart.new.self w ok (c.restart.ensures c.new.ensures))) in
     let read = subst (λ (e : Result Bool Failure). HasOutcome AreNormal c.run.new.self w e) (c.in_ok-outcome.was ∙ ap Ok c.if-not-branch.true) came in
     subst (λ r. NormalAnswers w (Err r)) (sym c.refused.ensures) (inl read.0)
 
-pub returns-then-read-octets : goal.returns-then-read-octets
-returns-then-read-octets c =
+pub returns-then-read-octets-clause-answers : goal.returns-then-read-octets-clause-answers
+returns-then-read-octets-clause-answers c =
     let w = c.args.octets.now in
     let ok : IsTrue (are_octets w) = octets_fit w (λ k. let small : get_or w k 0 < 256 = omega (arith, c.type_inv.octets k) in small) in
-    let came = c.outcome.ensures w (drop c.run.result w) (c.run.ensures.stopped w (runs AreOctets AreNormal c.new-reader.result w ok (c.new-reader.ensures c.new-2.ensures))) in
+    let came = c.outcome.ensures w (drop c.run.result w) (c.run.ensures.stopped w (runs AreOctets AreNormal c.restart.new.self w ok (c.restart.ensures c.new.ensures))) in
     let read = subst (λ (e : Result Bool Failure). HasOutcome AreNormal c.run.new.self w e) (c.in_ok-outcome.was ∙ ap Ok c.if-not-branch.false) came in
     let n = c.run.new.self.at in
     let at : c.at-read.result ≡ n = c.at-read.ensures in
@@ -49,12 +48,12 @@ returns-then-read-octets c =
     subst (λ r. NormalAnswers w (Err r)) (sym c.refused-then-read-octets.ensures)
     (subst (λ k. NormalAnswers w (Err (Failure.Refused (let q : Refusal = record { at = k; cause = Cause.TrailingBytes } in q)))) (sym at) (normal_trails w read.0 n read.1 other))
 
-pub returns : goal.returns
-returns c =
+pub returns-clause-answers : goal.returns-clause-answers
+returns-clause-answers c =
     let w = c.args.octets.now in
     let ok : IsTrue (are_octets w) = octets_fit w (λ k. let small : get_or w k 0 < 256 = omega (arith, c.type_inv.octets k) in small) in
-    let came = c.outcome.ensures w (drop c.run.result w) (c.run.ensures.stopped w (runs AreOctets AreNormal c.new-reader.result w ok (c.new-reader.ensures c.new-2.ensures))) in
+    let came = c.outcome.ensures w (drop c.run.result w) (c.run.ensures.stopped w (runs AreOctets AreNormal c.restart.new.self w ok (c.restart.ensures c.new.ensures))) in
     let read = subst (λ (e : Result Bool Failure). HasOutcome AreNormal c.run.new.self w e) (c.in_ok-outcome.was ∙ ap Ok c.if-not-branch.false) came in
     let all = c.if-read-octets.false in
     let size = sym c.at-read.ensures ∙ all in
-    (read.0, normal_whole w read.0 c.run.new.self.at read.1 size, c.into_octets.ensures ∙ ap (λ (o : Octets). o.octets) c.into_draft.ensures ∙ read.2, all)
+    (read.0, normal_whole w read.0 c.run.new.self.at read.1 size, c.normal.ensures.octets ∙ read.2, c.normal.ensures.read ∙ all)

@@ -1,4 +1,0 @@
-use Rattle.ill_read.proofs.normal.normal_into.Goals as goal
-
-pub read_draft-requires : goal.read_draft-requires
-read_draft-requires g c = c.new-reader.ensures c.new.ensures

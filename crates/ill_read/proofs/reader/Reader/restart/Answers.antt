@@ -1,0 +1,10 @@
+use Rattle.std.proofs.Common.{[], refl, sym, subst}
+use Rattle.ill_read.specs.Standing.{HoldsAt, StandsLast}
+use Rattle.ill_read.proofs.reader.Reader.restart.Goals as goal
+
+pub returns : goal.returns
+returns g c h = (
+  refl,
+  subst (StandsLast (HoldsAt g.D.Draft.holds c.restart.new.self) 0 []) (sym c.clear.ensures.items)
+      (record { place = []; before = []; joined = refl; octets = refl; offset = refl; stands = c.restart.ensures h; is_place = refl }, refl),
+)
