@@ -28,7 +28,7 @@ pub use ill_apdu_results::{
     Conditional, Estimate, HoldPlaced, LocationInfo, Locations, Results, Retry, Unfilled,
     WillSupply,
 };
-pub use ill_parts::Head;
+pub use ill_parts::{Head, Part, Typed};
 pub use lost::{Damaged, Lost};
 pub use overdue::Overdue;
 pub use recall::Recall;

@@ -86,6 +86,7 @@ pub fn keep_going<M: Maker, R: Source, L: Look<R>, W: Sink, T: Reports>(
     let mut good = 0;
     let mut offset: u64 = 0;
     let mut written = 0;
+    let mut reader = M::reader(alloc);
     let mut kept = Vec::new(alloc);
     let mut room = M::Out::empty(alloc);
     for before in 0..MESSAGES {
@@ -93,7 +94,15 @@ pub fn keep_going<M: Maker, R: Source, L: Look<R>, W: Sink, T: Reports>(
             number: before + 1,
             offset,
         };
-        let next = match next_message::<M, R, L>(alloc, maker, position, source, &mut kept, room) {
+        let next = match next_message::<M, R, L>(
+            alloc,
+            maker,
+            &mut reader,
+            position,
+            source,
+            &mut kept,
+            room,
+        ) {
             Ok(Some(next)) => next,
             Ok(None) => return Ok(gone_to(before, refused, good, offset)),
             Err(unread) => {
@@ -127,6 +136,7 @@ pub fn keep_going<M: Maker, R: Source, L: Look<R>, W: Sink, T: Reports>(
             }
         }
     }
+    drop(reader);
     drop(room);
     match end_of_input(source) {
         Ok(()) => Ok(gone_to(MESSAGES, refused, good, offset)),

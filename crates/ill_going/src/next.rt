@@ -49,6 +49,7 @@ impl Unread {
 pub fn next_message<M: Maker, R: Source, L: Look<R>>(
     alloc: Global,
     maker: &M,
+    reader: &mut M::Reader,
     position: Position,
     source: &mut R,
     kept: &mut Vec<u8>,
@@ -64,7 +65,7 @@ pub fn next_message<M: Maker, R: Source, L: Look<R>>(
         Err(unread) => return Err(unread),
     };
     let mut octets = FromSlice::new(kept.as_slice());
-    match maker.next::<FromSlice<'_>, AtHand>(alloc, position, &mut octets, room) {
+    match maker.next::<FromSlice<'_>, AtHand>(alloc, reader, position, &mut octets, room) {
         Ok(Some(piece)) => Ok(Some(Next::Read(piece))),
         Ok(None) => Ok(None),
         Err(ReadFailure::Refused(refusal)) => {

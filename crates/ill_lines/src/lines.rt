@@ -5,6 +5,7 @@ ghost use Rattle.ill_lines.specs.code.After.{Answers, IsSame, StandsAfter};
 
 use crate::job::LineJob;
 use crate::result::result_of;
+use ill_normal::NormalReader;
 use std::alloc::{AllocError, Global};
 
 /// How many octets the text of a line may have.
@@ -19,6 +20,8 @@ pub struct Lines {
     pub ready: Vec<u8>,
     /// Whether all results are good.
     pub is_good: bool,
+    /// What reads the message of each line.
+    reader: NormalReader,
 }
 
 impl Lines {
@@ -32,6 +35,7 @@ impl Lines {
             part: Vec::new(alloc),
             ready: Vec::new(alloc),
             is_good: true,
+            reader: NormalReader::new(alloc),
         }
     }
 
@@ -93,7 +97,7 @@ impl Lines {
         ensures answers { OnOk result (Answers job self.old.part.items self.old self.new) }
         ensures same { OnErr result (IsSame self.old self.new) }
     {
-        let found = result_of(alloc, job, &self.part)?;
+        let found = result_of(alloc, &mut self.reader, job, &self.part)?;
         let before = self.ready.len();
         self.ready.extend_from_slice(&found.words)?;
         if self.ready.push(b'\n').is_err() {

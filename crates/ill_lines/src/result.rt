@@ -12,7 +12,7 @@ use crate::job::LineJob;
 use crate::words::{check_words, hex_words, refusal_words};
 use ill_digest::normal_digest;
 use ill_jobs::{RunFault, text_octets};
-use ill_normal::{Failure, decode_normal};
+use ill_normal::{Failure, NormalReader};
 use std::alloc::{AllocError, Global};
 
 /// The result of a line, and whether it is good.
@@ -22,12 +22,17 @@ pub struct LineResult {
     pub is_good: bool,
 }
 
-/// The result of the line of this text.
-pub fn result_of(alloc: Global, job: LineJob, text: &[u8]) -> Result<LineResult, AllocError>
+/// The result of the line of this text. What the reader read before makes no difference.
+pub fn result_of(
+    alloc: Global,
+    reader: &mut NormalReader,
+    job: LineJob,
+    text: &[u8],
+) -> Result<LineResult, AllocError>
     ensures { IfOk result (λ found. IsResult job (hex_octets text.now) found.words.items found.is_good) }
 {
     match text_octets(alloc, text) {
-        Ok(octets) => message_result(alloc, job, &octets),
+        Ok(octets) => message_result(alloc, reader, job, &octets),
         Err(RunFault::OutOfMemory) => Err(AllocError),
         Err(fault) => Ok(LineResult {
             words: hex_words(alloc, fault)?,
@@ -37,10 +42,15 @@ pub fn result_of(alloc: Global, job: LineJob, text: &[u8]) -> Result<LineResult,
 }
 
 /// The result of a line whose text stands for these octets.
-fn message_result(alloc: Global, job: LineJob, octets: &[u8]) -> Result<LineResult, AllocError>
+fn message_result(
+    alloc: Global,
+    reader: &mut NormalReader,
+    job: LineJob,
+    octets: &[u8],
+) -> Result<LineResult, AllocError>
     ensures { IfOk result (λ found. IsResultOf job octets.now found.words.items found.is_good) }
 {
-    match decode_normal(alloc, octets) {
+    match reader.decode(octets, Vec::new(alloc)) {
         Ok(normal) => form_result(alloc, job, octets, &normal.octets),
         Err(Failure::Refused(refusal)) => Ok(LineResult {
             words: refusal_words(alloc, refusal)?,

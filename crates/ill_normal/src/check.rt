@@ -6,7 +6,7 @@ ghost use Rattle.ill_read.specs.Answers.{AnswersSome, ReadsNext};
 ghost use Rattle.ill_normal.specs.Checking.{Describes, IsFormOf};
 
 use ber_core::{Look, Source, Unseen};
-use ill_read::{ReadFailure, read_kept_normal_in};
+use ill_read::{NormalReader, ReadFailure};
 use std::alloc::Global;
 
 /// A message, and how it was spelled.
@@ -49,19 +49,22 @@ pub fn check_one_by<R: Source, L: Look<R>>(
     // A spelling at the front is checked, unless memory or the source failed.
     ensures accepts { IfSome (R.left source.old) (λ s. (a : Apdu) (n : ℕ) → Accepts profile_two s a n → AnswersSome result) }
 {
-    let Some(found) = check_one_in::<R, L>(alloc, source, Vec::new(alloc))? else {
+    let mut reader = NormalReader::new(alloc);
+    let Some(found) = check_one_in::<R, L>(alloc, &mut reader, source, Vec::new(alloc))? else {
         return Ok(None);
     };
     Ok(Some(found.0))
 }
 
-/// Checks a message as [`check_one_by`] does, and returns its normal form besides, in the memory of `room`, whose octets are forgotten.
+/// Checks a message as [`check_one_by`] does, by a reader of one message after another, and returns its normal form besides, in the
+/// memory of `room`, whose octets are forgotten. What the reader read before makes no difference.
 ///
 /// # Errors
 ///
 /// Those of [`check_one`].
 pub fn check_one_in<R: Source, L: Look<R>>(
     alloc: Global,
+    reader: &mut NormalReader,
     source: &mut R,
     room: Vec<u8>,
 ) -> Result<Option<(Checked, Vec<u8>)>, ReadFailure>
@@ -71,7 +74,7 @@ pub fn check_one_in<R: Source, L: Look<R>>(
     ensures accepts { IfSome (R.left source.old) (λ s. (a : Apdu) (n : ℕ) → Accepts profile_two s a n → AnswersSome result) }
 {
     let mut kept = Vec::new(alloc);
-    let Some(normal) = read_kept_normal_in::<R, L>(alloc, source, room, &mut kept)? else {
+    let Some(normal) = reader.read_kept::<R, L>(source, room, &mut kept)? else {
         return Ok(None);
     };
     let checked = Checked {

@@ -17,15 +17,17 @@ mod single;
 mod stream;
 
 pub use ber_core::{
-    Ahead, AtHand, Broken, FromBuffer, FromRead, FromSlice, Look, Pieces, Room, Sink, Source,
-    ToWrite, Unseen,
+    Ahead, AtHand, Broken, Class, FromBuffer, FromRead, FromSlice, Look, Pieces, Room, Sink,
+    Source, ToWrite, Unseen,
 };
-pub use ber_leaf::{DateText, GeneralText, IllString, PrintableText, TimeText, VisibleText};
+pub use ber_leaf::{
+    DateText, GeneralText, IllString, LeafFault, PrintableText, TimeText, VisibleText,
+};
 pub use check::{Checked, check_one, check_one_by, check_one_in};
 pub use compare::{Side, is_normal, same_message};
 pub use failure::{NormalFailure, StreamCause, StreamFailure};
 pub use ill_read::{
-    Failure, Normal, ReadFailure, decode, decode_normal, read_kept_normal_by, read_kept_normal_in,
+    Failure, Normal, NormalReader, ReadFailure, decode, decode_normal, read_kept_normal_by,
     read_message, read_message_by, read_normal_by, read_normal_in,
 };
 pub use ill_schema::{

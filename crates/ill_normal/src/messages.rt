@@ -75,14 +75,20 @@ pub trait Maker {
     /// What holds that which is written of a message.
     type Out: Output;
 
+    /// What reads one message after another.
+    type Reader: Drop;
+
     // What is written of the message at this position.
     ghost text: { Self → Position → Spelling → List ℕ };
 
     // Whether a message is as it should be.
     ghost is_good: { Self → Spelling → Bool };
 
+    /// A reader that has read nothing. That takes no memory.
+    fn reader(alloc: Global) -> Self::Reader;
+
     /// Reads the message that the source begins with, as [`read_message`](crate::read_message) does, and makes of it what is written. This
-    /// may use the memory of `room`, whose contents are forgotten.
+    /// may use the memory of `room`, whose contents are forgotten. What the reader read before makes no difference.
     ///
     /// # Errors
     ///
@@ -90,6 +96,7 @@ pub trait Maker {
     fn next<R: Source, L: Look<R>>(
         &self,
         alloc: Global,
+        reader: &mut Self::Reader,
         position: Position,
         source: &mut R,
         room: Self::Out,
@@ -138,6 +145,7 @@ pub struct Stopped {
 
 /// Writes what is made of each message of an input, one after another up to its end, by a way to look at the source. All that is
 /// needed of a message is made before any of it is written, and one message is held at a time. Its memory is used again for the next one.
+/// One reader reads all of them.
 ///
 /// # Errors
 ///
@@ -159,13 +167,14 @@ pub fn each_message<M: Maker, R: Source, L: Look<R>, W: Sink>(
     let mut good = 0;
     let mut before = 0;
     let mut written = 0;
+    let mut reader = M::reader(alloc);
     let mut room = M::Out::empty(alloc);
     for whole in 0..MESSAGES {
         let position = Position {
             number: whole + 1,
             offset: before,
         };
-        let piece = match maker.next::<R, L>(alloc, position, source, room) {
+        let piece = match maker.next::<R, L>(alloc, &mut reader, position, source, room) {
             Ok(Some(piece)) => piece,
             Ok(None) => return Ok(all_passed(whole, good, before)),
             Err(failure) => return Err(ended(whole, good, before, written, Why::Read(failure))),
@@ -182,6 +191,7 @@ pub fn each_message<M: Maker, R: Source, L: Look<R>, W: Sink>(
         good += u32::from(piece.is_good);
         room = piece.text;
     }
+    drop(reader);
     drop(room);
     match end_of_input(source) {
         Ok(()) => Ok(all_passed(MESSAGES, good, before)),

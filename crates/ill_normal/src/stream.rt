@@ -13,7 +13,7 @@ ghost use Rattle.ill_normal.specs.Streamed.{Passes, StopsAfter, AnswersCount, An
 use crate::failure::{NormalFailure, StreamCause, StreamFailure};
 use crate::messages::{Maker, Piece, Position, Why, each_message};
 use ber_core::{Look, Sink, Source, Unseen};
-use ill_read::{ReadFailure, read_normal_in};
+use ill_read::{NormalReader, ReadFailure};
 use std::alloc::Global;
 
 /// Makes the normal form of each message.
@@ -22,19 +22,26 @@ pub struct NormalForms;
 impl Maker for NormalForms {
     type Out = Vec<u8>;
 
+    type Reader = NormalReader;
+
     ghost text = { λ _ p m. normal_form m.apdu };
 
     ghost is_good = { λ _ m. true };
 
+    fn reader(alloc: Global) -> NormalReader {
+        NormalReader::new(alloc)
+    }
+
     fn next<R: Source, L: Look<R>>(
         &self,
         alloc: Global,
+        reader: &mut NormalReader,
         position: Position,
         source: &mut R,
         room: Vec<u8>,
     ) -> Result<Option<Piece<Vec<u8>>>, ReadFailure> {
-        let _ = position;
-        let Some(normal) = read_normal_in::<R, L>(alloc, source, room)? else {
+        let (_, _) = (alloc, position);
+        let Some(normal) = reader.read::<R, L>(source, room)? else {
             return Ok(None);
         };
         Ok(Some(Piece {

@@ -16,18 +16,18 @@ use Rattle.ill_normal.proofs.check.check_one_in.Goals as goal
 pub returns-in_err-normal-clause-accepts : goal.returns-in_err-normal-clause-accepts
 returns-in_err-normal-clause-accepts g c =
     let p = err_from_is_err_and c.from_residual.result c.from_residual.ensures.1 in
-    rw (p.1, p.2) (read_fails_accepts _ _ c.in_err-normal.ensures.refused)
+    rw (p.1, p.2) (read_fails_accepts _ _ c.in_err-normal.ensures.next.refused)
 
 pub returns-in_default-clause-accepts : goal.returns-in_default-clause-accepts
-returns-in_default-clause-accepts g c = let h = rw c.in_default.is at c.in_ok-normal.ensures.none in none_is_no_spelling _ _ _ h.0 h.1
+returns-in_default-clause-accepts g c = let h = rw c.in_default.is at c.in_ok-normal.ensures.next.none in none_is_no_spelling _ _ _ h.0 h.1
 
 pub returns-clause-next : goal.returns-clause-next
 returns-clause-next g c =
-    let h = rw c.in-Some.is at c.in_ok-normal.ensures in
+    let h = rw c.in-Some.is at c.in_ok-normal.ensures.next in
     let eq = slice_eq-Decides Decides-eqb c.as_slice.result.now c.as_slice-2.result.now c.eq.result c.eq.ensures in
     let checked : Checked = record { apdu = c.apdu_number.result; octets = c.in-Some.normal.read; normal = c.len.result; is_normal = c.eq.result } in
-    reads_as (λ (n : Normal) (b : List ℕ). IsNormalOf n b × (c.read_kept_normal_in.new.kept.items ≡ c.new-kept.result.items ++ b)) (λ found b. Describes found.0 b × IsFormOf found.1.items b)
-    (g.R.Source.left c.args.source.now) (g.R.Source.left c.read_kept_normal_in.new.source) (g.R.Source.is_broken c.args.source.now) (g.R.Source.is_broken c.read_kept_normal_in.new.source)
+    reads_as (λ (n : Normal) (b : List ℕ). IsNormalOf n b × (c.read_kept.new.kept.items ≡ c.new-kept.result.items ++ b)) (λ found b. Describes found.0 b × IsFormOf found.1.items b)
+    (g.R.Source.left c.args.source.now) (g.R.Source.left c.read_kept.new.source) (g.R.Source.is_broken c.args.source.now) (g.R.Source.is_broken c.read_kept.new.source)
     c.in-Some.normal (checked, c.in-Some.normal.octets)
     (λ b is. (
       described checked c.in-Some.normal b _ is.0 (is.1 ∙ ap (λ x. x ++ b) c.new-kept.ensures.items)
