@@ -18,9 +18,10 @@ use ber_core::{AtHand, FromSlice, Look, Source};
 use ill_digest::normal_digest;
 use ill_json::{Head, json_line};
 use ill_normal::{
-    Checked, Maker, NormalForms, Piece, Position, ReadFailure, apdu_name, check_one_in,
+    Checked, Maker, NormalForms, NormalReader, Piece, Position, ReadFailure, apdu_name,
+    check_one_in,
 };
-use ill_read::{Outline, read_outline_in};
+use ill_read::{Outline, OutlineReader};
 use ill_text::Text;
 use itoa::Buffer;
 use std::alloc::{AllocError, Global};
@@ -28,8 +29,17 @@ use std::alloc::{AllocError, Global};
 /// How many octets may come before the text of a message.
 const LONGEST: usize = 1 << 62;
 
+/// What reads the messages of an input: their normal forms, and their outlines.
+#[derive(Drop)]
+pub struct Readers {
+    normal: NormalReader,
+    outline: OutlineReader,
+}
+
 impl Maker for Work<'_> {
     type Out = Written;
+
+    type Reader = Readers;
 
     ghost use Rattle.ill_jobs.specs.Output.{counts_as_good, message_output};
 
@@ -37,20 +47,29 @@ impl Maker for Work<'_> {
 
     ghost is_good = { λ work. counts_as_good work.job work.compares };
 
+    fn reader(alloc: Global) -> Readers {
+        Readers {
+            normal: NormalReader::new(alloc),
+            outline: OutlineReader::new(alloc),
+        }
+    }
+
     fn next<R: Source, L: Look<R>>(
         &self,
         alloc: Global,
+        reader: &mut Readers,
         position: Position,
         source: &mut R,
         room: Written,
     ) -> Result<Option<Piece<Written>>, ReadFailure> {
-        next_piece::<R, L>(alloc, *self, position, source, room)
+        next_piece::<R, L>(alloc, reader, *self, position, source, room)
     }
 }
 
 /// Reads the next message, and makes its output; None at the end of the input.
 fn next_piece<R: Source, L: Look<R>>(
     alloc: Global,
+    readers: &mut Readers,
     work: Work<'_>,
     position: Position,
     source: &mut R,
@@ -60,18 +79,26 @@ fn next_piece<R: Source, L: Look<R>>(
         (Makes IsWritten (message_output work.entry position) (counts_as_good work.entry.job work.entry.compares)) result }
 {
     match work.job {
-        Job::Show => shown::<R, L>(alloc, work, position, source, room),
-        Job::Json => json::<R, L>(alloc, work, position, source, room),
-        Job::Check => checked::<R, L>(alloc, work, position, source, room.into_octets()),
-        Job::Digest => digested::<R, L>(alloc, work, position, source, room.into_octets()),
+        Job::Show => shown::<R, L>(alloc, readers, work, position, source, room),
+        Job::Json => json::<R, L>(alloc, readers, work, position, source, room),
+        Job::Check => {
+            let reader = &mut readers.normal;
+            checked::<R, L>(alloc, reader, work, position, source, room.into_octets())
+        }
+        Job::Digest => {
+            let reader = &mut readers.normal;
+            digested::<R, L>(alloc, reader, work, position, source, room.into_octets())
+        }
         Job::Canonicalise => {
-            canonical::<R, L>(alloc, work, position, source, room.into_octets())
+            let reader = &mut readers.normal;
+            canonical::<R, L>(alloc, reader, work, position, source, room.into_octets())
         }
     }
 }
 
 fn shown<R: Source, L: Look<R>>(
     alloc: Global,
+    readers: &mut Readers,
     work: Work<'_>,
     position: Position,
     source: &mut R,
@@ -81,7 +108,7 @@ fn shown<R: Source, L: Look<R>>(
         (Makes IsWritten (message_text Job.Show work.entry.hex work.entry.name.now work.entry.is_named position) (counts_as_good Job.Show work.entry.compares)) result }
 {
     let (octets, outline) = room.into_both(alloc);
-    let Some(found) = outlined::<R, L>(alloc, work.compares, source, outline)? else {
+    let Some(found) = outlined::<R, L>(alloc, readers, work.compares, source, outline)? else {
         return Ok(None);
     };
     let Found {
@@ -101,6 +128,7 @@ fn shown<R: Source, L: Look<R>>(
 
 fn json<R: Source, L: Look<R>>(
     alloc: Global,
+    readers: &mut Readers,
     work: Work<'_>,
     position: Position,
     source: &mut R,
@@ -110,7 +138,7 @@ fn json<R: Source, L: Look<R>>(
         (Makes IsWritten (message_text Job.Json work.entry.hex work.entry.name.now work.entry.is_named position) (counts_as_good Job.Json work.entry.compares)) result }
 {
     let (octets, outline) = room.into_both(alloc);
-    let Some(found) = outlined::<R, L>(alloc, true, source, outline)? else {
+    let Some(found) = outlined::<R, L>(alloc, readers, true, source, outline)? else {
         return Ok(None);
     };
     let head = head(position, &found);
@@ -154,6 +182,7 @@ struct Found {
 /// Reads the outline of the next message, which is compared with its normal form or not; None at the end of the input.
 fn outlined<R: Source, L: Look<R>>(
     alloc: Global,
+    readers: &mut Readers,
     compares: bool,
     source: &mut R,
     room: Outline,
@@ -161,7 +190,7 @@ fn outlined<R: Source, L: Look<R>>(
     ensures { ReadsNext (R.left source.old) (R.left source.new) (R.is_broken source.old) (R.is_broken source.new) (IsFound compares) result }
 {
     if !compares {
-        return match read_outline_in::<R, L>(alloc, source, room) {
+        return match readers.outline.read::<R, L>(source, room) {
             Ok(Some(read)) => Ok(Some(Found {
                 outline: read.outline,
                 octets: read.read,
@@ -171,10 +200,11 @@ fn outlined<R: Source, L: Look<R>>(
             Err(failure) => Err(failure),
         };
     }
-    let Some((found, normal)) = check_one_in::<R, L>(alloc, source, Vec::new(alloc))? else {
+    let (reader, octets) = (&mut readers.normal, Vec::new(alloc));
+    let Some((found, normal)) = check_one_in::<R, L>(alloc, reader, source, octets)? else {
         return Ok(None);
     };
-    match outline_of(alloc, &normal, room) {
+    match outline_of(&mut readers.outline, &normal, room) {
         Ok(outline) => Ok(Some(Found {
             outline,
             octets: found.octets,
@@ -185,11 +215,15 @@ fn outlined<R: Source, L: Look<R>>(
 }
 
 /// The outline of the message that the octets are.
-fn outline_of(alloc: Global, octets: &[u8], room: Outline) -> Result<Outline, AllocError>
+fn outline_of(
+    reader: &mut OutlineReader,
+    octets: &[u8],
+    room: Outline,
+) -> Result<Outline, AllocError>
     ensures { (a : Apdu) → SpellsApdu profile_two a octets.now → IfOk result (λ outline. IsOutlineOf outline a) }
 {
     let mut source = FromSlice::new(octets);
-    match read_outline_in::<FromSlice<'_>, AtHand>(alloc, &mut source, room) {
+    match reader.read::<FromSlice<'_>, AtHand>(&mut source, room) {
         Ok(Some(read)) => Ok(read.outline),
         _ => Err(AllocError),
     }
@@ -229,6 +263,7 @@ fn label(room: Vec<u8>, work: Work<'_>) -> Result<Vec<u8>, AllocError>
 
 fn checked<R: Source, L: Look<R>>(
     alloc: Global,
+    reader: &mut NormalReader,
     work: Work<'_>,
     position: Position,
     source: &mut R,
@@ -237,7 +272,7 @@ fn checked<R: Source, L: Look<R>>(
     ensures { ReadsNext (R.left source.old) (R.left source.new) (R.is_broken source.old) (R.is_broken source.new)
         (Makes IsWritten (message_text Job.Check work.entry.hex work.entry.name.now work.entry.is_named position) (counts_as_good Job.Check work.entry.compares)) result }
 {
-    let Some((found, normal)) = check_one_in::<R, L>(alloc, source, room)? else {
+    let Some((found, normal)) = check_one_in::<R, L>(alloc, reader, source, room)? else {
         return Ok(None);
     };
     match check_line(normal, work, position.number, found) {
@@ -290,6 +325,7 @@ fn push_check_end(line: &mut Vec<u8>, found: Checked) -> Result<(), AllocError>
 
 fn digested<R: Source, L: Look<R>>(
     alloc: Global,
+    reader: &mut NormalReader,
     work: Work<'_>,
     position: Position,
     source: &mut R,
@@ -298,7 +334,7 @@ fn digested<R: Source, L: Look<R>>(
     ensures { ReadsNext (R.left source.old) (R.left source.new) (R.is_broken source.old) (R.is_broken source.new)
         (Makes IsWritten (message_text Job.Digest work.entry.hex work.entry.name.now work.entry.is_named position) (counts_as_good Job.Digest work.entry.compares)) result }
 {
-    let Some(normal) = normal_form::<R, L>(alloc, work.compares, source, room)? else {
+    let Some(normal) = normal_form::<R, L>(alloc, reader, work.compares, source, room)? else {
         return Ok(None);
     };
     let Piece {
@@ -341,6 +377,7 @@ fn digest_line(
 
 fn canonical<R: Source, L: Look<R>>(
     alloc: Global,
+    reader: &mut NormalReader,
     work: Work<'_>,
     position: Position,
     source: &mut R,
@@ -350,7 +387,7 @@ fn canonical<R: Source, L: Look<R>>(
         (Makes IsWritten (message_text Job.Canonicalise work.entry.hex work.entry.name.now work.entry.is_named position) (counts_as_good Job.Canonicalise work.entry.compares)) result }
 {
     let _ = position;
-    let Some(normal) = normal_form::<R, L>(alloc, work.compares, source, room)? else {
+    let Some(normal) = normal_form::<R, L>(alloc, reader, work.compares, source, room)? else {
         return Ok(None);
     };
     if !work.hex {
@@ -373,6 +410,7 @@ fn canonical<R: Source, L: Look<R>>(
 /// Reads the normal form of the next message, which is compared with its octets or not; None at the end of the input.
 fn normal_form<R: Source, L: Look<R>>(
     alloc: Global,
+    reader: &mut NormalReader,
     compares: bool,
     source: &mut R,
     room: Vec<u8>,
@@ -385,9 +423,9 @@ fn normal_form<R: Source, L: Look<R>>(
             number: 1,
             offset: 0,
         };
-        return NormalForms.next::<R, L>(alloc, position, source, room);
+        return NormalForms.next::<R, L>(alloc, reader, position, source, room);
     }
-    let Some((found, text)) = check_one_in::<R, L>(alloc, source, room)? else {
+    let Some((found, text)) = check_one_in::<R, L>(alloc, reader, source, room)? else {
         return Ok(None);
     };
     Ok(Some(Piece {

@@ -1,6 +1,5 @@
 -- Normal forms are canonical.
 use Rattle.std.proofs.Common.{◌≡◌, ◌↔◌, ℕ, ◌<◌, ◌≤◌, ◌^◌, List, [], length, Err, refl, sym, ap, subst, ◌∙◌, inl, inr, arith, lit<}
-use Rattle.std.proofs.Math.Seq.{take-length}
 use Rattle.ber_leaf.specs.Profile.{profile_two}
 use Rattle.ill_schema.specs.Apdu.{Apdu, SpellsApdu, Accepts, normal_form}
 use Rattle.ill_schema.specs.declared.refusal.Cause.{Cause}
@@ -10,6 +9,7 @@ use Rattle.ill_schema.proofs.OneMeaning.{one_message}
 use Rattle.ill_schema.proofs.Streams.{accepts_once}
 use Rattle.ill_refusals.specs.Fault.{Fault, fault, fault_of}
 use Rattle.ill_read.specs.declared.failure.Failure.{Failure}
+use Rattle.ill_read.proofs.FedPieces.{accepts_whole}
 use Rattle.ill_read.specs.Answers.{DecodeAnswers, IfRefused, NormalAnswers, RefusesWhole}
 
 short : (n : ℕ) → n ≤ 1_048_576 → n < 256 ^ 126
@@ -27,9 +27,6 @@ exactly a b x y h k = (one_normal a b x y h k, ap normal_form)
 
 pub spells_normal : (a : Apdu) (x : List ℕ) → SpellsApdu profile_two a x → SpellsApdu profile_two a (normal_form a)
 spells_normal a x h = normal_spells profile_two a (means_apdu_fits profile_two a h.encodes.tree h.encodes.means) (lit< tt) h.normal_short
-
-pub accepts_whole : (a : Apdu) (s : List ℕ) → SpellsApdu profile_two a s → Accepts profile_two s a (length s)
-accepts_whole a s h = let le : length s ≤ length s = omega arith in (le, subst (SpellsApdu profile_two a) (sym (take-length s)) h)
 
 pub accepts_normal : (a : Apdu) (x : List ℕ) → SpellsApdu profile_two a x → Accepts profile_two (normal_form a) a (length (normal_form a))
 accepts_normal a x h = accepts_whole a (normal_form a) (spells_normal a x h)

@@ -24,12 +24,13 @@ spelled_whole d fed piece m is may ok read =
     let whole : take (octets_of m) s ≡ s = take_all (octets_of m) s (omega (arith, all)) in
     record { spells = subst (SpellsApdu profile_two (apdu_of m)) whole read.0.1; octets = all }
 
-accepted : (s : List ℕ) (a : Apdu) → SpellsApdu profile_two a s → Accepts profile_two s a (length s)
-accepted s a spells = (omega arith, subst (SpellsApdu profile_two a) (sym (take_all (length s) s (omega arith))) spells)
+-- Octets that spell an APDU are accepted, all of them.
+pub accepts_whole : (a : Apdu) (s : List ℕ) → SpellsApdu profile_two a s → Accepts profile_two s a (length s)
+accepts_whole a s spells = (omega arith, subst (SpellsApdu profile_two a) (sym (take_all (length s) s (omega arith))) spells)
 
 -- Octets that spell an APDU are a message.
 pub spelled_done : (d : Decoder) (s : List ℕ) (a : Apdu) (result : Result Progress Failure) → FeedsTo d s result → SpellsApdu profile_two a s → IsDone result
 spelled_done d s a (Ok Progress.Done) h spells = tt
-spelled_done d s a (Ok Progress.More) h spells = h.1.2 a (length s) (accepted s a spells)
-spelled_done d s a (Err (Failure.Refused refusal)) h spells = absurd (h.1.0.2 a (length s) (accepted s a spells))
+spelled_done d s a (Ok Progress.More) h spells = h.1.2 a (length s) (accepts_whole a s spells)
+spelled_done d s a (Err (Failure.Refused refusal)) h spells = absurd (h.1.0.2 a (length s) (accepts_whole a s spells))
 spelled_done d s a (Err Failure.OutOfMemory) h spells = refl

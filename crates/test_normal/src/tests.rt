@@ -5,6 +5,7 @@ mod contracts;
 mod going;
 mod hostile;
 mod one;
+mod refused;
 mod rows;
 mod sips;
 mod stream;

@@ -49,13 +49,24 @@ fn at_end(octets: usize, message: Option<Message>) -> Result<Message, Failure> {
     }
 }
 
+/// Feeds a piece to a decoder that needs as many octets; None where it needs fewer.
+fn feed(decoder: &mut Decoder, piece: &[u8]) -> Option<Result<Progress, Failure>> {
+    if piece.len() > decoder.need() as usize {
+        return None;
+    }
+    Some(decoder.feed(piece))
+}
+
 /// The message in pieces of at most this number of octets, and never more than it needs.
-fn in_pieces(alloc: Global, octets: &[u8], most: usize) -> Result<Message, Failure> {
+fn in_pieces(alloc: Global, octets: &[u8], max_len: usize) -> Result<Message, Failure> {
     let mut decoder = Decoder::new(alloc);
     let mut rest = octets;
     for _ in 0..=octets.len() {
-        let size = (decoder.need() as usize).min(most).min(rest.len());
-        if size == 0 || decoder.feed(&rest[..size])? == Progress::Done {
+        let size = (decoder.need() as usize).min(max_len).min(rest.len());
+        let Some(progress) = feed(&mut decoder, &rest[..size]) else {
+            break;
+        };
+        if size == 0 || progress? == Progress::Done {
             break;
         }
         rest = &rest[size..];
@@ -128,11 +139,14 @@ fn needs(alloc: Global, octets: &[u8]) -> Result<Vec<u32>, Fail> {
         if size == 0 {
             break;
         }
-        let progress = decoder
-            .feed(&rest[..size])
-            .map_err(|_| Fail::from("refused"))?;
+        let fed = feed(&mut decoder, &rest[..size]);
         rest = &rest[size..];
-        if (progress == Progress::Done) != rest.is_empty() {
+        let wanted = if rest.is_empty() {
+            Progress::Done
+        } else {
+            Progress::More
+        };
+        if fed != Some(Ok(wanted)) {
             return Err(Fail::from("done elsewhere"));
         }
     }
@@ -170,6 +184,11 @@ fn needs_what_certainly_belongs(rt: HostRuntime) -> Result<(), Fail> {
     Ok(())
 }
 
+/// The answers to a piece that isn't refused.
+const MORE: Option<Result<Progress, Failure>> = Some(Ok(Progress::More));
+
+const DONE: Option<Result<Progress, Failure>> = Some(Ok(Progress::Done));
+
 /// An EXPIRED with indefinite lengths.
 const INDEFINITE: &str =
     "74803080800102a180a1801b01470000a2801b015100000000a280a080800832303234303232390000000000000000";
@@ -201,7 +220,9 @@ fn what_ends_early_is_truncated(rt: HostRuntime) {
         cause: Cause::Truncated,
     });
     assert!(rt;
-        early.feed(&EXPIRED[..2]) == Ok(Progress::More) && early.finish().err() == Some(truncated)
+        feed(&mut early, &EXPIRED[..1]) == MORE
+            && feed(&mut early, &EXPIRED[1..2]) == MORE
+            && early.finish().err() == Some(truncated)
     );
 }
 
@@ -213,18 +234,21 @@ fn stays_refused_and_stays_done(rt: HostRuntime) {
         cause: Cause::UnexpectedTag,
     });
     assert!(rt;
-        decoder.feed(&EXPIRED[..7]) == Ok(Progress::More)
-            && decoder.feed(&[0xA2]) == Err(refusal)
-            && decoder.need() == 0
-            && decoder.feed(&[]) == Err(refusal)
+        feed(&mut decoder, &EXPIRED[..1]) == MORE
+            && feed(&mut decoder, &EXPIRED[1..2]) == MORE
+            && feed(&mut decoder, &EXPIRED[2..7]) == MORE
+            && feed(&mut decoder, &[0xA2]) == Some(Err(refusal))
     );
+    assert!(rt; decoder.need() == 0 && feed(&mut decoder, &[]) == Some(Err(refusal)));
     assert!(rt; decoder.finish().err() == Some(refusal));
     let mut done = Decoder::new(rt.alloc());
     assert!(rt;
-        done.feed(EXPIRED) == Ok(Progress::Done)
-            && done.need() == 0
-            && done.feed(&[]) == Ok(Progress::Done)
+        feed(&mut done, &EXPIRED[..1]) == MORE
+            && feed(&mut done, &EXPIRED[1..2]) == MORE
+            && feed(&mut done, &EXPIRED[2..]) == DONE
     );
+    assert!(rt; done.need() == 0 && feed(&mut done, &[]) == DONE);
+    assert!(rt; feed(&mut done, &[0]) == None);
 }
 
 /// The size and the APDU of the next message of a source.

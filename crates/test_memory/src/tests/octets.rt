@@ -22,7 +22,7 @@ pub fn calls(alloc: Global, given: &Given) -> [Row; 15] {
         ("DateText::copy", Outcome::of(texts.date.copy(alloc))),
         ("TimeText::copy", Outcome::of(texts.time.copy(alloc))),
         ("IllString::copy", Outcome::of(texts.either.copy(alloc))),
-        ("Segments::push", push_segment(alloc)),
+        ("Segments::push", push_segments(alloc)),
         (
             "FromBuffer::new",
             Outcome::of(FromBuffer::new(alloc, EXPIRED)),
@@ -53,23 +53,39 @@ fn of_reading(read: Result<Option<Message>, ReadFailure>) -> Outcome {
     }
 }
 
-/// A segment that is refused leaves nothing.
-fn push_segment(alloc: Global) -> Outcome {
+/// Segments that are refused leave nothing.
+fn push_segments(alloc: Global) -> Outcome {
     let mut segments = Segments::new(alloc);
-    let pushed = segments.push(b"2024");
+    let pushed = (segments.push(b"2024"), segments.push(b"0229"));
     let octets = segments.into_octets();
     match pushed {
-        Ok(()) => Outcome::right(octets.as_slice() == b"2024".as_slice()),
-        Err(_) => Outcome::out_of_memory(octets.is_empty()),
+        (Ok(()), Ok(())) => Outcome::right(octets.as_slice() == b"20240229".as_slice()),
+        _ => Outcome::out_of_memory(octets.is_empty()),
     }
+}
+
+/// Feeds octets in pieces of as many as are needed.
+fn feed_all(decoder: &mut Decoder, octets: &[u8]) -> Result<Progress, Failure> {
+    let mut rest = octets;
+    let mut progress = Progress::More;
+    for _ in 0..=octets.len() {
+        let need = decoder.need();
+        let size = (need as usize).min(rest.len());
+        if size == 0 {
+            break;
+        }
+        progress = decoder.feed(&rest[..size])?;
+        rest = &rest[size..];
+    }
+    Ok(progress)
 }
 
 /// A decoder that is out of memory stays so.
 fn feed(alloc: Global) -> Outcome {
     let mut decoder = Decoder::new(alloc);
-    let fed = decoder.feed(EXPIRED);
-    let again = decoder.feed(b"");
+    let fed = feed_all(&mut decoder, EXPIRED);
     let need = decoder.need();
+    let again = decoder.feed(b"");
     let finished = decoder.finish();
     match fed {
         Ok(progress) => Outcome::right(progress == Progress::Done && finished.is_ok()),

@@ -9,10 +9,10 @@ ghost use Rattle.ill_normal.specs.Messages.{AreSpelled, Spelling, spelling};
 
 use ber_core::{AtHand, FromSlice, Pieces, Room, Sink, Source, Unseen};
 use ill_normal::{
-    Checked, Failure, Maker, Message, Normal, NormalFailure, NormalForms, Passed, Piece, Position,
-    ReadFailure, Refusal, Side, Stopped, StreamFailure, check_one, check_one_in, decode,
-    decode_normal, each_message, is_normal, normalise, normalise_stream, read_kept_normal_by,
-    read_kept_normal_in, read_message, read_message_by, read_normal_by, read_normal_in,
+    Checked, Failure, Maker, Message, Normal, NormalFailure, NormalForms, NormalReader, Passed,
+    Piece, Position, ReadFailure, Refusal, Side, Stopped, StreamFailure, check_one, check_one_in,
+    decode, decode_normal, each_message, is_normal, normalise, normalise_stream,
+    read_kept_normal_by, read_message, read_message_by, read_normal_by, read_normal_in,
     same_message,
 };
 use std::alloc::Global;
@@ -137,12 +137,12 @@ fn normal_forms_have_nothing_of_the_room(
     read_normal_in::<FromSlice, AtHand>(alloc, source, room)
 }
 
-/// Nothing that is in the room comes into a normal form, or among the octets that are kept.
+/// Nothing that is in the room, or that the reader read before, comes into a normal form, or among the octets that are kept.
 fn kept_normal_forms_have_nothing_of_the_room(
+    reader: &mut NormalReader,
     source: &mut Pieces,
     room: Vec<u8>,
     kept: &mut Vec<u8>,
-    alloc: Global,
 ) -> Result<Option<Normal>, ReadFailure>
     ensures { (a : Apdu) (n : ℕ) → Accepts profile_two source.old.octets a n
         → IfOk result (λ found. elim found as (λ _. Type 0) [
@@ -151,12 +151,13 @@ fn kept_normal_forms_have_nothing_of_the_room(
           | None ↦ ⊥
         ]) }
 {
-    read_kept_normal_in::<Pieces, Unseen>(alloc, source, room, kept)
+    reader.read_kept::<Pieces, Unseen>(source, room, kept)
 }
 
-/// Nothing that is in the room comes into what is written of a message, whatever is made of it.
+/// Nothing that is in the room, or that the reader read before, comes into what is written of a message, whatever is made of it.
 fn pieces_have_nothing_of_the_room<M: Maker>(
     maker: &M,
+    reader: &mut M::Reader,
     position: Position,
     source: &mut Pieces,
     room: M::Out,
@@ -168,7 +169,7 @@ fn pieces_have_nothing_of_the_room<M: Maker>(
           | None ↦ ⊥
         ]) }
 {
-    maker.next::<Pieces, Unseen>(alloc, position, source, room)
+    maker.next::<Pieces, Unseen>(alloc, reader, position, source, room)
 }
 
 /// What is checked is the message at the front, and the result describes it.
@@ -186,8 +187,9 @@ fn checks_describe_what_they_took(
     check_one(alloc, source)
 }
 
-/// What is checked is the message at the front, and nothing that is in the room comes into its normal form.
+/// What is checked is the message at the front, and nothing that is in the room, or that the reader read before, comes into its normal form.
 fn checks_have_nothing_of_the_room(
+    reader: &mut NormalReader,
     source: &mut Pieces,
     room: Vec<u8>,
     alloc: Global,
@@ -199,7 +201,7 @@ fn checks_have_nothing_of_the_room(
           | None ↦ ⊥
         ]) }
 {
-    check_one_in::<Pieces, Unseen>(alloc, source, room)
+    check_one_in::<Pieces, Unseen>(alloc, reader, source, room)
 }
 
 /// Nothing is written before the whole message was read, and then as many octets as are reported.

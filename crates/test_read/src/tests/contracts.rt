@@ -1,7 +1,7 @@
 //! Contracts that leave one result, for a decoder: what the calls return is proved of their contracts and the laws alone. So a body
 //! that returns anything else doesn't meet its contract. That memory was refused is the one result that may come besides.
 ghost use Rattle.std.specs.Prelude.{◌≡◌, ◌≢◌, ◌<◌, ℕ, List, [], Err, IfErr};
-ghost use Rattle.ill_read.specs.Feeding.{HasFailedWith, IsOpenAfter, IsWholeWith};
+ghost use Rattle.ill_read.specs.Feeding.{HasFailedWith, IsOpenAfter, IsWholeWith, MayTake};
 
 use ill_read::{Decoder, Failure, Progress, decoders_are_apart, one_place};
 use ill_schema::Message;
@@ -23,7 +23,9 @@ fn decoders_return_what_they_were_fed(
     other: &mut Decoder,
     piece: &[u8],
 ) -> (Result<Progress, Failure>, Result<Progress, Failure>)
-    requires { (fed : List ℕ) × IsOpenAfter one.old fed × IsOpenAfter other.old fed }
+    requires fed { (fed : List ℕ) × IsOpenAfter one.old fed × IsOpenAfter other.old fed }
+    requires one { MayTake one.old piece.now }
+    requires other { MayTake other.old piece.now }
     ensures { result.0 ≢ Err Failure.OutOfMemory → result.1 ≢ Err Failure.OutOfMemory → result.0 ≡ result.1 }
 {
     (one.feed(piece), other.feed(piece))
@@ -44,11 +46,12 @@ fn decoders_end_as_they_were_fed(
 }
 
 /// A failure stays: each call returns it, and nothing is needed any more.
-fn failures_stay(mut decoder: Decoder, piece: &[u8], failure: Failure)
+fn failures_stay(mut decoder: Decoder, failure: Failure)
     requires { HasFailedWith decoder failure }
 {
-    prove!(decoder.need() == 0);
-    let again = decoder.feed(piece);
+    let need = decoder.need();
+    prove!(need == 0);
+    let again = decoder.feed(&[]);
     prove!(again == Err(failure));
     let ended = decoder.finish();
     prove!(ended.is_err());
@@ -61,20 +64,21 @@ fn failures_stay(mut decoder: Decoder, piece: &[u8], failure: Failure)
 fn failures_are_kept(
     decoder: &mut Decoder,
     piece: &[u8],
-    more: &[u8],
 ) -> (Result<Progress, Failure>, u32, Result<Progress, Failure>)
-    requires { (fed : List ℕ) × IsOpenAfter decoder.old fed }
+    requires fed { (fed : List ℕ) × IsOpenAfter decoder.old fed }
+    requires piece { MayTake decoder.old piece.now }
     ensures { IfErr result.0 (λ failure. (result.1 ≡ 0) × (result.2 ≡ Err failure)) }
 {
-    (decoder.feed(piece), decoder.need(), decoder.feed(more))
+    (decoder.feed(piece), decoder.need(), decoder.feed(&[]))
 }
 
-/// A message stays: each piece is answered by Done, and the end by the message.
-fn messages_stay(mut decoder: Decoder, piece: &[u8])
+/// A message stays: an empty piece is answered by Done, and the end by the message.
+fn messages_stay(mut decoder: Decoder)
     requires { (message : Message) × IsWholeWith decoder message }
 {
-    prove!(decoder.need() == 0);
-    let again = decoder.feed(piece);
+    let need = decoder.need();
+    prove!(need == 0);
+    let again = decoder.feed(&[]);
     prove!(again == Ok(Progress::Done));
     let ended = decoder.finish();
     prove!(matches!(&ended, Ok(Some(_))));

@@ -29,6 +29,9 @@ no-such-application-number|75|UnexpectedTag - 0
 apdu-primitive|54|WrongForm - 0
 expired-first-five-octets|741f301d80|Truncated - 5
 wrong-tag-before-input-ends|741f301d800102a2|UnexpectedTag - 7
+wrong-tag-before-input-ends-and-zero-after-it|741f301d800102a2 00|UnexpectedTag - 7
+wrong-tag-before-input-ends-and-octets-after-it|741f301d800102a2 ff*40|UnexpectedTag - 7
+wrong-tag-before-input-ends-and-message-after-it|741f301d800102a2 741f301d800102a10aa1031b0147a2031b0151a20ca00a80083230323430323239|UnexpectedTag - 7
 primitive-passes-its-sequence|741f301d801c|Overrun - 4
 end-mark-passes-definite-parent|7406308080010200|Overrun - 7
 end-mark-with-other-second-octet|748030808001020001|BadEnd - 7
@@ -78,6 +81,9 @@ constructed-integer|741f301da0|WrongForm - 4
 transaction-id-first|741f301d81|UnexpectedTag - 4
 content-not-whole|741f301d800200|Truncated - 7
 segment-with-unit-separator-octet|74243022800102a10fa1083b0604014704011b|BadText - 11
+segment-with-unit-separator-octet-and-zero-after-it|74243022800102a10fa1083b0604014704011b 00|BadText - 11
+segment-with-unit-separator-octet-and-octets-after-it|74243022800102a10fa1083b0604014704011b ff*40|BadText - 11
+segment-with-unit-separator-octet-and-message-after-it|74243022800102a10fa1083b0604014704011b 741f301d800102a10aa1031b0147a2031b0151a20ca00a80083230323430323239|BadText - 11
 integer-within-the-second-limit|74803080808400010000|Truncated - 10
 length-of-126-ff|74fe ff*126|TooLong - 0
 length-of-125-ff|74fe ff*125|Truncated - 127

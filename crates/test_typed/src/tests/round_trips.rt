@@ -1,10 +1,10 @@
 //! Worked messages through the typed APDUs and back.
 use super::parts::head;
 use ber_leaf::IllString;
-use ill_apdu::{Apdu, MessageApdu, MessageFault};
-use ill_parts::{ItemId, Typed};
+use ill_apdu::{Apdu, MessageApdu, MessageFault, Part, Typed};
+use ill_parts::ItemId;
 use ill_read::decode;
-use ill_schema::Message;
+use ill_schema::{Message, Value, equal};
 use ill_write::normal_bytes;
 use std::alloc::{AllocError, Global};
 use std::test::Fail;
@@ -161,5 +161,34 @@ fn whole_messages_come_back(rt: HostRuntime) -> Result<(), Fail> {
 fn debug_text_of_a_fault(rt: HostRuntime) -> Result<(), AllocError> {
     let text = format!(in rt.alloc(); "{:?}", MessageFault::TooLong)?;
     assert!(rt; text.as_str() == "TooLong");
+    Ok(())
+}
+
+/// `expired-normal-form`.
+const EXPIRED: &[u8] =
+    b"\x74\x1f\x30\x1d\x80\x01\x02\xa1\x0a\xa1\x03\x1b\x01\x47\xa2\x03\x1b\x01\x51\xa2\x0c\xa0\x0a\x80\x0820240229";
+
+/// Whether the transaction-id of the EXPIRED that is read from a message is written as the entry of its row.
+fn has_its_transaction_id(alloc: Global, message: &Message) -> Result<bool, Fail> {
+    let apdu = Apdu::from_message(alloc, message)?;
+    let Apdu::Expired(expired) = &apdu else {
+        return Ok(false);
+    };
+    let id = expired.head.transaction_id.to_value(alloc)?;
+    let Value::Seq(entries) = message.body() else {
+        return Ok(false);
+    };
+    match entries.get(1) {
+        Some(Some(entry)) => Ok(equal(entry, &id)),
+        _ => Ok(false),
+    }
+}
+
+#[test]
+fn a_message_that_was_read_comes_back(rt: HostRuntime) -> Result<(), Fail> {
+    let message = decoded(rt.alloc(), EXPIRED)?;
+    assert!(rt; message.octets() == 33);
+    assert!(rt; comes_back(rt.alloc(), &message)?);
+    assert!(rt; has_its_transaction_id(rt.alloc(), &message)?);
     Ok(())
 }

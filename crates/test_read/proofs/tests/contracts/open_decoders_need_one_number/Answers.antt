@@ -71,7 +71,7 @@ pub returns-clause-same : goal.returns-clause-same
 returns-clause-same c =
     let f = c.requires in
     one_need (c.one_place.ensures.apart profile_two) (c.one_place.ensures.last profile_two) f.0 c.need.result c.need-2.result f.1.1.0.octets
-    (c.need.ensures.exact f.0 f.1) (c.need-2.ensures.exact f.0 f.2)
+    (c.need.ensures.needs.exact f.0 f.1) (c.need-2.ensures.needs.exact f.0 f.2)
 
 pub returns-clause-some : goal.returns-clause-some
 returns-clause-some c = c.need.ensures.some c.requires.0 c.requires.1
