@@ -1,6 +1,7 @@
 //! What is made of a message, and written to the caller's buffer.
-ghost use Rattle.std.specs.Prelude.{◌≡◌, IfOk};
-ghost use Rattle.ill_schema.specs.Apdu.{Apdu, normal_form};
+ghost use Rattle.std.specs.Prelude.{◌≡◌, ℕ, List, IfOk};
+ghost use Rattle.ber_leaf.specs.Profile.{profile_two};
+ghost use Rattle.ill_schema.specs.Apdu.{Apdu, SpellsApdu, normal_form};
 ghost use Rattle.ill_read.specs.Outline.{IsOutlineOf};
 ghost use Rattle.ill_text.specs.Shown.{shown_text};
 ghost use Rattle.ill_c.specs.Calls.{Writes, digest};
@@ -82,9 +83,9 @@ fn show(
 
 /// The text of the message that the outline is of.
 fn text_octets(alloc: Global, number: u32, outline: Outline) -> Result<Vec<u8>, AllocError>
-    ensures { (a : Apdu) → IsOutlineOf outline a → IfOk result (λ text. text.items ≡ shown_text number a) }
+    ensures { (a : Apdu) (octets : List ℕ) → SpellsApdu profile_two a octets → IsOutlineOf outline a → IfOk result (λ text. text.items ≡ shown_text number a) }
 {
-    Text::new(number, outline)?.octets(alloc)
+    Text::new(number, outline).octets(alloc)
 }
 
 /// Writes the digest of the message that the octets are, of 32 octets.

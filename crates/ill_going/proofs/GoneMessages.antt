@@ -289,7 +289,7 @@ module _ (text : Position → Spelling → List ℕ) (is_good : Spelling → Boo
     halts_unread Unread.Broken lt h k broken =
         let b = broken refl in
         halts before written Why.ReadFault refl k (omega (arith, r.size))
-        (omega arith, b.0, (b.1.octets, b.1.taken, b.1.unfinished), subst (λ (z : Option (List ℕ)). Keeps held' z) h (Keeps-refl held'))
+        (omega arith, b.0, ((b.1.octets, b.1.taken, b.1.unfinished), λ full. absurd (omega (arith, lt, full))), subst (λ (z : Option (List ℕ)). Keeps held' z) h (Keeps-refl held'))
 
     pub halts_writing : {T : Type 0} (is : T → List ℕ → Type 0) (piece : Piece T) (n written' : ℕ) → before < 1_000_000 → written' ≡ written + n → (p : Made is text is_good (position (before + 1) offset) left' left'' piece)
         → Appends held' held'' (take n (text (position (before + 1) offset) (spelling p.2.apdu p.0))) → n < length (text (position (before + 1) offset) (spelling p.2.apdu p.0)) → IsTrue y → new ≡ next
@@ -309,7 +309,7 @@ module _ (text : Position → Spelling → List ℕ) (is_good : Spelling → Boo
     halts_at_last n Why.ReadFault same last h k e =
         let none = Consumes-kept left' left' left'' [] (Consumes-nil left') e.1 in
         halts n written Why.ReadFault same k (omega (arith, r.size))
-        (omega (arith, last), e.0, ([], none, λ a i accepted. accepts_some profile_two [] a i refl accepted), subst (λ (z : Option (List ℕ)). Keeps held' z) h (Keeps-refl held'))
+        (omega (arith, last), e.0, (([], none, λ a i accepted. accepts_some profile_two [] a i refl accepted), λ full. e.1), subst (λ (z : Option (List ℕ)). Keeps held' z) h (Keeps-refl held'))
     halts_at_last n Why.OutOfMemory same last h k e = absurd e
     halts_at_last n (Why.WriteFault i) same last h k e = absurd e
 

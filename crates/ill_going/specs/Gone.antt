@@ -3,9 +3,8 @@ use Rattle.std.specs.Prelude.{◌≡◌, ◌⊎◌, ℕ, ◌+◌, ◌<◌, ◌�
 use Rattle.std.specs.Io.KnownBytes.{Consumes, Keeps, Appends, IsAtEnd}
 use Rattle.ber_frame.specs.Framed.{IsPart, IsUnframed}
 use Rattle.ill_schema.specs.declared.refusal.Refusal.{Refusal}
-use Rattle.ill_read.specs.Answers.{TakesNoMessage}
 use Rattle.ill_normal.specs.Calls.{Taking, taking, Putting, putting}
-use Rattle.ill_normal.specs.Messages.{Spelling, counted, first, BreaksWithin}
+use Rattle.ill_normal.specs.Messages.{Spelling, counted, first, BreaksWithin, TakesNoFurther}
 use Rattle.ill_normal.specs.declared.messages.Position.{Position}
 use Rattle.ill_going.specs.Items.{Item, AreItems, IsRefusedFor, position_past, written_from, report, reports_from, good_in, all_good, Adds}
 use Rattle.ill_going.specs.declared.report.Report.{Report}
@@ -79,7 +78,7 @@ pub record GoesThrough (text : Position → Spelling → List ℕ) (is_good : Sp
 abbrev pub Halts : (Position → Spelling → List ℕ) → Taking → Putting → ℕ → Position → Why → Type 0
 Halts text source sink before next Why.OutOfMemory = (before < 1_000_000) × Keeps sink.held sink.held'
 Halts text source sink before next Why.ReadFault =
-    (before ≤ 1_000_000) × IsTrue source.broken × TakesNoMessage source.left source.left' × Keeps sink.held sink.held'
+    (before ≤ 1_000_000) × IsTrue source.broken × TakesNoFurther before source.left source.left' × Keeps sink.held sink.held'
 Halts text source sink before next (Why.WriteFault n) = (before < 1_000_000) × BreaksWithin (text next) source sink n
 Halts text source sink before next Why.TooMany =
     (before ≡ 1_000_000) × ((octet : ℕ) × Consumes source.left source.left' (octet ∷ [])) × Keeps sink.held sink.held'

@@ -6,7 +6,7 @@ use Rattle.std.proofs.KnownBytes.{Appends-trans}
 use Rattle.std.proofs.Math.Seq.{take-append-add}
 use Rattle.ill_read.specs.declared.failure.ReadFailure.{ReadFailure}
 use Rattle.ill_normal.specs.Calls.{Taking, taking, Putting, putting}
-use Rattle.ill_normal.specs.Messages.{Spelling, position, position_after, good_of, PassesAll, BreaksWithin, Ends, EndsAfter, part_of}
+use Rattle.ill_normal.specs.Messages.{Spelling, position, position_after, good_of, PassesAll, BreaksWithin, Ends, EndsAfter, TakesNoFurther, part_of}
 use Rattle.ill_normal.specs.declared.messages.Position.{Position}
 use Rattle.ill_normal.specs.declared.messages.Passed.{Passed}
 use Rattle.ill_normal.specs.declared.messages.Stopped.{Stopped}
@@ -78,7 +78,8 @@ module _ (work : Work) where
   stops left source sink first ms whole written (Why.Read (ReadFailure.Refused refusal)) w count size h =
       (ap (λ (n : ℕ). n + 1) count, omega (arith, count, h.0), h.1, h.2)
   stops left source sink first ms whole written (Why.Read ReadFailure.OutOfMemory) w count size h = (omega (arith, count, h.0), h.1)
-  stops left source sink first ms whole written (Why.Read ReadFailure.ReadFault) w count size h = (omega (arith, count, h.0), h.1, h.2, h.3)
+  stops left source sink first ms whole written (Why.Read ReadFailure.ReadFault) w count size h =
+      (omega (arith, count, h.0), h.1, subst (λ (n : ℕ). TakesNoFurther n source.left source.left') count h.2, h.3)
   stops left source sink first ms whole written (Why.Write n) w count size h =
       (omega (arith, count, h.0), h.1.broken, broke_within left source sink first ms n written w size h.1)
   stops left source sink first ms whole written Why.TooMany w count size h = (omega (arith, count, h.0), h.1, h.2)

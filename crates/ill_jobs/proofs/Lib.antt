@@ -6,3 +6,4 @@ pub mod TextAnswers
 pub mod PairAnswers
 pub mod TakenOctets
 pub mod PlainTexts
+pub mod DigitErrors

@@ -1,5 +1,5 @@
 -- What is made of a message is what the job writes of it.
-use Rattle.std.proofs.Common.{◌≡◌, ◌↔◌, ℕ, Bool, true, false, List, ◌++◌, codes, length, Vec, Global, IsTrue, refl, sym, ap, ap₂, subst, ◌∙◌}
+use Rattle.std.proofs.Common.{◌≡◌, ℕ, Bool, true, false, List, ◌++◌, codes, length, Vec, Global, refl, sym, ap, ap₂, subst, ◌∙◌}
 use Rattle.std.specs.Str.{bytes_eq}
 use Rattle.hex.specs.Hex.{encode_lower}
 use Rattle.sha2.specs.Sha256.{sha256}
@@ -62,9 +62,11 @@ module _ (p : Position) (name : List ℕ) (named compares : Bool) where
           size = h.3;
         }
 
-  pub makes_shown : (found : Found) (hex : Bool) (text : Written) → ((a : Apdu) → IsOutlineOf found.outline a → IsWritten text (label_of named name ++ shown_text p.number a)) → (b : List ℕ) → IsFound compares found b
+  pub makes_shown : (found : Found) (hex : Bool) (text : Written)
+      → ((a : Apdu) (octets : List ℕ) → SpellsApdu profile_two a octets → IsOutlineOf found.outline a → IsWritten text (label_of named name ++ shown_text p.number a))
+      → (b : List ℕ) → IsFound compares found b
       → Makes IsWritten (message_text Job.Show hex name named p) (counts_as_good Job.Show compares) (record { text = text; is_good = found.is_good; octets = found.octets }) b
-  makes_shown found hex text is b h = record { apdu = h.apdu; spells = h.spells; text = is h.apdu h.outline; good = h.good; size = h.size }
+  makes_shown found hex text is b h = record { apdu = h.apdu; spells = h.spells; text = is h.apdu b h.spells h.outline; good = h.good; size = h.size }
 
   pub makes_json : (found : Found) (hex : Bool) (text : Vec ℕ Global)
       → ((a : Apdu) → IsOutlineOf found.outline a → text.items ≡ json_line_of (file_of named name) (head_of p found.octets found.is_good) a) → (b : List ℕ) → IsFound true found b
@@ -87,9 +89,11 @@ makes_compared x text b h form =
 pub found_read : (read : Outlined) (b : List ℕ) → IsOutlined read b → IsFound false (record { outline = read.outline; octets = read.read; is_good = true }) b
 found_read read b h = record { apdu = h.0; spells = h.1; outline = h.2; size = h.3; good = refl }
 
+pub form_spells : (x : Checked) (text b : List ℕ) → (h : Describes x b) → IsFormOf text b → SpellsApdu profile_two h.0 text
+form_spells x text b h form = subst (SpellsApdu profile_two h.0) (sym (form h.0 h.1)) (spells_normal h.0 b h.1)
+
 pub found_compared : (x : Checked) (text : List ℕ) (outline : Outline) → ((a : Apdu) → SpellsApdu profile_two a text → IsOutlineOf outline a) → (b : List ℕ) → Describes x b → IsFormOf text b
     → IsFound true (record { outline = outline; octets = x.octets; is_good = x.is_normal }) b
 found_compared x text outline is b h form =
     let a = h.0 in
-    let spells : SpellsApdu profile_two a text = subst (SpellsApdu profile_two a) (sym (form a h.1)) (spells_normal a b h.1) in
-    record { apdu = a; spells = h.1; outline = is a spells; size = h.3; good = tests_equality x.is_normal b (normal_form a) h.5 }
+    record { apdu = a; spells = h.1; outline = is a (form_spells x text b h form); size = h.3; good = tests_equality x.is_normal b (normal_form a) h.5 }

@@ -12,12 +12,10 @@ is_blank octet = nat_eq octet 0x20 || (nat_eq octet 0x09 || (nat_eq octet 0x0D |
 abbrev pub without_blanks : List ℕ → List ℕ
 without_blanks text = filter (λ octet. not (is_blank octet)) text
 
--- the digits are odd in number, or the first character that is not a digit is at this place
+-- the first character that is not a digit is at this place, or the digits are odd in number; `decode_of` gives no other error
 abbrev pub hex_fault : FromHexError → RunFault
-hex_fault FromHexError.OddLength = RunFault.OddHex
 hex_fault (FromHexError.InvalidHexCharacter octet place) = RunFault.BadHex place
-hex_fault FromHexError.InvalidStringLength = RunFault.OutOfMemory
-hex_fault FromHexError.OutOfMemory = RunFault.OutOfMemory
+hex_fault _ = RunFault.OddHex
 
 abbrev pub with_fault : {T : Type 0} → Result T FromHexError → Result T RunFault
 with_fault (Ok octets) = Ok octets

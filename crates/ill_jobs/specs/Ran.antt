@@ -5,7 +5,7 @@ use Rattle.ber_leaf.specs.Profile.{profile_two}
 use Rattle.ill_schema.specs.Apdu.{SpellsApdu}
 use Rattle.ill_refusals.specs.Fault.{Fault, fault_of}
 use Rattle.ill_read.specs.declared.failure.ReadFailure.{ReadFailure}
-use Rattle.ill_read.specs.Answers.{TakesFront, TakesNoMessage}
+use Rattle.ill_read.specs.Answers.{TakesFront}
 use Rattle.ill_refusals.specs.Outcome.{OnlyRefuses}
 use Rattle.ill_normal.specs.Calls.{Taking, taking, Putting, putting}
 use Rattle.ill_jobs.specs.declared.job.Counts.{Counts}
@@ -13,7 +13,7 @@ use Rattle.ill_jobs.specs.declared.job.Job.{Job}
 use Rattle.ill_jobs.specs.declared.job.Verdict.{Verdict}
 use Rattle.ill_jobs.specs.declared.job.Work.{Work}
 use Rattle.ill_jobs.specs.declared.fault.RunFault.{RunFault}
-use Rattle.ill_normal.specs.Messages.{Spelling, AreSpelled}
+use Rattle.ill_normal.specs.Messages.{Spelling, AreSpelled, TakesNoFurther}
 use Rattle.ill_normal.specs.Messages as messages
 use Rattle.ill_jobs.specs.Output.{counts_of, message_output, output, verdict_of}
 use Rattle.ill_jobs.specs.Hexadecimal.{hex_octets, TakesText}
@@ -41,7 +41,7 @@ Stops work source sink first ms RunFault.TooManyMessages =
     (length ms ≡ 1_000_000) × ((octet : ℕ) × Consumes source.left source.left' (octet ∷ [])) × Keeps sink.held sink.held'
 Stops work source sink first ms RunFault.OutOfMemory = (length ms < 1_000_000) × Keeps sink.held sink.held'
 Stops work source sink first ms RunFault.ReadFault =
-    (length ms ≤ 1_000_000) × IsTrue source.broken × TakesNoMessage source.left source.left' × Keeps sink.held sink.held'
+    (length ms ≤ 1_000_000) × IsTrue source.broken × TakesNoFurther (length ms) source.left source.left' × Keeps sink.held sink.held'
 Stops work source sink first ms (RunFault.WriteFault n) =
     (length ms < 1_000_000) × IsTrue sink.broken × BrokeAt work source.left source.left' first sink.held' ms n
 Stops work source sink first ms _ = ⊥

@@ -14,21 +14,6 @@ use std::alloc::{AllocError, Global};
 /// How many octets a hexadecimal text may have.
 const MOST: usize = 4_194_304;
 
-impl From<FromHexError> for RunFault {
-    ghost use Rattle.std.specs.Prelude.{◌≡◌};
-    ghost use Rattle.ill_jobs.specs.Hexadecimal.{hex_fault};
-
-    ghost from_gives = { λ error fault. fault ≡ hex_fault error };
-
-    fn from(error: FromHexError) -> RunFault {
-        match error {
-            FromHexError::OddLength => RunFault::OddHex,
-            FromHexError::InvalidHexCharacter { index, .. } => RunFault::BadHex(index as u64),
-            FromHexError::InvalidStringLength | FromHexError::OutOfMemory => RunFault::OutOfMemory,
-        }
-    }
-}
-
 /// Reads a text to its end, and returns the octets that it stands for. At most 4,194,305 octets are
 /// taken of the source, whatever the result.
 ///
@@ -73,7 +58,14 @@ fn spaced_octets(alloc: Global, text: &[u8]) -> Result<Vec<u8>, RunFault>
     let Ok(digits) = without_blanks(alloc, text) else {
         return Err(RunFault::OutOfMemory);
     };
-    Ok(hex::decode(alloc, digits.as_slice())?)
+    match hex::decode(alloc, digits.as_slice()) {
+        Ok(octets) => Ok(octets),
+        Err(FromHexError::OddLength) => Err(RunFault::OddHex),
+        Err(FromHexError::InvalidHexCharacter { index, .. }) => Err(RunFault::BadHex(index as u64)),
+        Err(FromHexError::OutOfMemory) => Err(RunFault::OutOfMemory),
+        // That is of a buffer, which isn't as long as the digits say.
+        Err(FromHexError::InvalidStringLength) => unreachable!(),
+    }
 }
 
 fn is_blank(octet: u8) -> bool

@@ -1,5 +1,5 @@
 //! What a job makes of one message.
-ghost use Rattle.std.specs.Prelude.{◌≡◌, ◌^◌, ◌≤◌, ℕ, ◌++◌, codes, length, option_map, IfOk, OnOk};
+ghost use Rattle.std.specs.Prelude.{◌≡◌, ◌^◌, ◌≤◌, ℕ, List, ◌++◌, codes, length, option_map, IfOk, OnOk};
 ghost use Rattle.hex.specs.Hex.{encode_lower};
 ghost use Rattle.ill_read.specs.Answers.{ReadsNext};
 ghost use Rattle.ill_read.specs.Outline.{IsOutlineOf};
@@ -14,7 +14,7 @@ ghost use Rattle.ill_jobs.specs.code.Writing.{IsWritten};
 
 use crate::job::{Job, Work};
 use crate::written::Written;
-use ber_core::{AtHand, FromSlice, Look, Source};
+use ber_core::{Look, Source};
 use ill_digest::normal_digest;
 use ill_json::{Head, json_line};
 use ill_normal::{
@@ -22,11 +22,11 @@ use ill_normal::{
     check_one_in,
 };
 use ill_read::{Outline, OutlineReader};
-use ill_text::Text;
+use ill_text::{Text, outline_of};
 use itoa::Buffer;
 use std::alloc::{AllocError, Global};
 
-/// How many octets may come before the text of a message.
+/// How many octets of a label are counted with those of a text.
 const LONGEST: usize = 1 << 62;
 
 /// What reads the messages of an input: their normal forms, and their outlines.
@@ -116,7 +116,7 @@ fn shown<R: Source, L: Look<R>>(
         octets: size,
         is_good,
     } = found;
-    match labelled_text(octets, work, position.number, outline) {
+    match labelled_text(alloc, octets, work, position.number, outline) {
         Ok(text) => Ok(Some(Piece {
             text,
             is_good,
@@ -214,36 +214,24 @@ fn outlined<R: Source, L: Look<R>>(
     }
 }
 
-/// The outline of the message that the octets are.
-fn outline_of(
-    reader: &mut OutlineReader,
-    octets: &[u8],
-    room: Outline,
-) -> Result<Outline, AllocError>
-    ensures { (a : Apdu) → SpellsApdu profile_two a octets.now → IfOk result (λ outline. IsOutlineOf outline a) }
-{
-    let mut source = FromSlice::new(octets);
-    match reader.read::<FromSlice<'_>, AtHand>(&mut source, room) {
-        Ok(Some(read)) => Ok(read.outline),
-        _ => Err(AllocError),
-    }
-}
-
-/// The text of the message that the outline is of, after its label. A name of more than 4,611,686,018,427,387,902 octets is out of memory.
+/// The text of the message that the outline is of, after its label. Where the label is too long to be counted with a text, the octets
+/// of both are made.
 fn labelled_text(
+    alloc: Global,
     room: Vec<u8>,
     work: Work<'_>,
     number: u32,
     outline: Outline,
 ) -> Result<Written, AllocError>
-    ensures { (a : Apdu) → IsOutlineOf outline a
+    ensures { (a : Apdu) (octets : List ℕ) → SpellsApdu profile_two a octets → IsOutlineOf outline a
         → IfOk result (λ text. IsWritten text (label_of work.entry.is_named work.entry.name.now ++ shown_text number a)) }
 {
-    let label = label(room, work)?;
+    let mut label = label(room, work)?;
+    let text = Text::new(number, outline);
     if label.len() > LONGEST {
-        return Err(AllocError);
+        label.extend_from_slice(&text.octets(alloc)?)?;
+        return Ok(Written::Octets(label));
     }
-    let text = Text::new(number, outline)?;
     Ok(Written::Shown { label, text })
 }
 

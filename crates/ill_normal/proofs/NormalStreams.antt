@@ -55,10 +55,10 @@ streamed is_good left left' held held' p h =
 
 stops : (source : Taking) (sink : Putting) (whole : ℕ) (next : Position) (why : Why) → Ends normal_text source sink whole next why → Stops source sink whole (stream_cause why)
 stops source sink whole next (Why.Read (ReadFailure.Refused refusal)) h = (h.0, (h.1, h.2))
-stops source sink whole next (Why.Read ReadFailure.OutOfMemory) h = (omega (arith, h.0), h.1)
-stops source sink whole next (Why.Read ReadFailure.ReadFault) h = (h.0, (h.1, h.2, h.3))
+stops source sink whole next (Why.Read ReadFailure.OutOfMemory) h = (h.0, h.1)
+stops source sink whole next (Why.Read ReadFailure.ReadFault) h = (h.0, h.2, (h.1, h.2.0, h.3))
 stops source sink whole next (Why.Write n) h =
-    let b = h.1 in (omega (arith, h.0), (b.broken, (b.message.apdu, b.message.octets, b.spells, b.taken, b.written, b.fewer)))
+    let b = h.1 in (h.0, (b.broken, (b.message.apdu, b.message.octets, b.spells, b.taken, b.written, b.fewer)))
 stops source sink whole next Why.TooMany h = h
 
 pub stops_of : (is_good : Spelling → Bool) (source : Taking) (sink : Putting) (e : Stopped) → EndsAfter normal_text is_good source sink e

@@ -167,7 +167,7 @@ module _ (text : Position → Spelling → List ℕ) (is_good : Spelling → Boo
         → Ends text (taking left' left'' x) (putting held' held' y) whole (position_after first r.messages) (Why.Read e)
     read_ends was Is (ReadFailure.Refused refusal) lt h = (lt, h.refused, Keeps-refl held')
     read_ends was Is ReadFailure.OutOfMemory lt h = (lt, Keeps-refl held')
-    read_ends was Is ReadFailure.ReadFault lt h = (omega arith, h.fault.0, h.fault.1, Keeps-refl held')
+    read_ends was Is ReadFailure.ReadFault lt h = (omega arith, h.fault.0, (h.fault.1, λ full. absurd (omega (arith, lt, full))), Keeps-refl held')
 
     pub ends_reading : {T : Type 0} (was : Bool) (Is : T → List ℕ → Type 0) (e : ReadFailure) → whole < 1_000_000 → ReadsNext left' left'' was x Is (Err e)
         → EndsAfter text is_good (taking left left'' x) (putting held held' y) (ended_at whole good before written (Why.Read e))
@@ -238,7 +238,7 @@ module _ (text : Position → Spelling → List ℕ) (is_good : Spelling → Boo
           good = r.good_ones;
           before = r.input;
           written = omega (arith, r.size);
-          ends = (omega arith, h.0, ([], none, λ a n accepted. accepts_some profile_two [] a n refl accepted), Keeps-refl held');
+          ends = (omega arith, h.0, (([], none, λ a n accepted. accepts_some profile_two [] a n refl accepted), λ full. h.1), Keeps-refl held');
         }
     ends_at_last n (Why.Read (ReadFailure.Refused refusal)) same last h = absurd h
     ends_at_last n (Why.Read ReadFailure.OutOfMemory) same last h = absurd h

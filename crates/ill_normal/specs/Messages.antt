@@ -97,13 +97,17 @@ pub record BreaksWithin (text : Spelling → List ℕ) (source : Taking) (sink :
   pub fewer : n < length (text message)
   pub broken : IsTrue sink.broken
 
+-- no message was taken after this many; after 1,000,000 nothing was
+abbrev pub TakesNoFurther : ℕ → Option (List ℕ) → Option (List ℕ) → Type 0
+TakesNoFurther whole left left' = TakesNoMessage left left' × (whole ≡ 1_000_000 → Keeps left left')
+
 -- why no further message was written, after `whole` of them, where `next` is the position of the next one
 abbrev pub Ends : (Position → Spelling → List ℕ) → Taking → Putting → ℕ → Position → Why → Type 0
 Ends text source sink whole next (Why.Read (ReadFailure.Refused refusal)) =
     (whole < 1_000_000) × IfSome source.left (λ s. (0 < length s) × OnlyRefuses profile_two s (fault_of refusal)) × Keeps sink.held sink.held'
 Ends text source sink whole next (Why.Read ReadFailure.OutOfMemory) = (whole < 1_000_000) × Keeps sink.held sink.held'
 Ends text source sink whole next (Why.Read ReadFailure.ReadFault) =
-    (whole ≤ 1_000_000) × IsTrue source.broken × TakesNoMessage source.left source.left' × Keeps sink.held sink.held'
+    (whole ≤ 1_000_000) × IsTrue source.broken × TakesNoFurther whole source.left source.left' × Keeps sink.held sink.held'
 Ends text source sink whole next (Why.Write n) = (whole < 1_000_000) × BreaksWithin (text next) source sink n
 Ends text source sink whole next Why.TooMany =
     (whole ≡ 1_000_000) × ((octet : ℕ) × Consumes source.left source.left' (octet ∷ [])) × Keeps sink.held sink.held'

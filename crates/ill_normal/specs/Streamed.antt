@@ -9,6 +9,7 @@ use Rattle.ill_normal.specs.declared.failure.NormalFailure.{NormalFailure}
 use Rattle.ill_normal.specs.declared.failure.StreamCause.{StreamCause}
 use Rattle.ill_normal.specs.declared.failure.StreamFailure.{StreamFailure}
 use Rattle.ill_normal.specs.Calls.{Taking, taking, Putting, putting}
+use Rattle.ill_normal.specs.Messages.{TakesNoFurther}
 use Rattle.ill_normal.specs.Normalised.{Fails, IsFault}
 
 -- `whole` messages of `before` octets were taken, and their normal forms were written, in order
@@ -23,8 +24,9 @@ pub record Passes (left left' held held' : Option (List ℕ)) (whole before : �
 
 -- why no further message was normalised, after this many
 abbrev pub Stops : Taking → Putting → ℕ → StreamCause → Type 0
-Stops source sink whole (StreamCause.Normal (NormalFailure.Refused refusal)) = (whole < 1_000_000) × Fails source sink (NormalFailure.Refused refusal)
-Stops source sink whole (StreamCause.Normal failure) = (whole ≤ 1_000_000) × Fails source sink failure
+Stops source sink whole (StreamCause.Normal NormalFailure.ReadFault) =
+    (whole ≤ 1_000_000) × TakesNoFurther whole source.left source.left' × Fails source sink NormalFailure.ReadFault
+Stops source sink whole (StreamCause.Normal failure) = (whole < 1_000_000) × Fails source sink failure
 Stops source sink whole StreamCause.TooManyMessages =
     (whole ≡ 1_000_000) × ((octet : ℕ) × Consumes source.left source.left' (octet ∷ [])) × Keeps sink.held sink.held'
 

@@ -1,40 +1,39 @@
--- How long a text may be: no line is longer than its marks are many, by far.
-use Rattle.std.proofs.Common.{◌≡◌, ℕ, zero, suc, ◌+◌, ◌-◌, ◌*◌, ◌^◌, ◌<◌, ◌≤◌, ℤ, pos, negsuc, ◌&&◌, Bool, true, false, IsTrue, List, [], ◌∷◌, ◌++◌, length, map, Option, Some, None, refl, sym, ap, subst, inl, inr, arith, codes, decimal, slice_get, length-append}
-use Rattle.std.specs.Prelude.{nat_eq, nat_le, flat_map, slice_index, ◌||◌, ◌/◌, ◌%◌, if◌then◌else◌}
+-- How long a text may be: by far no longer than the normal form allows, since that is within the limit.
+use Rattle.std.proofs.Common.{◌≡◌, ℕ, zero, suc, ◌+◌, ◌-◌, ◌*◌, ◌^◌, ◌<◌, ◌≤◌, ℤ, pos, negsuc, ◌&&◌, Bool, true, false, IsTrue, List, [], ◌∷◌, ◌++◌, length, Option, Some, None, refl, sym, subst, arith, codes, decimal, slice_get, length-append}
+use Rattle.std.specs.Prelude.{not, nat_eq, nat_le, flat_map, slice_index, ◌||◌, ◌/◌, ◌%◌, if◌then◌else◌}
 use Rattle.std.proofs.lemmas.Int.{ints}
 use Rattle.std.specs.Fmt.{signed_decimal}
 use Rattle.std.specs.List.{list_all}
 use Rattle.std.proofs.lemmas.Fmt.{length-decimal-le_succ, length_signed_le}
 use lib.Signed.{mag}
-use Rattle.ber_leaf.specs.Content.{IsContent}
-use Rattle.ber_leaf.specs.Leaf.{enumerated, value, integer, integer_of}
-use Rattle.ber_leaf.specs.Profile.{profile_two}
-use Rattle.ber_leaf.specs.Simple.{Simple, flag, whole}
-use Rattle.ber_leaf.proofs.Integers.{whole_bounds}
-use Rattle.ber_leaf.proofs.Leaves.{content, content_holds, no_fault}
 use Rattle.std.proofs.Common.{neg_ℤ, ◌≤ℤ◌}
+use Rattle.itoa.proofs.Decimal.{length_wide}
+use Rattle.ber_core.specs.Der.{size, sizes}
+use Rattle.ber_core.specs.Identifier.{Tag, identifier}
+use Rattle.ber_core.specs.Length.{shortest_length}
+use Rattle.ber_core.specs.Tree.{Tree, Trees, primitive, constructed, none, more}
+use Rattle.ber_core.proofs.Encodings.{length-encoding}
+use Rattle.ber_leaf.specs.Leaf.{Leaf, integer, enumerated, Holds, normal_content}
+use Rattle.ber_leaf.specs.Profile.{profile_two}
+use Rattle.ber_leaf.specs.Simple.{Simple, flag, whole, date, time, printable, general, visible}
+use Rattle.ber_leaf.proofs.Integers.{whole_bounds}
 use Rattle.ill_schema.specs.declared.node.NodeId.{NodeId}
 use Rattle.ill_schema.specs.declared.node.NodeId.TheVariants.{Boolean, IllApdu}
 use Rattle.ill_schema.specs.declared.node.Kind.{Kind}
-use Rattle.ill_schema.specs.declared.node.LeafKind.{LeafKind}
-use Rattle.std.specs.Ordering.{int_eq}
-use Rattle.itoa.proofs.Decimal.{length_wide}
 use Rattle.ill_schema.specs.declared.part.Presence.{Presence}
 use Rattle.ill_schema.specs.declared.part.Row.{Row}
-use Rattle.ill_schema.specs.Apdu.{Apdu, choice_of}
+use Rattle.ill_schema.specs.Apdu.{Apdu, SpellsApdu, choice_of}
 use Rattle.ill_schema.specs.Content.{Content, simple, sequence, list, alternative, Entries, no_entries, absent, present, Items, no_items, item}
+use Rattle.ill_schema.specs.Fits.{Fits, FitRows, FitItems, FitsSimple}
 use Rattle.ill_schema.specs.Names.{names_of}
-use Rattle.ill_schema.specs.Presence.{default_value}
+use Rattle.ill_schema.specs.Normal.{normal_tree, normal_trees, normal_items}
+use Rattle.ill_schema.specs.Presence.{default_value, is_default, is_default_of, same_value}
 use Rattle.ill_schema.specs.Table.{kind_of, rows_of}
-use Rattle.ill_elements.specs.LeafTypes.{leaf_is}
-use Rattle.ill_read.specs.Outline.{AreEntries, AreItems, IsMarked, leaf_marks}
-use Rattle.ill_elements.specs.declared.leaf_type.LeafType.{LeafType}
-use Rattle.ill_elements.specs.declared.leaf_type.LeafType.TheVariants as code
-use Rattle.ill_read.specs.declared.mark.Mark.{Mark}
-use Rattle.ill_read.specs.declared.mark.Mark.TheVariants as mark
-use Rattle.ill_text.proofs.Lines.{marks_length}
+use Rattle.ill_schema.specs.Tagging.{Tagging, untagged, implicit, explicit, explicit_or_bare, sequence_tag, tag_tree, tagging}
+use Rattle.ill_schema.proofs.MeansFits.{means_apdu_fits}
+use Rattle.ill_schema.proofs.Tags.{at_row}
 use Rattle.ill_text.specs.Numbers.{number_name, number_names}
-use Rattle.ill_text.specs.Shown.{Place, entry_lines, escaped, in_brackets, is_empty, item_lines, item_of, leaf_text, line, lines_of, name_or_none, part, quoted, row_name, row_node, shown_text, within}
+use Rattle.ill_text.specs.Shown.{Place, body_place, entry_lines, escaped, in_brackets, is_empty, item_lines, item_of, leaf_text, line, lines_of, name_or_none, part, quoted, row_name, shown_text, within}
 
 -- ---- names
 
@@ -54,23 +53,23 @@ names_short : (node : NodeId) → IsTrue (all_short (names_of node).1)
 names_short Boolean = refl
 names_short _ = refl
 
-pub name_size : (node : NodeId) (i : ℕ) → length (row_name node i) ≤ 60
+name_size : (node : NodeId) (i : ℕ) → length (row_name node i) ≤ 60
 name_size node i = short_at (names_of node).1 i (names_short node)
 
 within_size : (path name : List ℕ) → length (within path name) ≤ length path + length name + 1
 within_size [] name = omega arith
 within_size (a ∷ path) name = omega (arith, length-append (a ∷ path) (codes "." ++ name), length-append (codes ".") name)
 
-pub part_size : (p : Place) (i : ℕ) → length (part p i).path ≤ length p.path + 61
+part_size : (p : Place) (i : ℕ) → length (part p i).path ≤ length p.path + 61
 part_size p i = omega (arith, within_size p.path (row_name p.node i), name_size p.node i)
 
-pub item_size : (p : Place) (i : ℕ) → i < 2 ^ 64 → length (item_of p i).path ≤ length p.path + i + 3
+item_size : (p : Place) (i : ℕ) → i < 2 ^ 64 → length (item_of p i).path ≤ length p.path + i + 3
 item_size p i h =
     omega (arith, length-append (p.path ++ codes "[" ++ decimal i) (codes "]"), length-append (p.path ++ codes "[") (decimal i), length-append p.path (codes "["), length-decimal-le_succ i h)
 
 -- ---- leaves
 
-pub line_size : (path text : List ℕ) → length (line path text) ≡ length path + length text + 4
+line_size : (path text : List ℕ) → length (line path text) ≡ length path + length text + 4
 line_size path text = omega (arith, length-append (path ++ codes " = " ++ text) (codes "\n"), length-append (path ++ codes " = ") text, length-append path (codes " = "))
 
 escape_size : (a b : Bool) (x y z : List ℕ) → length x ≤ 4 → length y ≤ 4 → length z ≤ 4 → length (if a then x else if b then y else z) ≤ 4
@@ -121,119 +120,198 @@ mag_bound : (z : ℤ) → (neg_ℤ (pos 9_223_372_036_854_775_808) ≤ℤ z) × 
 mag_bound (pos n) h = let top = h.1 in omega (arith, ints)
 mag_bound (negsuc n) h = let low = h.0 in omega (arith, ints)
 
-number_read : (row o : List ℕ) → IsContent integer o → length (leaf_text row (whole (integer_of o))) ≤ 85
-number_read row o h = whole_size row (integer_of o) (mag_bound (integer_of o) ((whole_bounds profile_two (integer_of o)).0 (o, content_holds integer o h)))
-
 flag_size : (row : List ℕ) (b : Bool) → length (leaf_text row (flag b)) ≤ 5
 flag_size row true = omega arith
 flag_size row false = omega arith
 
-leaf_size : (row : List ℕ) (l : LeafType) (o : List ℕ) → IsContent (leaf_is l) o → length (leaf_text row (value (leaf_is l) o)) ≤ 4 * length o + 85
-leaf_size row code.Boolean o h = let b : length (leaf_text row (value (leaf_is code.Boolean) o)) ≤ 5 = flag_size row _ in omega (arith, b)
-leaf_size row code.Integer o h = omega (arith, number_read row o h)
-leaf_size row code.Enumerated o h = omega (arith, number_read row o (content integer o (content_holds enumerated o h).0 (no_fault enumerated o h)))
-leaf_size row code.General o h = omega (arith, quoted_size o, length-append (codes "general ") (quoted o))
-leaf_size row code.Visible o h = omega (arith, quoted_size o, length-append (codes "visible ") (quoted o))
-leaf_size row code.Printable o h = omega (arith, quoted_size o)
-leaf_size row code.Date o h = omega arith
-leaf_size row code.Time o h = omega arith
+-- a number is held as INTEGER or ENUMERATED
+number_size_of : (row : List ℕ) (z : ℤ) (leaf : Leaf) → Holds profile_two leaf (whole z) (normal_content (whole z)) → length (leaf_text row (whole z)) ≤ 85
+number_size_of row z integer h = whole_size row z (mag_bound z ((whole_bounds profile_two z).0 (normal_content (whole z), h)))
+number_size_of row z enumerated h = whole_size row z (mag_bound z ((whole_bounds profile_two z).0 (normal_content (whole z), h)))
+number_size_of row z _ h = absurd (let e = h.2 in cc)
 
--- a default
-abbrev is_small : Presence → Bool
-is_small (Presence.Default (pos n)) = nat_le n 1000
-is_small (Presence.Default (negsuc n)) = false
-is_small _ = true
+leaf_size : (row : List ℕ) (v : Simple) (node : NodeId) → FitsSimple profile_two v node → length (leaf_text row v) ≤ 4 * length (normal_content v) + 85
+leaf_size row (flag b) node h = omega (arith, flag_size row b)
+leaf_size row (whole z) node h = omega (arith, number_size_of row z h.0 h.2)
+leaf_size row (date o) node h = omega arith
+leaf_size row (time o) node h = omega arith
+leaf_size row (printable o) node h = omega (arith, quoted_size o)
+leaf_size row (general o) node h = omega (arith, quoted_size o, length-append (codes "general ") (quoted o))
+leaf_size row (visible o) node h = omega (arith, quoted_size o, length-append (codes "visible ") (quoted o))
 
-abbrev all_small : List Row → Bool
-all_small rows = list_all (λ row. is_small row.presence) rows
+-- a default is no text
+same_size : (row : List ℕ) (v w : Simple) (node : NodeId) → FitsSimple profile_two v node → IsTrue (same_value v w) → length (leaf_text row v) ≤ 85
+same_size row (flag b) w node h e = omega (arith, flag_size row b)
+same_size row (whole z) w node h e = number_size_of row z h.0 h.2
+same_size row (date o) w node h e = absurd cc
+same_size row (time o) w node h e = absurd cc
+same_size row (printable o) w node h e = absurd cc
+same_size row (general o) w node h e = absurd cc
+same_size row (visible o) w node h e = absurd cc
 
-rows_small : (node : NodeId) → IsTrue (all_small (rows_of node))
-rows_small Boolean = refl
-rows_small _ = refl
+default_lines : (p : Place) (pr : Presence) (k : Kind) (c : Content) (node : NodeId) → Fits profile_two c node → IsTrue (is_default_of pr k c) → length (lines_of p c) ≤ length p.path + 89
+default_lines p (Presence.Default d) k (simple v) node h e =
+    omega (arith, same_size p.name v (default_value k d) node h e, line_size p.path (leaf_text p.name v))
+default_lines p (Presence.Default d) k (sequence es) node h e = absurd cc
+default_lines p (Presence.Default d) k (list is) node h e = absurd cc
+default_lines p (Presence.Default d) k (alternative n c) node h e = absurd cc
+default_lines p Presence.Must k c node h e = absurd cc
+default_lines p Presence.May k c node h e = absurd cc
+default_lines p Presence.LeftOut k c node h e = absurd cc
 
-small_at : (rows : List Row) (i : ℕ) (row : Row) → IsTrue (all_small rows) → slice_get rows i ≡ Some row → IsTrue (is_small row.presence)
-small_at [] i row h e = absurd cc
-small_at (r ∷ rows) zero row h e = let q : r ≡ row = cc in subst (λ (x : Row). IsTrue (is_small x.presence)) q (both (is_small r.presence) (all_small rows) h).0
-small_at (r ∷ rows) (suc i) row h e = small_at rows i row (both (is_small r.presence) (all_small rows) h).1 e
+-- ---- normal trees
 
-value_size : (name : List ℕ) (kind : Kind) (n : ℕ) → n ≤ 1000 → length (leaf_text name (default_value kind (pos n))) ≤ 85
-value_size name (Kind.Leaf LeafKind.Boolean) n h = omega (arith, flag_size name (int_eq (pos n) (pos 1)))
-value_size name _ n h = whole_size name (pos n) (omega (arith, h))
+some_identifier : (t : Tag) (f : Bool) → 1 ≤ length (identifier t f)
+some_identifier t f = grind arith
 
-default_size : (name : List ℕ) (p : Presence) (node : NodeId) (v : Simple) → IsTrue (is_small p) → (elim p as (λ _. Option Content) [ Presence.Default d ↦ Some (simple (default_value (kind_of node) d)) | _ ↦ None ]) ≡ Some (simple v)
-    → length (leaf_text name v) ≤ 85
-default_size name (Presence.Default (pos n)) node v h e =
-    let q : default_value (kind_of node) (pos n) ≡ v = cc in
-    subst (λ x. length (leaf_text name x) ≤ 85) q (value_size name (kind_of node) n (le-leb-of n h))
+some_length : (n : ℕ) → 1 ≤ length (shortest_length n)
+some_length n = grind arith
+
+primitive_size : (t : Tag) (o : List ℕ) → length o + 2 ≤ size (primitive t o)
+primitive_size t o = omega (arith, some_identifier t false, some_length (length o))
+
+constructed_size : (t : Tag) (ts : Trees) → sizes ts + 2 ≤ size (constructed t ts)
+constructed_size t ts = omega (arith, some_identifier t true, some_length (sizes ts))
+
+some_size : (T : Tree) → 2 ≤ size T
+some_size (primitive t o) = omega (arith, primitive_size t o)
+some_size (constructed t ts) = omega (arith, constructed_size t ts)
+
+-- a tag only adds
+tagged_size : (g : Tagging) (own : Tag) (f : Tag → Tree) (n : ℕ) → ((t : Tag) → n ≤ size (f t)) → n ≤ size (tag_tree g own f)
+tagged_size untagged own f n h = h own
+tagged_size (implicit t) own f n h = h t
+tagged_size (explicit t) own f n h = omega (arith, h own, constructed_size t (more (f own) none))
+tagged_size (explicit_or_bare t) own f n h = omega (arith, h own, constructed_size t (more (f own) none))
+
+-- no node has more rows
+rows_few : (node : NodeId) → length (rows_of node) ≤ 31
+rows_few Boolean = omega arith
+rows_few _ = omega arith
+
+-- no alternative of a choice is a choice
+abbrev is_choice : Kind → Bool
+is_choice Kind.Choice = true
+is_choice _ = false
+
+abbrev no_choices : NodeId → Bool
+no_choices node = if is_choice (kind_of node) then list_all (λ row. not (is_choice (kind_of row.node))) (rows_of node) else true
+
+choices_apart : (node : NodeId) → IsTrue (no_choices node)
+choices_apart Boolean = refl
+choices_apart _ = refl
+
+no_choice : (node : NodeId) (n : ℕ) (row : Row) → kind_of node ≡ Kind.Choice → slice_get (rows_of node) n ≡ Some row → IsTrue (not (is_choice (kind_of row.node)))
+no_choice node n row e f =
+    let rows : IsTrue (list_all (λ (row : Row). not (is_choice (kind_of row.node))) (rows_of node)) =
+    subst (λ (k : Kind). IsTrue (if is_choice k then list_all (λ row. not (is_choice (kind_of row.node))) (rows_of node) else true)) e (choices_apart node) in
+    at_row (λ (row : Row). not (is_choice (kind_of row.node))) (rows_of node) n row rows f
+
+-- what the name of a choice's row adds to a path, though nothing to a normal form
+abbrev more_path : Content → ℕ
+more_path (alternative n c) = 61
+more_path _ = 0
+
+little_more_path : (c : Content) → more_path c ≤ 61
+little_more_path (simple v) = omega arith
+little_more_path (sequence es) = omega arith
+little_more_path (list is) = omega arith
+little_more_path (alternative n c) = omega arith
+
+no_more_path : (c : Content) (node : NodeId) → Fits profile_two c node → IsTrue (not (is_choice (kind_of node))) → more_path c ≡ 0
+no_more_path (simple v) node h other = refl
+no_more_path (sequence es) node h other = refl
+no_more_path (list is) node h other = refl
+no_more_path (alternative n c) node h other = absurd (let e = h.1.0 in apart (kind_of node) e other)
   where
-    le-leb-of : (n : ℕ) → IsTrue (nat_le n 1000) → n ≤ 1000
-    le-leb-of n h = grind arith
-default_size name (Presence.Default (negsuc n)) node v h e = absurd cc
-default_size name Presence.Must node v h e = absurd cc
-default_size name Presence.May node v h e = absurd cc
-default_size name Presence.LeftOut node v h e = absurd cc
+    apart : (k : Kind) → k ≡ Kind.Choice → IsTrue (not (is_choice k)) → ⊥
+    apart k e other = let f = subst (λ (x : Kind). IsTrue (not (is_choice x))) e other in cc
+
+-- the tree of an alternative is that of its row
+alternative_size : (c : Content) (node : NodeId) (n : ℕ) (g : Tagging) (row : Row) → slice_get (rows_of node) n ≡ Some row
+    → size (normal_tree c row.node (tagging profile_two row)) ≤ size (normal_tree (alternative n c) node g)
+alternative_size c node n g row e = tagged_size g sequence_tag _ _ (λ t. rw e (omega arith))
 
 -- ---- values
 
-octets_size : (l : LeafType) (o : List ℕ) → length (leaf_marks l o) ≡ length o + 2
-octets_size l o = omega (arith, length-append (map mark.Octet o) (mark.End ∷ []), marks_length o)
+-- how long a path may be, a line of a row's default, and what an octet of the normal form stands for
+abbrev longest : ℕ
+longest = 134_217_728
 
--- a value takes a mark at least
-some_mark : (c : Content) (ms : List Mark) → IsMarked c ms → 1 ≤ length ms
-some_mark (simple v) ms (inl h) = omega (arith, ap length h.2, octets_size h.0 h.1)
-some_mark (simple v) ms (inr h) = omega (arith, ap length h.1)
-some_mark (sequence es) ms h = omega (arith, ap length h.1)
-some_mark (list is) ms h = omega (arith, ap length h.1)
-some_mark (alternative n c) ms h = omega (arith, ap length h.1)
+abbrev row_room : ℕ
+row_room = 134_217_900
 
-simple_bound : (p : Place) (v : Simple) (ms : List Mark) → IsMarked (simple v) ms → length p.path + 100 * length ms ≤ 17_179_869_184 → length (lines_of p (simple v)) ≤ 17_179_869_284 * length ms
-simple_bound p v ms (inl h) le =
-    let text : length (leaf_text p.name v) ≤ 4 * length h.1 + 85 = subst (λ x. length (leaf_text p.name x) ≤ 4 * length h.1 + 85) (sym h.4) (leaf_size p.name h.0 h.1 h.3) in
-    omega (arith, le, text, ap length h.2, octets_size h.0 h.1, line_size p.path (leaf_text p.name v))
-simple_bound p v ms (inr h) le =
-    let row = h.2.0 in
-    let text = default_size p.name row.presence row.node v (small_at (rows_of h.0.node) h.0.row row (rows_small h.0.node) h.2.1) h.2.2 in
-    omega (arith, le, text, ap length h.1, line_size p.path (leaf_text p.name v))
+abbrev octet_room : ℕ
+octet_room = 4_294_967_296
 
-sequence_bound : (es : Entries) (p : Place) (ms : List Mark) (n : ℕ) → length ms ≡ n + 2 → length p.path + 100 * length ms ≤ 17_179_869_184 → length (entry_lines p 0 es) ≤ 17_179_869_284 * n → length (lines_of p (sequence es)) ≤ 17_179_869_284 * length ms
-sequence_bound es p ms n size le k = go (is_empty es)
+sequence_bound : (es : Entries) (p : Place) (n : ℕ) → length p.path + 100 * n ≤ longest → 2 ≤ n → length (entry_lines p 0 es) ≤ octet_room * n → length (lines_of p (sequence es)) ≤ octet_room * n
+sequence_bound es p n le some k = go (is_empty es)
   where
-    go : (b : Bool) → length (if b then line p.path (codes "{}") else entry_lines p 0 es) ≤ 17_179_869_284 * length ms
-    go true = omega (arith, le, size, line_size p.path (codes "{}"))
-    go false = omega (arith, k, size)
+    go : (b : Bool) → length (if b then line p.path (codes "{}") else entry_lines p 0 es) ≤ octet_room * n
+    go true = omega (arith, le, some, line_size p.path (codes "{}"))
+    go false = k
+
+-- the trees of an entry that is there, which is its row's default or not, and of those after it
+abbrev entry_trees : Bool → Row → Content → Entries → List Row → Trees
+entry_trees is_default row c es rows = elim is_default as (λ _. Trees) [
+  | true ↦ normal_trees es rows
+  | false ↦ more (normal_tree c row.node (tagging profile_two row)) (normal_trees es rows)
+]
+
+present_bound : (b : Bool) (row : Row) (c : Content) (es : Entries) (rows : List Row) (p : Place) (i : ℕ) → is_default row c ≡ b → Fits profile_two c row.node
+    → length p.path + 122 + 100 * sizes (entry_trees b row c es rows) ≤ longest
+    → (length (part p i).path + more_path c + 100 * size (normal_tree c row.node (tagging profile_two row)) ≤ longest → length (lines_of (part p i) c) ≤ octet_room * size (normal_tree c row.node (tagging profile_two row)))
+    → (length p.path + 122 + 100 * sizes (normal_trees es rows) ≤ longest → length (entry_lines p (suc i) es) ≤ row_room * length rows + octet_room * sizes (normal_trees es rows))
+    → length (lines_of (part p i) c ++ entry_lines p (suc i) es) ≤ row_room * suc (length rows) + octet_room * sizes (entry_trees b row c es rows)
+present_bound true row c es rows p i e h le first others =
+    let lines = default_lines (part p i) row.presence (kind_of row.node) c row.node h e in
+    omega (arith, le, lines, part_size p i, others le, length-append (lines_of (part p i) c) (entry_lines p (suc i) es))
+present_bound false row c es rows p i e h le first others =
+    let room : length (part p i).path + more_path c + 100 * size (normal_tree c row.node (tagging profile_two row)) ≤ longest = omega (arith, le, part_size p i, little_more_path c) in
+    omega (arith, first room, others (omega (arith, le)), length-append (lines_of (part p i) c) (entry_lines p (suc i) es))
 
 mutual
-  pub value_bound : (c : Content) (p : Place) (ms : List Mark) → IsMarked c ms → length p.path + 100 * length ms ≤ 17_179_869_184 → length (lines_of p c) ≤ 17_179_869_284 * length ms
-  value_bound (simple v) p ms h le = simple_bound p v ms h le
-  value_bound (sequence es) p ms h le =
-      let size : length ms ≡ length h.0 + 2 = omega (arith, ap length h.1, length-append h.0 (mark.End ∷ [])) in
-      sequence_bound es p ms (length h.0) size le (entries_bound es p 0 h.0 h.2 (omega (arith, le, size)))
-  value_bound (list no_items) p ms h le =
-      let size : length ms ≡ length h.0 + 2 = omega (arith, ap length h.1, length-append h.0 (mark.End ∷ [])) in
-      omega (arith, le, size, line_size p.path (codes "[]"))
-  value_bound (list (item c is)) p ms h le =
-      let size : length ms ≡ length h.0 + 2 = omega (arith, ap length h.1, length-append h.0 (mark.End ∷ [])) in
-      omega (arith, size, items_bound (item c is) p 0 h.0 h.2 (omega (arith, le, size)))
-  value_bound (alternative n c) p ms h le =
-      let size : length ms ≡ length h.0 + 1 = omega (arith, ap length h.1) in
-      omega (arith, size, value_bound c (part p n) h.0 h.2 (omega (arith, le, size, part_size p n)))
+  value_bound : (c : Content) (node : NodeId) (g : Tagging) (p : Place) → Fits profile_two c node → length p.path + more_path c + 100 * size (normal_tree c node g) ≤ longest
+      → length (lines_of p c) ≤ octet_room * size (normal_tree c node g)
+  value_bound (simple v) node g p h le =
+      let n : length (normal_content v) + 2 ≤ size (normal_tree (simple v) node g) = tagged_size g _ _ _ (λ t. primitive_size t (normal_content v)) in
+      omega (arith, le, n, leaf_size p.name v node h, line_size p.path (leaf_text p.name v))
+  value_bound (sequence es) node g p h le =
+      let n : sizes (normal_trees es (rows_of node)) + 2 ≤ size (normal_tree (sequence es) node g) = tagged_size g _ _ _ (λ t. constructed_size t (normal_trees es (rows_of node))) in
+      let inside = entries_bound es (rows_of node) p 0 h.1 (omega (arith, le, n)) in
+      sequence_bound es p (size (normal_tree (sequence es) node g)) (omega (arith, le)) (omega (arith, n)) (omega (arith, n, inside, rows_few node))
+  value_bound (list no_items) node g p h le =
+      omega (arith, le, some_size (normal_tree (list no_items) node g), line_size p.path (codes "[]"))
+  value_bound (list (item c is)) node g p h le =
+      let n : sizes (normal_items (item c is) (rows_of node)) + 2 ≤ size (normal_tree (list (item c is)) node g) = tagged_size g _ _ _ (λ t. constructed_size t (normal_items (item c is) (rows_of node))) in
+      omega (arith, n, items_bound (item c is) (rows_of node) p 0 h.1 (omega (arith, le, n)))
+  value_bound (alternative n c) node g p h le =
+      let row = h.0 in
+      let s = alternative_size c node n g row h.1.1 in
+      let none = no_more_path c row.node h.2 (no_choice node n row h.1.0 h.1.1) in
+      omega (arith, s, value_bound c row.node (tagging profile_two row) (part p n) h.2 (omega (arith, le, s, none, part_size p n)))
 
-  pub entries_bound : (es : Entries) (p : Place) (i : ℕ) (ms : List Mark) → AreEntries es ms → length p.path + 100 * length ms + 100 ≤ 17_179_869_184 → length (entry_lines p i es) ≤ 17_179_869_284 * length ms
-  entries_bound no_entries p i ms h le = omega arith
-  entries_bound (absent es) p i ms h le =
-      let size : length ms ≡ length h.1 + 1 = omega (arith, ap length h.2) in
-      omega (arith, size, entries_bound es p (suc i) h.1 h.4 (omega (arith, le, size)))
-  entries_bound (present c es) p i ms h le =
-      let size : length ms ≡ length h.0 + length h.1 = omega (arith, ap length h.2, length-append h.0 h.1) in
-      omega (arith, size, value_bound c (part p i) h.0 h.3 (omega (arith, le, size, part_size p i)), entries_bound es p (suc i) h.1 h.4 (omega (arith, le, size)), length-append (lines_of (part p i) c) (entry_lines p (suc i) es))
+  entries_bound : (es : Entries) (rows : List Row) (p : Place) (i : ℕ) → FitRows profile_two es rows → length p.path + 122 + 100 * sizes (normal_trees es rows) ≤ longest
+      → length (entry_lines p i es) ≤ row_room * length rows + octet_room * sizes (normal_trees es rows)
+  entries_bound no_entries [] p i h le = omega arith
+  entries_bound no_entries (row ∷ rows) p i h le = absurd h
+  entries_bound (absent es) [] p i h le = absurd h
+  entries_bound (absent es) (row ∷ rows) p i h le = omega (arith, entries_bound es rows p (suc i) h.1 le)
+  entries_bound (present c es) [] p i h le = absurd h
+  entries_bound (present c es) (row ∷ rows) p i h le =
+      present_bound (is_default row c) row c es rows p i refl h.1 le (λ fits. value_bound c row.node (tagging profile_two row) (part p i) h.1 fits) (λ fits. entries_bound es rows p (suc i) h.2 fits)
 
-  pub items_bound : (is : Items) (p : Place) (i : ℕ) (ms : List Mark) → AreItems is ms → length p.path + i + 100 * length ms + 100 ≤ 17_179_869_184 → length (item_lines p i is) ≤ 17_179_869_284 * length ms
-  items_bound no_items p i ms h le = omega arith
-  items_bound (item c is) p i ms h le =
-      let size : length ms ≡ length h.0 + length h.1 = omega (arith, ap length h.2, length-append h.0 h.1) in
-      let some = some_mark c h.0 h.3 in
+  items_bound : (is : Items) (rows : List Row) (p : Place) (i : ℕ) → FitItems profile_two is rows → length p.path + i + 164 + 100 * sizes (normal_items is rows) ≤ longest
+      → length (item_lines p i is) ≤ octet_room * sizes (normal_items is rows)
+  items_bound no_items rows p i h le = omega arith
+  items_bound (item c is) [] p i h le = absurd (let e = h.1 in cc)
+  items_bound (item c is) (row ∷ rows) p i h le =
+      let same : row ≡ h.0 = let e = h.1 in cc in
+      let fits : Fits profile_two c row.node = subst (λ (r : Row). Fits profile_two c r.node) (sym same) h.2 in
+      let some = some_size (normal_tree c row.node (tagging profile_two row)) in
       let small : i < 2 ^ 64 = omega (arith, le) in
-      omega (arith, size, value_bound c (item_of p i) h.0 h.3 (omega (arith, le, size, item_size p i small)), items_bound is p (suc i) h.1 h.4 (omega (arith, le, size, some)), length-append (lines_of (item_of p i) c) (item_lines p (suc i) is))
+      let first = value_bound c row.node (tagging profile_two row) (item_of p i) fits (omega (arith, le, some, item_size p i small, little_more_path c)) in
+      omega (arith, first, items_bound is (row ∷ rows) p (suc i) h.3 (omega (arith, le, some)), length-append (lines_of (item_of p i) c) (item_lines p (suc i) is))
 
 -- the text of a message
 head_size : (i : ℕ) (name : List ℕ) → i < 2 ^ 64 → length name ≤ 60 → length (codes "message " ++ decimal i ++ codes " " ++ name ++ codes "\n") ≤ 200
@@ -244,14 +322,15 @@ head_size i name small short =
     let c = length-append (codes "message " ++ decimal i ++ codes " ") name in
     omega (arith, number, short, a, b, c, length-append (codes "message " ++ decimal i ++ codes " " ++ name) (codes "\n"))
 
-sum_size : (head lines : List ℕ) (n : ℕ) → length head ≤ 200 → length lines ≤ 17_179_869_284 * n → n ≤ 16_777_216 → length (head ++ lines) < 2 ^ 62
-sum_size head lines n h l le = omega (arith, h, l, le, length-append head lines)
-
-pub text_bound : (i : ℕ) (a : Apdu) (ms : List Mark) → i < 2 ^ 64 → IsMarked (choice_of a) ms → length ms ≤ 16_777_216 → length (shown_text i a) < 2 ^ 62
-text_bound i a ms small h le =
-    let p : Place = record { path = []; name = []; node = row_node IllApdu (a.number - 1) } in
+-- the text of an APDU that some octets spell
+pub text_bound : (i : ℕ) (a : Apdu) (b : List ℕ) → i < 2 ^ 64 → SpellsApdu profile_two a b → length (shown_text i a) < 2 ^ 62
+text_bound i a b small h =
+    let fits = means_apdu_fits profile_two a h.encodes.tree h.encodes.means in
+    let row = fits.1.0 in
     let name = row_name IllApdu (a.number - 1) in
-    let size : length ms ≡ length h.0 + 1 = omega (arith, ap length h.1) in
-    let few : length h.0 ≤ 16_777_216 = omega (arith, size, le) in
-    let room : length p.path + 100 * length h.0 ≤ 17_179_869_184 = omega (arith, few) in
-    sum_size (codes "message " ++ decimal i ++ codes " " ++ name ++ codes "\n") (lines_of p a.body) (length h.0) (head_size i name small (name_size IllApdu (a.number - 1))) (value_bound a.body p h.0 h.2 room) few
+    let n : size (normal_tree (choice_of a) IllApdu untagged) ≤ 1_048_576 = omega (arith, h.normal_short, length-encoding (normal_tree (choice_of a) IllApdu untagged)) in
+    let s = alternative_size a.body IllApdu (a.number - 1) untagged row fits.1.1.1 in
+    let none = no_more_path a.body row.node fits.1.2 (no_choice IllApdu (a.number - 1) row fits.1.1.0 fits.1.1.1) in
+    let lines = value_bound a.body row.node (tagging profile_two row) (body_place a) fits.1.2 (omega (arith, n, s, none)) in
+    let head = codes "message " ++ decimal i ++ codes " " ++ name ++ codes "\n" in
+    omega (arith, n, s, lines, head_size i name small (name_size IllApdu (a.number - 1)), length-append head (lines_of (body_place a) a.body))

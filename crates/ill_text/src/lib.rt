@@ -18,7 +18,7 @@ mod text;
 mod trail;
 
 pub use leaf::{front_octets, is_set, number_in};
-pub use message::show_text;
+pub use message::{outline_of, show_text};
 pub use number::number_name;
 pub use part::{row_name, row_node};
 pub use show::{after_first, alternative, at_end, first_mark, passed};

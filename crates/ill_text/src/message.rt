@@ -5,10 +5,11 @@ ghost use Rattle.ill_schema.specs.Apdu.{Apdu, SpellsApdu};
 ghost use Rattle.ill_schema.specs.Message.{apdu_of};
 ghost use Rattle.ill_read.specs.Outline.{IsOutlineOf};
 ghost use Rattle.ill_text.specs.Shown.{shown_text};
+ghost use Rattle.ill_text.specs.TextOf.{IsSpelling};
 
 use crate::text::Text;
 use ber_core::{AtHand, FromSlice};
-use ill_read::{Outline, read_outline_in};
+use ill_read::{Outline, OutlineReader, ReadFailure};
 use ill_schema::Message;
 use ill_write::normal_bytes;
 use std::alloc::{AllocError, Global};
@@ -19,22 +20,53 @@ use std::alloc::{AllocError, Global};
 /// # Errors
 ///
 /// Only out of memory.
+///
+/// # Examples
+///
+/// ```
+/// // message 1 Expired
+/// // protocol-version-num = 2
+/// let text = show_text(alloc, 1, &message)?;
+/// ```
 pub fn show_text(alloc: Global, number: u32, message: &Message) -> Result<Vec<u8>, AllocError>
     ensures { IfOk result (λ text. text.items ≡ shown_text number (apdu_of message.now)) }
 {
     let _ = message.body();
     let normal = normal_bytes(alloc, message)?;
-    let outline = outline_of(alloc, &normal)?;
-    Text::new(number, outline)?.octets(alloc)
+    let mut reader = OutlineReader::new(alloc);
+    let outline = outline_of(&mut reader, &normal, Outline::new(alloc))?;
+    Text::new(number, outline).octets(alloc)
 }
 
-/// The outline of the message that the octets are.
-fn outline_of(alloc: Global, octets: &[u8]) -> Result<Outline, AllocError>
+/// The outline of the message that the octets are, in the memory of `room`, whose marks are forgotten. What the reader read before makes
+/// no difference.
+///
+/// # Errors
+///
+/// Only out of memory.
+///
+/// # Examples
+///
+/// ```
+/// let normal = normal_bytes(alloc, &message)?;
+/// let mut reader = OutlineReader::new(alloc);
+/// let outline = outline_of(&mut reader, &normal, Outline::new(alloc))?;
+/// ```
+pub fn outline_of(
+    reader: &mut OutlineReader,
+    octets: &[u8],
+    room: Outline,
+) -> Result<Outline, AllocError>
+    requires { IsSpelling octets.now }
     ensures { (a : Apdu) → SpellsApdu profile_two a octets.now → IfOk result (λ outline. IsOutlineOf outline a) }
 {
     let mut source = FromSlice::new(octets);
-    match read_outline_in::<FromSlice<'_>, AtHand>(alloc, &mut source, Outline::new(alloc)) {
+    match reader.read::<FromSlice<'_>, AtHand>(&mut source, room) {
         Ok(Some(read)) => Ok(read.outline),
-        _ => Err(AllocError),
+        Ok(None) => unreachable!(),
+        Err(ReadFailure::Refused(_)) => unreachable!(),
+        Err(ReadFailure::OutOfMemory) => Err(AllocError),
+        // A slice doesn't break.
+        Err(ReadFailure::ReadFault) => unreachable!(),
     }
 }

@@ -1,7 +1,8 @@
 //! The text of a message, which is put into a sink part by part.
 ghost use Rattle.std.specs.Prelude.{◌≡◌, ◌<◌, ◌≤◌, ◌^◌, ℕ, List, false, length, take, IfOk, IfErr, OnOk, IsErr, IsTrue};
 ghost use Rattle.std.specs.Io.KnownBytes.{Appends};
-ghost use Rattle.ill_schema.specs.Apdu.{Apdu, choice_of};
+ghost use Rattle.ber_leaf.specs.Profile.{profile_two};
+ghost use Rattle.ill_schema.specs.Apdu.{Apdu, SpellsApdu, choice_of};
 ghost use Rattle.ill_read.specs.Outline.{IsMarked, IsOutlineOf};
 ghost use Rattle.ill_text.specs.Shown.{shown_text};
 ghost use Rattle.ill_text.specs.TextOf.{IsTextOf};
@@ -19,9 +20,6 @@ use ill_schema::NodeId;
 use itoa::Buffer;
 use std::alloc::{AllocError, Global};
 
-/// How many marks an outline may have: more than that of any message.
-const MARKS: usize = 16_777_216;
-
 /// The text of a message under a number: `message`, the number and the APDU's name, and then a line for each leaf, its path and its value.
 #[derive(Drop)]
 pub struct Text {
@@ -31,17 +29,10 @@ pub struct Text {
 
 impl Text {
     /// The text of the message that the outline is of, under this number.
-    ///
-    /// # Errors
-    ///
-    /// Where the outline has more than 16,777,216 marks, which that of no message has.
-    pub fn new(number: u32, outline: Outline) -> Result<Text, AllocError>
-        ensures { (a : Apdu) → IsOutlineOf outline a → IfOk result (λ text. IsTextOf text (shown_text number a)) }
+    pub fn new(number: u32, outline: Outline) -> Text
+        ensures { (a : Apdu) (octets : List ℕ) → SpellsApdu profile_two a octets → IsOutlineOf outline a → IsTextOf result (shown_text number a) }
     {
-        if outline.marks().len() > MARKS {
-            return Err(AllocError);
-        }
-        Ok(Text { number, outline })
+        Text { number, outline }
     }
 
     /// The outline, whose memory can be used again.

@@ -1,4 +1,3 @@
-use Rattle.std.proofs.Common.{sym, subst}
 use Rattle.ill_jobs.proofs.JobEndings.{done_all, few_before, stops_after}
 use Rattle.ill_jobs.proofs.messages.run_messages.Goals as goal
 

@@ -1,8 +1,13 @@
-use Rattle.std.proofs.Common.{◌≡◌, ◌≤◌, ◌^◌, List, ◌++◌, length, sym, ap, arith}
+use Rattle.std.proofs.Common.{◌≤◌, ◌^◌, ◌++◌, ◌∙◌, length, sym, ap, ap₂, arith}
 use Rattle.ill_text.specs.Shown.{shown_text}
 use Rattle.ill_jobs.proofs.piece.labelled_text.Goals as goal
 
+pub returns-then-len-gt-LONGEST : goal.returns-then-len-gt-LONGEST
+returns-then-len-gt-LONGEST c = λ a octets spells h.
+    let text = c.deref.ensures.value ∙ c.in_ok-octets.ensures (shown_text c.args.number a) (c.new-text.ensures a octets spells h) in
+    c.in_ok-extend_from_slice.ensures.items ∙ ap₂ (λ x y. x ++ y) c.in_ok-label.ensures text
+
 pub returns : goal.returns
-returns c = λ a h.
+returns c = λ a octets spells h.
     let short : length c.in_ok-label.label.items ≤ 2 ^ 62 = omega (arith, c.if-len-gt-LONGEST.false, c.len.ensures) in
-    (shown_text c.args.number a, c.in_ok-text.ensures a h, ap (λ l. l ++ shown_text c.args.number a) (sym c.in_ok-label.ensures), short)
+    (shown_text c.args.number a, c.new-text.ensures a octets spells h, ap (λ l. l ++ shown_text c.args.number a) (sym c.in_ok-label.ensures), short)

@@ -1,4 +1,4 @@
-use Rattle.std.proofs.Common.{◌≡◌, true, false, rules}
+use Rattle.std.proofs.Common.{◌≡◌, true, rules}
 use Rattle.ill_read.proofs.NextRead.{reads_as}
 use Rattle.ill_jobs.proofs.MadePieces.{makes_compared}
 use Rattle.ill_jobs.proofs.piece.normal_form.Goals as goal
