@@ -7,7 +7,7 @@ use Rattle.ill_jobs.proofs.piece.outlined.Goals as goal
 pub returns-in-Ok-Some : goal.returns-in-Ok-Some
 returns-in-Ok-Some g c =
     let no : c.args.compares ≡ false = search rules in
-    reads_as _ _ _ _ _ _ c.in-Ok-Some.read _ (λ b h. rw no (found_read c.in-Ok-Some.read b h)) (rw c.in-Ok-Some.field-0-is at c.in-Ok-Some.ensures)
+    reads_as _ _ _ _ _ _ c.in-Ok-Some.read _ (λ b h. rw no (found_read c.in-Ok-Some.read b h)) (rw c.in-Ok-Some.field-0-is at c.in-Ok-Some.ensures.next)
 
 pub returns-in-Ok : goal.returns-in-Ok
 returns-in-Ok g c =
