@@ -22,6 +22,8 @@ pub not_two_fault : (found : Option (Text × List Row)) (rows : List Row) (fault
     → first_of (codes "output") rows ≡ None → IsNotTwo rows fault → IsFaultOf found fault
 not_two_fault found rows (LineFault.Line error) e n h = absurd h
 not_two_fault found rows LineFault.SameWord e n h = absurd h
+not_two_fault found rows LineFault.InputTwice e n h = absurd h
+not_two_fault found rows LineFault.OutputIsRead e n h = absurd h
 not_two_fault found rows (LineFault.Missing error) e n h = (h.0, inr (rows, e, (n, h.1)))
 not_two_fault found rows (LineFault.Unexpected error) e n h = (h.0, (rows, e, (n, h.1)))
 not_two_fault found rows LineFault.LinesAndHex e n h = absurd h

@@ -1,5 +1,5 @@
 -- Which words give an order.
-use Rattle.std.specs.Prelude.{◌≡◌, ◌≢◌, ◌⊎◌, ◌<◌, ◌+◌, ℕ, Bool, true, false, List, [], ◌∷◌, length, map, codes, count_by, Option, Some, None, option_map, unwrap_or}
+use Rattle.std.specs.Prelude.{◌≡◌, ◌≢◌, ◌<◌, ◌+◌, ℕ, Bool, true, false, List, [], ◌∷◌, length, map, codes, count_by, Option, Some, None, option_map, unwrap_or}
 use Rattle.std.specs.Str.{bytes_eq}
 use Rattle.clap.specs.Walk.{Row, Text, all_of, first_of, one_of}
 use Rattle.ill_orders.specs.declared.orders.EachJob.{EachJob}
@@ -87,17 +87,31 @@ reads inputs name = times name (map (λ word. word.now) inputs.files.items) + li
 abbrev pub IsRead : Inputs → Text → Type 0
 IsRead inputs output = (output ≢ codes "-") × (0 < reads inputs output)
 
--- standard input is read twice, or the output, too
-abbrev pub IsReadAgain : Inputs → Text → Type 0
-IsReadAgain inputs output = (1 < reads inputs (codes "-")) ⊎ IsRead inputs output
-
--- standard input is read twice, or the output is the input
-abbrev pub IsTwice : Order → Type 0
-IsTwice order = elim order.task as (λ _. Type 0) [
-  | Task.Each job inputs ↦ 1 < reads inputs (codes "-")
+-- `same` has standard input twice, or IN and OUT of `canonicalise` are the same word other than `-`
+abbrev pub HasSameWord : Order → Type 0
+HasSameWord order = elim order.task as (λ _. Type 0) [
+  | Task.Each job inputs ↦ ⊥
   | Task.Canonicalise input output ↦ (input.now ≢ codes "-") × (output.now ≡ input.now)
-  | Task.Collect inputs output ↦ IsReadAgain inputs output.now
+  | Task.Collect inputs output ↦ ⊥
   | Task.Compare first second ↦ (first.now ≡ codes "-") × (second.now ≡ codes "-")
+]
+
+-- standard input is among the files twice, or is their list, too
+abbrev pub ReadsInputTwice : Order → Type 0
+ReadsInputTwice order = elim order.task as (λ _. Type 0) [
+  | Task.Each job inputs ↦ 1 < reads inputs (codes "-")
+  | Task.Canonicalise input output ↦ ⊥
+  | Task.Collect inputs output ↦ 1 < reads inputs (codes "-")
+  | Task.Compare first second ↦ ⊥
+]
+
+-- the word of `-o` is among the files that are read, or is their list
+abbrev pub ReadsOutput : Order → Type 0
+ReadsOutput order = elim order.task as (λ _. Type 0) [
+  | Task.Each job inputs ↦ ⊥
+  | Task.Canonicalise input output ↦ ⊥
+  | Task.Collect inputs output ↦ IsRead inputs output.now
+  | Task.Compare first second ↦ ⊥
 ]
 
 -- neither a file nor a list of files

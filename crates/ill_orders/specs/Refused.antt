@@ -5,8 +5,8 @@ use Rattle.clap.specs.Words.{HasKind, Kinds, kind_of}
 use Rattle.clap.specs.declared.error.kind.ErrorKind.{ErrorKind}
 use Rattle.ill_orders.specs.declared.orders.Order.{Order}
 use Rattle.ill_orders.specs.declared.fault.LineFault.{LineFault}
-use Rattle.ill_orders.specs.declared.fault.LineFault.TheVariants.{Line, SameWord, Missing, Unexpected, LinesAndHex, LinesAndKeepGoing, LinesAndSummary, NotOneFile}
-use Rattle.ill_orders.specs.Orders.{files_in, IsBoth, IsOrderOf, IsTwice, LinesAreCounted, LinesGoOn, NamesNotOne, NamesNothing}
+use Rattle.ill_orders.specs.declared.fault.LineFault.TheVariants.{Line, SameWord, InputTwice, OutputIsRead, Missing, Unexpected, LinesAndHex, LinesAndKeepGoing, LinesAndSummary, NotOneFile}
+use Rattle.ill_orders.specs.Orders.{files_in, IsBoth, IsOrderOf, HasSameWord, LinesAreCounted, LinesGoOn, NamesNotOne, NamesNothing, ReadsInputTwice, ReadsOutput}
 
 -- words of `canonicalise` that are fewer than IN and OUT, or come with a list of files, and have no `-o`
 abbrev pub LacksTwo : List Row → Type 0
@@ -22,7 +22,9 @@ IsCanonicalise found p = (rows : List Row) × (found ≡ Some (codes "canonicali
 -- a fault that clap doesn't report comes only where the words have an order with that fault
 abbrev pub IsFaultOf : Option (Text × List Row) → LineFault → Type 0
 IsFaultOf found (Line error) = Unit {0}
-IsFaultOf found SameWord = (order : Order) × IsOrderOf found order × IsTwice order
+IsFaultOf found SameWord = (order : Order) × IsOrderOf found order × HasSameWord order
+IsFaultOf found InputTwice = (order : Order) × IsOrderOf found order × ReadsInputTwice order
+IsFaultOf found OutputIsRead = (order : Order) × IsOrderOf found order × ReadsOutput order
 IsFaultOf found (Missing error) = (kind_of error ≡ ErrorKind.MissingRequiredArgument)
     × (((order : Order) × IsOrderOf found order × NamesNothing order) ⊎ IsCanonicalise found LacksTwo)
 IsFaultOf found (Unexpected error) = (kind_of error ≡ ErrorKind.UnknownArgument) × IsCanonicalise found ExceedsTwo
@@ -36,6 +38,8 @@ abbrev pub IsRefusedBy : Kinds → Result Order LineFault → Type 0
 IsRefusedBy kinds (Ok order) = kinds ≡ []
 IsRefusedBy kinds (Err (Line error)) = HasKind kinds error
 IsRefusedBy kinds (Err SameWord) = kinds ≡ []
+IsRefusedBy kinds (Err InputTwice) = kinds ≡ []
+IsRefusedBy kinds (Err OutputIsRead) = kinds ≡ []
 IsRefusedBy kinds (Err (Missing error)) = kinds ≡ []
 IsRefusedBy kinds (Err (Unexpected error)) = kinds ≡ []
 IsRefusedBy kinds (Err LinesAndHex) = kinds ≡ []
