@@ -1,5 +1,6 @@
 -- Which words give an order.
 use Rattle.std.specs.Prelude.{◌≡◌, ◌≢◌, ◌<◌, ◌+◌, ℕ, Bool, true, false, List, [], ◌∷◌, length, map, codes, count_by, Option, Some, None, option_map, unwrap_or}
+use Rattle.std.specs.Option.{option_map_or}
 use Rattle.std.specs.Str.{bytes_eq}
 use Rattle.clap.specs.Walk.{Row, Text, all_of, first_of, one_of}
 use Rattle.ill_orders.specs.declared.orders.EachJob.{EachJob}
@@ -54,21 +55,19 @@ HasFiles rows (Task.Canonicalise input output) = HasTwo rows input.now output.no
 HasFiles rows (Task.Collect inputs output) = HasInputs rows inputs × (first_of (codes "output") rows ≡ Some output.now)
 HasFiles rows (Task.Compare first second) = HasPair rows first.now second.now
 
--- the flag of this name is set or not; a command that has no such flag finds none
-pub record HasFlag (rows : List Row) (name : Text) (flag : Bool) : Type 0 where
-  pub given : one_of name rows ≡ Some (codes "true") → flag ≡ true
-  pub missing : one_of name rows ≡ Some (codes "false") → flag ≡ false
-  pub none : one_of name rows ≡ None → flag ≡ false
+-- the flag of this name is set; a command that has no such flag finds none
+abbrev pub is_set : Text → List Row → Bool
+is_set name rows = option_map_or (λ text. bytes_eq text (codes "true")) (one_of name rows) false
 
 -- what was found for a command is the order's command, flags and files
 pub record IsOrderOf (found : Option (Text × List Row)) (order : Order) : Type 0 where
   pub rows : List Row
   pub command : found ≡ Some (verb_name (verb order.task), rows)
-  pub hex : HasFlag rows (codes "hex") order.hex
-  pub lines : HasFlag rows (codes "lines") order.lines
-  pub going : HasFlag rows (codes "keep-going") order.keep_going
-  pub summary : HasFlag rows (codes "summary") order.summary
-  pub json : HasFlag rows (codes "json") order.json
+  pub hex : order.hex ≡ is_set (codes "hex") rows
+  pub lines : order.lines ≡ is_set (codes "lines") rows
+  pub going : order.keep_going ≡ is_set (codes "keep-going") rows
+  pub summary : order.summary ≡ is_set (codes "summary") rows
+  pub json : order.json ≡ is_set (codes "json") rows
   pub files : HasFiles rows order.task
 
 -- how many of the words are this name

@@ -33,23 +33,17 @@ IsFaultOf found LinesAndKeepGoing = (order : Order) × IsOrderOf found order × 
 IsFaultOf found LinesAndSummary = (order : Order) × IsOrderOf found order × LinesAreCounted order
 IsFaultOf found NotOneFile = (order : Order) × IsOrderOf found order × NamesNotOne order
 
--- words in which clap finds faults of these kinds, none or some, are refused by one of them, and no others but out of memory
+-- memory ran out
+abbrev pub IsOutOfMemory : LineFault → Type 0
+IsOutOfMemory (Line error) = kind_of error ≡ ErrorKind.OutOfMemory
+IsOutOfMemory _ = ⊥
+
+-- the fault of words in which clap finds faults of these kinds: one of them, or out of memory; and where it finds none, another fault
+abbrev pub IsRefusal : Kinds → LineFault → Type 0
+IsRefusal kinds (Line error) = HasKind kinds error
+IsRefusal kinds _ = kinds ≡ []
+
+-- words in which clap finds faults give no order
 abbrev pub IsRefusedBy : Kinds → Result Order LineFault → Type 0
 IsRefusedBy kinds (Ok order) = kinds ≡ []
-IsRefusedBy kinds (Err (Line error)) = HasKind kinds error
-IsRefusedBy kinds (Err SameWord) = kinds ≡ []
-IsRefusedBy kinds (Err InputTwice) = kinds ≡ []
-IsRefusedBy kinds (Err OutputIsRead) = kinds ≡ []
-IsRefusedBy kinds (Err (Missing error)) = kinds ≡ []
-IsRefusedBy kinds (Err (Unexpected error)) = kinds ≡ []
-IsRefusedBy kinds (Err LinesAndHex) = kinds ≡ []
-IsRefusedBy kinds (Err LinesAndKeepGoing) = kinds ≡ []
-IsRefusedBy kinds (Err LinesAndSummary) = kinds ≡ []
-IsRefusedBy kinds (Err NotOneFile) = kinds ≡ []
-
--- words of `canonicalise` without `-o` are not IN and OUT
-abbrev pub IsNotTwo : List Row → LineFault → Type 0
-IsNotTwo rows (Missing error) = (kind_of error ≡ ErrorKind.MissingRequiredArgument)
-    × ((length (files_in rows) < 2) ⊎ IsTrue (is_some (first_of (codes "files-from") rows)))
-IsNotTwo rows (Unexpected error) = (kind_of error ≡ ErrorKind.UnknownArgument) × (2 < length (files_in rows))
-IsNotTwo rows fault = ⊥
+IsRefusedBy kinds (Err fault) = IsRefusal kinds fault

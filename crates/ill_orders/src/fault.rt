@@ -1,5 +1,6 @@
 //! Why a command line gives no order.
 use clap::Error as LineError;
+use std::alloc::AllocError;
 use thiserror::Error;
 
 /// Why a command line gives no order.
@@ -35,4 +36,14 @@ pub enum LineFault {
     /// The lines of none or of several files.
     #[error("--lines reads one FILE")]
     NotOneFile,
+}
+
+impl From<AllocError> for LineFault {
+    ghost use Rattle.ill_orders.specs.Refused.{IsOutOfMemory};
+
+    ghost from_gives = { λ _ fault. IsOutOfMemory fault };
+
+    fn from(error: AllocError) -> LineFault {
+        LineFault::Line(LineError::from(error))
+    }
 }

@@ -54,10 +54,7 @@ pub fn order<'a>(alloc: Global, words: &'a [String]) -> Result<Order<'a>, LineFa
         return Err(LineFault::OutputIsRead);
     }
     if names_nothing(&order) {
-        return Err(match no_file(alloc, &order.task) {
-            Ok(error) => LineFault::Missing(error),
-            Err(AllocError) => LineFault::Line(Error::from(AllocError)),
-        });
+        return Err(LineFault::Missing(no_file(alloc, &order.task)?));
     }
     if order.lines && order.hex {
         return Err(LineFault::LinesAndHex);
