@@ -32,7 +32,7 @@ pub fn collect<R: Print + Eprint + Input + Files + AllocGlobal + Console>(
         return tally.end(rt, &Err(Fault::out_of_memory()));
     };
     if is_dash_twice(&names, inputs.list) {
-        return tally.end(rt, &Err(Fault::from(LineFault::SameWord)));
+        return tally.end(rt, &Err(Fault::from(LineFault::InputTwice)));
     }
     if written.is_some() && (read == written || is_one_of(rt, &names, written)) {
         return tally.end(rt, &Err(Fault::SameFile));

@@ -29,7 +29,7 @@ pub fn each_input<R: Print + Eprint + Input + Files + AllocGlobal + Console>(
         return tally.end(rt, &Err(Fault::out_of_memory()));
     };
     if is_dash_twice(&names, inputs.list) {
-        return tally.end(rt, &Err(Fault::from(LineFault::SameWord)));
+        return tally.end(rt, &Err(Fault::from(LineFault::InputTwice)));
     }
     match names.as_slice() {
         [name] => {

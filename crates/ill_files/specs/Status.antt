@@ -28,13 +28,7 @@ line_status_is error = kind_status (kind_of error)
 
 abbrev pub fault_status : Fault → ℕ
 fault_status (Fault.Line (LineFault.Line error)) = line_status_is error
-fault_status (Fault.Line LineFault.SameWord) = 2
-fault_status (Fault.Line (LineFault.Missing error)) = 2
-fault_status (Fault.Line (LineFault.Unexpected error)) = 2
-fault_status (Fault.Line LineFault.LinesAndHex) = 2
-fault_status (Fault.Line LineFault.LinesAndKeepGoing) = 2
-fault_status (Fault.Line LineFault.LinesAndSummary) = 2
-fault_status (Fault.Line LineFault.NotOneFile) = 2
+fault_status (Fault.Line _) = 2
 fault_status Fault.SameFile = 2
 fault_status (Fault.Run line) = run_status_is line.0
 fault_status _ = 3

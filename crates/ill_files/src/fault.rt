@@ -145,12 +145,7 @@ pub fn status_of(done: &Result<Verdict, Fault>) -> u8
         Ok(Verdict::Good) => 0,
         Ok(Verdict::NotGood) => 1,
         Err(Fault::Line(LineFault::Line(error))) => line_status(error),
-        Err(Fault::Line(LineFault::SameWord | LineFault::Missing(_) | LineFault::Unexpected(_))) =>
-            2,
-        Err(Fault::Line(LineFault::LinesAndHex | LineFault::LinesAndKeepGoing)) => 2,
-        Err(Fault::Line(LineFault::LinesAndSummary | LineFault::NotOneFile) | Fault::SameFile) => {
-            2
-        }
+        Err(Fault::Line(_) | Fault::SameFile) => 2,
         Err(Fault::Run(RunLine(fault))) => run_status(fault),
         Err(Fault::CannotOpen(_) | Fault::CannotReplace(_) | Fault::Flush) => 3,
     }

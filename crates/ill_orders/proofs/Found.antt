@@ -1,6 +1,13 @@
 -- A command that was found, from its name and its rows.
-use Rattle.std.proofs.Common.{◌≡◌, Option, Some, None, option_map, ap, ◌∙◌, List}
-use Rattle.std.specs.Prelude.{IfNone}
+use Rattle.std.proofs.Common.{◌≡◌, ◌∙◌, Bool, cond, codes, true, false, refl, sym, ap, List, [], ◌∷◌, Option, Some, None, option_map, unwrap_or, IfSome}
+use Rattle.std.specs.Prelude.{find}
+use Rattle.std.specs.List.{list_all}
+use Rattle.std.specs.Option.{option_map_or}
+use Rattle.std.specs.Str.{bytes_eq}
+use Rattle.std.specs.Str.Parse.{ParsesBool}
+use Rattle.std.proofs.lemmas.Bool.{and_parts}
+use Rattle.std.proofs.lemmas.Slice.Eq.{bytes_eq-Decides}
+use Rattle.clap.specs.Words.{ReadsOne}
 use Rattle.clap.specs.Walk.{Row, Text}
 
 abbrev pair : {X : Type 0} → (X → Text) → (X → List Row) → X → Text × List Row
@@ -11,6 +18,23 @@ pub both_parts : {X : Type 0} (f : X → Text) (g : X → List Row) (s : Option 
 both_parts f g None name rows h k = absurd cc
 both_parts f g (Some b) name rows h k = let e : f b ≡ name = cc in let r : g b ≡ rows = cc in ap (λ (n : Text). Some (n, g b)) e ∙ ap (λ (l : List Row). Some (name, l)) r
 
-pub whichever : {X : Type 0} (r : Option X) (P : Type 0) → P → IfNone r P
-whichever None P p = p
-whichever (Some x) P p = tt
+-- what is found passes its test, and the test that all pass
+pub find_passes : {X : Type 0} (p q : X → Bool) (xs : List X) → list_all q xs ≡ true → IfSome (find p xs) (λ x. (p x ≡ true) × (q x ≡ true))
+find_passes p q [] all = tt
+find_passes p q (x ∷ xs) all = go (p x) refl (find_passes p q xs (and_parts (q x) _ all).1)
+  where
+    go : (b : Bool) → p x ≡ b → IfSome (find p xs) (λ y. (p y ≡ true) × (q y ≡ true)) → IfSome (cond b (Some x) (find p xs)) (λ y. (p y ≡ true) × (q y ≡ true))
+    go true e rest = (e, (and_parts (q x) _ all).0)
+    go false e rest = rest
+
+is_false : (b : Bool) → (b ≡ true → ⊥) → b ≡ false
+is_false true never = absurd (never refl)
+is_false false never = refl
+
+-- a flag that clap reads as a `bool`
+pub flag_is : (E : Type 0) (found : Option Text) (flag : Option Bool) → (found ≡ None → flag ≡ None) → ((t : Text) → found ≡ Some t → ReadsOne {E = E} ParsesBool t flag)
+    → unwrap_or flag false ≡ option_map_or (λ text. bytes_eq text (codes "true")) found false
+flag_is E None flag none value = ap (λ o. unwrap_or o false) (none refl)
+flag_is E (Some t) (Some true) none value = sym ((bytes_eq-Decides t (codes "true")).1 (value t refl))
+flag_is E (Some t) (Some false) none value = ap (λ text. bytes_eq text (codes "true")) (sym (value t refl))
+flag_is E (Some t) None none value = sym (is_false _ (λ e. (value t refl).1.0 ((bytes_eq-Decides t (codes "true")).0 e)))

@@ -1,2 +1,4 @@
 pub mod Canonicalised
+pub mod Command
+pub mod Filled
 pub mod Found

@@ -1,3 +1,4 @@
+pub mod code
 pub mod CommandLine
 pub mod Orders
 pub mod Refused

@@ -1,5 +1,6 @@
 -- Which words give an order.
-use Rattle.std.specs.Prelude.{◌≡◌, ◌≢◌, ◌⊎◌, ◌<◌, ◌+◌, ℕ, Bool, true, false, List, [], ◌∷◌, length, map, codes, count_by, Option, Some, None, option_map, unwrap_or}
+use Rattle.std.specs.Prelude.{◌≡◌, ◌≢◌, ◌<◌, ◌+◌, ℕ, Bool, true, false, List, [], ◌∷◌, length, map, codes, count_by, Option, Some, None, option_map, unwrap_or}
+use Rattle.std.specs.Option.{option_map_or}
 use Rattle.std.specs.Str.{bytes_eq}
 use Rattle.clap.specs.Walk.{Row, Text, all_of, first_of, one_of}
 use Rattle.ill_orders.specs.declared.orders.EachJob.{EachJob}
@@ -54,21 +55,19 @@ HasFiles rows (Task.Canonicalise input output) = HasTwo rows input.now output.no
 HasFiles rows (Task.Collect inputs output) = HasInputs rows inputs × (first_of (codes "output") rows ≡ Some output.now)
 HasFiles rows (Task.Compare first second) = HasPair rows first.now second.now
 
--- the flag of this name is set or not; a command that has no such flag finds none
-pub record HasFlag (rows : List Row) (name : Text) (flag : Bool) : Type 0 where
-  pub given : one_of name rows ≡ Some (codes "true") → flag ≡ true
-  pub missing : one_of name rows ≡ Some (codes "false") → flag ≡ false
-  pub none : one_of name rows ≡ None → flag ≡ false
+-- the flag of this name is set; a command that has no such flag finds none
+abbrev pub is_set : Text → List Row → Bool
+is_set name rows = option_map_or (λ text. bytes_eq text (codes "true")) (one_of name rows) false
 
 -- what was found for a command is the order's command, flags and files
 pub record IsOrderOf (found : Option (Text × List Row)) (order : Order) : Type 0 where
   pub rows : List Row
   pub command : found ≡ Some (verb_name (verb order.task), rows)
-  pub hex : HasFlag rows (codes "hex") order.hex
-  pub lines : HasFlag rows (codes "lines") order.lines
-  pub going : HasFlag rows (codes "keep-going") order.keep_going
-  pub summary : HasFlag rows (codes "summary") order.summary
-  pub json : HasFlag rows (codes "json") order.json
+  pub hex : order.hex ≡ is_set (codes "hex") rows
+  pub lines : order.lines ≡ is_set (codes "lines") rows
+  pub going : order.keep_going ≡ is_set (codes "keep-going") rows
+  pub summary : order.summary ≡ is_set (codes "summary") rows
+  pub json : order.json ≡ is_set (codes "json") rows
   pub files : HasFiles rows order.task
 
 -- how many of the words are this name
@@ -87,17 +86,31 @@ reads inputs name = times name (map (λ word. word.now) inputs.files.items) + li
 abbrev pub IsRead : Inputs → Text → Type 0
 IsRead inputs output = (output ≢ codes "-") × (0 < reads inputs output)
 
--- standard input is read twice, or the output, too
-abbrev pub IsReadAgain : Inputs → Text → Type 0
-IsReadAgain inputs output = (1 < reads inputs (codes "-")) ⊎ IsRead inputs output
-
--- standard input is read twice, or the output is the input
-abbrev pub IsTwice : Order → Type 0
-IsTwice order = elim order.task as (λ _. Type 0) [
-  | Task.Each job inputs ↦ 1 < reads inputs (codes "-")
+-- `same` has standard input twice, or IN and OUT of `canonicalise` are the same word other than `-`
+abbrev pub HasSameWord : Order → Type 0
+HasSameWord order = elim order.task as (λ _. Type 0) [
+  | Task.Each job inputs ↦ ⊥
   | Task.Canonicalise input output ↦ (input.now ≢ codes "-") × (output.now ≡ input.now)
-  | Task.Collect inputs output ↦ IsReadAgain inputs output.now
+  | Task.Collect inputs output ↦ ⊥
   | Task.Compare first second ↦ (first.now ≡ codes "-") × (second.now ≡ codes "-")
+]
+
+-- standard input is among the files twice, or is their list, too
+abbrev pub ReadsInputTwice : Order → Type 0
+ReadsInputTwice order = elim order.task as (λ _. Type 0) [
+  | Task.Each job inputs ↦ 1 < reads inputs (codes "-")
+  | Task.Canonicalise input output ↦ ⊥
+  | Task.Collect inputs output ↦ 1 < reads inputs (codes "-")
+  | Task.Compare first second ↦ ⊥
+]
+
+-- the word of `-o` is among the files that are read, or is their list
+abbrev pub ReadsOutput : Order → Type 0
+ReadsOutput order = elim order.task as (λ _. Type 0) [
+  | Task.Each job inputs ↦ ⊥
+  | Task.Canonicalise input output ↦ ⊥
+  | Task.Collect inputs output ↦ IsRead inputs output.now
+  | Task.Compare first second ↦ ⊥
 ]
 
 -- neither a file nor a list of files

@@ -1,5 +1,6 @@
 //! Why a command line gives no order.
 use clap::Error as LineError;
+use std::alloc::AllocError;
 use thiserror::Error;
 
 /// Why a command line gives no order.
@@ -8,9 +9,15 @@ pub enum LineFault {
     /// What `clap` reports: a mistake, or help that was asked for, or that memory ran out.
     #[error("{0}")]
     Line(LineError),
-    /// Two files are named by the same word.
+    /// The two files of `same` are `-`, or IN and OUT of `canonicalise` are the same word other than `-`.
     #[error("the same word twice")]
     SameWord,
+    /// Standard input would be read twice by a command other than `same`.
+    #[error("standard input is named twice")]
+    InputTwice,
+    /// OUT of `canonicalise -o OUT` is a word among the files that are read, or their list.
+    #[error("OUT is one of the files that are read")]
+    OutputIsRead,
     /// A file is missing. The text is that of clap for an argument that is required.
     #[error("{0}")]
     Missing(LineError),
@@ -29,4 +36,14 @@ pub enum LineFault {
     /// The lines of none or of several files.
     #[error("--lines reads one FILE")]
     NotOneFile,
+}
+
+impl From<AllocError> for LineFault {
+    ghost use Rattle.ill_orders.specs.Refused.{IsOutOfMemory};
+
+    ghost from_gives = { λ _ fault. IsOutOfMemory fault };
+
+    fn from(error: AllocError) -> LineFault {
+        LineFault::Line(LineError::from(error))
+    }
 }

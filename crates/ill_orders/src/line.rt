@@ -4,7 +4,7 @@ ghost use Rattle.std.specs.String.{string_bytes};
 ghost use Rattle.clap.specs.Words.{fault_of, kind_of, subcommand_of};
 ghost use Rattle.clap.specs.declared.error.kind.ErrorKind.{ErrorKind};
 ghost use Rattle.ill_orders.specs.CommandLine.{program};
-ghost use Rattle.ill_orders.specs.Orders.{reads, IsBoth, IsOrderOf, IsRead, IsReadAgain, IsTwice, LinesAreCounted, LinesGoOn, NamesNotOne, NamesNothing};
+ghost use Rattle.ill_orders.specs.Orders.{reads, HasSameWord, IsBoth, IsOrderOf, IsRead, LinesAreCounted, LinesGoOn, NamesNotOne, NamesNothing, ReadsInputTwice, ReadsOutput};
 ghost use Rattle.ill_orders.specs.Refused.{IsFaultOf, IsRefusedBy};
 
 use crate::commands::{canonicalise, check, digest, dump, show};
@@ -21,13 +21,16 @@ use std::alloc::{AllocError, Global};
 /// # Errors
 ///
 /// What `clap` reports of words that are no command line, or that ask for help. Or a file is missing, or `canonicalise` has a word more
-/// than IN and OUT. Or two files are named by the same word: `-` for a file that is read, any but `-` for `canonicalise`. Or `--lines`
-/// has no file, several, or a list, or is given with `--hex`, `--keep-going` or `--summary`.
+/// than IN and OUT. Or `same` has `-` twice, or `canonicalise` one word other than `-` for IN and OUT. Or another command has `-` twice
+/// among its files and their list, or `-o` has one of these words. Or `--lines` has no file, several, or a list, or is given with `--hex`,
+/// `--keep-going` or `--summary`.
 pub fn order<'a>(alloc: Global, words: &'a [String]) -> Result<Order<'a>, LineFault>
     // The words have the order's command, flags and files; standard input is not read twice, no file is written that is read by the same
     // word, and there are files. Lines are those of one file, are no hexadecimal text, have no messages to pass over, and are not counted.
     ensures order { IfOk result (IsOrderOf (subcommand_of program (map string_bytes words.entry.now))) }
-    ensures not_twice { IfOk result (λ order. IsTwice order → ⊥) }
+    ensures not_same { IfOk result (λ order. HasSameWord order → ⊥) }
+    ensures not_twice { IfOk result (λ order. ReadsInputTwice order → ⊥) }
+    ensures not_read { IfOk result (λ order. ReadsOutput order → ⊥) }
     ensures some { IfOk result (λ order. NamesNothing order → ⊥) }
     ensures not_both { IfOk result (λ order. IsBoth order → ⊥) }
     ensures not_on { IfOk result (λ order. LinesGoOn order → ⊥) }
@@ -41,14 +44,17 @@ pub fn order<'a>(alloc: Global, words: &'a [String]) -> Result<Order<'a>, LineFa
         Ok(order) => order,
         Err(fault) => return Err(fault),
     };
-    if is_twice(&order) {
+    if has_same_word(&order) {
         return Err(LineFault::SameWord);
     }
+    if reads_input_twice(&order) {
+        return Err(LineFault::InputTwice);
+    }
+    if reads_output(&order) {
+        return Err(LineFault::OutputIsRead);
+    }
     if names_nothing(&order) {
-        return Err(match no_file(alloc, &order.task) {
-            Ok(error) => LineFault::Missing(error),
-            Err(AllocError) => LineFault::Line(Error::from(AllocError)),
-        });
+        return Err(LineFault::Missing(no_file(alloc, &order.task)?));
     }
     if order.lines && order.hex {
         return Err(LineFault::LinesAndHex);
@@ -65,23 +71,35 @@ pub fn order<'a>(alloc: Global, words: &'a [String]) -> Result<Order<'a>, LineFa
     Ok(order)
 }
 
-/// Whether standard input is read twice, or the output is the input, by the same word.
-fn is_twice(order: &Order<'_>) -> bool
-    ensures { IsTrue result ↔ IsTwice order.now }
+/// Whether `same` has standard input twice, or IN and OUT of `canonicalise` are the same word other than `-`.
+fn has_same_word(order: &Order<'_>) -> bool
+    ensures { IsTrue result ↔ HasSameWord order.now }
 {
     match &order.task {
-        Task::Each { inputs, .. } => reads(inputs, "-") > 1,
-        Task::Collect { inputs, output } => is_read_again(inputs, output),
         Task::Canonicalise { input, output } => *input != "-" && *output == *input,
         Task::Compare { first, second } => *first == "-" && *second == "-",
+        Task::Each { .. } | Task::Collect { .. } => false,
     }
 }
 
-/// Whether standard input is read twice, or the output, too.
-fn is_read_again(inputs: &Inputs<'_>, output: &str) -> bool
-    ensures { IsTrue result ↔ IsReadAgain inputs.now output.now }
+/// Whether standard input is among the files twice, or is their list, too.
+fn reads_input_twice(order: &Order<'_>) -> bool
+    ensures { IsTrue result ↔ ReadsInputTwice order.now }
 {
-    reads(inputs, "-") > 1 || is_read(inputs, output)
+    match &order.task {
+        Task::Each { inputs, .. } | Task::Collect { inputs, .. } => reads(inputs, "-") > 1,
+        Task::Canonicalise { .. } | Task::Compare { .. } => false,
+    }
+}
+
+/// Whether the word of `-o` is among the files that are read, or is their list.
+fn reads_output(order: &Order<'_>) -> bool
+    ensures { IsTrue result ↔ ReadsOutput order.now }
+{
+    match &order.task {
+        Task::Collect { inputs, output } => is_read(inputs, output),
+        Task::Each { .. } | Task::Canonicalise { .. } | Task::Compare { .. } => false,
+    }
 }
 
 /// Whether a file of this name is read, which isn't standard output.

@@ -1,15 +1,15 @@
 //! What clap finds in the words, as an order.
-ghost use Rattle.std.specs.Prelude.{◌≡◌, ◌≢◌, [], ◌∷◌, map, codes, Some, Err, is_some, None, length, IfOk, IfErr, IfSome, IfNone};
+ghost use Rattle.std.specs.Prelude.{◌≡◌, [], map, codes, is_some, true, Some, IfOk, IfErr};
 ghost use Rattle.std.specs.String.{string_bytes};
-ghost use Rattle.clap.specs.Words.{FailsBy, Text, fault_of, first_of, found_of, kind_of, rows_of, subcommand_of, subcommand_rows_of};
+ghost use Rattle.clap.specs.Words.{FailsBy, fault_of, first_of, found_of, kind_of, rows_of, subcommand_of, subcommand_rows_of};
 ghost use Rattle.clap.specs.declared.error.kind.ErrorKind.{ErrorKind};
 ghost use Rattle.ill_orders.specs.CommandLine.{program};
 ghost use Rattle.ill_orders.specs.declared.orders.Inputs.{Inputs};
-ghost use Rattle.ill_orders.specs.declared.orders.Order.{Order};
 ghost use Rattle.ill_orders.specs.declared.orders.Task.{Task};
 ghost use Rattle.ill_orders.specs.declared.orders.Verb.{Verb};
-ghost use Rattle.ill_orders.specs.Orders.{files_in, verb as verb_of_task, verb_name, HasFiles, HasInputs, HasPair, IsOrderOf};
-ghost use Rattle.ill_orders.specs.Refused.{IsFaultOf, IsNotTwo, IsRefusedBy};
+ghost use Rattle.ill_orders.specs.Orders.{files_in, is_set, verb as verb_of_task, verb_name, HasFiles, HasInputs, IsOrderOf};
+ghost use Rattle.ill_orders.specs.Refused.{IsFaultOf, IsOutOfMemory, IsRefusal, IsRefusedBy};
+ghost use Rattle.ill_orders.specs.code.Commands.{HasBoth, IsCommand, IsInAndOut, IsNotInAndOut, IsVerb};
 
 use crate::commands::{canonicalise, program};
 use crate::fault::LineFault;
@@ -24,124 +24,71 @@ pub fn read<'a>(alloc: Global, words: &'a [String]) -> Result<Order<'a>, LineFau
     ensures fault { IfErr result (IsFaultOf (subcommand_of program (map string_bytes words.entry.now))) }
     ensures faults { IsRefusedBy (fault_of program (map string_bytes words.entry.now)) result }
 {
-    let matches = match matches_of(alloc, words) {
-        Ok(matches) => matches,
-        Err(error) => return Err(LineFault::Line(error)),
-    };
-    match order_of(alloc, &matches) {
-        Ok(Some(order)) => Ok(order),
-        Ok(None) => Err(no_order(alloc, &matches)),
-        Err(AllocError) => Err(LineFault::Line(Error::from(AllocError))),
+    match matches_of(alloc, words) {
+        Ok(matches) => order_of(alloc, &matches),
+        Err(error) => Err(LineFault::Line(error)),
     }
 }
 
 fn matches_of<'a>(alloc: Global, words: &'a [String]) -> Result<ArgMatches<'a>, Error>
     ensures found { IfOk result (λ matches. subcommand_rows_of matches ≡ subcommand_of program (map string_bytes words.entry.now)) }
+    ensures command { IfOk result (λ matches. IsCommand (subcommand_rows_of matches)) }
     ensures faults { FailsBy (fault_of program (map string_bytes words.entry.now)) result }
 {
     program(alloc)?.try_get_matches_from(words)
 }
 
-/// Why `canonicalise` has not IN and OUT. For all else clap has matched a command and its files, or has returned an error.
-fn no_order(alloc: Global, matches: &ArgMatches<'_>) -> LineFault
-    ensures fault { IsFaultOf (subcommand_rows_of matches.now) result }
-    ensures faults { IsRefusedBy [] (Err result) }
+/// The order of the command that was found.
+fn order_of<'a>(alloc: Global, matches: &ArgMatches<'a>) -> Result<Order<'a>, LineFault>
+    requires { IsCommand (subcommand_rows_of matches.now) }
+    ensures order { IfOk result (IsOrderOf (subcommand_rows_of matches.now)) }
+    ensures fault { IfErr result (IsFaultOf (subcommand_rows_of matches.now)) }
+    ensures faults { IsRefusedBy [] result }
 {
     let Some((name, words)) = matches.subcommand() else {
-        return LineFault::Line(Error::from(AllocError));
+        unreachable!()
     };
-    if name == "canonicalise" {
-        if let None = words.get_str("output") {
-            return match not_two(alloc, words) {
-                Ok(fault) => fault,
-                Err(AllocError) => LineFault::Line(Error::from(AllocError)),
-            };
-        }
-    }
-    LineFault::Line(Error::from(AllocError))
-}
-
-/// Why words are not IN and OUT, in clap's words.
-fn not_two(alloc: Global, words: &ArgMatches<'_>) -> Result<LineFault, AllocError>
-    ensures { IfOk result (IsNotTwo (rows_of (found_of words.now))) }
-{
-    if has_list(words) {
-        return Ok(LineFault::Missing(missing(alloc, help::NO_OUTPUT)?));
-    }
-    match count_of(words) {
-        0 => Ok(LineFault::Missing(missing(alloc, help::NO_IN)?)),
-        1 => Ok(LineFault::Missing(missing(alloc, help::NO_OUT)?)),
-        2 => Err(AllocError),
-        _ => Ok(LineFault::Unexpected(unexpected(alloc, words)?)),
-    }
-}
-
-/// How many words FILE there are.
-fn count_of(words: &ArgMatches<'_>) -> usize
-    ensures { result ≡ length (files_in (rows_of (found_of words.now))) }
-{
-    match words.get_strs("file") {
-        Some(files) => files.len(),
-        None => 0,
-    }
-}
-
-/// Whether there is a list of files.
-fn has_list(words: &ArgMatches<'_>) -> bool
-    ensures { result ≡ is_some (first_of (codes "files-from") (rows_of (found_of words.now))) }
-{
-    words.get_str("files-from").is_some()
-}
-
-/// That `canonicalise` has too few words.
-fn missing(alloc: Global, message: &str) -> Result<Error, AllocError>
-    ensures { IfOk result (λ e. kind_of e ≡ ErrorKind.MissingRequiredArgument) }
-{
-    canonicalise(alloc)?.error(ErrorKind::MissingRequiredArgument, message)
-}
-
-/// That `canonicalise` has a third word.
-fn unexpected(alloc: Global, words: &ArgMatches<'_>) -> Result<Error, AllocError>
-    ensures { IfOk result (λ e. kind_of e ≡ ErrorKind.UnknownArgument) }
-{
-    let word = match words.get_strs("file") {
-        Some([_, _, word, ..]) => *word,
-        _ => "",
-    };
-    let message = format!(in alloc; "unexpected argument '{word}' found")?;
-    canonicalise(alloc)?.error(ErrorKind::UnknownArgument, &message)
-}
-
-fn order_of<'a>(alloc: Global, matches: &ArgMatches<'a>) -> Result<Option<Order<'a>>, AllocError>
-    ensures some { IfOk result (λ found. IfSome found (IsOrderOf (subcommand_rows_of matches.now))) }
-    ensures none { IfOk result (λ found. IfNone found ((order : Order) → IsOrderOf (subcommand_rows_of matches.now) order → ⊥)) }
-{
-    let Some((name, words)) = matches.subcommand() else {
-        return Ok(None);
-    };
-    let Some(verb) = verb_of(name) else {
-        return Ok(None);
-    };
-    let Some(task) = task_of(alloc, verb, words)? else {
-        return Ok(None);
-    };
-    Ok(Some(Order {
-        hex: words.get_flag("hex"),
-        lines: words.get_flag("lines"),
-        keep_going: words.get_flag("keep-going"),
-        summary: words.get_flag("summary"),
-        json: words.get_flag("json"),
+    let task = task_of(alloc, verb_of(name), words)?;
+    Ok(Order {
+        hex: is_set(words, "hex"),
+        lines: is_set(words, "lines"),
+        keep_going: is_set(words, "keep-going"),
+        summary: is_set(words, "summary"),
+        json: is_set(words, "json"),
         task,
-    }))
+    })
 }
 
-fn task_of<'a>(
-    alloc: Global,
-    verb: Verb,
-    words: &ArgMatches<'a>,
-) -> Result<Option<Task<'a>>, AllocError>
-    ensures some { IfOk result (λ found. IfSome found (λ task. (verb_of_task task ≡ verb) × HasFiles (rows_of (found_of words.now)) task)) }
-    ensures none { IfOk result (λ found. IfNone found ((task : Task) → verb_of_task task ≡ verb → HasFiles (rows_of (found_of words.now)) task → ⊥)) }
+/// Whether a flag is set.
+fn is_set(words: &ArgMatches<'_>, name: &str) -> bool
+    ensures { result ≡ is_set name.now (rows_of (found_of words.now)) }
+{
+    words.get_one(name).unwrap_or(false)
+}
+
+/// The command of this name.
+fn verb_of(name: &str) -> Verb
+    requires { IsVerb name.now }
+    ensures { name.now ≡ verb_name result }
+{
+    match name {
+        "show" => Verb::Show,
+        "check" => Verb::Check,
+        "digest" => Verb::Digest,
+        "dump" => Verb::Dump,
+        "same" => Verb::Same,
+        "canonicalise" => Verb::Canonicalise,
+        _ => unreachable!(),
+    }
+}
+
+/// What a command does with the files among its words.
+fn task_of<'a>(alloc: Global, verb: Verb, words: &ArgMatches<'a>) -> Result<Task<'a>, LineFault>
+    requires { verb ≡ Verb.Same → HasBoth (rows_of (found_of words.now)) }
+    ensures verb { IfOk result (λ task. verb_of_task task ≡ verb) }
+    ensures files { IfOk result (HasFiles (rows_of (found_of words.now))) }
+    ensures fault { IfErr result (IsFaultOf (Some (verb_name verb, rows_of (found_of words.now)))) }
+    ensures faults { IfErr result (IsRefusal []) }
 {
     match verb {
         Verb::Show => each(alloc, EachJob::Show, words),
@@ -153,15 +100,13 @@ fn task_of<'a>(
     }
 }
 
-fn each<'a>(
-    alloc: Global,
-    job: EachJob,
-    words: &ArgMatches<'a>,
-) -> Result<Option<Task<'a>>, AllocError>
-    ensures { IfOk result (λ found. (inputs : Inputs) × (found ≡ Some (Task.Each job inputs)) × HasInputs (rows_of (found_of words.now)) inputs) }
+/// A job with each of the files among the words.
+fn each<'a>(alloc: Global, job: EachJob, words: &ArgMatches<'a>) -> Result<Task<'a>, LineFault>
+    ensures task { IfOk result (λ task. (inputs : Inputs) × (task ≡ Task.Each job inputs) × HasInputs (rows_of (found_of words.now)) inputs) }
+    ensures memory { IfErr result IsOutOfMemory }
 {
     let inputs = inputs(alloc, words)?;
-    Ok(Some(Task::Each { job, inputs }))
+    Ok(Task::Each { job, inputs })
 }
 
 fn inputs<'a>(alloc: Global, words: &ArgMatches<'a>) -> Result<Inputs<'a>, AllocError>
@@ -183,69 +128,70 @@ fn names<'a>(alloc: Global, words: &ArgMatches<'a>) -> Result<Vec<&'a str>, Allo
     }
 }
 
-fn compare<'a>(words: &ArgMatches<'a>) -> Option<Task<'a>>
-    ensures some { IfSome result (λ task. (verb_of_task task ≡ Verb.Same) × HasFiles (rows_of (found_of words.now)) task) }
-    ensures none { IfNone result ((first second : Text) → HasPair (rows_of (found_of words.now)) first second → ⊥) }
+/// The two files of `same`.
+fn compare<'a>(words: &ArgMatches<'a>) -> Task<'a>
+    requires { HasBoth (rows_of (found_of words.now)) }
+    ensures verb { verb_of_task result ≡ Verb.Same }
+    ensures files { HasFiles (rows_of (found_of words.now)) result }
 {
-    let (first, second) = pair(words)?;
-    Some(Task::Compare { first, second })
+    Task::Compare {
+        first: required(words, "first"),
+        second: required(words, "second"),
+    }
 }
 
-fn normal_forms<'a>(alloc: Global, words: &ArgMatches<'a>) -> Result<Option<Task<'a>>, AllocError>
-    ensures some { IfOk result (λ found. IfSome found (λ task. (verb_of_task task ≡ Verb.Canonicalise) × HasFiles (rows_of (found_of words.now)) task)) }
-    ensures none { IfOk result (λ found. IfNone found ((task : Task) → verb_of_task task ≡ Verb.Canonicalise → HasFiles (rows_of (found_of words.now)) task → ⊥)) }
+/// The value of an argument that is required.
+fn required<'a>(words: &ArgMatches<'a>, id: &str) -> &'a str
+    requires { is_some (first_of id.now (rows_of (found_of words.now))) ≡ true }
+    ensures { first_of id.now (rows_of (found_of words.now)) ≡ Some result.now }
+{
+    match words.get_str(id) {
+        Some(word) => word,
+        None => unreachable!(),
+    }
+}
+
+/// The files of `canonicalise`.
+fn normal_forms<'a>(alloc: Global, words: &ArgMatches<'a>) -> Result<Task<'a>, LineFault>
+    ensures verb { IfOk result (λ task. verb_of_task task ≡ Verb.Canonicalise) }
+    ensures files { IfOk result (HasFiles (rows_of (found_of words.now))) }
+    ensures fault { IfErr result (IsFaultOf (Some (codes "canonicalise", rows_of (found_of words.now)))) }
+    ensures faults { IfErr result (IsRefusal []) }
 {
     let inputs = inputs(alloc, words)?;
     match words.get_str("output") {
-        Some(output) => Ok(Some(Task::Collect { inputs, output })),
-        None => match in_and_out(&inputs) {
-            Some((input, output)) => Ok(Some(Task::Canonicalise { input, output })),
-            None => Ok(None),
-        },
+        Some(output) => Ok(Task::Collect { inputs, output }),
+        None => in_and_out(alloc, &inputs),
     }
 }
 
 /// IN and OUT, where there are two words and no list of files.
-fn in_and_out<'a>(inputs: &Inputs<'a>) -> Option<(&'a str, &'a str)>
-    ensures words { IfSome result (λ two. map (λ word. word.now) inputs.now.files.items ≡ two.0.now ∷ two.1.now ∷ []) }
-    ensures list { IfSome result (λ two. inputs.now.list ≡ None) }
-    ensures none { IfNone result (length inputs.now.files.items ≡ 2 → inputs.now.list ≡ None → ⊥) }
+fn in_and_out<'a>(alloc: Global, inputs: &Inputs<'a>) -> Result<Task<'a>, LineFault>
+    ensures two { IfOk result (IsInAndOut inputs.now) }
+    ensures fault { IfErr result (IsNotInAndOut inputs.now) }
 {
-    match inputs.list {
-        Some(_) => None,
-        None => two_of(&inputs.files),
+    if inputs.list.is_some() {
+        return Err(LineFault::Missing(missing(alloc, help::NO_OUTPUT)?));
+    }
+    match inputs.files.as_slice() {
+        [] => Err(LineFault::Missing(missing(alloc, help::NO_IN)?)),
+        [_] => Err(LineFault::Missing(missing(alloc, help::NO_OUT)?)),
+        [input, output] => Ok(Task::Canonicalise { input, output }),
+        [_, _, word, ..] => Err(LineFault::Unexpected(unexpected(alloc, word)?)),
     }
 }
 
-/// Two words, if there is no third.
-fn two_of<'a>(words: &[&'a str]) -> Option<(&'a str, &'a str)>
-    ensures some { IfSome result (λ two. map (λ word. word.now) words.now ≡ two.0.now ∷ two.1.now ∷ []) }
-    ensures none { IfNone result (length words.now ≢ 2) }
+/// That `canonicalise` has too few words.
+fn missing(alloc: Global, message: &str) -> Result<Error, AllocError>
+    ensures { IfOk result (λ e. kind_of e ≡ ErrorKind.MissingRequiredArgument) }
 {
-    if words.len() != 2 {
-        return None;
-    }
-    Some((words[0], words[1]))
+    canonicalise(alloc)?.error(ErrorKind::MissingRequiredArgument, message)
 }
 
-fn pair<'a>(words: &ArgMatches<'a>) -> Option<(&'a str, &'a str)>
-    ensures some { IfSome result (λ found. HasPair (rows_of (found_of words.now)) found.0.now found.1.now) }
-    ensures none { IfNone result ((first second : Text) → HasPair (rows_of (found_of words.now)) first second → ⊥) }
+/// That `canonicalise` has a third word.
+fn unexpected(alloc: Global, word: &str) -> Result<Error, AllocError>
+    ensures { IfOk result (λ e. kind_of e ≡ ErrorKind.UnknownArgument) }
 {
-    Some((words.get_str("first")?, words.get_str("second")?))
-}
-
-fn verb_of(name: &str) -> Option<Verb>
-    ensures some { IfSome result (λ verb. name.now ≡ verb_name verb) }
-    ensures none { IfNone result ((verb : Verb) → name.now ≡ verb_name verb → ⊥) }
-{
-    match name {
-        "show" => Some(Verb::Show),
-        "check" => Some(Verb::Check),
-        "digest" => Some(Verb::Digest),
-        "dump" => Some(Verb::Dump),
-        "same" => Some(Verb::Same),
-        "canonicalise" => Some(Verb::Canonicalise),
-        _ => None,
-    }
+    let message = format!(in alloc; "unexpected argument '{word}' found")?;
+    canonicalise(alloc)?.error(ErrorKind::UnknownArgument, &message)
 }

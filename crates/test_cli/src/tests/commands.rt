@@ -125,7 +125,7 @@ static ROWS: [Row; 33] = [
     Row {
         words: "check - A -",
         status: 2,
-        errors: "illcanon: the same word twice\n",
+        errors: "illcanon: standard input is named twice\n",
         ..QUIET
     },
     Row {

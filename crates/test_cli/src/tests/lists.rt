@@ -64,7 +64,7 @@ static ROWS: [Row; 15] = [
     Row {
         words: "check --files-from dashes",
         status: 2,
-        errors: "illcanon: the same word twice\n",
+        errors: "illcanon: standard input is named twice\n",
         ..QUIET
     },
     Row {
@@ -87,7 +87,7 @@ static ROWS: [Row; 15] = [
         words: "check --files-from -",
         input: b"A\0-\0",
         status: 2,
-        errors: "illcanon: the same word twice\n",
+        errors: "illcanon: standard input is named twice\n",
         ..QUIET
     },
     Row {

@@ -5,7 +5,7 @@ use std::test::Fail;
 use test_runtime::{Faults, NO_FAULTS};
 
 /// Commands with an output. O is absent, and `none` is no folder.
-static ROWS: [Row; 41] = [
+static ROWS: [Row; 43] = [
     Row {
         words: "canonicalise B OUT",
         out: Repeated(EXPIRED, 33),
@@ -265,7 +265,13 @@ static ROWS: [Row; 41] = [
     Row {
         words: "canonicalise -o OUT OUT",
         status: 2,
-        errors: "illcanon: the same word twice\n",
+        errors: "illcanon: OUT is one of the files that are read\n",
+        ..QUIET
+    },
+    Row {
+        words: "canonicalise -o OUT --files-from OUT A",
+        status: 2,
+        errors: "illcanon: OUT is one of the files that are read\n",
         ..QUIET
     },
     Row {
@@ -277,7 +283,13 @@ static ROWS: [Row; 41] = [
     Row {
         words: "canonicalise -o OUT --files-from dashes",
         status: 2,
-        errors: "illcanon: the same word twice\n",
+        errors: "illcanon: standard input is named twice\n",
+        ..QUIET
+    },
+    Row {
+        words: "canonicalise -o OUT - -",
+        status: 2,
+        errors: "illcanon: standard input is named twice\n",
         ..QUIET
     },
     Row {

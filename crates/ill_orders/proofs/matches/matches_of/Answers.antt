@@ -1,9 +1,12 @@
-use Rattle.std.proofs.Common.{◌≡◌, ◌∙◌, true, refl, ap, map, subst}
+use Rattle.std.proofs.Common.{◌≡◌, ◌∙◌, true, [], Result, Ok, Err, IfOk, refl, ap, map, sym, subst}
 use Rattle.std.proofs.lemmas.Result.{IfOk-weaker}
 use Rattle.std.specs.String.{string_bytes}
 use Rattle.clap.specs.Simple.{App}
-use Rattle.clap.specs.Words.{FailsBy, app_of, fault_of, is_simple, is_simple_and_free, subcommand_of}
+use Rattle.clap.specs.Words.{FailsBy, Kinds, app_of, fault_of, is_simple, is_simple_and_free, subcommand_of}
+use Rattle.clap.specs.declared.error.Error.{Error}
 use Rattle.ill_orders.specs.CommandLine.{program}
+use Rattle.ill_orders.specs.code.Commands.{IsCommand}
+use Rattle.ill_orders.proofs.Command.{command}
 use Rattle.ill_orders.proofs.matches.matches_of.Goals as goal
 
 -- no argument of the program has a rule on another
@@ -14,11 +17,24 @@ simple = refl
 plain : is_simple program ≡ true
 plain = refl
 
+-- what comes without an error comes of words without a fault
+no_fault : {T : Type 0} (kinds : Kinds) (r : Result T Error) (P : T → Type 0) → FailsBy kinds r → (kinds ≡ [] → IfOk r P) → IfOk r P
+no_fault kinds (Ok m) P f h = h f
+no_fault kinds (Err e) P f h = tt
+
 pub returns-clause-found : goal.returns-clause-found
 returns-clause-found c =
     let same : app_of c.in_ok-program.field-0 ≡ program = c.in_ok-program.ensures in
     let words = map string_bytes c.args.words.now in
     IfOk-weaker c.try_get_matches_from.result _ _ (λ m h. (h (ap is_simple same ∙ plain)).1 ∙ ap (λ (a : App). subcommand_of a words) same) c.try_get_matches_from.ensures.matches
+
+pub returns-clause-command : goal.returns-clause-command
+returns-clause-command c =
+    let same : app_of c.in_ok-program.field-0 ≡ program = c.in_ok-program.ensures in
+    let words = map string_bytes c.args.words.now in
+    let faults = subst (λ (a : App). FailsBy (fault_of a words) c.try_get_matches_from.result) same (c.try_get_matches_from.ensures.kinds (ap is_simple_and_free same ∙ simple)) in
+    no_fault (fault_of program words) c.try_get_matches_from.result _ faults (λ f. IfOk-weaker c.try_get_matches_from.result _ _
+    (λ m h. subst IsCommand (sym ((h (ap is_simple same ∙ plain)).1 ∙ ap (λ (a : App). subcommand_of a words) same)) (command words f)) c.try_get_matches_from.ensures.matches)
 
 pub returns-clause-faults : goal.returns-clause-faults
 returns-clause-faults c =

@@ -1,29 +1,23 @@
-use Rattle.std.proofs.Common.{◌≡◌, ◌∙◌, Option, Some, None, length, option_map, refl, sym, ap, codes}
-use Rattle.std.proofs.lemmas.List.{length-map}
+use Rattle.std.proofs.Common.{◌∙◌, option_map, sym, ap, codes}
+use Rattle.std.proofs.lemmas.Result.{IfOk-weaker, IfErr-weaker}
 use Rattle.clap.specs.Words.{found_of, rows_of}
 use Rattle.clap.proofs.WalkLemmas.{first_value-rows}
-use Rattle.ill_orders.proofs.Canonicalised.{has_two}
+use Rattle.ill_orders.proofs.Canonicalised.{in_and_out, not_in_and_out}
 use Rattle.ill_orders.proofs.matches.normal_forms.Goals as goal
 
-none_in : {X Y : Type 0} (f : X → Y) (o : Option X) → option_map f o ≡ None → o ≡ None
-none_in f None e = refl
-none_in f (Some x) e = absurd cc
-
-pub returns-in-Some-clause-some : goal.returns-in-Some-clause-some
-returns-in-Some-clause-some c =
+pub returns-in-Some-clause-files : goal.returns-in-Some-clause-files
+returns-in-Some-clause-files c =
     let found = found_of c.args.words.now in
-    (refl, (c.in_ok-inputs.ensures, sym (first_value-rows found (codes "output")) ∙ sym c.get_str.ensures ∙ ap (option_map (λ s. s.now)) c.in-Some.is))
+    (c.in_ok-inputs.ensures, sym (first_value-rows found (codes "output")) ∙ sym c.get_str.ensures ∙ ap (option_map (λ s. s.now)) c.in-Some.is)
 
-pub returns-in-Some-in_and_out-clause-some : goal.returns-in-Some-in_and_out-clause-some
-returns-in-Some-in_and_out-clause-some c =
+pub returns-clause-files : goal.returns-clause-files
+returns-clause-files c =
     let found = found_of c.args.words.now in
     let output = sym (first_value-rows found (codes "output")) ∙ sym c.get_str.ensures ∙ ap (option_map (λ s. s.now)) c.in-None.is in
-    (refl, (c.in_ok-inputs.ensures.0 ∙ c.in-Some-in_and_out.ensures.words, c.in_ok-inputs.ensures.1 ∙ ap (option_map (λ s. s.now)) c.in-Some-in_and_out.ensures.list, output))
+    IfOk-weaker c.in_and_out.result _ _ (λ task two. (in_and_out (rows_of found) c.in_ok-inputs.inputs task c.in_ok-inputs.ensures output two).1) c.in_and_out.ensures.two
 
-pub returns-clause-none : goal.returns-clause-none
-returns-clause-none c = λ task v h.
+pub returns-clause-fault : goal.returns-clause-fault
+returns-clause-fault c =
     let found = found_of c.args.words.now in
     let output = sym (first_value-rows found (codes "output")) ∙ sym c.get_str.ensures ∙ ap (option_map (λ s. s.now)) c.in-None.is in
-    let two = has_two (rows_of found) task output v h in
-    let count = sym (length-map c.in_ok-inputs.inputs.files.items (λ s. s.now)) ∙ ap length (sym c.in_ok-inputs.ensures.0) ∙ two.0 in
-    c.in-None-in_and_out.ensures.none count (none_in (λ s. s.now) c.in_ok-inputs.inputs.list (sym c.in_ok-inputs.ensures.1 ∙ two.1))
+    IfErr-weaker c.in_and_out.result _ _ (λ fault n. (not_in_and_out (rows_of found) c.in_ok-inputs.inputs fault c.in_ok-inputs.ensures output n).0) c.in_and_out.ensures.fault
