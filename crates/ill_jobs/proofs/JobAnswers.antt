@@ -1,10 +1,9 @@
 -- Which result an input has.
-use Rattle.std.proofs.Common.{◌≡◌, ◌⊎◌, ℕ, ◌+◌, ◌<◌, ◌≤◌, Bool, List, [], ◌∷◌, map, length, take, Option, Some, None, Result, Ok, Err, IfSome, refl, sym, ap, subst, ◌∙◌, inl, inr, arith}
+use Rattle.std.proofs.Common.{◌≡◌, ◌⊎◌, ℕ, ◌+◌, ◌<◌, ◌≤◌, Bool, List, [], ◌∷◌, length, take, Option, Some, None, Result, Ok, Err, IfSome, refl, sym, ap, subst, ◌∙◌, inl, inr, arith}
 use Rattle.std.specs.Prelude.{IfOk, IfErr}
-use Rattle.std.proofs.lemmas.List.{length-map}
 use Rattle.std.specs.Io.KnownBytes.{Consumes, IsAtEnd}
 use Rattle.ber_leaf.specs.Profile.{profile_two}
-use Rattle.ill_schema.specs.Apdu.{Apdu, Accepts, IsStream}
+use Rattle.ill_schema.specs.Apdu.{Apdu, Accepts}
 use Rattle.ill_schema.proofs.Streams.{parts_accept, accepts_once, accepts_some, take_front, tails}
 use Rattle.ill_refusals.specs.Fault.{Fault, fault_of}
 use Rattle.ill_refusals.specs.Outcome.{OnlyRefuses}
@@ -21,7 +20,7 @@ use Rattle.ill_jobs.specs.declared.fault.RunFault.{RunFault}
 use Rattle.ill_jobs.specs.Output.{verdict_of}
 use Rattle.ill_jobs.specs.Ran.{Writes, Stops, StopsAfter, Done, IsFault, AnswersVerdict, IsRefused, AnswersRefused, AnswersFault}
 
-same_spelling : (m n : Spelling) → m.apdu ≡ n.apdu → m.octets ≡ n.octets → m ≡ n
+pub same_spelling : (m n : Spelling) → m.apdu ≡ n.apdu → m.octets ≡ n.octets → m ≡ n
 same_spelling m n e f = ap (λ (a : Apdu). let x : Spelling = record { apdu = a; octets = m.octets } in x) e ∙ ap (λ (o : List ℕ). let x : Spelling = record { apdu = n.apdu; octets = o } in x) f
 
 -- octets are messages to their end in one way
@@ -38,7 +37,7 @@ one_reading s (m ∷ ms) (n ∷ ns) h k =
     ap (λ (x : Spelling). x ∷ ms) (same_spelling m n same.0 octets) ∙ ap (λ (xs : List Spelling). n ∷ xs) more
 
 -- what was taken of s, and what is left
-taken_of : (work : Work) (s : List ℕ) (left' held held' : Option (List ℕ)) (ms : List Spelling) → Writes work (Some s) left' held held' ms
+pub taken_of : (work : Work) (s : List ℕ) (left' held held' : Option (List ℕ)) (ms : List Spelling) → Writes work (Some s) left' held held' ms
     → (r : List ℕ) × (left' ≡ Some r) × AreSpelled s ms r
 taken_of work s left' held held' ms w =
     let t = front s left' w.octets w.taken in

@@ -1,5 +1,5 @@
 -- What a job does to its source and its sink.
-use Rattle.std.specs.Prelude.{◌≡◌, ◌⊎◌, ℕ, ◌+◌, ◌<◌, ◌≤◌, Bool, true, false, List, [], ◌∷◌, ◌++◌, length, take, Option, Some, Result, Ok, Err, IfSome, IsTrue}
+use Rattle.std.specs.Prelude.{◌≡◌, ◌⊎◌, ℕ, ◌+◌, ◌<◌, ◌≤◌, Bool, true, false, List, [], ◌∷◌, ◌++◌, length, take, codes, Option, Some, Result, Ok, Err, IfSome, IsTrue}
 use Rattle.std.specs.Io.KnownBytes.{Consumes, Keeps, Appends, IsAtEnd}
 use Rattle.ber_leaf.specs.Profile.{profile_two}
 use Rattle.ill_schema.specs.Apdu.{SpellsApdu}
@@ -104,6 +104,28 @@ RunFails false work source sink counts fault = StopsAfter work source sink count
 RunFails true work source sink counts fault =
     (FailsText source.left source.left' source.broken fault × Keeps sink.held sink.held' × (counts ≡ counts_of work [] []))
     ⊎ ((octets : List ℕ) × TextOf source.left source.left' octets × ((rest : List ℕ) × StopsAfter work (taking (Some octets) (Some rest) false) sink counts fault))
+
+-- the work of a job on an input that no line names
+pub record IsUnnamed (job : Job) (hex : Bool) (work : Work) : Type 0 where
+  pub same_job : work.job ≡ job
+  pub same_hex : work.hex ≡ hex
+  pub name : work.name.now ≡ codes "-"
+  pub not_named : work.is_named ≡ false
+  pub not_compared : work.compares ≡ false
+
+-- a job was done on an input that no line names
+pub record JobDone (job : Job) (hex : Bool) (source : Taking) (sink : Putting) (verdict : Verdict) : Type 0 where
+  pub work : Work
+  pub unnamed : IsUnnamed job hex work
+  pub counts : Counts
+  pub done : RunDone hex work source.left source.left' sink.held sink.held' counts verdict
+
+-- it was not
+pub record JobFails (job : Job) (hex : Bool) (source : Taking) (sink : Putting) (fault : RunFault) : Type 0 where
+  pub work : Work
+  pub unnamed : IsUnnamed job hex work
+  pub counts : Counts
+  pub fails : RunFails hex work source sink counts fault
 
 -- ---- which result an input has
 

@@ -1,7 +1,7 @@
 //! The jobs of the program, over sources and sinks: to show, check, digest, canonicalise and compare.
 //!
 //! ```
-//! let verdict = run(alloc, Work::new(Job::Check, false), &mut source, &mut sink)?;
+//! let verdict = run(alloc, Job::Check, false, &mut source, &mut sink)?;
 //! ```
 #![tactic(auto)]
 
@@ -20,6 +20,6 @@ pub use going::{Halt, run_on, run_on_by, verdict_of};
 pub use hexadecimal::text_octets;
 pub use ill_going::{Gone, Report, Reports};
 pub use job::{Counts, Job, Ran, Verdict, Work};
-pub use messages::{run, run_by};
+pub use messages::{run, run_by, run_work};
 pub use same::run_same;
 pub use text::{Unread, read_most};

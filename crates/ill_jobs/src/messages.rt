@@ -3,7 +3,7 @@ ghost use Rattle.std.specs.Prelude.{◌≡◌, ◌<◌, false, IfOk, IfErr, IfSo
 ghost use Rattle.ill_normal.specs.Calls.{taking, putting};
 ghost use Rattle.ill_jobs.specs.declared.job.Counts.{Counts};
 ghost use Rattle.ill_jobs.specs.code.Endings.{counts_with, run_fault, verdict_by};
-ghost use Rattle.ill_jobs.specs.Ran.{fault_at, Done, StopsAfter, RunDone, RunFails, DoesMessages, RefusesFirst, RefusesMore, RefusesText};
+ghost use Rattle.ill_jobs.specs.Ran.{fault_at, Done, StopsAfter, RunDone, RunFails, JobDone, JobFails, DoesMessages, RefusesFirst, RefusesMore, RefusesText};
 
 use crate::fault::RunFault;
 use crate::hexadecimal::read_hex;
@@ -12,16 +12,60 @@ use ber_core::{AtHand, FromSlice, Look, Sink, Source, Unseen};
 use ill_normal::{ReadFailure, Stopped, Why, each_message};
 use std::alloc::Global;
 
-/// Does a job with the messages of an input, one after another up to its end. With `work.hex` the input
-/// is hexadecimal text, which is read whole first; otherwise one message is held at a time. All
-/// memory that a message's output needs is taken before any of it is written. Whatever the result, at most
-/// 4,194,305 octets are taken of a text; of other input at most 1,048,576 octets are taken after
-/// the last message that was done.
+/// Does a job with the messages of an input that no line names, one after another up to its end. With
+/// `hex` the input is hexadecimal text, which is read whole first; otherwise one message is held at a
+/// time. All memory that a message's output needs is taken before any of it is written. Whatever the
+/// result, at most 4,194,305 octets are taken of a text; of other input at most 1,048,576 octets are taken
+/// after the last message that was done, and at most one after 1,000,000 messages.
 ///
 /// # Errors
 ///
 /// Why the job was not done to the end of the input, see [`RunFault`].
+///
+/// # Examples
+///
+/// ```
+/// let verdict = run(alloc, Job::Check, false, &mut source, &mut sink)?;
+/// ```
 pub fn run<R: Source, W: Sink>(
+    alloc: Global,
+    job: Job,
+    hex: bool,
+    source: &mut R,
+    sink: &mut W,
+) -> Result<Verdict, RunFault>
+    // The input was messages to its end, and their output was written.
+    ensures done { IfOk result (JobDone job hex
+        (taking (R.left source.old) (R.left source.new) (R.is_broken source.new))
+        (putting (W.contents sink.old) (W.contents sink.new) (W.is_broken sink.new))) }
+    ensures fails { IfErr result (JobFails job hex
+        (taking (R.left source.old) (R.left source.new) (R.is_broken source.new))
+        (putting (W.contents sink.old) (W.contents sink.new) (W.is_broken sink.new))) }
+    // Each input has one result, unless memory, the source or the sink fails.
+    ensures does { IfSome (R.left source.old) (λ s. DoesMessages job hex s result) }
+    ensures refuses { IfSome (R.left source.old) (λ s. RefusesFirst hex s result) }
+    ensures too_many { IfSome (R.left source.old) (λ s. RefusesMore hex s result) }
+    ensures no_hex { IfSome (R.left source.old) (λ s. RefusesText hex s result) }
+    ensures source_stays { IsTrue (R.is_broken source.old) → IsTrue (R.is_broken source.new) }
+    ensures sink_stays { IsTrue (W.is_broken sink.old) → IsTrue (W.is_broken sink.new) }
+{
+    let work = Work::new(job, hex);
+    run_work(alloc, work, source, sink)
+}
+
+/// Does a job as [`run`] does, on an input whose lines may name it.
+///
+/// # Errors
+///
+/// Those of [`run`].
+///
+/// # Examples
+///
+/// ```
+/// let work = Work { name: "messages.ber", is_named: true, ..Work::new(Job::Check, false) };
+/// let verdict = run_work(alloc, work, &mut source, &mut sink)?;
+/// ```
+pub fn run_work<R: Source, W: Sink>(
     alloc: Global,
     work: Work<'_>,
     source: &mut R,

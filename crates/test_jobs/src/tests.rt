@@ -8,7 +8,7 @@ mod sames;
 mod shows;
 
 use ber_core::{Pieces, ToWrite};
-use ill_jobs::{RunFault, Verdict, Work, run};
+use ill_jobs::{RunFault, Verdict, Work, run_work};
 use std::alloc::Global;
 
 /// Whether a job with the messages of a source has this result and writes this.
@@ -19,6 +19,6 @@ fn gives(
     (answer, output): (Result<Verdict, RunFault>, &[u8]),
 ) -> bool {
     let mut written = Vec::new(alloc);
-    let found = run(alloc, work, source, &mut ToWrite::new(&mut written));
+    let found = run_work(alloc, work, source, &mut ToWrite::new(&mut written));
     found == answer && written.as_slice() == output
 }

@@ -24,7 +24,7 @@ fn checked(
 ) -> (Result<Verdict, RunFault>, Option<usize>) {
     let mut source = Pieces::new(octets, 64, None);
     let mut sink: Room<128> = Room::new(per_call.max(1), breaks);
-    let answer = run(alloc, Work::new(Job::Check, false), &mut source, &mut sink);
+    let answer = run(alloc, Job::Check, false, &mut source, &mut sink);
     let written = sink.octets();
     let count = LINES
         .as_bytes()

@@ -1,7 +1,7 @@
 //! Contracts that leave one result: what two calls on the same arguments return is proved equal of their contracts alone. So a body
 //! that returns anything else doesn't meet its contract. That memory was refused, and that a source or the sink broke, are the results
 //! that may come besides.
-ghost use Rattle.std.specs.Prelude.{◌≡◌, ◌≤◌, ◌+◌, ℕ, Bool, [], Ok, Err, true, false, IfOk, length};
+ghost use Rattle.std.specs.Prelude.{◌≡◌, ◌≤◌, ◌+◌, ℕ, Bool, [], Ok, Err, true, false, IfOk, IfErr, length};
 ghost use Rattle.ber_leaf.specs.Profile.{profile_two};
 ghost use Rattle.ill_jobs.specs.Ran.{IsFault};
 ghost use Rattle.ill_read.specs.Outline.{IsOutlineOf};
@@ -9,8 +9,8 @@ ghost use Rattle.ill_schema.specs.Apdu.{Apdu, choice_of};
 ghost use Rattle.ill_schema.specs.Fits.{FitsApdu};
 ghost use Rattle.ill_schema.specs.Message.{apdu_of};
 
-use ber_core::{Pieces, Room};
-use ill_jobs::{RunFault, Verdict, Work, run, run_same};
+use ber_core::{Pieces, Room, Sink, Source};
+use ill_jobs::{Job, RunFault, Verdict, Work, run, run_same, run_work};
 use ill_json::{Head, json_line};
 use ill_lines::{LineJob, LinesFault, run_lines};
 use ill_normal::{Refusal, Side};
@@ -55,7 +55,8 @@ fn lines_of_json_are_of_one_apdu(
 
 /// Equal inputs have one verdict. Where one has a verdict, the other is not refused.
 fn inputs_have_one_verdict(
-    work: Work<'_>,
+    job: Job,
+    hex: bool,
     source: &mut Pieces,
     sink: &mut Room<64>,
     other: &mut Pieces,
@@ -67,9 +68,48 @@ fn inputs_have_one_verdict(
     ensures fault { (v : Verdict) (e : RunFault) → result.0 ≡ Ok v → result.1 ≡ Err e → IsFault e }
 {
     (
-        run(alloc, work, source, sink),
-        run(alloc, work, other, other_sink),
+        run(alloc, job, hex, source, sink),
+        run(alloc, job, hex, other, other_sink),
     )
+}
+
+/// Equal inputs with one result, whatever it is, have one output, unless memory, a source or a sink fails.
+fn inputs_have_one_output(
+    job: Job,
+    hex: bool,
+    source: &mut Pieces,
+    sink: &mut Room<64>,
+    other: &mut Pieces,
+    other_sink: &mut Room<64>,
+    alloc: Global,
+) -> (Result<Verdict, RunFault>, Result<Verdict, RunFault>)
+    requires source { source.old.octets ≡ other.old.octets }
+    requires sink { sink.old.octets ≡ other_sink.old.octets }
+    ensures { result.0 ≡ result.1 → IfErr result.0 (λ e. IsFault e → ⊥) → sink.new.octets ≡ other_sink.new.octets }
+{
+    (
+        run(alloc, job, hex, source, sink),
+        run(alloc, job, hex, other, other_sink),
+    )
+}
+
+/// A read fault is of a source that is broken, and a write fault of a sink that is.
+fn jobs_fail_where_something_is_broken(
+    job: Job,
+    hex: bool,
+    source: &mut Pieces,
+    sink: &mut Room<64>,
+    alloc: Global,
+) {
+    match run(alloc, job, hex, source, sink) {
+        Err(RunFault::ReadFault) => {
+            prove!(source.broken());
+        }
+        Err(RunFault::WriteFault(_)) => {
+            prove!(sink.broken());
+        }
+        _ => {}
+    }
 }
 
 /// Equal inputs have one output of lines, and one result of whether all are good.
@@ -103,7 +143,7 @@ fn write_faults_count_what_the_sink_took(
     requires empty { sink.old.octets ≡ [] }
     ensures { (n : ℕ) → result ≡ Err (RunFault.WriteFault n) → length sink.new.octets ≡ n }
 {
-    run(alloc, work, source, sink)
+    run_work(alloc, work, source, sink)
 }
 
 /// Of a text at most 4,194,305 octets are taken, whatever the result.
@@ -116,10 +156,10 @@ fn texts_are_taken_to_their_bound(
     requires { work.hex ≡ true }
     ensures { length source.old.octets ≤ 4_194_305 + length source.new.octets }
 {
-    run(alloc, work, source, sink)
+    run_work(alloc, work, source, sink)
 }
 
-/// Equal pairs of inputs have one verdict. Where one pair has a verdict, the other is not refused.
+/// Equal pairs of inputs have one verdict, and one line is written. Where one pair has a verdict, the other is not refused.
 fn pairs_have_one_verdict(
     hex: bool,
     first: &mut Pieces,
@@ -132,13 +172,38 @@ fn pairs_have_one_verdict(
 ) -> (Result<Verdict, RunFault>, Result<Verdict, RunFault>)
     requires first { first.old.octets ≡ other_first.old.octets }
     requires second { second.old.octets ≡ other_second.old.octets }
+    requires sink { sink.old.octets ≡ other_sink.old.octets }
     ensures verdict { (v w : Verdict) → result.0 ≡ Ok v → result.1 ≡ Ok w → v ≡ w }
+    ensures line { (v w : Verdict) → result.0 ≡ Ok v → result.1 ≡ Ok w → sink.new.octets ≡ other_sink.new.octets }
     ensures fault { (v : Verdict) (e : RunFault) → result.0 ≡ Ok v → result.1 ≡ Err e → IsFault e }
 {
     (
         run_same(alloc, hex, first, second, sink),
         run_same(alloc, hex, other_first, other_second, other_sink),
     )
+}
+
+/// A read fault is of an input that is broken, and a write fault of a sink that is. Without a verdict or a write fault nothing is written.
+fn pairs_fail_where_something_is_broken(
+    hex: bool,
+    first: &mut Pieces,
+    second: &mut Pieces,
+    sink: &mut Room<64>,
+    alloc: Global,
+) {
+    let before = sink.octets().len();
+    match run_same(alloc, hex, first, second, sink) {
+        Ok(_) => {}
+        Err(RunFault::WriteFault(_)) => {
+            prove!(sink.broken());
+        }
+        Err(RunFault::ReadFault) => {
+            prove!((first.broken() || second.broken()) && sink.octets().len() == before);
+        }
+        Err(_) => {
+            prove!(sink.octets().len() == before);
+        }
+    }
 }
 
 /// Of equal pairs one side is refused, with one refusal. At most 1,048,577 octets are taken of the first.

@@ -1,7 +1,7 @@
 //! What `run` writes and returns, row by row.
 use super::gives;
 use ber_core::{Pieces, Room, ToWrite, Unseen};
-use ill_jobs::{Counts, Job, RunFault, Verdict, Work, run, run_by};
+use ill_jobs::{Counts, Job, RunFault, Verdict, Work, run_by, run_work};
 use ill_normal::{Cause, Refusal};
 use std::alloc::{AllocError, Global};
 use std::test::Fail;
@@ -235,7 +235,7 @@ const SHOWN: &[u8] =
 fn has_the_first(alloc: Global, octets: &[u8], n: usize) -> bool {
     let mut source = Pieces::new(octets, 4096, None);
     let mut sink: Room<512> = Room::new(512, Some(n));
-    run(alloc, SHOW_NAMED, &mut source, &mut sink) == Err(RunFault::WriteFault(n as u128))
+    run_work(alloc, SHOW_NAMED, &mut source, &mut sink) == Err(RunFault::WriteFault(n as u128))
         && SHOWN.get(..n) == Some(sink.octets())
 }
 

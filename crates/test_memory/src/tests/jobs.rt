@@ -2,7 +2,7 @@
 use super::Row;
 use super::given::EXPIRED;
 use ber_core::{Pieces, Room};
-use ill_jobs::{Job, RunFault, Verdict, Work, run, run_same};
+use ill_jobs::{Job, RunFault, Verdict, run, run_same};
 use std::alloc::Global;
 use test_support::Outcome;
 
@@ -40,7 +40,7 @@ fn of_job(done: Result<Verdict, RunFault>, written: &[u8]) -> Outcome {
 
 fn run_job(alloc: Global, job: Job, hex: bool) -> Outcome {
     let mut sink: Room<512> = Room::new(64, None);
-    let done = run(alloc, Work::new(job, hex), &mut input(hex), &mut sink);
+    let done = run(alloc, job, hex, &mut input(hex), &mut sink);
     of_job(done, sink.octets())
 }
 

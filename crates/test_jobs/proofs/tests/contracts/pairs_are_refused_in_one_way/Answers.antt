@@ -1,5 +1,4 @@
-use Rattle.std.proofs.Common.{◌≡◌, ◌+◌, ◌≤◌, ℕ, Bool, false, List, length, Option, Some, Result, Ok, Err, IfOk, IfErr, sym, ap, ap₂, subst, inl, inr}
-use Rattle.ill_schema.specs.declared.refusal.Cause.{Cause}
+use Rattle.std.proofs.Common.{◌≡◌, ◌+◌, ◌≤◌, ℕ, Bool, false, List, length, Option, Some, Result, Ok, Err, IfOk, IfErr, sym, subst, inl, inr}
 use Rattle.ill_schema.specs.declared.refusal.Refusal.{Refusal}
 use Rattle.ill_refusals.specs.Fault.{fault_of}
 use Rattle.ill_refusals.proofs.Refusals.{same_refusal}

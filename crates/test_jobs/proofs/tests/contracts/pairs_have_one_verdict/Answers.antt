@@ -1,5 +1,5 @@
-use Rattle.std.proofs.Common.{◌≡◌, ◌↔◌, ℕ, Bool, List, Option, Some, Result, Ok, Err, IfOk, refl, sym, subst}
-use Rattle.ill_jobs.specs.Compared.{ComparesBoth, SameDone, SaysSame}
+use Rattle.std.proofs.Common.{◌≡◌, ◌↔◌, ◌++◌, ◌∙◌, ℕ, Bool, List, Option, Some, Result, Ok, Err, IfOk, refl, sym, ap₂, subst}
+use Rattle.ill_jobs.specs.Compared.{ComparesBoth, SameDone, SaysSame, verdict_line}
 use Rattle.ill_jobs.specs.Ran.{IsFault}
 use Rattle.ill_jobs.specs.declared.fault.RunFault.{RunFault}
 use Rattle.ill_jobs.specs.declared.job.Verdict.{Verdict}
@@ -40,3 +40,16 @@ returns-clause-fault c v e p q =
     subst (λ r. Follows v r) q (once c.args.hex c.args.first.now.octets c.args.other_first.now.octets c.args.second.now.octets c.args.other_second.now.octets
     c.run_same.new.first.octets c.run_same.new.second.octets (Some c.args.sink.now.octets) (Some c.run_same.new.sink.octets) c.run_same.result c.run_same-2.result v c.requires.first c.requires.second p
     c.run_same.ensures.done c.run_same-2.ensures.compares)
+
+line : (hex : Bool) (left left' other other' : Option (List ℕ)) (held new : List ℕ) (r : Result Verdict RunFault) (v : Verdict) → r ≡ Ok v → IfOk r (SameDone hex left left' other other' (Some held) (Some new)) → new ≡ held ++ verdict_line v
+line hex left left' other other' held new r v p d = (subst (λ x. IfOk x (SameDone hex left left' other other' (Some held) (Some new))) p d).written
+
+pub returns-clause-line : goal.returns-clause-line
+returns-clause-line c v w p q =
+    let one = line c.args.hex _ _ _ _ c.args.sink.now.octets c.run_same.new.sink.octets c.run_same.result v p c.run_same.ensures.done in
+    let two = line c.args.hex _ _ _ _ c.args.other_sink.now.octets c.run_same-2.new.sink.octets c.run_same-2.result w q c.run_same-2.ensures.done in
+    let same : v ≡ w =
+    subst (λ r. Follows v r) q (once c.args.hex c.args.first.now.octets c.args.other_first.now.octets c.args.second.now.octets c.args.other_second.now.octets
+    c.run_same.new.first.octets c.run_same.new.second.octets (Some c.args.sink.now.octets) (Some c.run_same.new.sink.octets) c.run_same.result c.run_same-2.result v c.requires.first c.requires.second p
+    c.run_same.ensures.done c.run_same-2.ensures.compares) in
+    one ∙ ap₂ (λ x y. x ++ verdict_line y) c.requires.sink same ∙ sym two

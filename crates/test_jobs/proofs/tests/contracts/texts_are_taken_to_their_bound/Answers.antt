@@ -25,11 +25,11 @@ taken work s t held held' x y (Err e) d f = fails work s t held held' x y f.0 e 
 pub returns : goal.returns
 returns c =
     let left = Some c.args.source.now.octets in
-    let left' = Some c.run.new.source.octets in
+    let left' = Some c.run_work.new.source.octets in
     let held = Some c.args.sink.now.octets in
-    let held' = Some c.run.new.sink.octets in
-    let x = c.run.new.source.broken in
-    let y = c.run.new.sink.broken in
-    taken c.args.work c.args.source.now.octets c.run.new.source.octets held held' x y c.run.result
-    (subst (λ (h : Bool). IfOk c.run.result (λ v. (n : Counts) × RunDone h c.args.work left left' held held' n v)) c.requires c.run.ensures.done)
-    (subst (λ (h : Bool). IfErr c.run.result (λ e. (n : Counts) × RunFails h c.args.work (taking left left' x) (putting held held' y) n e)) c.requires c.run.ensures.fails)
+    let held' = Some c.run_work.new.sink.octets in
+    let x = c.run_work.new.source.broken in
+    let y = c.run_work.new.sink.broken in
+    taken c.args.work c.args.source.now.octets c.run_work.new.source.octets held held' x y c.run_work.result
+    (subst (λ (h : Bool). IfOk c.run_work.result (λ v. (n : Counts) × RunDone h c.args.work left left' held held' n v)) c.requires c.run_work.ensures.done)
+    (subst (λ (h : Bool). IfErr c.run_work.result (λ e. (n : Counts) × RunFails h c.args.work (taking left left' x) (putting held held' y) n e)) c.requires c.run_work.ensures.fails)

@@ -1,4 +1,4 @@
-use Rattle.std.proofs.Common.{◌≡◌, ◌++◌, ◌<◌, ℕ, Bool, false, List, [], length, take, Option, Some, IfErr, ap, subst, arith, length-append, length-take}
+use Rattle.std.proofs.Common.{◌≡◌, ◌++◌, ◌<◌, ℕ, Bool, List, [], length, take, Option, Some, IfErr, ap, subst, arith, length-append, length-take}
 use Rattle.ill_normal.specs.Calls.{taking, putting}
 use Rattle.ill_jobs.specs.Ran.{RunFails, StopsAfter}
 use Rattle.ill_jobs.specs.declared.fault.RunFault.{RunFault}
@@ -19,9 +19,9 @@ counted work left left' held new x y n e h =
 pub returns : goal.returns
 returns c n p =
     let left = Some c.args.source.now.octets in
-    let left' = Some c.run.new.source.octets in
-    let x = c.run.new.source.broken in
-    let y = c.run.new.sink.broken in
-    counted c.args.work left left' c.args.sink.now.octets c.run.new.sink.octets x y n c.requires.empty
-    (subst (λ r. IfErr r (λ e. (k : Counts) × StopsAfter c.args.work (taking left left' x) (putting (Some c.args.sink.now.octets) (Some c.run.new.sink.octets) y) k e)) p
-    (subst (λ (h : Bool). IfErr c.run.result (λ e. (k : Counts) × RunFails h c.args.work (taking left left' x) (putting (Some c.args.sink.now.octets) (Some c.run.new.sink.octets) y) k e)) c.requires.plain c.run.ensures.fails))
+    let left' = Some c.run_work.new.source.octets in
+    let x = c.run_work.new.source.broken in
+    let y = c.run_work.new.sink.broken in
+    counted c.args.work left left' c.args.sink.now.octets c.run_work.new.sink.octets x y n c.requires.empty
+    (subst (λ r. IfErr r (λ e. (k : Counts) × StopsAfter c.args.work (taking left left' x) (putting (Some c.args.sink.now.octets) (Some c.run_work.new.sink.octets) y) k e)) p
+    (subst (λ (h : Bool). IfErr c.run_work.result (λ e. (k : Counts) × RunFails h c.args.work (taking left left' x) (putting (Some c.args.sink.now.octets) (Some c.run_work.new.sink.octets) y) k e)) c.requires.plain c.run_work.ensures.fails))
