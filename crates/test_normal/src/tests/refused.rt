@@ -70,7 +70,7 @@ fn sides_are_refused_in_one_way(
     second: &[u8],
     alloc: Global,
 ) -> (Result<bool, (Side, Failure)>, Result<bool, (Side, Failure)>)
-    ensures one { (s t : Side) (x y : Refusal) → result.0 ≡ Err (s, Failure.Refused x) → result.1 ≡ Err (t, Failure.Refused y) → (s ≡ t) × (x ≡ y) }
+    ensures { (s t : Side) (x y : Refusal) → result.0 ≡ Err (s, Failure.Refused x) → result.1 ≡ Err (t, Failure.Refused y) → (s ≡ t) × (x ≡ y) }
 {
     (
         same_message(alloc, first, second),
