@@ -131,16 +131,23 @@ def words_in(text, uses, own=None):
 
 def reached(seeds):
     """The definitions that the seeds reach, by file."""
-    todo, found = list(seeds), {}
+    todo, found, laws = list(seeds), {}, set()
     while todo:
         module, name = todo.pop()
         names = found.setdefault(module, set())
         if name in names:
             continue
         names.add(name)
+        if (module, name) in LAWS:
+            names.discard(name)
+            law = LAWS[module, name]
+            if law not in laws:
+                laws.add(law)
+                todo += contracts_of(law[0], (law[1],))
+            continue
         file = file_of(module)
         todo += words_in("\n".join(file.items[name]), file.uses, file)
-    return found
+    return {module: names for module, names in found.items() if names}
 
 
 def rust_of(crate):
@@ -236,16 +243,41 @@ def section(title, text, seeds):
     return [*head, *rows, ""]
 
 
-APDU = "Rattle.ill_schema.specs.Apdu"
-HEADLINE = [(APDU, name) for name in ("SpellsApdu", "Accepts", "normal_form", "IsStream")]
+# The claims of README.md, each with the functions that it names, and the crates that these are in.
+CLAIMS = [
+    ("Equal normal forms", [("ill_normal", "normal_forms_are_equal_exactly_if_apdus_are"), ("ill_normal", "same_message")]),
+    ("What is accepted", [("ill_refusals", "one_outcome"), ("ill_read", "decode"), ("ill_read", "read_message")]),
+    ("However the input is cut", [("ill_read", "feed"), ("ill_read", "read_message")]),
+    ("One cause at one offset", [("ill_refusals", "one_outcome"), ("ill_normal", "one_refusal_of_a_slice")]),
+]
+
+# How a function is named that is in a type.
+NAMES = {"feed": "Decoder::feed"}
+
+# Definitions that a law states in the words of others, so that nobody has to believe them: the law, and what they are.
+READING = "Rattle.ill_refusals.specs.Reading"
+LAWS = {(READING, name): ("ill_refusals", "headers_are_read") for name in ("class_of", "tagged", "read_digits", "read_number", "read_identifier", "read_length")}
 PRODUCT = "ber_core ber_frame ber_leaf ill_schema ill_refusals ill_read ill_write ill_normal ill_going ill_text ill_json ill_jobs ill_dump ill_lines ill_orders ill_files ill_cli ill_digest ill_c ill_parts ill_apdu_results ill_apdu_requests ill_apdu".split()
+
+
+def claims():
+    """What each of the claims of README.md reaches, and all of them together."""
+    rows, all_seeds = ["| Claim | Functions | Files | Lines |", "|---|---|---|---|"], []
+    for title, functions in CLAIMS:
+        seeds = [seed for crate, name in functions for seed in contracts_of(crate, (name,))]
+        files, lines = table(reached(seeds))
+        all_seeds += seeds
+        rows.append(f"| {title} | {', '.join(f'`{crate}::{NAMES.get(name, name)}`' for crate, name in functions)} | {len(files)} | {lines} |")
+    return rows, all_seeds
 
 
 def document():
     run = [*contracts_of("ill_jobs", ("run", "run_same"))]
+    rows, all_claims = claims()
     text = ["# What must be believed", ""]
     text += ["The definitions between a theorem and its reader. `tests/trusted.py` prints this list, and `tests/all.sh` fails where it is out of date. Each definition is named with the words that it cites, and so on to the end. The types that Rust code declares, and the definitions of std, of `jiff`, of `json`, of `hex` and of `sha2`, are cited too, and not listed.", ""]
-    text += section("The theorem", "What the four claims of README.md say: which octets spell an APDU, what an input has at its front, what the normal form is, and what a stream is.", HEADLINE)
+    text += ["`ill_refusals::headers_are_read` is a law: what the definitions of `ill_refusals/specs/Reading.antt` read at the front of octets is an identifier or a length as X.690 spells it. So in place of these the list has the words of that law.", ""]
+    text += section("The theorem", "What the contracts of the functions say that README.md names beside its four claims. The last claim needs the causes and their order; the third one needs, besides, what a decoder needs and how it stands for the octets that it was fed.\n\n" + "\n".join(rows), all_claims)
     text += section("The program's jobs", "All that the contracts of `ill_jobs::run` and `ill_jobs::run_same` say, with causes and offsets, text and hexadecimal digits.", run)
     text += section("Lines", "All that the contract of `ill_lines::run_lines` says.", contracts_of("ill_lines", ("run_lines",)))
     text += section("The calls for C", "All that the contracts of `ill_c` say, with what a call leaves in the caller's memory, and causes as numbers.", contracts_of("ill_c"))
