@@ -1,9 +1,9 @@
--- The messages that a dump has read.
-use Rattle.std.proofs.Common.{◌≡◌, ◌+◌, ◌<◌, ◌≤◌, ℕ, List, [], ◌∷◌, ◌++◌, Option, Some, None, length, take, subst, sym, ap, ◌∙◌, refl, arith, append-nil, append_assoc, length-append}
+-- The messages that a dump has read and written.
+use Rattle.std.proofs.Common.{◌≡◌, ◌+◌, ◌<◌, ◌≤◌, ℕ, suc, List, [], ◌∷◌, ◌++◌, Option, Some, None, Result, Ok, Err, length, take, subst, sym, ap, ◌∙◌, refl, arith, append-nil, append_assoc, length-append}
 use Rattle.std.proofs.lemmas.List.{length-take-le}
-use Rattle.std.specs.Prelude.{IfSome}
-use Rattle.std.specs.Io.KnownBytes.{Consumes, IsAtEnd}
-use Rattle.std.proofs.KnownBytes.{Consumes-nil, Consumes-trans}
+use Rattle.std.specs.Prelude.{IfSome, OnOk}
+use Rattle.std.specs.Io.KnownBytes.{Consumes, Appends, IsAtEnd}
+use Rattle.std.proofs.KnownBytes.{Consumes-nil, Consumes-trans, Appends-nil, Appends-trans}
 use Rattle.ber_leaf.specs.Profile.{profile_two}
 use Rattle.ill_schema.specs.Apdu.{Apdu, IsStream, SpellsApdu}
 use Rattle.ill_schema.proofs.Streams.{stream_join}
@@ -13,44 +13,98 @@ use Rattle.ill_read.specs.Answers.{IfReadRefused}
 use Rattle.ill_read.specs.declared.failure.ReadFailure.{ReadFailure}
 use Rattle.ill_jobs.specs.Ran.{IsFault}
 use Rattle.ill_jobs.specs.declared.fault.RunFault.{RunFault}
-use Rattle.ill_dump.specs.Dumped.{AreMessages, StopsIn}
+use Rattle.ill_dump.specs.declared.run.Dump.{Dump}
+use Rattle.ill_dump.specs.Dumped.{AreDumped, Dumps, DumpsUpTo, StopsIn, dumped_from, head}
 use Rattle.ill_dump.specs.code.Failing.{FollowsFrom}
+use Rattle.ill_dump.specs.code.Putting.{BeginsWith, IfRefused, Puts}
 
--- this number of messages was taken
-pub record Reached (left left' : Option (List ℕ)) (count : ℕ) : Type 0 where
+-- what waits for the sink
+
+pub on_ok : {T E : Type 0} (r : Result T E) (P Q : Type 0) → (P → Q) → OnOk r P → OnOk r Q
+on_ok (Ok x) P Q f h = f h
+on_ok (Err e) P Q f h = tt
+
+pub puts_none : (held : Option (List ℕ)) (waiting : List ℕ) → Puts held held waiting waiting
+puts_none held waiting = record { written = []; more = []; appended = Appends-nil held; order = append-nil waiting }
+
+pub puts_more : (held held' held'' : Option (List ℕ)) (waiting waiting' waiting'' lines : List ℕ) → Puts held held' waiting waiting' → Appends held' held'' (waiting' ++ lines) → waiting'' ≡ []
+    → Puts held held'' waiting waiting''
+puts_more held held' held'' waiting waiting' waiting'' lines p more none =
+    let all = p.written ++ (waiting' ++ lines) in
+    record {
+      written = all;
+      more = p.more ++ lines;
+      appended = Appends-trans held held' held'' _ _ p.appended more;
+      order = sym (append_assoc waiting p.more lines) ∙ ap (λ l. l ++ lines) p.order ∙ append_assoc p.written waiting' lines ∙ sym (append-nil all) ∙ ap (λ l. all ++ l) (sym none);
+    }
+
+pub puts_all : (held held' held'' : Option (List ℕ)) (front waiting waiting' lines : List ℕ) → waiting ≡ front → Puts held held' waiting waiting' → Appends held' held'' (waiting' ++ lines) → BeginsWith held held'' front
+puts_all held held' held'' front waiting waiting' lines e p more =
+    let all = puts_more held held' held'' waiting waiting' [] lines p more refl in
+    (all.more, subst (Appends held held'') (sym (append-nil all.written) ∙ sym all.order ∙ ap (λ l. l ++ all.more) e) all.appended)
+
+-- messages that were written
+
+dumped_push : (dump : Dump) (i : ℕ) (parts : List (List ℕ)) (more : List ℕ) → dumped_from dump i (parts ++ more ∷ []) ≡ dumped_from dump i parts ++ (head dump (i + length parts) ++ more)
+dumped_push dump i [] more = append-nil (head dump i ++ more) ∙ ap (λ (n : ℕ). head dump n ++ more) (let e : i ≡ i + 0 = omega arith in e)
+dumped_push dump i (part ∷ parts) more =
+    let number : suc i + length parts ≡ i + suc (length parts) = omega arith in
+    ap (λ l. head dump i ++ part ++ l) (dumped_push dump (suc i) parts more ∙ ap (λ (n : ℕ). dumped_from dump (suc i) parts ++ (head dump n ++ more)) number)
+    ∙ sym (append_assoc (head dump i ++ part) (dumped_from dump (suc i) parts) (head dump (i + suc (length parts)) ++ more))
+
+dumps_none : (dump : Dump) (held : Option (List ℕ)) → Dumps dump 0 held held
+dumps_none dump held = record { parts = []; count = refl; written = Appends-nil held }
+
+dumps_more : (dump : Dump) (n : ℕ) (held held' held'' : Option (List ℕ)) → Dumps dump n held held' → BeginsWith held' held'' (head dump (n + 1)) → Dumps dump (n + 1) held held''
+dumps_more dump n held held' held'' d b =
+    let number : n + 1 ≡ 1 + length d.parts = omega (arith, d.count) in
+    let all = ap (λ (k : ℕ). dumped_from dump 1 d.parts ++ (head dump k ++ b.0)) number ∙ sym (dumped_push dump 1 d.parts b.0) in
+    record {
+      parts = d.parts ++ b.0 ∷ [];
+      count = omega (arith, d.count, length-append d.parts (b.0 ∷ []));
+      written = subst (Appends held held'') all (Appends-trans held held' held'' _ _ d.written b.1);
+    }
+
+-- this number of messages was taken, and written
+pub record Reached (dump : Dump) (left left' held held' : Option (List ℕ)) (count : ℕ) : Type 0 where
   pub apdus : List Apdu
   pub octets : List ℕ
   pub stream : IsStream profile_two octets apdus []
   pub taken : Consumes left left' octets
   pub counted : length apdus ≡ count
+  pub dumps : Dumps dump count held held'
 
-pub reached_none : (left : Option (List ℕ)) → Reached left left 0
-reached_none left = record { apdus = []; octets = []; stream = refl; taken = Consumes-nil left; counted = refl }
+pub reached_none : (dump : Dump) (left held : Option (List ℕ)) → Reached dump left left held held 0
+reached_none dump left held = record { apdus = []; octets = []; stream = refl; taken = Consumes-nil left; counted = refl; dumps = dumps_none dump held }
 
 -- a stream, and octets after it
 stream_front : (b t : List ℕ) (apdus : List Apdu) → IsStream profile_two b apdus [] → IsStream profile_two (b ++ t) apdus t
 stream_front b t [] h = ap (λ l. l ++ t) h
 stream_front b t (a ∷ apdus) h = (h.0, h.1 ++ t, ap (λ l. l ++ t) h.2 ∙ append_assoc h.0 h.1 t, h.3, stream_front h.1 t apdus h.4)
 
-pub reached_more : (left left' left'' : Option (List ℕ)) (count : ℕ) (a : Apdu) (b : List ℕ)
-    → Reached left left' count → Consumes left' left'' b → SpellsApdu profile_two a b → Reached left left'' (count + 1)
-reached_more left left' left'' count a b h more spells = record {
+pub reached_more : (dump : Dump) (left left' left'' held held' held'' : Option (List ℕ)) (count : ℕ) (a : Apdu) (b : List ℕ)
+    → Reached dump left left' held held' count → Consumes left' left'' b → SpellsApdu profile_two a b → BeginsWith held' held'' (head dump (count + 1))
+    → Reached dump left left'' held held'' (count + 1)
+reached_more dump left left' left'' held held' held'' count a b h more spells begins = record {
   apdus = h.apdus ++ a ∷ [];
   octets = h.octets ++ b;
   stream = stream_join profile_two (h.octets ++ b) b [] h.apdus (a ∷ []) (stream_front h.octets b h.apdus h.stream) (b, [], sym (append-nil b), spells, refl);
   taken = Consumes-trans left left' left'' h.octets b h.taken more;
   counted = omega (arith, h.counted, length-append h.apdus (a ∷ []));
+  dumps = dumps_more dump count held held' held'' h.dumps begins;
 }
 
 -- no more were left
-pub reached_all : (left left' left'' : Option (List ℕ)) (count : ℕ) → Reached left left' count → Consumes left' left'' [] → IsAtEnd left'' → count ≤ 1_000_000 → AreMessages left left''
-reached_all left left' left'' count h none end few = record {
+pub reached_all : (dump : Dump) (left left' left'' held held' : Option (List ℕ)) (count : ℕ) → Reached dump left left' held held' count → Consumes left' left'' [] → IsAtEnd left'' → count ≤ 1_000_000
+    → AreDumped dump left left'' held held'
+reached_all dump left left' left'' held held' count h none end few = record {
   apdus = h.apdus;
   octets = h.octets;
   stream = h.stream;
   taken = subst (Consumes left left'') (append-nil h.octets) (Consumes-trans left left' left'' h.octets [] h.taken none);
   end = end;
   few = omega (arith, h.counted, few);
+  dumps = subst (λ (n : ℕ). Dumps dump n held held') (sym h.counted) h.dumps;
 }
 
 -- memory, the source or the sink failed
@@ -66,39 +120,65 @@ stops_in (Some s) RunFault.OutOfMemory h = tt
 stops_in (Some s) RunFault.ReadFault h = tt
 stops_in (Some s) (RunFault.WriteFault n) h = tt
 
--- the octets of a stream, and what is left
-stream_of : (s t : List ℕ) (left' : Option (List ℕ)) (count : ℕ) (h : Reached (Some s) left' count) → left' ≡ Some t → IsStream profile_two s h.apdus t
-stream_of s t left' count h e =
-    let whole : s ≡ h.octets ++ t = subst (λ l. Consumes (Some s) l h.octets) e h.taken in
-    subst (λ l. IsStream profile_two l h.apdus t) (sym whole) (stream_front h.octets t h.apdus h.stream)
+module _ (dump : Dump) (held held' : Option (List ℕ)) where
+  pub dumps_before : (fault : RunFault) → IsFault fault → DumpsUpTo dump fault held held'
+  dumps_before (RunFault.Refused message refusal) h = absurd h
+  dumps_before (RunFault.RefusedSide side refusal) h = tt
+  dumps_before RunFault.OddHex h = tt
+  dumps_before (RunFault.BadHex n) h = tt
+  dumps_before RunFault.HexTooLong h = tt
+  dumps_before RunFault.TooManyMessages h = absurd h
+  dumps_before RunFault.OutOfMemory h = tt
+  dumps_before RunFault.ReadFault h = tt
+  dumps_before (RunFault.WriteFault n) h = tt
 
-refused_next : (left left' : Option (List ℕ)) (count message : ℕ) (f : Fault) → (h : Reached left left' count) → message ≡ count + 1
-    → IfSome left' (λ s. (0 < length s) × OnlyRefuses profile_two s f)
-    → IfSome left (λ s. (apdus : List Apdu) × (rest : List ℕ) × IsStream profile_two s apdus rest × (message ≡ length apdus + 1) × (0 < length rest) × OnlyRefuses profile_two rest f)
-refused_next None left' count message f h m only = tt
-refused_next (Some s) None count message f h m only = absurd h.taken
-refused_next (Some s) (Some t) count message f h m only = (h.apdus, t, stream_of s t (Some t) count h refl, omega (arith, m, h.counted), only.0, only.1)
+  -- the octets of a stream, and what is left
+  stream_of : (s t : List ℕ) (left' : Option (List ℕ)) (count : ℕ) (h : Reached dump (Some s) left' held held' count) → left' ≡ Some t → IsStream profile_two s h.apdus t
+  stream_of s t left' count h e =
+      let whole : s ≡ h.octets ++ t = subst (λ l. Consumes (Some s) l h.octets) e h.taken in
+      subst (λ l. IsStream profile_two l h.apdus t) (sym whole) (stream_front h.octets t h.apdus h.stream)
 
--- a message that is refused after these is the first one, or memory, the source or the sink failed
-pub stops_next : (left left' : Option (List ℕ)) (count i : ℕ) (failure : ReadFailure) (fault : RunFault) → Reached left left' count → i ≡ count + 1
-    → IfReadRefused failure (λ f. IfSome left' (λ s. (0 < length s) × OnlyRefuses profile_two s f)) → FollowsFrom i failure fault → IfSome left (λ s. StopsIn s fault)
-stops_next left left' count i failure (RunFault.Refused message refusal) h n only follows =
-    refused_next left left' count message (fault_of refusal) h (follows.0 ∙ n)
-    (subst (λ x. IfReadRefused x (λ f. IfSome left' (λ s. (0 < length s) × OnlyRefuses profile_two s f))) follows.1 only)
-stops_next left left' count i failure (RunFault.RefusedSide side refusal) h n only follows = absurd follows
-stops_next left left' count i failure RunFault.OddHex h n only follows = absurd follows
-stops_next left left' count i failure (RunFault.BadHex at) h n only follows = absurd follows
-stops_next left left' count i failure RunFault.HexTooLong h n only follows = absurd follows
-stops_next left left' count i failure RunFault.TooManyMessages h n only follows = absurd follows
-stops_next left left' count i failure RunFault.OutOfMemory h n only follows = stops_in left RunFault.OutOfMemory tt
-stops_next left left' count i failure RunFault.ReadFault h n only follows = stops_in left RunFault.ReadFault tt
-stops_next left left' count i failure (RunFault.WriteFault at) h n only follows = stops_in left (RunFault.WriteFault at) tt
+  refused_next : (left left' : Option (List ℕ)) (count message : ℕ) (f : Fault) → (h : Reached dump left left' held held' count) → message ≡ count + 1
+      → IfSome left' (λ s. (0 < length s) × OnlyRefuses profile_two s f)
+      → IfSome left (λ s. (apdus : List Apdu) × (rest : List ℕ) × IsStream profile_two s apdus rest × (message ≡ length apdus + 1) × (0 < length rest) × OnlyRefuses profile_two rest f)
+  refused_next None left' count message f h m only = tt
+  refused_next (Some s) None count message f h m only = absurd h.taken
+  refused_next (Some s) (Some t) count message f h m only = (h.apdus, t, stream_of s t (Some t) count h refl, omega (arith, m, h.counted), only.0, only.1)
 
--- octets after 1,000,000 messages
-pub stops_full : (left left' left'' : Option (List ℕ)) (count n : ℕ) (buffer : List ℕ) → Reached left left' count → count ≡ 1_000_000
-    → 0 < n → n ≤ length buffer → Consumes left' left'' (take n buffer) → IfSome left (λ s. StopsIn s RunFault.TooManyMessages)
-stops_full None left' left'' count n buffer h full some within more = tt
-stops_full (Some s) None left'' count n buffer h full some within more = absurd h.taken
-stops_full (Some s) (Some t) None count n buffer h full some within more = absurd more
-stops_full (Some s) (Some t) (Some u) count n buffer h full some within more =
-    (h.apdus, t, stream_of s t (Some t) count h refl, h.counted ∙ full, omega (arith, some, ap length more, length-append (take n buffer) u, length-take-le n buffer within))
+  -- a message that is refused after these is the first one, or memory, the source or the sink failed
+  pub stops_next : (left left' : Option (List ℕ)) (count i : ℕ) (failure : ReadFailure) (fault : RunFault) → Reached dump left left' held held' count → i ≡ count + 1
+      → IfReadRefused failure (λ f. IfSome left' (λ s. (0 < length s) × OnlyRefuses profile_two s f)) → FollowsFrom i failure fault → IfSome left (λ s. StopsIn s fault)
+  stops_next left left' count i failure (RunFault.Refused message refusal) h n only follows =
+      refused_next left left' count message (fault_of refusal) h (follows.0 ∙ n)
+      (subst (λ x. IfReadRefused x (λ f. IfSome left' (λ s. (0 < length s) × OnlyRefuses profile_two s f))) follows.1 only)
+  stops_next left left' count i failure (RunFault.RefusedSide side refusal) h n only follows = absurd follows
+  stops_next left left' count i failure RunFault.OddHex h n only follows = absurd follows
+  stops_next left left' count i failure (RunFault.BadHex at) h n only follows = absurd follows
+  stops_next left left' count i failure RunFault.HexTooLong h n only follows = absurd follows
+  stops_next left left' count i failure RunFault.TooManyMessages h n only follows = absurd follows
+  stops_next left left' count i failure RunFault.OutOfMemory h n only follows = stops_in left RunFault.OutOfMemory tt
+  stops_next left left' count i failure RunFault.ReadFault h n only follows = stops_in left RunFault.ReadFault tt
+  stops_next left left' count i failure (RunFault.WriteFault at) h n only follows = stops_in left (RunFault.WriteFault at) tt
+
+  -- and it was written
+  pub dumps_next : (held'' : Option (List ℕ)) (count i : ℕ) (failure : ReadFailure) (fault : RunFault) → Dumps dump count held held' → i ≡ count + 1
+      → FollowsFrom i failure fault → IfRefused fault (BeginsWith held' held'' (head dump i)) → DumpsUpTo dump fault held held''
+  dumps_next held'' count i failure (RunFault.Refused message refusal) d n follows begins =
+      subst (λ (k : ℕ). Dumps dump k held held'') (sym (follows.0 ∙ n)) (dumps_more dump count held held' held'' d (subst (λ (k : ℕ). BeginsWith held' held'' (head dump k)) n begins))
+  dumps_next held'' count i failure (RunFault.RefusedSide side refusal) d n follows begins = tt
+  dumps_next held'' count i failure RunFault.OddHex d n follows begins = tt
+  dumps_next held'' count i failure (RunFault.BadHex at) d n follows begins = tt
+  dumps_next held'' count i failure RunFault.HexTooLong d n follows begins = tt
+  dumps_next held'' count i failure RunFault.TooManyMessages d n follows begins = absurd follows
+  dumps_next held'' count i failure RunFault.OutOfMemory d n follows begins = tt
+  dumps_next held'' count i failure RunFault.ReadFault d n follows begins = tt
+  dumps_next held'' count i failure (RunFault.WriteFault at) d n follows begins = tt
+
+  -- octets after 1,000,000 messages
+  pub stops_full : (left left' left'' : Option (List ℕ)) (count n : ℕ) (buffer : List ℕ) → Reached dump left left' held held' count → count ≡ 1_000_000
+      → 0 < n → n ≤ length buffer → Consumes left' left'' (take n buffer) → IfSome left (λ s. StopsIn s RunFault.TooManyMessages)
+  stops_full None left' left'' count n buffer h full some within more = tt
+  stops_full (Some s) None left'' count n buffer h full some within more = absurd h.taken
+  stops_full (Some s) (Some t) None count n buffer h full some within more = absurd more
+  stops_full (Some s) (Some t) (Some u) count n buffer h full some within more =
+      (h.apdus, t, stream_of s t (Some t) count h refl, h.counted ∙ full, omega (arith, some, ap length more, length-append (take n buffer) u, length-take-le n buffer within))

@@ -1,26 +1,45 @@
--- What a dump says of its input and of the sink. The text that is written has no definition.
-use Rattle.std.specs.Prelude.{◌≡◌, ◌⊎◌, ℕ, ◌+◌, ◌<◌, ◌≤◌, Bool, true, false, List, [], length, Option, Some, IfSome, IsTrue}
-use Rattle.std.specs.Io.KnownBytes.{Consumes, IsAtEnd}
+-- What a dump does to its source and its sink. Of the text that is written only what each message begins with has a definition.
+use Rattle.std.specs.Prelude.{◌≡◌, ◌⊎◌, ℕ, suc, ◌+◌, ◌<◌, ◌≤◌, Bool, true, false, List, [], ◌∷◌, ◌++◌, length, codes, decimal, Option, Some, IfSome, IsTrue}
+use Rattle.std.specs.Io.KnownBytes.{Consumes, Keeps, Appends, IsAtEnd}
 use Rattle.ber_leaf.specs.Profile.{profile_two}
 use Rattle.ill_schema.specs.Apdu.{Apdu, IsStream}
 use Rattle.ill_refusals.specs.Fault.{fault_of}
 use Rattle.ill_refusals.specs.Outcome.{OnlyRefuses}
 use Rattle.ill_jobs.specs.declared.fault.RunFault.{RunFault}
+use Rattle.ill_jobs.specs.Output.{label_of}
 use Rattle.ill_jobs.specs.Ran.{FailsText, IsFault, TextOf}
+use Rattle.ill_dump.specs.declared.run.Dump.{Dump}
 
--- what was left is messages to its end, at most 1,000,000, and all of it was taken
-pub record AreMessages (left left' : Option (List ℕ)) : Type 0 where
+-- what the lines of message i begin with
+abbrev pub head : Dump → ℕ → List ℕ
+head dump i = label_of dump.is_named dump.name.now ++ codes "message " ++ decimal i ++ codes ": "
+
+-- what is written of messages from message i on: the head of each, and more
+abbrev pub dumped_from : Dump → ℕ → List (List ℕ) → List ℕ
+dumped_from dump i [] = []
+dumped_from dump i (more ∷ others) = head dump i ++ more ++ dumped_from dump (suc i) others
+
+-- n messages were written, from the first one on
+pub record Dumps (dump : Dump) (n : ℕ) (held held' : Option (List ℕ)) : Type 0 where
+  pub parts : List (List ℕ)
+  pub count : length parts ≡ n
+  pub written : Appends held held' (dumped_from dump 1 parts)
+
+-- what was left is messages to its end, at most 1,000,000; all of it was taken, and each message was written
+pub record AreDumped (dump : Dump) (left left' held held' : Option (List ℕ)) : Type 0 where
   pub apdus : List Apdu
   pub octets : List ℕ
   pub stream : IsStream profile_two octets apdus []
   pub taken : Consumes left left' octets
   pub end : IsAtEnd left'
   pub few : length apdus ≤ 1_000_000
+  pub dumps : Dumps dump (length apdus) held held'
 
 -- the same of an input that is read as octets, or as hexadecimal text
-abbrev pub DumpDone : Bool → Option (List ℕ) → Option (List ℕ) → Type 0
-DumpDone false left left' = AreMessages left left'
-DumpDone true left left' = (octets : List ℕ) × TextOf left left' octets × ((rest : List ℕ) × AreMessages (Some octets) (Some rest))
+abbrev pub DumpDone : Bool → Dump → Option (List ℕ) → Option (List ℕ) → Option (List ℕ) → Option (List ℕ) → Type 0
+DumpDone false dump left left' held held' = AreDumped dump left left' held held'
+DumpDone true dump left left' held held' =
+    (octets : List ℕ) × TextOf left left' octets × ((rest : List ℕ) × AreDumped dump (Some octets) (Some rest) held held')
 
 -- the first message that is refused has this number, and the refusal is the one fault of what is left there; or 1,000,000 messages come before
 -- the end; or memory, the source or the sink failed
@@ -31,10 +50,18 @@ StopsIn s (RunFault.Refused message refusal) =
 StopsIn s RunFault.TooManyMessages = (apdus : List Apdu) × (rest : List ℕ) × IsStream profile_two s apdus rest × (length apdus ≡ 1_000_000) × (0 < length rest)
 StopsIn s fault = IsFault fault
 
--- an input that is read as octets, or as hexadecimal text, ends in this fault
-abbrev pub DumpFails : Bool → Option (List ℕ) → Option (List ℕ) → Bool → RunFault → Type 0
-DumpFails false left left' broken fault = IfSome left (λ s. StopsIn s fault)
-DumpFails true left left' broken fault = FailsText left left' broken fault ⊎ ((octets : List ℕ) × TextOf left left' octets × StopsIn octets fault)
+-- the messages up to the one that is refused were written, and it, too; or 1,000,000 of them
+abbrev pub DumpsUpTo : Dump → RunFault → Option (List ℕ) → Option (List ℕ) → Type 0
+DumpsUpTo dump (RunFault.Refused message refusal) held held' = Dumps dump message held held'
+DumpsUpTo dump RunFault.TooManyMessages held held' = Dumps dump 1_000_000 held held'
+DumpsUpTo dump fault held held' = Unit {0}
+
+-- an input that is read as octets, or as hexadecimal text, ends in this fault; where a text isn't read nothing is written
+abbrev pub DumpFails : Bool → Dump → Option (List ℕ) → Option (List ℕ) → Bool → Option (List ℕ) → Option (List ℕ) → RunFault → Type 0
+DumpFails false dump left left' broken held held' fault = IfSome left (λ s. StopsIn s fault) × DumpsUpTo dump fault held held'
+DumpFails true dump left left' broken held held' fault =
+    (FailsText left left' broken fault × Keeps held held')
+    ⊎ ((octets : List ℕ) × TextOf left left' octets × StopsIn octets fault × DumpsUpTo dump fault held held')
 
 -- after a write fault the sink is broken
 abbrev pub BreaksSink : RunFault → Bool → Type 0

@@ -1,4 +1,6 @@
 //! Lines of text that are made in memory.
+ghost use Rattle.std.specs.Prelude.{◌≡◌, ◌++◌, [], decimal, OnOk};
+
 use itoa::Buffer;
 use std::alloc::{AllocError, Global};
 
@@ -14,13 +16,17 @@ pub struct Lines {
 }
 
 impl Lines {
-    pub fn new(alloc: Global) -> Lines {
+    pub fn new(alloc: Global) -> Lines
+        ensures { result.octets.items ≡ [] }
+    {
         Lines {
             octets: Vec::new(alloc),
         }
     }
 
-    pub fn text(&mut self, text: &str) -> Result<(), AllocError> {
+    pub fn text(&mut self, text: &str) -> Result<(), AllocError>
+        ensures { OnOk result (self.new.octets.items ≡ self.old.octets.items ++ text.now) }
+    {
         self.octets.extend_from_slice(text.as_bytes())
     }
 
@@ -33,7 +39,9 @@ impl Lines {
             .extend_from_slice(Buffer::new().format(number).as_bytes())
     }
 
-    pub fn count(&mut self, count: usize) -> Result<(), AllocError> {
+    pub fn count(&mut self, count: usize) -> Result<(), AllocError>
+        ensures { OnOk result (self.new.octets.items ≡ self.old.octets.items ++ decimal count) }
+    {
         self.octets
             .extend_from_slice(Buffer::new().format(count).as_bytes())
     }

@@ -1,9 +1,12 @@
 //! The messages of an input, one after another.
-ghost use Rattle.std.specs.Prelude.{◌≡◌, IfOk, IfErr, IfSome, IsTrue};
+ghost use Rattle.std.specs.Prelude.{◌≡◌, ◌++◌, [], Ok, IfOk, IfErr, IfSome, IsTrue, OnOk};
+ghost use Rattle.std.specs.Io.KnownBytes.{Appends};
 ghost use Rattle.ill_jobs.specs.declared.fault.RunFault.{RunFault};
+ghost use Rattle.ill_jobs.specs.Output.{label_of};
 ghost use Rattle.ill_jobs.specs.Ran.{FailsText, IsFault, TextOf};
-ghost use Rattle.ill_dump.specs.Dumped.{AreMessages, BreaksSink, DumpDone, DumpFails, StopsIn};
+ghost use Rattle.ill_dump.specs.Dumped.{AreDumped, BreaksSink, DumpDone, DumpFails, DumpsUpTo, StopsIn, head};
 ghost use Rattle.ill_dump.specs.code.Failing.{FollowsFrom};
+ghost use Rattle.ill_dump.specs.code.Putting.{BeginsWith, IfRefused, Puts};
 
 use crate::found::begin;
 use crate::label::label_of;
@@ -51,9 +54,11 @@ pub fn run_dump<R: Source, L: Look<R>, W: Sink>(
     source: &mut R,
     sink: &mut W,
 ) -> Result<(), RunFault>
-    // The input was messages to its end; or this is why it was not.
-    ensures done { IfOk result (λ _. DumpDone dump.entry.hex (R.left source.old) (R.left source.new)) }
-    ensures fails { IfErr result (DumpFails dump.entry.hex (R.left source.old) (R.left source.new) (R.is_broken source.new)) }
+    // The input was messages to its end, and each was written; or this is why it was not.
+    ensures done { OnOk result (DumpDone dump.entry.hex dump.entry
+        (R.left source.old) (R.left source.new) (W.contents sink.old) (W.contents sink.new)) }
+    ensures fails { IfErr result (DumpFails dump.entry.hex dump.entry
+        (R.left source.old) (R.left source.new) (R.is_broken source.new) (W.contents sink.old) (W.contents sink.new)) }
     ensures breaks { IfErr result (λ fault. BreaksSink fault (W.is_broken sink.new)) }
     ensures source_stays { IsTrue (R.is_broken source.old) → IsTrue (R.is_broken source.new) }
     ensures sink_stays { IsTrue (W.is_broken sink.old) → IsTrue (W.is_broken sink.new) }
@@ -82,13 +87,16 @@ fn dump_messages<R: Source, L: Look<R>, W: Sink>(
     source: &mut R,
     sink: &mut W,
 ) -> Result<(), RunFault>
-    ensures done { IfOk result (λ _. AreMessages (R.left source.old) (R.left source.new)) }
+    ensures done { OnOk result (AreDumped dump.entry
+        (R.left source.old) (R.left source.new) (W.contents sink.old) (W.contents sink.new)) }
     ensures stops { IfErr result (λ fault. IfSome (R.left source.old) (λ s. StopsIn s fault)) }
+    ensures dumps { IfErr result (λ fault. DumpsUpTo dump.entry fault (W.contents sink.old) (W.contents sink.new)) }
     ensures breaks { IfErr result (λ fault. BreaksSink fault (W.is_broken sink.new)) }
     ensures source_stays { IsTrue (R.is_broken source.old) → IsTrue (R.is_broken source.new) }
     ensures sink_stays { IsTrue (W.is_broken sink.old) → IsTrue (W.is_broken sink.new) }
 {
     let mut out = Out {
+        head: Lines::new(alloc),
         lines: Lines::new(alloc),
         written: 0,
     };
@@ -117,37 +125,51 @@ fn dump_messages<R: Source, L: Look<R>, W: Sink>(
     }
 }
 
-/// What was written, and what is to be.
+/// What is to be written of a message: what its first line begins with, and what comes after that; and how many octets were written.
 #[derive(Drop)]
 struct Out {
+    head: Lines,
     lines: Lines,
     written: u128,
 }
 
 impl Out {
-    /// Writes the lines that were made.
+    /// Writes what was made.
     fn put<W: Sink>(&mut self, sink: &mut W) -> Result<(), RunFault>
+        ensures puts { OnOk result (Appends (W.contents sink.old) (W.contents sink.new)
+            (self.old.head.octets.items ++ self.old.lines.octets.items)) }
+        ensures none { OnOk result (self.new.head.octets.items ≡ []) }
         ensures breaks { IfErr result (λ fault. BreaksSink fault (W.is_broken sink.new)) }
         ensures refuses { IfErr result IsFault }
         ensures stays { IsTrue (W.is_broken sink.old) → IsTrue (W.is_broken sink.new) }
     {
-        match put_all(sink, &self.lines.octets) {
-            Ok(()) => {
-                self.written = self.written.saturating_add(self.lines.octets.len() as u128);
-                self.lines.octets.clear();
-                Ok(())
-            }
-            Err(count) => {
-                let written = self.written.saturating_add(count as u128);
-                Err(RunFault::WriteFault(written))
-            }
+        send(&mut self.head, &mut self.written, sink)?;
+        send(&mut self.lines, &mut self.written, sink)
+    }
+}
+
+/// Writes lines after this number of octets, and forgets them.
+fn send<W: Sink>(lines: &mut Lines, written: &mut u128, sink: &mut W) -> Result<(), RunFault>
+    ensures puts { OnOk result (Appends (W.contents sink.old) (W.contents sink.new) lines.old.octets.items) }
+    ensures none { OnOk result (lines.new.octets.items ≡ []) }
+    ensures breaks { IfErr result (λ fault. BreaksSink fault (W.is_broken sink.new)) }
+    ensures refuses { IfErr result IsFault }
+    ensures stays { IsTrue (W.is_broken sink.old) → IsTrue (W.is_broken sink.new) }
+{
+    match put_all(sink, &lines.octets) {
+        Ok(()) => {
+            *written = written.saturating_add(lines.octets.len() as u128);
+            lines.octets.clear();
+            Ok(())
         }
+        Err(count) => Err(RunFault::WriteFault(written.saturating_add(count as u128))),
     }
 }
 
 /// What was made is in memory, or memory ran out.
 fn made<T: Drop>(made: Result<T, AllocError>) -> Result<T, RunFault>
-    ensures { IfErr result (λ fault. fault ≡ RunFault.OutOfMemory) }
+    ensures same { IfOk result (λ value. made ≡ Ok value) }
+    ensures memory { IfErr result (λ fault. fault ≡ RunFault.OutOfMemory) }
 {
     match made {
         Ok(made) => Ok(made),
@@ -165,11 +187,14 @@ fn put_message<W: Sink>(
     out: &mut Out,
     sink: &mut W,
 ) -> Result<(), RunFault>
+    ensures begins { OnOk result (BeginsWith (W.contents sink.old) (W.contents sink.new)
+        (out.old.head.octets.items ++ head dump.entry message)) }
+    ensures none { OnOk result (out.new.head.octets.items ≡ []) }
     ensures breaks { IfErr result (λ fault. BreaksSink fault (W.is_broken sink.new)) }
     ensures refuses { IfErr result IsFault }
     ensures stays { IsTrue (W.is_broken sink.old) → IsTrue (W.is_broken sink.new) }
 {
-    made(put_head(dump, message, &mut out.lines))?;
+    made(put_head(dump, message, &mut out.head))?;
     made(put_check(octets, &normal.octets, &mut out.lines))?;
     let mut walk = Walk::new(alloc);
     put_elements(&mut walk, octets, octets.len(), out, sink)?;
@@ -187,6 +212,8 @@ fn put_failure<W: Sink>(
     sink: &mut W,
 ) -> RunFault
     ensures follows { FollowsFrom message failure result }
+    ensures begins { IfRefused result (BeginsWith (W.contents sink.old) (W.contents sink.new)
+        (out.old.head.octets.items ++ head dump.entry message)) }
     ensures breaks { BreaksSink result (W.is_broken sink.new) }
     ensures stays { IsTrue (W.is_broken sink.old) → IsTrue (W.is_broken sink.new) }
 {
@@ -211,11 +238,13 @@ fn put_refused<W: Sink>(
     out: &mut Out,
     sink: &mut W,
 ) -> Result<(), RunFault>
+    ensures begins { OnOk result (BeginsWith (W.contents sink.old) (W.contents sink.new)
+        (out.old.head.octets.items ++ head dump.entry message)) }
     ensures breaks { IfErr result (λ fault. BreaksSink fault (W.is_broken sink.new)) }
     ensures refuses { IfErr result IsFault }
     ensures stays { IsTrue (W.is_broken sink.old) → IsTrue (W.is_broken sink.new) }
 {
-    made(put_head(dump, message, &mut out.lines))?;
+    made(put_head(dump, message, &mut out.head))?;
     made(out.lines.text("refused\n"))?;
     let mut walk = Walk::new(alloc);
     put_elements(&mut walk, octets, refusal.at as usize, out, sink)?;
@@ -231,6 +260,8 @@ fn put_elements<W: Sink>(
     out: &mut Out,
     sink: &mut W,
 ) -> Result<(), RunFault>
+    ensures puts { OnOk result (Puts (W.contents sink.old) (W.contents sink.new)
+        out.old.head.octets.items out.new.head.octets.items) }
     ensures breaks { IfErr result (λ fault. BreaksSink fault (W.is_broken sink.new)) }
     ensures refuses { IfErr result IsFault }
     ensures stays { IsTrue (W.is_broken sink.old) → IsTrue (W.is_broken sink.new) }
@@ -247,14 +278,24 @@ fn put_elements<W: Sink>(
 }
 
 /// What the first line of a message begins with.
-fn put_head(dump: Dump<'_>, message: u32, lines: &mut Lines) -> Result<(), AllocError> {
+fn put_head(dump: Dump<'_>, message: u32, lines: &mut Lines) -> Result<(), AllocError>
+    ensures { OnOk result (lines.new.octets.items ≡ lines.old.octets.items ++ head dump.entry message) }
+{
+    put_label(dump, lines)?;
+    lines.text("message ")?;
+    lines.count(message as usize)?;
+    lines.text(": ")
+}
+
+/// The name of the input, where the first line of a message begins with it.
+fn put_label(dump: Dump<'_>, lines: &mut Lines) -> Result<(), AllocError>
+    ensures { OnOk result (lines.new.octets.items ≡ lines.old.octets.items ++ label_of dump.entry.is_named dump.entry.name.now) }
+{
     if dump.is_named {
         lines.text(dump.name)?;
         lines.text(": ")?;
     }
-    lines.text("message ")?;
-    lines.number(i64::from(message))?;
-    lines.text(": ")
+    Ok(())
 }
 
 /// The rest of the line of a message: its APDU, its size, and whether it is in normal form.

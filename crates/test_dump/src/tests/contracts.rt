@@ -1,12 +1,16 @@
 //! Contracts that leave one result: what the calls return is proved of their contracts alone. So a body that returns anything else
 //! doesn't meet its contract.
-ghost use Rattle.std.specs.Prelude.{◌≡◌, false, Ok, Err};
+ghost use Rattle.std.specs.Prelude.{◌≡◌, ℕ, List, [], length, false, Ok, Err, Some};
+ghost use Rattle.ber_leaf.specs.Profile.{profile_two};
+ghost use Rattle.ill_schema.specs.Apdu.{Apdu, IsStream};
+ghost use Rattle.ill_dump.specs.Dumped.{Dumps};
 ghost use Rattle.ill_jobs.specs.Ran.{IsFault};
 ghost use Rattle.ill_jobs.specs.declared.fault.RunFault.{RunFault};
 
 use ber_core::{Pieces, Room, Unseen};
 use ill_dump::{Dump, run_dump};
 use ill_jobs::RunFault;
+use ill_schema::Refusal;
 use std::alloc::Global;
 
 /// Equal inputs end in one way: where one is dumped to its end, the other is too, unless memory, the source or the sink fails.
@@ -26,4 +30,20 @@ fn inputs_end_in_one_way(
         run_dump::<Pieces, Unseen, Room<64>>(alloc, dump, source, sink),
         run_dump::<Pieces, Unseen, Room<64>>(alloc, dump, other, other_sink),
     )
+}
+
+/// Each message of an input that is dumped to its end is written, and each up to one that is refused, which is written, too.
+fn each_message_is_dumped(
+    dump: Dump<'_>,
+    source: &mut Pieces,
+    sink: &mut Room<64>,
+    alloc: Global,
+) -> Result<(), RunFault>
+    requires { dump.hex ≡ false }
+    ensures whole { (as' : List Apdu) → IsStream profile_two source.old.octets as' [] → result ≡ Ok tt
+        → Dumps dump.entry (length as') (Some sink.old.octets) (Some sink.new.octets) }
+    ensures refused { (i : ℕ) (refusal : Refusal) → result ≡ Err (RunFault.Refused i refusal)
+        → Dumps dump.entry i (Some sink.old.octets) (Some sink.new.octets) }
+{
+    run_dump::<Pieces, Unseen, Room<64>>(alloc, dump, source, sink)
 }

@@ -1,13 +1,22 @@
-use Rattle.std.proofs.Common.{refl, arith}
-use Rattle.ill_dump.proofs.DumpedMessages.{reached_more, reached_none, stops_full, stops_next}
+use Rattle.std.proofs.Common.{◌+◌, ◌++◌, refl, arith, subst}
+use Rattle.ill_dump.specs.Dumped.{head}
+use Rattle.ill_dump.specs.code.Putting.{BeginsWith, IfRefused}
+use Rattle.ill_dump.proofs.DumpedMessages.{dumps_next, reached_more, reached_none, stops_full, stops_next}
 use Rattle.ill_dump.proofs.run.dump_messages.Goals as goal
 
 pub returns-in-Err-clause-stops : goal.returns-in-Err-clause-stops
-returns-in-Err-clause-stops g c = stops_next _ _ _ _ c.in-Err.failure c.put_failure.result c.loop-before.invariant.reached refl c.in-Err.ensures.refused c.put_failure.ensures.follows
+returns-in-Err-clause-stops g c = stops_next _ _ _ _ _ _ _ c.in-Err.failure c.put_failure.result c.loop-before.invariant.reached refl c.in-Err.ensures.refused c.put_failure.ensures.follows
+
+pub returns-in-Err-clause-dumps : goal.returns-in-Err-clause-dumps
+returns-in-Err-clause-dumps g c =
+    let begins = subst (λ l. IfRefused c.put_failure.result (BeginsWith (g.W.Sink.contents c.loop-before.sink) (g.W.Sink.contents c.put_failure.new.sink) (l ++ head c.args.dump (c.loop-before.before + 1))))
+    c.loop-before.invariant.none c.put_failure.ensures.begins in
+    dumps_next _ _ _ _ _ _ c.in-Err.failure c.put_failure.result c.loop-before.invariant.reached.dumps refl c.put_failure.ensures.follows begins
 
 pub loop-before-init : goal.loop-before-init
 loop-before-init g c = record {
-  reached = reached_none _;
+  reached = reached_none _ _ _;
+  none = c.new.ensures;
   source_stays = λ t. t;
   sink_stays = λ t. t;
 }
@@ -15,12 +24,15 @@ loop-before-init g c = record {
 pub loop-before-preserved : goal.loop-before-preserved
 loop-before-preserved g c =
     let message = rw c.in-Ok-Some.field-0-is at c.in-Ok-Some.ensures.message in
+    let begins = subst (λ l. BeginsWith (g.W.Sink.contents c.loop-before.sink) (g.W.Sink.contents c.put_message.new.sink) (l ++ head c.args.dump (c.loop-before.before + 1)))
+    c.loop-before.invariant.none c.in_ok-put_message-in-Ok-Some.ensures.begins in
     record {
-      reached = reached_more _ _ _ _ _ _ c.loop-before.invariant.reached message.1 message.2.0.1;
+      reached = reached_more _ _ _ _ _ _ _ _ _ _ c.loop-before.invariant.reached message.1 message.2.0.1 begins;
+      none = c.in_ok-put_message-in-Ok-Some.ensures.none;
       source_stays = λ t. c.read_kept_normal_in-read.ensures.stays (c.loop-before.invariant.source_stays t);
       sink_stays = λ t. c.put_message.ensures.stays (c.loop-before.invariant.sink_stays t);
     }
 
 pub returns-in-Ok-clause-stops : goal.returns-in-Ok-clause-stops
 returns-in-Ok-clause-stops g c =
-    stops_full _ _ _ _ c.in-Ok.field-0 _ c.loop-before.invariant.reached (omega arith) (omega (arith, c.in-Ok.field-0-test)) c.in-Ok.ensures.count c.in-Ok.ensures.octets.0
+    stops_full _ _ _ _ _ _ _ c.in-Ok.field-0 _ c.loop-before.invariant.reached (omega arith) (omega (arith, c.in-Ok.field-0-test)) c.in-Ok.ensures.count c.in-Ok.ensures.octets.0
