@@ -16,7 +16,7 @@ use crate::walk::Walk;
 use ber_core::{AtHand, FromSlice, Look, Sink, Source};
 use ill_cells::At;
 use ill_jobs::{RunFault, read_most, text_octets};
-use ill_read::{Normal, ReadFailure, read_kept_normal_in};
+use ill_read::{Normal, NormalReader, ReadFailure};
 use ill_schema::Refusal;
 use ill_write::put_all;
 use std::alloc::{AllocError, Global};
@@ -100,12 +100,13 @@ fn dump_messages<R: Source, L: Look<R>, W: Sink>(
         lines: Lines::new(alloc),
         written: 0,
     };
+    let mut reader = NormalReader::new(alloc);
     let mut kept = Vec::new(alloc);
     let mut room = Vec::new(alloc);
     for before in 0..MESSAGES {
         let message = before + 1;
         kept.clear();
-        let read = read_kept_normal_in::<R, L>(alloc, source, room, &mut kept);
+        let read = reader.read_kept::<R, L>(source, room, &mut kept);
         match read {
             Ok(Some(normal)) => {
                 put_message(alloc, dump, message, &kept, &normal, &mut out, sink)?;
@@ -118,6 +119,7 @@ fn dump_messages<R: Source, L: Look<R>, W: Sink>(
             }
         }
     }
+    drop(reader);
     match source.take(&mut [0]) {
         Ok(0) => Ok(()),
         Ok(_) => Err(RunFault::TooManyMessages),

@@ -5,7 +5,7 @@ use Rattle.ill_dump.proofs.DumpedMessages.{dumps_next, reached_more, reached_non
 use Rattle.ill_dump.proofs.run.dump_messages.Goals as goal
 
 pub returns-in-Err-clause-stops : goal.returns-in-Err-clause-stops
-returns-in-Err-clause-stops g c = stops_next _ _ _ _ _ _ _ c.in-Err.failure c.put_failure.result c.loop-before.invariant.reached refl c.in-Err.ensures.refused c.put_failure.ensures.follows
+returns-in-Err-clause-stops g c = stops_next _ _ _ _ _ _ _ c.in-Err.failure c.put_failure.result c.loop-before.invariant.reached refl c.in-Err.ensures.next.refused c.put_failure.ensures.follows
 
 pub returns-in-Err-clause-dumps : goal.returns-in-Err-clause-dumps
 returns-in-Err-clause-dumps g c =
@@ -23,13 +23,13 @@ loop-before-init g c = record {
 
 pub loop-before-preserved : goal.loop-before-preserved
 loop-before-preserved g c =
-    let message = rw c.in-Ok-Some.field-0-is at c.in-Ok-Some.ensures.message in
+    let message = rw c.in-Ok-Some.field-0-is at c.in-Ok-Some.ensures.next.message in
     let begins = subst (λ l. BeginsWith (g.W.Sink.contents c.loop-before.sink) (g.W.Sink.contents c.put_message.new.sink) (l ++ head c.args.dump (c.loop-before.before + 1)))
     c.loop-before.invariant.none c.in_ok-put_message-in-Ok-Some.ensures.begins in
     record {
       reached = reached_more _ _ _ _ _ _ _ _ _ _ c.loop-before.invariant.reached message.1 message.2.0.1 begins;
       none = c.in_ok-put_message-in-Ok-Some.ensures.none;
-      source_stays = λ t. c.read_kept_normal_in-read.ensures.stays (c.loop-before.invariant.source_stays t);
+      source_stays = λ t. c.read_kept-read.ensures.next.stays (c.loop-before.invariant.source_stays t);
       sink_stays = λ t. c.put_message.ensures.stays (c.loop-before.invariant.sink_stays t);
     }
 
