@@ -1,22 +1,22 @@
-//! The normal forms of the messages of several files, in one file.
-use crate::commands::canonicalise;
-use crate::doing::{How, put_all};
+//! What is made of several files, in one file.
 use crate::each::{is_dash_twice, list_of, names_of, text_of, worse};
+use crate::input::{put_all, write_input};
+use crate::plan::{Action, InputTask};
 use crate::tally::Tally;
 use ill_files::{
     Console, Fault, FileId, Output, OutputOf, RunLine, close_output, open_input, open_output,
     printed, status_of,
 };
-use ill_jobs::{Job, RunFault, Verdict};
+use ill_jobs::{RunFault, Verdict};
 use ill_orders::{Inputs, LineFault};
 use std::rt::Files;
 use std::str;
 
-/// Writes the normal forms of the messages of each file to one output, prints the line of each fault, and returns the exit status. The
-/// output is opened after the first of the files, and only if it is not one of the files.
+/// Writes what is made of each file to one output, prints the line of each fault, and returns the exit status. The output is opened after
+/// the first of the files, and only if it is not one of the files.
 pub fn collect<R: Print + Eprint + Input + Files + AllocGlobal + Console>(
     rt: &R,
-    how: How,
+    action: Action,
     inputs: &Inputs<'_>,
     output: &str,
     tally: &mut Tally<'_>,
@@ -39,10 +39,10 @@ pub fn collect<R: Print + Eprint + Input + Files + AllocGlobal + Console>(
     }
     match names.as_slice() {
         [name] => {
-            let done = one_into(rt, how, name, output, tally);
+            let done = one_into(rt, action, name, output, tally);
             tally.end(rt, &done)
         }
-        names => each_into(rt, how, names, output, tally),
+        names => each_into(rt, action, names, output, tally),
     }
 }
 
@@ -58,17 +58,16 @@ fn is_one_of<R: Files>(rt: &R, names: &[&[u8]], file: Option<FileId>) -> bool {
     false
 }
 
-/// Writes the normal forms of the messages of one file.
+/// Writes what is made of the one file that is named.
 fn one_into<R: Print + Eprint + Input + Files + AllocGlobal + Console>(
     rt: &R,
-    how: How,
+    action: Action,
     name: &[u8],
     output: &str,
     tally: &mut Tally<'_>,
 ) -> Result<Verdict, Fault> {
     let name = text_of(rt.alloc(), name)?;
-    let doing = how.doing(Job::Canonicalise, "-", false);
-    canonicalise(rt, doing, name, output, tally)
+    write_input(rt, InputTask::new(action, name, 1), name, output, tally)
 }
 
 /// An output that was opened: the name of the new file that is written in its place, if there is one.
@@ -77,10 +76,10 @@ struct Begun {
     part: Option<String>,
 }
 
-/// Writes the normal forms of the messages of several files.
+/// Writes what is made of several files.
 fn each_into<R: Print + Eprint + Input + Files + AllocGlobal + Console>(
     rt: &R,
-    how: How,
+    action: Action,
     names: &[&[u8]],
     name_of_output: &str,
     tally: &mut Tally<'_>,
@@ -90,7 +89,16 @@ fn each_into<R: Print + Eprint + Input + Files + AllocGlobal + Console>(
     let mut status = 0;
     let mut lost = Ok(Verdict::Good);
     for name in names {
-        match next_into(rt, how, name, &output, name_of_output, &mut begun, tally) {
+        match next_into(
+            rt,
+            action,
+            name,
+            names.len(),
+            &output,
+            name_of_output,
+            &mut begun,
+            tally,
+        ) {
             Ok(done) => {
                 tally.print_of(rt, name, &done);
                 status = worse(status, status_of(&done));
@@ -108,15 +116,16 @@ fn each_into<R: Print + Eprint + Input + Files + AllocGlobal + Console>(
     worse(status, tally.end(rt, &ended))
 }
 
-/// Writes the normal forms of the messages of the next file.
+/// Writes what is made of the next file, one of `count`.
 ///
 /// # Errors
 ///
 /// The output can't be opened or written.
 fn next_into<'r, R: Print + Eprint + Input + Files + AllocGlobal + Console>(
     rt: &'r R,
-    how: How,
+    action: Action,
     name: &[u8],
+    count: usize,
     output: &OutputOf<'r, R>,
     name_of_output: &str,
     begun: &mut Option<Begun>,
@@ -135,8 +144,8 @@ fn next_into<'r, R: Print + Eprint + Input + Files + AllocGlobal + Console>(
         Err(fault) => return Ok(Err(fault)),
     };
     begin_once(rt, output, name_of_output, begun)?;
-    let doing = how.doing(Job::Canonicalise, &name, true);
-    match put_all(rt, doing, &mut source, output, tally) {
+    let task = InputTask::new(action, &name, count);
+    match put_all(rt, task, &mut source, output, tally) {
         Err(Fault::Run(RunLine(RunFault::WriteFault(count)))) => {
             Err(Fault::from(RunFault::WriteFault(count)))
         }

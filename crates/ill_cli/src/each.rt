@@ -3,20 +3,20 @@ ghost use Rattle.std.specs.Prelude.{◌≡◌, ◌<◌, ◌++◌, [], ◌∷◌,
 ghost use Rattle.ill_cli.specs.code.Listed.{names_in};
 ghost use Rattle.ill_files.specs.Status.{IsStatusOfEach, worst};
 
-use crate::doing::{How, print_input};
+use crate::input::print_input;
+use crate::plan::{Action, InputTask};
 use crate::tally::Tally;
 use ill_files::{Console, Fault, FileId, Name, is_output_lost, printed, read_whole, status_of};
 use ill_jobs::Verdict;
-use ill_orders::{EachJob, Inputs, LineFault};
+use ill_orders::{Inputs, LineFault};
 use std::alloc::{AllocError, Global};
 use std::rt::Files;
 use std::str;
 
-/// Does a job with each input, prints the line of each fault, and returns the exit status. Of several files each line names its file.
-pub fn each_input<R: Print + Eprint + Input + Files + AllocGlobal + Console>(
+/// Prints what is made of each input, and the line of each fault, and returns the exit status. Of several files each line names its file.
+pub fn print_each<R: Print + Eprint + Input + Files + AllocGlobal + Console>(
     rt: &R,
-    job: EachJob,
-    how: How,
+    action: Action,
     inputs: &Inputs<'_>,
     tally: &mut Tally<'_>,
 ) -> u8 {
@@ -33,10 +33,10 @@ pub fn each_input<R: Print + Eprint + Input + Files + AllocGlobal + Console>(
     }
     match names.as_slice() {
         [name] => {
-            let done = one_file(rt, job, how, name, false, tally);
+            let done = one_file(rt, action, name, 1, tally);
             tally.end(rt, &done)
         }
-        names => each_file(rt, job, how, names, tally),
+        names => each_file(rt, action, names, tally),
     }
 }
 
@@ -102,12 +102,11 @@ pub fn is_dash_twice(names: &[&[u8]], list: Option<&str>) -> bool {
     false
 }
 
-/// Does a job with each file, prints the line of each fault, and returns the status of all that were done. Once output is lost, no
+/// Prints what is made of each file, and the line of each fault, and returns the status of all that were done. Once output is lost, no
 /// file more is done.
 fn each_file<R: Print + Eprint + Input + Files + AllocGlobal + Console>(
     rt: &R,
-    job: EachJob,
-    how: How,
+    action: Action,
     names: &[&[u8]],
     tally: &mut Tally<'_>,
 ) -> u8
@@ -115,7 +114,7 @@ fn each_file<R: Print + Eprint + Input + Files + AllocGlobal + Console>(
 {
     let mut status = 0;
     for name in names {
-        let done = one_file(rt, job, how, name, true, tally);
+        let done = one_file(rt, action, name, names.len(), tally);
         tally.print_of(rt, name, &done);
         status = worse(status, status_of(&done));
         if is_output_lost(&done) {
@@ -138,19 +137,18 @@ pub fn worse(before: u8, next: u8) -> u8
     }
 }
 
-/// Does a job with the file of this name, and writes to standard output.
+/// Prints what is made of the file of this name, one of `count`.
 fn one_file<R: Print + Eprint + Input + Files + AllocGlobal + Console>(
     rt: &R,
-    job: EachJob,
-    how: How,
+    action: Action,
     name: &[u8],
-    is_named: bool,
+    count: usize,
     tally: &mut Tally<'_>,
 ) -> Result<Verdict, Fault> {
     let alloc = rt.alloc();
     let file = text_of(alloc, name)?;
     let name = printed(alloc, file).map_err(|_| Fault::out_of_memory())?;
-    print_input(rt, how.each(job, &name, is_named), file, tally)
+    print_input(rt, InputTask::new(action, &name, count), file, tally)
 }
 
 /// The name of a file as text. Other octets name no file that can be opened.

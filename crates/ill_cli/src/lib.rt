@@ -11,13 +11,15 @@
 
 mod collect;
 mod commands;
-mod doing;
 mod each;
 mod going;
+mod input;
+mod plan;
 mod summary;
 mod tally;
 mod words;
 
-pub use commands::{obey, run_program};
+pub use commands::{run_order, run_program};
 pub use going::ReportLine;
+pub use plan::{Action, InputTask, Plan, Reading};
 pub use summary::Summary;

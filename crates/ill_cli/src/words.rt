@@ -32,7 +32,7 @@ pub fn words_of<R: Env + AllocGlobal>(rt: &R) -> Result<Vec<String>, Fault> {
 /// The octets of the word of this number, or None after the last.
 fn word<R: Env>(rt: &R, alloc: Global, index: usize) -> Result<Option<Vec<u8>>, Fault> {
     let mut size = 256usize;
-    for _ in 0..usize::BITS {
+    loop {
         let mut octets = Vec::new(alloc);
         if octets.resize(size, 0u8).is_err() {
             return Err(Fault::out_of_memory());
@@ -43,8 +43,7 @@ fn word<R: Env>(rt: &R, alloc: Global, index: usize) -> Result<Option<Vec<u8>>, 
                 return Ok(Some(octets));
             }
             Err(FillError::NotPresent) => return Ok(None),
-            Err(FillError::TooLong) => size = size.saturating_mul(2),
+            Err(FillError::TooLong) => size = octets.len() * 2,
         }
     }
-    Err(Fault::out_of_memory())
 }

@@ -1,5 +1,4 @@
 //! Inputs that are files or standard input.
-ghost use Rattle.std.specs.Prelude.{◌≡◌};
 ghost use Rattle.ill_files.specs.Opened.{left_of, is_broken_of};
 
 use crate::fault::Fault;

@@ -75,7 +75,8 @@ impl<S: Write + Drop, F: Write + Drop> Output<S, F> {
         };
         match self.open.try_replace(Some(open)) {
             Ok(_) => Ok(()),
-            Err(_) => Err(Fault::out_of_memory()),
+            // No call holds the output now; what a cell holds, no contract says.
+            Err(_) => Err(Fault::Flush),
         }
     }
 

@@ -1,0 +1,178 @@
+//! What an order does: which job, by which flags, with which files.
+ghost use Rattle.std.specs.Prelude.{◌≡◌};
+ghost use Rattle.ill_cli.specs.Plans.{action_of, by_line, plan_of, task_of};
+
+use ill_dump::Dump;
+use ill_jobs::{Job, Work};
+use ill_lines::LineJob;
+use ill_orders::{EachJob, Inputs, Order, Task};
+
+/// How the messages of inputs are read.
+#[derive(Clone, Copy, Debug, PartialEq, Eq)]
+pub struct Reading {
+    /// Whether inputs are hexadecimal text.
+    pub hex: bool,
+    /// Whether a message that is refused is reported, and the next one read.
+    pub keep_going: bool,
+    /// Whether each message is compared with its normal form, so that those in normal form are counted.
+    pub compares: bool,
+}
+
+/// What a command does with each of its inputs.
+#[derive(Clone, Copy, Debug, PartialEq, Eq)]
+pub enum Action {
+    /// A job with one message after another.
+    Messages(Job, Reading),
+    /// The elements of one message after another, as they are spelled.
+    Elements {
+        /// Whether the input is hexadecimal text.
+        hex: bool,
+    },
+    /// A result for each line.
+    Lines(LineJob),
+}
+
+/// What an order does with its files. The word `-` is standard input, or standard output for an output.
+#[derive(Debug, Drop)]
+pub enum Plan<'a> {
+    /// What is made of each input, in turn, is printed.
+    Print {
+        action: Action,
+        inputs: Inputs<'a>,
+    },
+    /// What is made of one input is written to an output.
+    Write {
+        action: Action,
+        input: &'a str,
+        output: &'a str,
+    },
+    /// What is made of each input, in turn, is written to one output.
+    Collect {
+        action: Action,
+        inputs: Inputs<'a>,
+        output: &'a str,
+    },
+    /// Whether two inputs hold the same message is printed.
+    Compare {
+        /// Whether both are hexadecimal text.
+        hex: bool,
+        first: &'a str,
+        second: &'a str,
+    },
+}
+
+impl<'a> Plan<'a> {
+    /// The plan of an order. Its command gives the job, and its flags say how inputs are read; a flag that the command doesn't have
+    /// changes nothing.
+    ///
+    /// ```
+    /// let plan = Plan::new(order(alloc, &words)?);
+    /// ```
+    pub fn new(order: Order<'a>) -> Plan<'a>
+        ensures { result ≡ plan_of order.entry }
+    {
+        let Order {
+            hex,
+            lines,
+            keep_going,
+            json,
+            summary,
+            task,
+        } = order;
+        let reading = Reading {
+            hex,
+            keep_going,
+            compares: summary,
+        };
+        let canonical = by_line(lines, LineJob::Canonicalise, Job::Canonicalise, reading);
+        match task {
+            Task::Each { job, inputs } => Plan::Print {
+                action: action_of(job, lines, json, reading),
+                inputs,
+            },
+            Task::Canonicalise { input, output } => Plan::Write {
+                action: canonical,
+                input,
+                output,
+            },
+            Task::Collect { inputs, output } => Plan::Collect {
+                action: canonical,
+                inputs,
+                output,
+            },
+            Task::Compare { first, second } => Plan::Compare { hex, first, second },
+        }
+    }
+}
+
+/// What a command does with each of its inputs.
+fn action_of(job: EachJob, lines: bool, json: bool, reading: Reading) -> Action
+    ensures { result ≡ action_of job lines json reading }
+{
+    match job {
+        EachJob::Show if json => Action::Messages(Job::Json, reading),
+        EachJob::Show => Action::Messages(Job::Show, reading),
+        EachJob::Check => by_line(lines, LineJob::Check, Job::Check, reading),
+        EachJob::Digest => by_line(lines, LineJob::Digest, Job::Digest, reading),
+        EachJob::Dump => Action::Elements { hex: reading.hex },
+    }
+}
+
+/// A result for each line, or a job with each message.
+fn by_line(lines: bool, line: LineJob, message: Job, reading: Reading) -> Action
+    ensures { result ≡ by_line lines line message reading }
+{
+    if lines {
+        Action::Lines(line)
+    } else {
+        Action::Messages(message, reading)
+    }
+}
+
+/// What is done with one input.
+#[derive(Clone, Copy, Debug)]
+pub enum InputTask<'a> {
+    /// A job with one message after another, up to one that is refused.
+    Messages(Work<'a>),
+    /// A job with each message that isn't refused. A line is printed for each of the others.
+    GoodMessages(Work<'a>),
+    /// The elements of one message after another.
+    Elements(Dump<'a>),
+    /// A result for each line.
+    Lines(LineJob),
+}
+
+impl<'a> InputTask<'a> {
+    /// What a command does with the input of this name, which is one of `count`. Where there are several, lines name it.
+    ///
+    /// ```
+    /// let task = InputTask::new(action, "messages.ber", 1);
+    /// ```
+    pub fn new(action: Action, name: &'a str, count: usize) -> InputTask<'a>
+        ensures { result ≡ task_of action name.entry count }
+    {
+        let is_named = count > 1;
+        match action {
+            Action::Messages(job, reading) => {
+                let work = Work {
+                    job,
+                    hex: reading.hex,
+                    name,
+                    is_named,
+                    compares: reading.compares,
+                };
+                if reading.keep_going {
+                    InputTask::GoodMessages(work)
+                } else {
+                    InputTask::Messages(work)
+                }
+            }
+            Action::Elements { hex } => InputTask::Elements(Dump {
+                hex,
+                name,
+                is_named,
+            }),
+            Action::Lines(job) => InputTask::Lines(job),
+        }
+    }
+}
