@@ -1,7 +1,8 @@
--- Tasks that are one.
+-- Orders that are one.
 use Rattle.std.specs.Prelude.{◌≡◌, List, [], ◌∷◌, map, Option, Some, None, option_map}
 use Rattle.clap.specs.Walk.{Text}
 use Rattle.ill_orders.specs.Orders.{verb}
+use Rattle.ill_orders.specs.declared.orders.Order.{Order}
 use Rattle.ill_orders.specs.declared.orders.Task.{Task}
 
 -- the files that a task names, the list of more, and an output that has an option of its own
@@ -13,3 +14,6 @@ named (Task.Compare first second) = (first.now ∷ second.now ∷ [], (None, Non
 
 abbrev pub IsSameTask : Task → Task → Type 0
 IsSameTask t u = (verb t ≡ verb u) × (named t ≡ named u)
+
+abbrev pub HasSameFlags : Order → Order → Type 0
+HasSameFlags o p = (o.hex ≡ p.hex) × (o.lines ≡ p.lines) × (o.keep_going ≡ p.keep_going) × (o.summary ≡ p.summary) × (o.json ≡ p.json)

@@ -1,7 +1,7 @@
 //! What words ask for.
 mod contracts;
 
-use ill_orders::{Order, order};
+use ill_orders::{LineFault, Order, Task, order};
 use std::alloc::{AllocError, Global};
 use std::test::Fail;
 
@@ -56,6 +56,47 @@ fn are_set(alloc: Global, words: &str, flags: Flags) -> Result<bool, AllocError>
 fn each_flag_is_its_own(rt: HostRuntime) -> Result<(), Fail> {
     for (words, flags) in &ROWS {
         assert!(rt; are_set(rt.alloc(), words, *flags)?, "{words}");
+    }
+    Ok(())
+}
+
+/// Whether words give an order of `canonicalise` with these flags, from one word to another.
+fn gives_canonicalise(
+    alloc: Global,
+    words: &str,
+    flags: Flags,
+    from: &str,
+    to: &str,
+) -> Result<bool, AllocError> {
+    let words = words_of(alloc, words)?;
+    match order(alloc, &words) {
+        Ok(order) => Ok(
+            flags_of(&order) == flags
+                && matches!(order.task, Task::Canonicalise { input, output } if input == from && output == to),
+        ),
+        Err(_fault) => Ok(false),
+    }
+}
+
+#[test]
+fn canonicalise_has_its_flags_and_files(rt: HostRuntime) -> Result<(), Fail> {
+    let hex = [true, false, false, false, false];
+    assert!(rt; gives_canonicalise(rt.alloc(), "canonicalise --hex - -", hex, "-", "-")?);
+    Ok(())
+}
+
+/// Whether words are refused for the same word.
+fn is_same_word(alloc: Global, words: &str) -> Result<bool, AllocError> {
+    let words = words_of(alloc, words)?;
+    Ok(matches!(order(alloc, &words), Err(LineFault::SameWord)))
+}
+
+#[test]
+fn only_two_commands_have_the_same_word(rt: HostRuntime) -> Result<(), Fail> {
+    assert!(rt; is_same_word(rt.alloc(), "same - -")?);
+    assert!(rt; is_same_word(rt.alloc(), "canonicalise A A")?);
+    for words in ["show - -", "canonicalise - -", "canonicalise -o A A"] {
+        assert!(rt; !is_same_word(rt.alloc(), words)?, "{words}");
     }
     Ok(())
 }

@@ -1,18 +1,30 @@
 //! Contracts that leave one result: what the calls return is proved of their contracts alone. So a body that returns anything else
 //! doesn't meet its contract.
-ghost use Rattle.std.specs.Prelude.{◌≡◌, Ok};
+ghost use Rattle.std.specs.Prelude.{◌≡◌, Ok, Err};
+ghost use Rattle.ill_orders.specs.declared.fault.LineFault.TheVariants.{SameWord};
 ghost use Rattle.ill_orders.specs.declared.orders.Order.{Order};
-ghost use Rattle.test_orders.specs.Tasks.{IsSameTask};
+ghost use Rattle.test_orders.specs.Tasks.{HasSameFlags, IsSameTask};
 
 use ill_orders::{LineFault, Order, Task, order};
 use std::alloc::Global;
 
-/// Words that give an order give one command on the same files.
+/// Words that give an order give one command on the same files, and one value of each flag.
 fn words_give_one_order<'a>(
     words: &'a [String],
     alloc: Global,
 ) -> (Result<Order<'a>, LineFault>, Result<Order<'a>, LineFault>)
-    ensures { (one other : Order) → result.0 ≡ Ok one → result.1 ≡ Ok other → IsSameTask one.task other.task }
+    ensures task { (one other : Order) → result.0 ≡ Ok one → result.1 ≡ Ok other → IsSameTask one.task other.task }
+    ensures flags { (one other : Order) → result.0 ≡ Ok one → result.1 ≡ Ok other → HasSameFlags one other }
+{
+    (order(alloc, words), order(alloc, words))
+}
+
+/// Words that give an order are not refused for the same word.
+fn words_have_no_same_word<'a>(
+    words: &'a [String],
+    alloc: Global,
+) -> (Result<Order<'a>, LineFault>, Result<Order<'a>, LineFault>)
+    ensures { (one : Order) → result.0 ≡ Ok one → result.1 ≡ Err SameWord → ⊥ }
 {
     (order(alloc, words), order(alloc, words))
 }
