@@ -18,6 +18,9 @@ make_program() {
     for file in "../tests/$1"/*.rt.in; do
         cp "$file" "$folder/copy/crates/$1/src/$(basename "$file" .in)" || return 1
     done
+    if [ -d "../tests/$1/proofs" ]; then
+        cp -r "../tests/$1/proofs" "$folder/copy/crates/$1" || return 1
+    fi
     (cd "$folder/copy/crates/$1" && rt run >/dev/null 2>&1)
 }
 make_program growths_calls "ber_core ber_leaf ill_schema ill_read ill_write ill_normal ill_text ill_jobs test_support" || exit 2
