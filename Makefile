@@ -1,5 +1,6 @@
-# illcanon: `make` proves and builds the program, `make check` proves and tests everything, `make install` copies the program, its man
-# page and its completions, and `make uninstall` removes them again.
+# illcanon: `make first` proves and builds the program and runs it on the messages of examples/. `make` proves and builds the program,
+# `make check` proves and tests everything, `make install` copies the program, its man page and its completions, and `make uninstall`
+# removes them again.
 #
 # PREFIX is the folder that they are copied to; DESTDIR is put before it, for packages. The libraries for C and Python have a Makefile of
 # their own: bindings/c.
@@ -14,10 +15,24 @@ FISH_COMPLETIONS = $(PREFIX)/share/fish/vendor_completions.d
 INSTALL = install
 PROGRAM = crates/illcanon/out/illcanon
 
-.PHONY: all check install uninstall
+# Crates that are proved side by side with the longest chain of crates below the program.
+SIDE_BY_SIDE = ill_orders ill_going ill_json ill_digest
+
+.PHONY: all check first install uninstall $(SIDE_BY_SIDE)
 
 all:
 	cd crates/illcanon && rt run -- --version
+
+first:
+	$(MAKE) --no-print-directory -j $(SIDE_BY_SIDE) all
+	$(PROGRAM) check examples/expired-long-form.ber examples/every-part.ber
+	$(PROGRAM) canonicalise -o normal-forms.der examples/expired-long-form.ber examples/every-part.ber
+	$(PROGRAM) check normal-forms.der
+	$(PROGRAM) dump examples/expired-long-form.ber
+	$(PROGRAM) show examples/expired-long-form.ber
+
+$(SIDE_BY_SIDE):
+	cd crates/$@ && rt check
 
 # It is built where it is absent; `make` builds it again.
 $(PROGRAM):
