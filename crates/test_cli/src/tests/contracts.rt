@@ -1,8 +1,11 @@
 //! Contracts that leave one result: what the calls return is proved of their contracts alone. So a body that returns anything else
 //! doesn't meet its contract.
 use ber_core::{Pieces, Source};
+use ill_cli::{Action, InputTask, Plan, Reading};
 use ill_files::{Fault, Opened, status_of};
-use ill_jobs::Verdict;
+use ill_jobs::{Job, Verdict};
+use ill_lines::LineJob;
+use ill_orders::{EachJob, Inputs, Order, Task};
 
 /// The end has one status, which is 0 only where all is well.
 fn ends_have_one_status(done: &Result<Verdict, Fault>) {
@@ -15,5 +18,67 @@ fn files_end_only_at_their_end(octets: &[u8], buffer: &mut [u8]) {
     let mut file: Opened<Pieces, Pieces> = Opened::File(Pieces::new(octets, 1, None));
     if let Ok(0) = file.take(buffer) {
         prove!(octets.is_empty() || buffer.is_empty());
+    }
+}
+
+/// `canonicalise` makes normal forms, of hexadecimal text where that is asked for, and of lines where these are.
+fn canonicalise_makes_normal_forms(order: Order<'_>, input: &str, output: &str) {
+    let lines = order.lines;
+    let reading = Reading {
+        hex: order.hex,
+        keep_going: order.keep_going,
+        compares: order.summary,
+    };
+    let task = Task::Canonicalise { input, output };
+    match Plan::new(Order { task, ..order }) {
+        Plan::Write { action, .. } if lines => {
+            prove!(action == Action::Lines(LineJob::Canonicalise));
+        }
+        Plan::Write { action, .. } => {
+            prove!(action == Action::Messages(Job::Canonicalise, reading));
+        }
+        _ => unreachable!(),
+    }
+}
+
+/// `check` checks each message, or each line.
+fn check_checks(order: Order<'_>, inputs: Inputs<'_>) {
+    let lines = order.lines;
+    let reading = Reading {
+        hex: order.hex,
+        keep_going: order.keep_going,
+        compares: order.summary,
+    };
+    let task = Task::Each {
+        job: EachJob::Check,
+        inputs,
+    };
+    match Plan::new(Order { task, ..order }) {
+        Plan::Print { action, .. } if lines => prove!(action == Action::Lines(LineJob::Check)),
+        Plan::Print { action, .. } => prove!(action == Action::Messages(Job::Check, reading)),
+        _ => unreachable!(),
+    }
+}
+
+/// `same` reads hexadecimal text exactly where that is asked for.
+fn same_reads_what_it_is_asked_to(order: Order<'_>, first: &str, second: &str) {
+    let asked = order.hex;
+    let task = Task::Compare { first, second };
+    match Plan::new(Order { task, ..order }) {
+        Plan::Compare { hex, .. } => prove!(hex == asked),
+        _ => unreachable!(),
+    }
+}
+
+/// The lines of an input name it exactly where it is one of several. It is read as hexadecimal text exactly where that is asked for, and
+/// the job is the one that is asked for.
+fn inputs_are_named_where_there_are_several(job: Job, reading: Reading, name: &str, count: usize) {
+    match InputTask::new(Action::Messages(job, reading), name, count) {
+        InputTask::Messages(work) | InputTask::GoodMessages(work) => {
+            prove!(work.is_named == (count > 1));
+            prove!(work.name == name);
+            prove!(work.hex == reading.hex && work.job == job);
+        }
+        _ => unreachable!(),
     }
 }

@@ -69,7 +69,7 @@ hex: odd number of digits\n\
 ";
 
 /// Runs with `--lines`.
-static ROWS: [Row; 9] = [
+static ROWS: [Row; 10] = [
     Row {
         words: "canonicalise --lines - -",
         input: LINES,
@@ -112,6 +112,12 @@ static ROWS: [Row; 9] = [
     // Results go to a file.
     Row {
         words: "canonicalise --lines line OUT",
+        status: 1,
+        out: Text(b"hex: bad digit at 1\n"),
+        ..QUIET
+    },
+    Row {
+        words: "canonicalise --lines -o OUT line",
         status: 1,
         out: Text(b"hex: bad digit at 1\n"),
         ..QUIET
