@@ -154,8 +154,8 @@ fn put_elements<S: Ahead, W: Sink>(
     source: &mut S,
     sink: &mut W,
 ) -> Result<Verdict, Fault>
-    ensures { IfOk result (λ _. DumpDone dump.entry.hex
-        (S.left source.old) (S.left source.new)) }
+    ensures { IfOk result (λ _. DumpDone dump.entry.hex dump.entry
+        (S.left source.old) (S.left source.new) (W.contents sink.old) (W.contents sink.new)) }
 {
     match run_dump::<S, AtHand, W>(alloc, dump, source, sink) {
         Ok(()) => Ok(Verdict::Good),
