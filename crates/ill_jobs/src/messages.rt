@@ -72,8 +72,10 @@ pub fn run_work<R: Source, W: Sink>(
     sink: &mut W,
 ) -> Result<Verdict, RunFault>
     // The input was messages to its end, and their output was written.
-    ensures done { IfOk result (λ verdict. (counts : Counts) × RunDone work.entry.hex work.entry (R.left source.old) (R.left source.new) (W.contents sink.old) (W.contents sink.new) counts verdict) }
-    ensures fails { IfErr result (λ fault. (counts : Counts) × RunFails work.entry.hex work.entry (taking (R.left source.old) (R.left source.new) (R.is_broken source.new))
+    ensures done { IfOk result (λ verdict. (counts : Counts) × RunDone work.entry.hex work.entry
+        (R.left source.old) (R.left source.new) (W.contents sink.old) (W.contents sink.new) counts verdict) }
+    ensures fails { IfErr result (λ fault. (counts : Counts) × RunFails work.entry.hex work.entry
+        (taking (R.left source.old) (R.left source.new) (R.is_broken source.new))
         (putting (W.contents sink.old) (W.contents sink.new) (W.is_broken sink.new)) counts fault) }
     // Each input has one result, unless memory, the source or the sink fails.
     ensures does { IfSome (R.left source.old) (λ s. DoesMessages work.entry.job work.entry.hex s result) }
@@ -99,8 +101,10 @@ pub fn run_by<R: Source, L: Look<R>, W: Sink>(
     sink: &mut W,
 ) -> Ran
     // The input was messages to its end, and their output was written.
-    ensures done { IfOk result.result (RunDone work.entry.hex work.entry (R.left source.old) (R.left source.new) (W.contents sink.old) (W.contents sink.new) result.counts) }
-    ensures fails { IfErr result.result (RunFails work.entry.hex work.entry (taking (R.left source.old) (R.left source.new) (R.is_broken source.new))
+    ensures done { IfOk result.result (RunDone work.entry.hex work.entry
+        (R.left source.old) (R.left source.new) (W.contents sink.old) (W.contents sink.new) result.counts) }
+    ensures fails { IfErr result.result (RunFails work.entry.hex work.entry
+        (taking (R.left source.old) (R.left source.new) (R.is_broken source.new))
         (putting (W.contents sink.old) (W.contents sink.new) (W.is_broken sink.new)) result.counts) }
     // Each input has one result, unless memory, the source or the sink fails.
     ensures does { IfSome (R.left source.old) (λ s. DoesMessages work.entry.job work.entry.hex s result.result) }

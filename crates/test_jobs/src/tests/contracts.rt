@@ -9,8 +9,8 @@ ghost use Rattle.ill_schema.specs.Apdu.{Apdu, choice_of};
 ghost use Rattle.ill_schema.specs.Fits.{FitsApdu};
 ghost use Rattle.ill_schema.specs.Message.{apdu_of};
 
-use ber_core::{Pieces, Room, Sink, Source};
-use ill_jobs::{Job, RunFault, Verdict, Work, run, run_same, run_work};
+use ber_core::{Pieces, Room, Sink, Source, Unseen};
+use ill_jobs::{Job, Ran, RunFault, Verdict, Work, run, run_by, run_same, run_work};
 use ill_json::{Head, json_line};
 use ill_lines::{LineJob, LinesFault, run_lines};
 use ill_normal::{Refusal, Side};
@@ -157,6 +157,20 @@ fn texts_are_taken_to_their_bound(
     ensures { length source.old.octets ≤ 4_194_305 + length source.new.octets }
 {
     run_work(alloc, work, source, sink)
+}
+
+/// After 1,000,000 messages at most one octet is taken, whatever the result.
+fn inputs_are_taken_to_their_limit(
+    work: Work<'_>,
+    source: &mut Pieces,
+    sink: &mut Room<64>,
+    alloc: Global,
+) -> Ran
+    requires { work.hex ≡ false }
+    ensures { result.counts.messages ≡ 1_000_000
+        → length source.old.octets ≤ result.counts.octets + 1 + length source.new.octets }
+{
+    run_by::<Pieces, Unseen, Room<64>>(alloc, work, source, sink)
 }
 
 /// Equal pairs of inputs have one verdict, and one line is written. Where one pair has a verdict, the other is not refused.
