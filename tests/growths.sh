@@ -18,9 +18,12 @@ make_program() {
     for file in "../tests/$1"/*.rt.in; do
         cp "$file" "$folder/copy/crates/$1/src/$(basename "$file" .in)" || return 1
     done
-    if [ -d "../tests/$1/proofs" ]; then
-        cp -r "../tests/$1/proofs" "$folder/copy/crates/$1" || return 1
-    fi
+    # The proof of a function of reading.rt is NAME.antt.in.
+    for file in "../tests/$1"/*.antt.in; do
+        [ -e "$file" ] || continue
+        proof=$folder/copy/crates/$1/proofs/reading/$(basename "$file" .antt.in)
+        mkdir -p "$proof" && cp "$file" "$proof/Answers.antt" || return 1
+    done
     (cd "$folder/copy/crates/$1" && rt run >/dev/null 2>&1)
 }
 make_program growths_calls "ber_core ber_leaf ill_schema ill_read ill_write ill_normal ill_text ill_jobs test_support" || exit 2
