@@ -1,6 +1,6 @@
-# illcanon: `make first` proves and builds the program and runs it on the messages of examples/. `make` proves and builds the program,
-# `make check` proves and tests everything, `make install` copies the program, its man page and its completions, and `make uninstall`
-# removes them again.
+# illcanon: `make first` proves the library, builds a small program over it, and writes and shows the normal forms of the messages of
+# examples/. `make` proves and builds the program illcanon, `make check` proves and tests everything, `make install` copies the program,
+# its man page and its completions, and `make uninstall` removes them again.
 #
 # PREFIX is the folder that they are copied to; DESTDIR is put before it, for packages. The libraries for C and Python have a Makefile of
 # their own: bindings/c.
@@ -14,24 +14,19 @@ ZSH_COMPLETIONS = $(PREFIX)/share/zsh/site-functions
 FISH_COMPLETIONS = $(PREFIX)/share/fish/vendor_completions.d
 INSTALL = install
 PROGRAM = crates/illcanon/out/illcanon
+EXAMPLE = crates/example_normalise/out/example_normalise
 
-# Crates that are proved side by side with the longest chain of crates below the program.
-SIDE_BY_SIDE = ill_orders ill_going ill_json ill_digest
-
-.PHONY: all check first install uninstall $(SIDE_BY_SIDE)
+.PHONY: all check first install uninstall
 
 all:
 	cd crates/illcanon && rt run -- --version
 
 first:
-	$(MAKE) --no-print-directory -j5 $(SIDE_BY_SIDE) all
-	$(PROGRAM) check examples/expired-long-form.ber examples/every-part.ber || test $$? = 1
-	$(PROGRAM) canonicalise -o normal-forms.der examples/expired-long-form.ber examples/every-part.ber
-	$(PROGRAM) check normal-forms.der
-	$(PROGRAM) canonicalise examples/expired-long-form.ber - | $(PROGRAM) show -
-
-$(SIDE_BY_SIDE):
-	cd crates/$@ && rt check
+	cd crates/example_normalise && rt run </dev/null
+	$(EXAMPLE) <examples/every-part.ber >normal-forms.der
+	cmp normal-forms.der examples/every-part.der
+	od -A d -t x1 examples/expired-long-form.ber
+	$(EXAMPLE) <examples/expired-long-form.ber | od -A d -t x1
 
 # It is built where it is absent; `make` builds it again.
 $(PROGRAM):
