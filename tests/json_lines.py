@@ -2,7 +2,7 @@
 """Reads what `show --json` writes with Python's reader and with jq, and compares it with what is known of the messages.
 
 The valid test vectors of vectors/ have their values, alone, one after another and in two files; random APDUs, spelled at random, have theirs
-as the tables and names of the crates say them. Each line is as docs/show.schema.json says, which is made here.
+as the tables and names of the crates say them. Each line is as docs/show.schema.json says, which is made here, and ASCII.
 Usage: json_lines.py [SEED [COUNT]], or json_lines.py --write, which writes the schema. Prints the seed, with which a run is made again.
 Needs the program built.
 """
@@ -179,13 +179,14 @@ def compare(schema, words, octets, wanted):
     """The program writes these lines of these octets, or of the files of the words."""
     status, output, errors = run(words, octets)
     expect(status == 0 and not errors, words, status, errors)
-    text = output.decode()
+    text = output.decode("ascii")
     expect(text.endswith("\n") or not wanted, "no line feed at the end")
     lines = text.split("\n")[:-1]
     expect(len(lines) == len(wanted), len(lines), "lines of", len(wanted), "messages")
     for line, want in zip(lines, wanted):
         found = json.loads(line, object_pairs_hook=distinct)
         expect(list(found) == list(want) and json.dumps(found) == json.dumps(want), f"\n  {line[:1000]}\nand not\n  {json.dumps(want)[:1000]}")
+        expect(line == json.dumps(found, ensure_ascii=True, separators=(",", ":")), "not written as Python writes it:", line[:1000])
         fault = schema.fault(found)
         expect(fault is None, fault)
     in_jq(output, lines)
@@ -227,7 +228,7 @@ def random_messages(chance, count):
 def compare_files(schema, messages, more):
     """Two files: each line names its file, and the numbers and offsets begin anew."""
     with tempfile.TemporaryDirectory() as folder:
-        paths = [str(Path(folder, name)) for name in ("first", 'the "second"')]
+        paths = [str(Path(folder, name)) for name in ("first", 'the "second" \u00e9\U0001d11e')]
         for path, part in zip(paths, (messages, more)):
             Path(path).write_bytes(b"".join(octets for octets, _ in part))
         compare(schema, paths, b"", lines_of(messages, paths[0]) + lines_of(more, paths[1]))

@@ -1,27 +1,27 @@
 -- What is put one after another.
-use Rattle.std.proofs.Common.{◌≡◌, List, [], ◌∷◌, ◌++◌, true, false, refl, sym, ap, subst, ◌∙◌, append_assoc, append-nil}
+use Rattle.std.proofs.Common.{◌≡◌, List, [], ◌∷◌, ◌++◌, true, false, sym, ap, subst, ◌∙◌, append_assoc, append-nil}
 use Rattle.json.specs.Token.{Token}
 use Rattle.ill_json.specs.declared.writing.Out.{Out}
 use Rattle.ill_json.specs.code.Adding.{Adds}
 
 pub adds_nothing : (o : Out) → Adds [] o o
 unfolding Adds
-adds_nothing o = λ ok. (ok, refl, sym (append-nil o.writer.tokens))
+adds_nothing o = λ ok. (ok, sym (append-nil o.writer.tokens))
 
 pub adds_then : (xs ys : List Token) (a b c : Out) → Adds xs a b → Adds ys b c → Adds (xs ++ ys) a c
 unfolding Adds
 adds_then xs ys a b c f g = λ ok.
     let second = g ok in
     let first = f second.0 in
-    (first.0, second.1 ∙ first.1, second.2 ∙ ap (λ (ts : List Token). ts ++ ys) first.2 ∙ append_assoc a.writer.tokens xs ys)
+    (first.0, second.1 ∙ ap (λ (ts : List Token). ts ++ ys) first.1 ∙ append_assoc a.writer.tokens xs ys)
 
 pub adds_as : (xs ys : List Token) (a b : Out) → xs ≡ ys → Adds xs a b → Adds ys a b
 adds_as xs ys a b e h = subst (λ ts. Adds ts a b) e h
 
 -- one token
-pub adds_one : (t : Token) (a b : Out) → b.failed ≡ a.failed → b.writer.before ≡ a.writer.before → b.writer.tokens ≡ a.writer.tokens ++ t ∷ [] → Adds (t ∷ []) a b
+pub adds_one : (t : Token) (a b : Out) → b.failed ≡ a.failed → b.writer.tokens ≡ a.writer.tokens ++ t ∷ [] → Adds (t ∷ []) a b
 unfolding Adds
-adds_one t a b f e w = λ ok. (sym f ∙ ok, e, w)
+adds_one t a b f w = λ ok. (sym f ∙ ok, w)
 
 -- where memory was refused nothing is claimed
 pub adds_failed : (ts : List Token) (a b : Out) → b.failed ≡ true → Adds ts a b

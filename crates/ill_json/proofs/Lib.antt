@@ -1,3 +1,4 @@
 pub mod Added
 pub mod Tokens
+pub mod InAscii
 pub mod OneToOne

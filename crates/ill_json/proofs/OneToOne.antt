@@ -1,24 +1,27 @@
 -- A line is of one APDU: values that fit the tables have one JSON value only where they are one value.
-use Rattle.std.proofs.Common.{◌≡◌, ℕ, zero, suc, ◌+◌, ◌-◌, ◌<◌, ◌≤◌, ◌/◌, ◌%◌, ◌^◌, Bool, true, false, not, ◌&&◌, ◌||◌, IsTrue, List, [], ◌∷◌, ◌++◌, length, Option, Some, None, refl, sym, ap, subst, ◌∙◌, arith, codes, slice_get, ℤ, pos, negsuc, neg_ℤ, ◌≤ℤ◌, le-ltb, lt-ltb}
+use Rattle.std.proofs.Common.{◌≡◌, ℕ, zero, suc, ◌+◌, ◌-◌, ◌<◌, ◌≤◌, ◌/◌, ◌%◌, ◌^◌, Bool, true, false, not, ◌&&◌, ◌||◌, IsTrue, List, [], ◌∷◌, ◌++◌, length, Option, Some, None, IsUtf8, append_assoc, flat_map, ◌*◌, if◌then◌else◌, refl, sym, ap, subst, ◌∙◌, arith, codes, slice_get, ℤ, pos, negsuc, neg_ℤ, ◌≤ℤ◌, le-ltb, lt-ltb}
 use Rattle.std.specs.Prelude.{nat_le, nat_lt}
 use Rattle.std.specs.Char.{encode_utf8}
 use Rattle.std.specs.Fmt.{signed_decimal}
 use Rattle.std.specs.List.{list_any}
-use Rattle.std.specs.Str.{bytes_eq}
+use Rattle.std.specs.Str.{bytes_eq, chars, chars_after, continuation_len, lead_bits}
 use Rattle.std.proofs.lemmas.Bool.Decides.{nat_tests}
 use Rattle.std.proofs.lemmas.Fmt.{signed_decimal_injective}
 use Rattle.std.proofs.lemmas.Int.{ints}
-use Rattle.std.proofs.lemmas.List.{append_cancel_right}
+use Rattle.std.proofs.lemmas.List.{append_cancel_left, append_cancel_right}
+use Rattle.std.proofs.lemmas.List.Concat.{flat_map-append}
 use Rattle.std.proofs.lemmas.Slice.Eq.{bytes_eq-Decides}
+use Rattle.std.proofs.lemmas.Bool.{and_parts}
+use Rattle.std.proofs.lemmas.Str.{IsUtf8-append, IsUtf8-encode, IsUtf8-nil}
 use lib.Signed.{mag}
+use lib.Utf8.{low_scalar}
 use Rattle.json.specs.Json.{Json, Members, value}
 use Rattle.json.specs.Json as json
 use Rattle.json.specs.Lex.{tokens}
-use Rattle.json.specs.Print.{print}
-use Rattle.json.specs.Token.{Token}
-use Rattle.json.specs.Tree.{HasNumbers, ItemsHaveNumbers, MembersHaveNumbers, depth, json_tokens}
+use Rattle.json.specs.Print.{escape, print, print_from, quoted}
+use Rattle.json.specs.Token.{Token, begin_object, key, string}
+use Rattle.json.specs.Tree.{HasNumbers, depth, json_tokens}
 use Rattle.json.proofs.Printed.Decimals.{IsNumber-decimal, IsNumber-signed_decimal}
-use Rattle.json.proofs.Printed.Tokens.{tokens-print}
 use Rattle.json.proofs.Printed.Trees.{ArePrintable-json_tokens, value-json_tokens}
 use Rattle.ber_core.specs.Octets.{are_octets}
 use Rattle.ber_leaf.specs.Leaf.{Leaf, Holds, enumerated, integer, normal_content}
@@ -36,10 +39,11 @@ use Rattle.ill_schema.specs.Fits.{Fits, FitItems, FitRows, FitsApdu}
 use Rattle.ill_schema.specs.Names.{names_of}
 use Rattle.ill_schema.specs.Table.{kind_of, rows_of}
 use Rattle.ill_schema.specs.Tagging.{leaf_of}
-use Rattle.ill_text.specs.Numbers.{number_name}
+use Rattle.ill_text.specs.Numbers.{number_name, number_names}
 use Rattle.ill_text.specs.Shown.{name_or_none, node_or_left_out, row_name, row_node}
-use Rattle.ill_json.specs.Json.{characters, entry_members, item_values, json_line_of, leaf_json, line_json, number_json, value_json, with_file}
+use Rattle.ill_json.specs.Json.{characters, entry_members, item_values, json_line_of, leaf_json, line_json, number_json, plain, value_json, with_file}
 use Rattle.ill_json.specs.declared.line.Head.{Head}
+use Rattle.ill_json.proofs.InAscii.{AreTexts-json_tokens, HasTexts, IsUtf8-are_low, are_low, in_ascii, in_ascii-cons, tokens-in_ascii}
 
 both : (a b : Bool) → IsTrue (a && b) → IsTrue a × IsTrue b
 both true b h = (refl, h)
@@ -156,7 +160,7 @@ sort_of _ _ l e = absurd cc
 
 -- the first letter of the first key
 abbrev first_letter : Json → ℕ
-first_letter (json.object (json.member (letter ∷ key) j ms)) = letter
+first_letter (json.object (json.member (letter ∷ letters) j ms)) = letter
 first_letter _ = 0
 
 leaf_once : (p : Profile) (row : List ℕ) (k : Kind) (v w : Simple) (l m : Leaf) → leaf_of k v ≡ Some l → leaf_of k w ≡ Some m → Holds p l v (normal_content v) → Holds p m w (normal_content w)
@@ -369,65 +373,173 @@ apdu_once p file head head' a b h k e =
 abbrev pub IsSmall : Head → Type 0
 IsSmall head = (head.number < 2 ^ 64) × (head.offset < 2 ^ 64) × (head.octets < 2 ^ 64)
 
-number_numbers : (z : ℤ) (name : Option (List ℕ)) → mag z < 2 ^ 63 → HasNumbers (number_json z name)
-number_numbers z None h = IsNumber-signed_decimal z h
-number_numbers z (Some name) h = (IsNumber-signed_decimal z h, (tt, tt))
+-- a value that is written and read back
+abbrev IsWritten : Json → Type 0
+IsWritten j = HasNumbers j × HasTexts j
 
-leaf_numbers : (p : Profile) (row : List ℕ) (k : Kind) (v : Simple) (l : Leaf) → leaf_of k v ≡ Some l → Holds p l v (normal_content v) → HasNumbers (leaf_json row v)
-leaf_numbers p row k (flag b) l e h = tt
-leaf_numbers p row k (whole z) l e h = number_numbers z (number_name row z) (whole_size p k l z e h)
-leaf_numbers p row k (date o) l e h = tt
-leaf_numbers p row k (time o) l e h = tt
-leaf_numbers p row k (printable o) l e h = tt
-leaf_numbers p row k (general o) l e h = (tt, tt)
-leaf_numbers p row k (visible o) l e h = (tt, tt)
+abbrev all_low : List (List ℕ) → Bool
+all_low [] = true
+all_low (name ∷ names) = are_low name && all_low names
+
+IsUtf8-low_name : (names : List (List ℕ)) (i : ℕ) → all_low names ≡ true → IsUtf8 (name_or_none (slice_get names i))
+IsUtf8-low_name [] i h = IsUtf8-nil
+IsUtf8-low_name (name ∷ names) zero h = IsUtf8-are_low name (and_parts (are_low name) (all_low names) h).0
+IsUtf8-low_name (name ∷ names) (suc i) h = IsUtf8-low_name names i (and_parts (are_low name) (all_low names) h).1
+
+names_low : (node : NodeId) → all_low (names_of node).1 ≡ true
+names_low Boolean = refl
+names_low _ = refl
+
+IsUtf8-row_name : (node : NodeId) (i : ℕ) → IsUtf8 (row_name node i)
+IsUtf8-row_name node i = IsUtf8-low_name (names_of node).1 i (names_low node)
+
+either_low : (b : Bool) (ms ns : List (List ℕ)) → all_low ms ≡ true → all_low ns ≡ true → all_low (if b then ms else ns) ≡ true
+either_low true ms ns h k = h
+either_low false ms ns h k = k
+
+number_names_low : (row : List ℕ) → all_low (number_names row) ≡ true
+number_names_low row = search either_low
+
+IsUtf8-number_name : (row : List ℕ) (z : ℤ) → IsUtf8 (name_or_none (number_name row z))
+IsUtf8-number_name row (pos zero) = IsUtf8-nil
+IsUtf8-number_name row (pos (suc n)) = IsUtf8-low_name (number_names row) n (number_names_low row)
+IsUtf8-number_name row (negsuc n) = IsUtf8-nil
+
+IsUtf8-characters : (o : List ℕ) → IsTrue (are_octets o) → IsUtf8 (characters o)
+IsUtf8-characters [] h = IsUtf8-nil
+IsUtf8-characters (a ∷ o) h =
+    let p = octet_of a o h in
+    let small = p.0 in
+    IsUtf8-append (encode_utf8 a) (characters o) (IsUtf8-encode a (low_scalar a (omega (arith, small)))) (IsUtf8-characters o p.1)
+
+number_written : (z : ℤ) (name : Option (List ℕ)) → mag z < 2 ^ 63 → IsUtf8 (name_or_none name) → IsWritten (number_json z name)
+number_written z None h u = (IsNumber-signed_decimal z h, tt)
+number_written z (Some name) h u = ((IsNumber-signed_decimal z h, (tt, tt)), (IsUtf8-are_low _ refl, tt, (IsUtf8-are_low _ refl, u, tt)))
+
+leaf_written : (p : Profile) (row : List ℕ) (k : Kind) (v : Simple) (l : Leaf) → leaf_of k v ≡ Some l → Holds p l v (normal_content v) → IsWritten (leaf_json row v)
+leaf_written p row k (flag b) l e h = (tt, tt)
+leaf_written p row k (whole z) l e h = number_written z (number_name row z) (whole_size p k l z e h) (IsUtf8-number_name row z)
+leaf_written p row k (date o) l e h = (tt, IsUtf8-characters o h.0)
+leaf_written p row k (time o) l e h = (tt, IsUtf8-characters o h.0)
+leaf_written p row k (printable o) l e h = (tt, IsUtf8-characters o h.0)
+leaf_written p row k (general o) l e h = ((tt, tt), (IsUtf8-are_low _ refl, IsUtf8-characters o h.0, tt))
+leaf_written p row k (visible o) l e h = ((tt, tt), (IsUtf8-are_low _ refl, IsUtf8-characters o h.0, tt))
 
 mutual
-  value_numbers : (p : Profile) (row : List ℕ) (node : NodeId) (c : Content) → Fits p c node → HasNumbers (value_json row node c)
-  value_numbers p row node (simple v) h = leaf_numbers p row (kind_of node) v h.0 h.1 h.2
-  value_numbers p row node (sequence es) h = entries_numbers p node 0 (rows_of node) es (from_all (rows_of node)) h.1
-  value_numbers p row node (list is) h = items_numbers p row node is h.1
-  value_numbers p row node (alternative n c) h = (value_numbers p (row_name node n) (row_node node n) c (row_fits p node n c h.0 h.1.1 h.2), tt)
+  value_written : (p : Profile) (row : List ℕ) (node : NodeId) (c : Content) → Fits p c node → IsWritten (value_json row node c)
+  value_written p row node (simple v) h = leaf_written p row (kind_of node) v h.0 h.1 h.2
+  value_written p row node (sequence es) h = entries_written p node 0 (rows_of node) es (from_all (rows_of node)) h.1
+  value_written p row node (list is) h = items_written p row node is h.1
+  value_written p row node (alternative n c) h =
+      let v = value_written p (row_name node n) (row_node node n) c (row_fits p node n c h.0 h.1.1 h.2) in
+      ((v.0, tt), (IsUtf8-row_name node n, v.1, tt))
 
-  entries_numbers : (p : Profile) (node : NodeId) (i : ℕ) (rows : List Row) (es : Entries) → From rows i (rows_of node) → FitRows p es rows → MembersHaveNumbers (entry_members node i es)
-  entries_numbers p node i rows no_entries from h = tt
-  entries_numbers p node i [] (absent es) from h = absurd h
-  entries_numbers p node i [] (present c es) from h = absurd h
-  entries_numbers p node i (row ∷ rows) (absent es) from h = entries_numbers p node (suc i) rows es (from_next row rows i (rows_of node) from) h.1
-  entries_numbers p node i (row ∷ rows) (present c es) from h = (
-    value_numbers p (row_name node i) (row_node node i) c (row_fits p node i c row (from_here row rows i (rows_of node) from) h.1),
-    entries_numbers p node (suc i) rows es (from_next row rows i (rows_of node) from) h.2,
-  )
+  entries_written : (p : Profile) (node : NodeId) (i : ℕ) (rows : List Row) (es : Entries) → From rows i (rows_of node) → FitRows p es rows → IsWritten (json.object (entry_members node i es))
+  entries_written p node i rows no_entries from h = (tt, tt)
+  entries_written p node i [] (absent es) from h = absurd h
+  entries_written p node i [] (present c es) from h = absurd h
+  entries_written p node i (row ∷ rows) (absent es) from h = entries_written p node (suc i) rows es (from_next row rows i (rows_of node) from) h.1
+  entries_written p node i (row ∷ rows) (present c es) from h =
+      let v = value_written p (row_name node i) (row_node node i) c (row_fits p node i c row (from_here row rows i (rows_of node) from) h.1) in
+      let rest = entries_written p node (suc i) rows es (from_next row rows i (rows_of node) from) h.2 in
+      ((v.0, rest.0), (IsUtf8-row_name node i, v.1, rest.1))
 
-  items_numbers : (p : Profile) (row : List ℕ) (node : NodeId) (is : Items) → FitItems p is (rows_of node) → ItemsHaveNumbers (item_values row (row_node node 0) is)
-  items_numbers p row node no_items h = tt
-  items_numbers p row node (item c is) h = (value_numbers p row (row_node node 0) c (row_fits p node 0 c h.0 h.1 h.2), items_numbers p row node is h.3)
+  items_written : (p : Profile) (row : List ℕ) (node : NodeId) (is : Items) → FitItems p is (rows_of node) → IsWritten (json.array (item_values row (row_node node 0) is))
+  items_written p row node no_items h = (tt, tt)
+  items_written p row node (item c is) h =
+      let v = value_written p row (row_node node 0) c (row_fits p node 0 c h.0 h.1 h.2) in
+      let rest = items_written p row node is h.3 in
+      ((v.0, rest.0), (v.1, rest.1))
 
-file_numbers : (file : Option (List ℕ)) (ms : Members) → MembersHaveNumbers ms → MembersHaveNumbers (with_file file ms)
-file_numbers None ms h = h
-file_numbers (Some name) ms h = (tt, h)
-
-line_numbers : (p : Profile) (file : Option (List ℕ)) (head : Head) (a : Apdu) → IsSmall head → FitsApdu p a → HasNumbers (line_json file head a)
-line_numbers p file head a small h =
+-- a line with no name of a file
+line_written : (p : Profile) (head : Head) (a : Apdu) → IsSmall head → FitsApdu p a → IsWritten (line_json None head a)
+line_written p head a small h =
     let n = a.number - 1 in
-    file_numbers file _ (
-      IsNumber-decimal head.number small.0,
-      (IsNumber-decimal head.offset small.1, (IsNumber-decimal head.octets small.2, (tt, (tt, (value_numbers p [] (row_node IllApdu n) a.body (row_fits p IllApdu n a.body h.1.0 h.1.1.1 h.1.2), tt))))),
+    let v = value_written p [] (row_node IllApdu n) a.body (row_fits p IllApdu n a.body h.1.0 h.1.1.1 h.1.2) in
+    let name : (k : List ℕ) → are_low k ≡ true → IsUtf8 k = IsUtf8-are_low in (
+      (IsNumber-decimal head.number small.0, (IsNumber-decimal head.offset small.1, (IsNumber-decimal head.octets small.2, (tt, (tt, (v.0, tt)))))),
+      (name _ refl, tt, (name _ refl, tt, (name _ refl, tt, (name _ refl, IsUtf8-row_name IllApdu n, (name _ refl, tt, (name _ refl, v.1, tt)))))),
     )
 
 abbrev read_value : Json → Option (Json × List Token) → Json
 read_value i None = i
 read_value i (Some p) = p.0
 
--- a text is of one value
-text_once : (i j : Json) → HasNumbers i → HasNumbers j → print (json_tokens i) ≡ print (json_tokens j) → i ≡ j
+-- a text in ASCII is of one value
+text_once : (i j : Json) → IsWritten i → IsWritten j → in_ascii (print (json_tokens i)) ≡ in_ascii (print (json_tokens j)) → i ≡ j
 text_once i j h k e =
-    let same = sym (tokens-print (json_tokens i) (ArePrintable-json_tokens i h)) ∙ ap tokens e ∙ tokens-print (json_tokens j) (ArePrintable-json_tokens j k) in
+    let same = sym (tokens-in_ascii (json_tokens i) (ArePrintable-json_tokens i h.0) (AreTexts-json_tokens i h.1)) ∙ ap tokens e
+    ∙ tokens-in_ascii (json_tokens j) (ArePrintable-json_tokens j k.0) (AreTexts-json_tokens j k.1) in
     let d = depth i + depth j in
     let back : Some (i, []) ≡ Some (j, []) = sym (value-json_tokens i d [] (omega arith)) ∙ ap (λ (ts : List Token). value d (ts ++ [])) same ∙ value-json_tokens j d [] (omega arith) in
     ap (read_value i) back
 
+-- ---- the name of the file
+
+-- The characters before the rest of a text, of which three bytes are ASCII. The front may end inside a character.
+record Front (front : List ℕ → List ℕ) : Type 0 where
+  before : List ℕ
+  is : (rest : List ℕ) → front rest ≡ before ++ chars rest
+
+one_character : (c : ℕ) (rest : List ℕ) → chars_after 0 c rest ≡ c ∷ chars rest
+unfolding chars
+one_character c [] = refl
+one_character c (b ∷ rest) = refl
+
+front_after : (n c : ℕ) (xs : List ℕ) → n ≤ 3 → Front (λ rest. chars_after n c (xs ++ 34 ∷ 44 ∷ 34 ∷ rest))
+front_after zero c [] h = record { before = c ∷ 34 ∷ 44 ∷ 34 ∷ []; is = λ rest. ap (λ (l : List ℕ). c ∷ 34 ∷ 44 ∷ l) (one_character 34 rest) }
+front_after (suc zero) c [] h = record { before = (c * 64 + (34 - 128)) ∷ 44 ∷ 34 ∷ []; is = λ rest. ap (λ (l : List ℕ). (c * 64 + (34 - 128)) ∷ 44 ∷ l) (one_character 34 rest) }
+front_after (suc (suc zero)) c [] h =
+    let d = (c * 64 + (34 - 128)) * 64 + (44 - 128) in
+    record { before = d ∷ 34 ∷ []; is = λ rest. ap (λ (l : List ℕ). d ∷ l) (one_character 34 rest) }
+front_after (suc (suc (suc zero))) c [] h =
+    let d = ((c * 64 + (34 - 128)) * 64 + (44 - 128)) * 64 + (34 - 128) in
+    record { before = d ∷ []; is = λ rest. one_character d rest }
+front_after (suc (suc (suc (suc n)))) c [] h = absurd (omega arith)
+front_after zero c (b ∷ xs) h =
+    let more = front_after (continuation_len b) (lead_bits b) xs (grind arith) in
+    record { before = c ∷ more.before; is = λ rest. ap (λ (l : List ℕ). c ∷ l) (more.is rest) }
+front_after (suc n) c (b ∷ xs) h = front_after n (c * 64 + (b - 128)) xs (omega arith)
+
+front : (xs : List ℕ) → Front (λ rest. chars (xs ++ 34 ∷ 44 ∷ 34 ∷ rest))
+unfolding chars
+front [] = record { before = 34 ∷ 44 ∷ 34 ∷ []; is = λ rest. ap (λ (l : List ℕ). 34 ∷ 44 ∷ l) (one_character 34 rest) }
+front (b ∷ xs) = front_after (continuation_len b) (lead_bits b) xs (grind arith)
+
+after_front : (xs r q : List ℕ) → in_ascii (xs ++ 34 ∷ 44 ∷ 34 ∷ r) ≡ in_ascii (xs ++ 34 ∷ 44 ∷ 34 ∷ q) → in_ascii r ≡ in_ascii q
+after_front xs r q e =
+    let f = front xs in
+    let split : (rest : List ℕ) → in_ascii (xs ++ 34 ∷ 44 ∷ 34 ∷ rest) ≡ flat_map plain f.before ++ in_ascii rest = λ rest. ap (flat_map plain) (f.is rest) ∙ flat_map-append plain f.before (chars rest) in
+    append_cancel_left (flat_map plain f.before) _ _ (sym (split r) ∙ e ∙ split q)
+
+-- the text after the first quotation mark of a key
+abbrev after_quote : List ℕ → List Token → List ℕ
+after_quote k ts = escape k ++ 34 ∷ 58 ∷ print_from false ts
+
+print-key : (k : List ℕ) (ts : List Token) → print (begin_object ∷ key k ∷ ts) ≡ 123 ∷ 34 ∷ after_quote k ts
+unfolding print_from
+print-key k ts = ap (λ (l : List ℕ). 123 ∷ 34 ∷ l) (append_assoc (escape k ++ 34 ∷ []) (58 ∷ []) _ ∙ append_assoc (escape k) (34 ∷ []) _)
+
+print-named : (f name k : List ℕ) (ts : List Token) → print (begin_object ∷ key f ∷ string name ∷ key k ∷ ts) ≡ (123 ∷ quoted f ++ 58 ∷ 34 ∷ escape name) ++ 34 ∷ 44 ∷ 34 ∷ after_quote k ts
+unfolding print_from
+print-named f name k ts = simp append_assoc
+
+unnamed : (f name k : List ℕ) (ts us : List Token) → in_ascii (print (begin_object ∷ key f ∷ string name ∷ key k ∷ ts)) ≡ in_ascii (print (begin_object ∷ key f ∷ string name ∷ key k ∷ us))
+    → in_ascii (print (begin_object ∷ key k ∷ ts)) ≡ in_ascii (print (begin_object ∷ key k ∷ us))
+unnamed f name k ts us e =
+    let rest = after_front (123 ∷ quoted f ++ 58 ∷ 34 ∷ escape name) (after_quote k ts) (after_quote k us) (ap in_ascii (sym (print-named f name k ts)) ∙ e ∙ ap in_ascii (print-named f name k us)) in
+    let begun : (vs : List Token) → in_ascii (print (begin_object ∷ key k ∷ vs)) ≡ 123 ∷ 34 ∷ in_ascii (after_quote k vs) =
+    λ vs. ap in_ascii (print-key k vs) ∙ in_ascii-cons 123 _ (omega arith) ∙ ap (λ (l : List ℕ). 123 ∷ l) (in_ascii-cons 34 _ (omega arith)) in
+    begun ts ∙ ap (λ (l : List ℕ). 123 ∷ 34 ∷ l) rest ∙ sym (begun us)
+
+-- lines that are equal are equal without the name of the file
+without_file : (file : Option (List ℕ)) (head head' : Head) (a b : Apdu) → in_ascii (print (json_tokens (line_json file head a))) ≡ in_ascii (print (json_tokens (line_json file head' b)))
+    → in_ascii (print (json_tokens (line_json None head a))) ≡ in_ascii (print (json_tokens (line_json None head' b)))
+without_file None head head' a b e = e
+without_file (Some name) head head' a b e = unnamed (codes "file") name (codes "number") _ _ e
+
 -- APDUs that fit the tables have one line only where they are one APDU
 pub line_once : (p : Profile) (file : Option (List ℕ)) (head head' : Head) (a b : Apdu) → IsSmall head → IsSmall head' → FitsApdu p a → FitsApdu p b → json_line_of file head a ≡ json_line_of file head' b → choice_of a ≡ choice_of b
 line_once p file head head' a b small small' h k e =
-    apdu_once p file head head' a b h k (text_once _ _ (line_numbers p file head a small h) (line_numbers p file head' b small' k) (append_cancel_right _ _ (codes "\n") e))
+    apdu_once p None head head' a b h k
+    (text_once _ _ (line_written p head a small h) (line_written p head' b small' k) (without_file file head head' a b (append_cancel_right _ _ (codes "\n") e)))

@@ -1,6 +1,7 @@
 -- What marks say, and the tokens that are put for them.
-use Rattle.std.proofs.Common.{◌≡◌, ℕ, suc, ◌+◌, ◌-◌, true, false, List, [], ◌∷◌, ◌++◌, length, take, drop, codes, Option, Some, None, refl, sym, ap, ap₂, ◌∙◌, arith, append_assoc, append-nil, ◌<◌, get_or}
+use Rattle.std.proofs.Common.{◌≡◌, ℕ, suc, ◌+◌, ◌-◌, true, false, List, [], ◌∷◌, ◌++◌, length, take, drop, codes, flat_map, Option, Some, None, refl, sym, ap, ap₂, ◌∙◌, arith, append_assoc, append-nil, ◌<◌, get_or}
 use Rattle.std.specs.Char.{encode_utf8}
+use Rattle.std.specs.Str.{chars}
 use Rattle.std.proofs.lemmas.List.Concat.{flat_map-append}
 use Rattle.json.specs.Token.{Token, begin_object, end_array, end_object, key}
 use Rattle.json.specs.Print.{print}
@@ -15,7 +16,7 @@ use Rattle.ill_read.specs.declared.mark.Mark.TheVariants as mark
 use Rattle.ill_text.specs.Shown.{row_name, row_node}
 use Rattle.ill_text.specs.Marks.{IsEntry, is_at_end, is_there, octets_in}
 use Rattle.ill_text.proofs.Lines.{mark_step, no_entry, no_item}
-use Rattle.ill_json.specs.Json.{characters, entry_members, item_values, json_line_of, line_json, value_json}
+use Rattle.ill_json.specs.Json.{characters, entry_members, item_values, json_line_of, line_json, plain, value_json}
 use Rattle.ill_json.specs.code.Adding.{Adds, entry_tokens, file_tokens, head_tokens, part_tokens, value_tokens}
 use Rattle.ill_json.specs.declared.line.Head.{Head}
 use Rattle.ill_json.specs.declared.writing.Out.{Out}
@@ -186,9 +187,8 @@ line_same file head a name node row n k e =
 pub one_more : (a b c x y z : List ℕ) → b ≡ a ++ x → c ≡ b ++ y → z ≡ x ++ y → c ≡ a ++ z
 one_more a b c x y z h k e = k ∙ ap (λ (t : List ℕ). t ++ y) h ∙ append_assoc a x y ∙ ap (λ (t : List ℕ). a ++ t) (sym e)
 
-pub line_text : (file : Option (List ℕ)) (head : Head) (a : Apdu) (o p : Out) → o.writer.before ≡ [] → o.writer.tokens ≡ [] → Adds (json_tokens (line_json file head a)) o p → p.failed ≡ false
-    → p.writer.before ++ print p.writer.tokens ++ codes "\n" ≡ json_line_of file head a
+pub line_text : (file : Option (List ℕ)) (head : Head) (a : Apdu) (o p : Out) → o.writer.tokens ≡ [] → Adds (json_tokens (line_json file head a)) o p → p.failed ≡ false
+    → flat_map plain (chars (print p.writer.tokens)) ++ codes "\n" ≡ json_line_of file head a
 unfolding Adds
-line_text file head a o p none empty adds whole =
-    let done = adds whole in
-    ap₂ (λ (x : List ℕ) (y : List Token). x ++ print y ++ codes "\n") (done.1 ∙ none) (done.2 ∙ ap (λ (ts : List Token). ts ++ json_tokens (line_json file head a)) empty)
+line_text file head a o p empty adds whole =
+    ap (λ (ts : List Token). flat_map plain (chars (print ts)) ++ codes "\n") ((adds whole).1 ∙ ap (λ (ts : List Token). ts ++ json_tokens (line_json file head a)) empty)

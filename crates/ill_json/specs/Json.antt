@@ -1,6 +1,8 @@
 -- The line of JSON (RFC 8259) of a message: the text of a JSON value, and a line feed.
-use Rattle.std.specs.Prelude.{ℕ, suc, ◌-◌, ℤ, List, [], ◌++◌, codes, decimal, Option, Some, None, flat_map}
-use Rattle.std.specs.Char.{encode_utf8}
+use Rattle.std.specs.Prelude.{ℕ, suc, ◌-◌, ◌/◌, ◌%◌, ℤ, List, [], ◌∷◌, ◌++◌, codes, decimal, Option, Some, None, flat_map, if◌then◌else◌, nat_lt}
+use Rattle.std.specs.Char.{digit_char, encode_utf8}
+use Rattle.std.specs.Char.Escape.{encode_utf16}
+use Rattle.std.specs.Str.{chars}
 use Rattle.std.specs.Fmt.{signed_decimal}
 use Rattle.json.specs.Json.{Json, boolean, number, string, array, object, Members, no_members, member}
 use Rattle.json.specs.Json as json
@@ -72,5 +74,14 @@ line_json file head a = object (with_file file
     (member (codes "normal") (boolean head.is_normal)
     (member (codes "value") (value_json [] (row_node IllApdu (a.number - 1)) a.body) no_members)))))))
 
+-- a unit of UTF-16 by its number (RFC 8259, section 7), in four digits
+abbrev pub unit_text : ℕ → List ℕ
+unit_text u = codes "\\u" ++ digit_char (u / 4096 % 16) ∷ digit_char (u / 256 % 16) ∷ digit_char (u / 16 % 16) ∷ digit_char (u % 16) ∷ []
+
+-- a character as it is, or DEL and what is beyond ASCII by its units
+abbrev pub plain : ℕ → List ℕ
+plain c = if nat_lt c 0x7F then c ∷ [] else flat_map unit_text (encode_utf16 c)
+
+-- the text in ASCII, and a line feed
 abbrev pub json_line_of : Option (List ℕ) → Head → Apdu → List ℕ
-json_line_of file head a = print (json_tokens (line_json file head a)) ++ codes "\n"
+json_line_of file head a = flat_map plain (chars (print (json_tokens (line_json file head a)))) ++ codes "\n"

@@ -7,6 +7,7 @@
 //! ```
 #![tactic(auto)]
 
+mod ascii;
 mod leaf;
 mod line;
 mod value;

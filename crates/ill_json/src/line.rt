@@ -28,7 +28,8 @@ pub struct Head {
     pub is_normal: bool,
 }
 
-/// The line of JSON of the message that the outline is of, in the memory of `room`, whose octets are forgotten.
+/// The line of JSON of the message that the outline is of, in the memory of `room`, whose octets are forgotten,
+/// or in new memory where a character is written by its number.
 ///
 /// It ends in a line feed, and is an object of these members, in this order:
 /// - `file`: the name of the file, where it is given
@@ -41,7 +42,7 @@ pub struct Head {
 /// alternative; a list is an array. A number is written in full, so a reader that holds it in a double
 /// loses what it has beyond 53 bits. A number with a name is an object of `number` and `name`. A string
 /// of an ILL-String is an object of `general` or `visible`. In a string each octet is the character of
-/// its number.
+/// its number. The line is ASCII: DEL and each character beyond ASCII is written by its number, as `\u00e9`.
 ///
 /// # Errors
 ///
@@ -57,7 +58,7 @@ pub fn json_line(
 {
     let mut out = Out::new(alloc, room);
     put_line(file, head, outline.marks(), &mut out);
-    out.into_line()
+    out.into_line(alloc)
 }
 
 /// Puts the object of the message that the marks are of.

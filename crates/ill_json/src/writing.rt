@@ -1,13 +1,14 @@
 //! The text that is made, a token at a time.
-ghost use Rattle.std.specs.Prelude.{◌≡◌, ◌++◌, [], ◌∷◌, false, codes, decimal, IfOk, OnOk, string_bytes, vec_capacity};
+ghost use Rattle.std.specs.Prelude.{◌≡◌, ◌++◌, [], ◌∷◌, false, codes, decimal, flat_map, IfOk, OnOk, string_bytes, vec_capacity};
 ghost use Rattle.std.specs.Fmt.{signed_decimal};
+ghost use Rattle.std.specs.Str.{chars};
 ghost use Rattle.json.specs.Print.{IsPrintable, print};
 ghost use Rattle.json.specs.Reads.{token_of};
 ghost use Rattle.json.specs.Token.{number, string};
 ghost use Rattle.ill_text.specs.Marks.{octets_in};
-ghost use Rattle.ill_json.specs.Json.{characters};
-ghost use Rattle.ill_json.specs.code.Adding.{Adds};
+ghost use Rattle.ill_json.specs.Json.{characters, plain};
 
+use crate::ascii::into_ascii;
 use ill_read::Mark;
 use json::{Token, Writer};
 use std::alloc::{AllocError, Global};
@@ -16,15 +17,18 @@ use std::alloc::{AllocError, Global};
 #[derive(Drop)]
 pub struct Out {
     writer: Writer,
+    // Nothing comes before the tokens.
+    ghost alone: { writer.before ≡ [] },
     /// Memory for a string.
     characters: String,
     failed: bool,
 }
 
 impl Out {
+    ghost use Rattle.ill_json.specs.code.Adding.{Adds};
+
     /// No text yet, in the memory of `room`, whose octets are forgotten.
     pub fn new(alloc: Global, room: Vec<u8>) -> Out
-        ensures before { result.writer.before ≡ [] }
         ensures tokens { result.writer.tokens ≡ [] }
         ensures room { result.writer.spare ≡ vec_capacity room }
         ensures whole { result.failed ≡ false }
@@ -38,9 +42,9 @@ impl Out {
         }
     }
 
-    /// The text as a line.
-    pub fn into_line(self) -> Result<Vec<u8>, AllocError>
-        ensures { IfOk result (λ line. (self.failed ≡ false) × (line.items ≡ self.writer.before ++ print self.writer.tokens ++ codes "\n")) }
+    /// The text as a line of ASCII.
+    pub fn into_line(self, alloc: Global) -> Result<Vec<u8>, AllocError>
+        ensures { IfOk result (λ line. (self.failed ≡ false) × (line.items ≡ flat_map plain (chars (print self.writer.tokens)) ++ codes "\n")) }
     {
         let Out {
             writer,
@@ -50,7 +54,7 @@ impl Out {
         if failed {
             return Err(AllocError);
         }
-        let mut line = writer.into_inner();
+        let mut line = into_ascii(alloc, writer.into_inner())?;
         line.push(b'\n')?;
         Ok(line)
     }

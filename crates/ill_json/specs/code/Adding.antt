@@ -11,7 +11,7 @@ use Rattle.ill_json.specs.declared.writing.Out.{Out}
 
 -- these tokens were put, unless memory was refused
 unfoldable pub Adds : List Token → Out → Out → Type 0
-Adds ts old new = new.failed ≡ false → (old.failed ≡ false) × (new.writer.before ≡ old.writer.before) × (new.writer.tokens ≡ old.writer.tokens ++ ts)
+Adds ts old new = new.failed ≡ false → (old.failed ≡ false) × (new.writer.tokens ≡ old.writer.tokens ++ ts)
 
 -- the member of the value in row i
 abbrev pub part_tokens : NodeId → ℕ → Content → List Token

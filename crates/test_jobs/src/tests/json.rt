@@ -26,7 +26,7 @@ const ROWS: [(&str, Option<&str>, u32, u64, u32, bool, &str); 4] = [
         18_446_744_073_709_551_615,
         65,
         false,
-        "{\"file\":\"a \\\"b\\\"\",\"number\":4294967295,\"offset\":18446744073709551615,\"octets\":65,\"apdu\":\"Expired\",\"normal\":false,\"value\":{\"protocol-version-num\":9223372036854775807,\"transaction-id\":{\"initial-requester-id\":{\"person-or-institution-symbol\":{\"institution-symbol\":{\"visible\":\"L\"}}},\"transaction-group-qualifier\":{\"general\":\"\u{e9}\\\"\\\\\\n\\u0000\u{7f}\u{80}\u{ff}\"},\"transaction-qualifier\":{\"visible\":\"\"}},\"service-date-time\":{\"date-time-of-this-service\":{\"date\":\"20240229\",\"time\":\"235960\"}},\"requester-id\":{}}}\n",
+        "{\"file\":\"a \\\"b\\\"\",\"number\":4294967295,\"offset\":18446744073709551615,\"octets\":65,\"apdu\":\"Expired\",\"normal\":false,\"value\":{\"protocol-version-num\":9223372036854775807,\"transaction-id\":{\"initial-requester-id\":{\"person-or-institution-symbol\":{\"institution-symbol\":{\"visible\":\"L\"}}},\"transaction-group-qualifier\":{\"general\":\"\\u00e9\\\"\\\\\\n\\u0000\\u007f\\u0080\\u00ff\"},\"transaction-qualifier\":{\"visible\":\"\"}},\"service-date-time\":{\"date-time-of-this-service\":{\"date\":\"20240229\",\"time\":\"235960\"}},\"requester-id\":{}}}\n",
     ),
     // defaults, lists, choices, numbers with names, and one beyond the names
     (

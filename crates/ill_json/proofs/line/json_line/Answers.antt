@@ -8,4 +8,4 @@ use Rattle.ill_json.proofs.line.json_line.Goals as goal
 pub returns : goal.returns
 returns c a h =
     let adds = c.put_line.ensures a (subst (IsMarked (choice_of a)) (sym c.marks.ensures) h) in
-    IfOk-weaker c.into_line.result _ _ (λ line k. k.1 ∙ line_text _ c.args.head a _ _ c.new-out.ensures.before c.new-out.ensures.tokens adds k.0) c.into_line.ensures
+    IfOk-weaker c.into_line.result _ _ (λ line k. k.1 ∙ line_text _ c.args.head a _ _ c.new-out.ensures.tokens adds k.0) c.into_line.ensures

@@ -15,4 +15,4 @@ returns-then-is_err-2 c = adds_failed _ _ _ refl
 pub returns-else-is_err-2 : goal.returns-else-is_err-2
 returns-else-is_err-2 c =
     let text : string_bytes c.add_characters.new.text ≡ characters (octets_in c.args.octets.now) = search rules in
-    adds_as _ _ _ _ (ap (λ s. string s ∷ []) (c.deref.ensures ∙ text)) (adds_one _ _ _ refl (search rules) (search rules))
+    adds_as _ _ _ _ (ap (λ s. string s ∷ []) (c.deref.ensures ∙ text)) (adds_one _ _ _ refl (search rules))

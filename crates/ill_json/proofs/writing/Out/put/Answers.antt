@@ -6,4 +6,4 @@ pub returns-then-is_err : goal.returns-then-is_err
 returns-then-is_err c = adds_failed _ _ _ refl
 
 pub returns-else-is_err : goal.returns-else-is_err
-returns-else-is_err c = adds_one _ _ _ refl (search rules) (search rules)
+returns-else-is_err c = adds_one _ _ _ refl (search rules)
