@@ -46,8 +46,11 @@ abbrev pub two_files : Text → App
 two_files name = with_rule (with_rule (with_rule (new_app name) (flag_rule (codes "hex"))) (file_rule (codes "first"))) (file_rule (codes "second"))
 
 -- a command that writes what it makes of any number of files into one, or of one file into another
+abbrev pub with_whole : Text → App
+with_whole name = with_rule (with_lines name) (flag_rule (codes "whole"))
+
 abbrev pub into_one : Text → App
-into_one name = with_rule (with_rule (with_rule (with_lines name) output_rule) list_rule) files_rule
+into_one name = with_rule (with_rule (with_rule (with_whole name) output_rule) list_rule) files_rule
 
 abbrev pub top : App
 top = let a = new_app (codes "illcanon") in

@@ -68,6 +68,7 @@ pub record IsOrderOf (found : Option (Text × List Row)) (order : Order) : Type 
   pub going : order.keep_going ≡ is_set (codes "keep-going") rows
   pub summary : order.summary ≡ is_set (codes "summary") rows
   pub json : order.json ≡ is_set (codes "json") rows
+  pub whole : order.whole ≡ is_set (codes "whole") rows
   pub files : HasFiles rows order.task
 
 -- how many of the words are this name
@@ -136,6 +137,15 @@ LinesGoOn order = (order.keep_going ≡ true) × (order.lines ≡ true)
 -- each line has its result, and messages are not counted
 abbrev pub LinesAreCounted : Order → Type 0
 LinesAreCounted order = (order.summary ≡ true) × (order.lines ≡ true)
+
+-- OUT is to be replaced as a whole, but is standard output
+abbrev pub WholeIsPrinted : Order → Type 0
+WholeIsPrinted order = (order.whole ≡ true) × elim order.task as (λ _. Type 0) [
+  | Task.Each job inputs ↦ ⊥
+  | Task.Canonicalise input output ↦ output.now ≡ codes "-"
+  | Task.Collect inputs output ↦ output.now ≡ codes "-"
+  | Task.Compare first second ↦ ⊥
+]
 
 -- one file, and no list of files
 abbrev pub HasOne : Inputs → Type 0

@@ -5,8 +5,8 @@ use Rattle.clap.specs.Words.{HasKind, Kinds, kind_of}
 use Rattle.clap.specs.declared.error.kind.ErrorKind.{ErrorKind}
 use Rattle.ill_orders.specs.declared.orders.Order.{Order}
 use Rattle.ill_orders.specs.declared.fault.LineFault.{LineFault}
-use Rattle.ill_orders.specs.declared.fault.LineFault.TheVariants.{Line, SameWord, InputTwice, OutputIsRead, Missing, Unexpected, LinesAndHex, LinesAndKeepGoing, LinesAndSummary, NotOneFile}
-use Rattle.ill_orders.specs.Orders.{files_in, IsBoth, IsOrderOf, HasSameWord, LinesAreCounted, LinesGoOn, NamesNotOne, NamesNothing, ReadsInputTwice, ReadsOutput}
+use Rattle.ill_orders.specs.declared.fault.LineFault.TheVariants.{Line, SameWord, InputTwice, OutputIsRead, Missing, Unexpected, LinesAndHex, LinesAndKeepGoing, LinesAndSummary, NotOneFile, WholeNeedsFile}
+use Rattle.ill_orders.specs.Orders.{files_in, IsBoth, IsOrderOf, HasSameWord, LinesAreCounted, LinesGoOn, NamesNotOne, NamesNothing, ReadsInputTwice, ReadsOutput, WholeIsPrinted}
 
 -- words of `canonicalise` that are fewer than IN and OUT, or come with a list of files, and have no `-o`
 abbrev pub LacksTwo : List Row → Type 0
@@ -32,6 +32,7 @@ IsFaultOf found LinesAndHex = (order : Order) × IsOrderOf found order × IsBoth
 IsFaultOf found LinesAndKeepGoing = (order : Order) × IsOrderOf found order × LinesGoOn order
 IsFaultOf found LinesAndSummary = (order : Order) × IsOrderOf found order × LinesAreCounted order
 IsFaultOf found NotOneFile = (order : Order) × IsOrderOf found order × NamesNotOne order
+IsFaultOf found WholeNeedsFile = (order : Order) × IsOrderOf found order × WholeIsPrinted order
 
 -- memory ran out
 abbrev pub IsOutOfMemory : LineFault → Type 0

@@ -2,7 +2,7 @@
 ghost use Rattle.std.specs.Prelude.{◌≡◌, codes, false, IfOk};
 ghost use Rattle.clap.specs.Words.{app_of, rule_of};
 ghost use Rattle.clap.specs.declared.builder.command.Command.TheViews.{out-Command as fields_of};
-ghost use Rattle.ill_orders.specs.CommandLine.{each_file, each_going, each_line, file_rule, files_rule, flag_rule, into_one, list_rule, output_rule, program, topic, two_files, with_going, with_lines};
+ghost use Rattle.ill_orders.specs.CommandLine.{each_file, each_going, each_line, file_rule, files_rule, flag_rule, into_one, list_rule, output_rule, program, topic, two_files, with_going, with_lines, with_whole};
 
 use crate::{help, topics};
 use clap::{Arg, ArgAction, Command};
@@ -19,6 +19,9 @@ const SUMMARY: &str =
 const JSON: &str = "Writes a line of JSON for each message";
 
 const MESSAGES: &str = "The messages; `-` is standard input";
+
+const WHOLE: &str =
+    "Replaces OUT only if every message of every input was good, and otherwise leaves it as it was";
 
 const LINES: &str =
     "Each line of the input is a message in hexadecimal, and each line of the output its result";
@@ -120,6 +123,18 @@ fn by_lines<'a>(
     by_messages(alloc, name, about, after)?.arg(flag(alloc, "lines", LINES))
 }
 
+/// A command that has an output, which is replaced as a whole where that is asked for.
+fn replacing<'a>(
+    alloc: Global,
+    name: &'a str,
+    about: &'a str,
+    after: &'a str,
+) -> Result<Command<'a>, AllocError>
+    ensures { IfOk result (λ c. (app_of c ≡ with_whole name.entry.now) × ((fields_of c).has_globals ≡ false)) }
+{
+    by_lines(alloc, name, about, after)?.arg(flag(alloc, "whole", WHOLE))
+}
+
 fn on_each_or_lines<'a>(
     alloc: Global,
     name: &'a str,
@@ -179,7 +194,7 @@ pub fn canonicalise<'a>(alloc: Global) -> Result<Command<'a>, AllocError>
 {
     let about = "Writes the normal form (DER) of each message in IN, or in each FILE, to OUT";
     let words = "IN and OUT; or with `-o OUT` the messages; `-` is standard input or output";
-    by_lines(alloc, "canonicalise", about, help::CANONICALISE)?
+    replacing(alloc, "canonicalise", about, help::CANONICALISE)?
         .override_usage(help::CANONICALISE_USAGE)
         .arg(output(alloc))?
         .arg(list(alloc))?

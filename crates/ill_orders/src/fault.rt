@@ -36,6 +36,9 @@ pub enum LineFault {
     /// The lines of none or of several files.
     #[error("--lines reads one FILE")]
     NotOneFile,
+    /// Standard output can't be replaced.
+    #[error("--whole needs a file for OUT")]
+    WholeNeedsFile,
 }
 
 impl From<AllocError> for LineFault {

@@ -102,19 +102,26 @@ Status: 0 same; 1 different, or a file is not one message; 2 usage; 3 memory, fi
 or pipes.";
 
 pub const CANONICALISE: &str = "\
-With --hex the output has a line of hexadecimal digits for each message, and otherwise
-the octets. Where a message is refused, OUT holds the messages before it: it is empty
-if the first is refused, and also if the hexadecimal text is invalid. IN and OUT must
-be different files.
+OUT is replaced, whatever it held. Where a message is refused, it then holds only the
+messages before it: none if the first is refused, or if the hexadecimal text is invalid.
+With --whole OUT is replaced only if every message of every input was good; otherwise it
+stays as it was.
 
-Where OUT is absent, or a regular file with one name, the output is written to a new
-file beside it, OUT.part, which takes the name OUT at the end. So OUT is as it was if
-the output can't be written, or if the command is killed. All other files (devices,
-pipes, links) are written directly, and so is OUT where no new file can be made.
+OUT also stays as it was if the input can't be read, if the output can't be written, if
+memory runs out, or if the command is killed: where OUT is absent, or a regular file with
+one name, the output is written to a new file beside it, OUT.part, which takes the name
+OUT at the end. If the command is killed, OUT.part is left, and may be removed. If it is
+there already, OUT.part1 to OUT.part99 are tried. All other files (devices, pipes, links,
+files with several names) are written directly, and so is OUT where no new file can be
+made; a line on standard error says so if a regular file is written. --whole refuses
+them. Access control lists and extended attributes of OUT are not kept.
+
+With --hex the output has a line of hexadecimal digits for each message, and otherwise
+the octets. IN and OUT must be different files.
 
 With -o OUT the normal forms of the messages of each FILE go to OUT, one file after the
-other. A file that can't be opened doesn't stop the others. OUT is as it was if none can
-be opened. It must not be one of the files.
+other. A file that can't be opened doesn't stop the others, unless --whole is given. OUT
+is as it was if none can be opened. It must not be one of the files.
 
 With --keep-going each message that is refused has its line on standard error, and the
 next one is read, where the end of the refused one is known.
@@ -127,6 +134,7 @@ With --lines each line of OUT is the normal form of the message in this line of 
 why the line is not a message, as `refused at 0: Truncated` or `hex: odd number of digits`.
 
 Example: illcanon canonicalise messages.ber messages.der
+         illcanon canonicalise --whole messages.ber messages.der
          illcanon canonicalise --keep-going -o all.der archive/*.ber
          illcanon canonicalise --lines messages.txt - | sort -u
 
@@ -140,7 +148,8 @@ illcanon canonicalise [OPTIONS] <IN> <OUT>
        illcanon canonicalise [OPTIONS] -o <OUT> <FILE>...";
 
 /// What is missing, as clap says it.
-pub const NO_FILE: &str = "the following required arguments were not provided:\n  <FILE>...";
+pub const NO_FILE: &str =
+    "the following required arguments were not provided:\n  <FILE>..., or --files-from <LIST>";
 
 pub const NO_IN: &str = "the following required arguments were not provided:\n  <IN>\n  <OUT>";
 

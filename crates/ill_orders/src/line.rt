@@ -4,7 +4,7 @@ ghost use Rattle.std.specs.String.{string_bytes};
 ghost use Rattle.clap.specs.Words.{fault_of, kind_of, subcommand_of};
 ghost use Rattle.clap.specs.declared.error.kind.ErrorKind.{ErrorKind};
 ghost use Rattle.ill_orders.specs.CommandLine.{program};
-ghost use Rattle.ill_orders.specs.Orders.{reads, HasSameWord, IsBoth, IsOrderOf, IsRead, LinesAreCounted, LinesGoOn, NamesNotOne, NamesNothing, ReadsInputTwice, ReadsOutput};
+ghost use Rattle.ill_orders.specs.Orders.{reads, HasSameWord, IsBoth, IsOrderOf, IsRead, LinesAreCounted, LinesGoOn, NamesNotOne, NamesNothing, ReadsInputTwice, ReadsOutput, WholeIsPrinted};
 ghost use Rattle.ill_orders.specs.Refused.{IsFaultOf, IsRefusedBy};
 
 use crate::commands::{canonicalise, check, digest, dump, show};
@@ -23,7 +23,7 @@ use std::alloc::{AllocError, Global};
 /// What `clap` reports of words that are no command line, or that ask for help. Or a file is missing, or `canonicalise` has a word more
 /// than IN and OUT. Or `same` has `-` twice, or `canonicalise` one word other than `-` for IN and OUT. Or another command has `-` twice
 /// among its files and their list, or `-o` has one of these words. Or `--lines` has no file, several, or a list, or is given with `--hex`,
-/// `--keep-going` or `--summary`.
+/// `--keep-going` or `--summary`. Or `--whole` is given with standard output for OUT.
 pub fn order<'a>(alloc: Global, words: &'a [String]) -> Result<Order<'a>, LineFault>
     // The words have the order's command, flags and files; standard input is not read twice, no file is written that is read by the same
     // word, and there are files. Lines are those of one file, are no hexadecimal text, have no messages to pass over, and are not counted.
@@ -36,6 +36,7 @@ pub fn order<'a>(alloc: Global, words: &'a [String]) -> Result<Order<'a>, LineFa
     ensures not_on { IfOk result (λ order. LinesGoOn order → ⊥) }
     ensures not_counted { IfOk result (λ order. LinesAreCounted order → ⊥) }
     ensures one { IfOk result (λ order. NamesNotOne order → ⊥) }
+    ensures replaced { IfOk result (λ order. WholeIsPrinted order → ⊥) }
     ensures fault { IfErr result (IsFaultOf (subcommand_of program (map string_bytes words.entry.now))) }
     // What clap finds wrong is refused, and nothing else, unless memory runs out.
     ensures faults { IsRefusedBy (fault_of program (map string_bytes words.entry.now)) result }
@@ -67,6 +68,9 @@ pub fn order<'a>(alloc: Global, words: &'a [String]) -> Result<Order<'a>, LineFa
     }
     if names_not_one(&order) {
         return Err(LineFault::NotOneFile);
+    }
+    if whole_is_printed(&order) {
+        return Err(LineFault::WholeNeedsFile);
     }
     Ok(order)
 }
@@ -149,6 +153,19 @@ fn names_not_one(order: &Order<'_>) -> bool
             inputs.files.len() != 1 || inputs.list.is_some()
         }
         Task::Canonicalise { .. } | Task::Compare { .. } => false,
+    }
+}
+
+/// Whether standard output is to be replaced as a whole.
+fn whole_is_printed(order: &Order<'_>) -> bool
+    ensures { IsTrue result ↔ WholeIsPrinted order.now }
+{
+    if !order.whole {
+        return false;
+    }
+    match &order.task {
+        Task::Canonicalise { output, .. } | Task::Collect { output, .. } => *output == "-",
+        Task::Each { .. } | Task::Compare { .. } => false,
     }
 }
 

@@ -55,6 +55,7 @@ fn order_of<'a>(alloc: Global, matches: &ArgMatches<'a>) -> Result<Order<'a>, Li
         keep_going: is_set(words, "keep-going"),
         summary: is_set(words, "summary"),
         json: is_set(words, "json"),
+        whole: is_set(words, "whole"),
         task,
     })
 }

@@ -25,6 +25,8 @@ pub struct Order<'a> {
     pub json: bool,
     /// Whether a line at the end says how many files and messages there were.
     pub summary: bool,
+    /// Whether the output of `canonicalise` is replaced only if every message was good.
+    pub whole: bool,
     pub task: Task<'a>,
 }
 

@@ -55,7 +55,8 @@ NormalTooLong   the normal form would have more than 1,048,576 octets
 
 TrailingBytes is refused where an input has to be one message: by `same`, and in a
 line of --lines. Where an input has any number of messages, what follows one is the
-next one.";
+next one. So the example of TrailingBytes is seen by `illcanon check --lines -`, and by
+`illcanon dump --hex -` as a message and a second one that is refused.";
 
 /// What is read of a message, and what is not.
 pub const PROFILE: &str = "\

@@ -104,6 +104,7 @@ same_flags found one other h k =
       h.going ∙ flag (codes "keep-going") ∙ sym k.going,
       h.summary ∙ flag (codes "summary") ∙ sym k.summary,
       h.json ∙ flag (codes "json") ∙ sym k.json,
+      h.whole ∙ flag (codes "whole") ∙ sym k.whole,
     )
 
 -- ---- the same word

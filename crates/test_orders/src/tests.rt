@@ -5,21 +5,31 @@ use ill_orders::{LineFault, Order, Task, order};
 use std::alloc::{AllocError, Global};
 use std::test::Fail;
 
-/// The flags of an order, in the order `--hex`, `--lines`, `--keep-going`, `--json`, `--summary`.
-type Flags = [bool; 5];
+/// The flags of an order, in the order `--hex`, `--lines`, `--keep-going`, `--json`, `--summary`, `--whole`.
+type Flags = [bool; 6];
 
 /// Words after the program's name, and the flags that they set.
-static ROWS: [(&str, Flags); 8] = [
-    ("check A", [false, false, false, false, false]),
-    ("check --hex A", [true, false, false, false, false]),
-    ("check --lines A", [false, true, false, false, false]),
-    ("check --keep-going A", [false, false, true, false, false]),
-    ("show --json A", [false, false, false, true, false]),
-    ("check --summary A", [false, false, false, false, true]),
-    ("dump --hex A", [true, false, false, false, false]),
+static ROWS: [(&str, Flags); 9] = [
+    ("check A", [false, false, false, false, false, false]),
+    ("check --hex A", [true, false, false, false, false, false]),
+    ("check --lines A", [false, true, false, false, false, false]),
+    (
+        "check --keep-going A",
+        [false, false, true, false, false, false],
+    ),
+    ("show --json A", [false, false, false, true, false, false]),
+    (
+        "check --summary A",
+        [false, false, false, false, true, false],
+    ),
+    ("dump --hex A", [true, false, false, false, false, false]),
     (
         "canonicalise --lines A B",
-        [false, true, false, false, false],
+        [false, true, false, false, false, false],
+    ),
+    (
+        "canonicalise --whole A B",
+        [false, false, false, false, false, true],
     ),
 ];
 
@@ -40,6 +50,7 @@ fn flags_of(order: &Order<'_>) -> Flags {
         order.keep_going,
         order.json,
         order.summary,
+        order.whole,
     ]
 }
 
@@ -80,7 +91,7 @@ fn gives_canonicalise(
 
 #[test]
 fn canonicalise_has_its_flags_and_files(rt: HostRuntime) -> Result<(), Fail> {
-    let hex = [true, false, false, false, false];
+    let hex = [true, false, false, false, false, false];
     assert!(rt; gives_canonicalise(rt.alloc(), "canonicalise --hex - -", hex, "-", "-")?);
     Ok(())
 }
@@ -97,6 +108,16 @@ fn only_two_commands_have_the_same_word(rt: HostRuntime) -> Result<(), Fail> {
     assert!(rt; is_same_word(rt.alloc(), "canonicalise A A")?);
     for words in ["show - -", "canonicalise - -", "canonicalise -o A A"] {
         assert!(rt; !is_same_word(rt.alloc(), words)?, "{words}");
+    }
+    Ok(())
+}
+
+#[test]
+fn only_files_are_replaced_as_a_whole(rt: HostRuntime) -> Result<(), Fail> {
+    for words in ["canonicalise --whole A -", "canonicalise --whole -o - A"] {
+        let words = words_of(rt.alloc(), words)?;
+        let is_refused = matches!(order(rt.alloc(), &words), Err(LineFault::WholeNeedsFile));
+        assert!(rt; is_refused, "{words:?}");
     }
     Ok(())
 }
