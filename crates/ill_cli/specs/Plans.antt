@@ -39,8 +39,8 @@ canonical order = by_line order.lines LineJob.Canonicalise Job.Canonicalise (rea
 abbrev pub plan_of : Order → Plan
 plan_of order = elim order.task as (λ _. Plan) [
   | Task.Each job inputs ↦ Plan.Print (action_of job order.lines order.json (reading_of order)) inputs
-  | Task.Canonicalise input output ↦ Plan.Write (canonical order) input output
-  | Task.Collect inputs output ↦ Plan.Collect (canonical order) inputs output
+  | Task.Canonicalise input output ↦ Plan.Write (canonical order) input output order.whole
+  | Task.Collect inputs output ↦ Plan.Collect (canonical order) inputs output order.whole
   | Task.Compare first second ↦ Plan.Compare order.hex first second
 ]
 

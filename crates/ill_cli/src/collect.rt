@@ -4,25 +4,25 @@ use crate::input::{put_all, write_input};
 use crate::plan::{Action, InputTask};
 use crate::tally::Tally;
 use ill_files::{
-    Console, Fault, FileId, Output, OutputOf, RunLine, close_output, open_input, open_output,
-    printed, status_of,
+    Destination, Fault, FileId, Host, Output, OutputOf, close_output, is_output_lost, keeps_output,
+    open_input, open_output, printed, status_of,
 };
-use ill_jobs::{RunFault, Verdict};
+use ill_jobs::Verdict;
 use ill_orders::{Inputs, LineFault};
 use std::rt::Files;
 use std::str;
 
 /// Writes what is made of each file to one output, prints the line of each fault, and returns the exit status. The output is opened after
-/// the first of the files, and only if it is not one of the files.
-pub fn collect<R: Print + Eprint + Input + Files + AllocGlobal + Console>(
+/// the first of the files, and only if it is not one of the files. It stays as it was if [`keeps_output`] says so of one of the files.
+pub fn collect<R: Print + Eprint + Input + Files + AllocGlobal + Host>(
     rt: &R,
     action: Action,
     inputs: &Inputs<'_>,
     output: &str,
+    whole: bool,
     tally: &mut Tally<'_>,
 ) -> u8 {
     let alloc = rt.alloc();
-    // If standard output is closed, an input may be opened in its place: so this is asked first.
     let written = FileId::of_output(rt, output);
     let (list, read) = match list_of(rt, inputs.list) {
         Ok(found) => found,
@@ -39,10 +39,10 @@ pub fn collect<R: Print + Eprint + Input + Files + AllocGlobal + Console>(
     }
     match names.as_slice() {
         [name] => {
-            let done = one_into(rt, action, name, output, tally);
+            let done = one_into(rt, action, name, output, whole, tally);
             tally.end(rt, &done)
         }
-        names => each_into(rt, action, names, output, tally),
+        names => each_into(rt, action, names, output, whole, tally),
     }
 }
 
@@ -59,34 +59,32 @@ fn is_one_of<R: Files>(rt: &R, names: &[&[u8]], file: Option<FileId>) -> bool {
 }
 
 /// Writes what is made of the one file that is named.
-fn one_into<R: Print + Eprint + Input + Files + AllocGlobal + Console>(
+fn one_into<R: Print + Eprint + Input + Files + AllocGlobal + Host>(
     rt: &R,
     action: Action,
     name: &[u8],
     output: &str,
+    whole: bool,
     tally: &mut Tally<'_>,
 ) -> Result<Verdict, Fault> {
     let name = text_of(rt.alloc(), name)?;
-    write_input(rt, InputTask::new(action, name, 1), name, output, tally)
-}
-
-/// An output that was opened: the name of the new file that is written in its place, if there is one.
-#[derive(Drop)]
-struct Begun {
-    part: Option<String>,
+    let task = InputTask::new(action, name, 1);
+    write_input(rt, task, name, output, whole, tally)
 }
 
 /// Writes what is made of several files.
-fn each_into<R: Print + Eprint + Input + Files + AllocGlobal + Console>(
+fn each_into<R: Print + Eprint + Input + Files + AllocGlobal + Host>(
     rt: &R,
     action: Action,
     names: &[&[u8]],
     name_of_output: &str,
+    whole: bool,
     tally: &mut Tally<'_>,
 ) -> u8 {
     let output = Output::new();
-    let mut begun = None;
+    let mut destination = None;
     let mut status = 0;
+    let mut keep = false;
     let mut lost = Ok(Verdict::Good);
     for name in names {
         match next_into(
@@ -96,12 +94,14 @@ fn each_into<R: Print + Eprint + Input + Files + AllocGlobal + Console>(
             names.len(),
             &output,
             name_of_output,
-            &mut begun,
+            whole,
+            &mut destination,
             tally,
         ) {
             Ok(done) => {
                 tally.print_of(rt, name, &done);
                 status = worse(status, status_of(&done));
+                keep = keep | keeps_output(whole, &done);
             }
             Err(fault) => {
                 lost = Err(fault);
@@ -109,8 +109,8 @@ fn each_into<R: Print + Eprint + Input + Files + AllocGlobal + Console>(
             }
         }
     }
-    let ended = match begun {
-        Some(Begun { part }) => close_output(rt, &output, part, name_of_output, lost),
+    let ended = match destination {
+        Some(destination) => { close_output(rt, &output, destination, name_of_output, keep, lost) }
         None => lost,
     };
     worse(status, tally.end(rt, &ended))
@@ -121,14 +121,15 @@ fn each_into<R: Print + Eprint + Input + Files + AllocGlobal + Console>(
 /// # Errors
 ///
 /// The output can't be opened or written.
-fn next_into<'r, R: Print + Eprint + Input + Files + AllocGlobal + Console>(
+fn next_into<'r, R: Print + Eprint + Input + Files + AllocGlobal + Host>(
     rt: &'r R,
     action: Action,
     name: &[u8],
     count: usize,
     output: &OutputOf<'r, R>,
     name_of_output: &str,
-    begun: &mut Option<Begun>,
+    whole: bool,
+    destination: &mut Option<Destination>,
     tally: &mut Tally<'_>,
 ) -> Result<Result<Verdict, Fault>, Fault> {
     let alloc = rt.alloc();
@@ -143,27 +144,25 @@ fn next_into<'r, R: Print + Eprint + Input + Files + AllocGlobal + Console>(
         Ok(source) => source,
         Err(fault) => return Ok(Err(fault)),
     };
-    begin_once(rt, output, name_of_output, begun)?;
+    open_once(rt, output, name_of_output, whole, destination)?;
     let task = InputTask::new(action, &name, count);
-    match put_all(rt, task, &mut source, output, tally) {
-        Err(Fault::Run(RunLine(RunFault::WriteFault(count)))) => {
-            Err(Fault::from(RunFault::WriteFault(count)))
-        }
-        done => Ok(done),
+    let done = put_all(rt, task, &mut source, output, tally);
+    if is_output_lost(&done) {
+        return done.map(Ok);
     }
+    Ok(done)
 }
 
 /// Opens the output, if it is not open yet.
-fn begin_once<'r, R: Print + Files + AllocGlobal>(
+fn open_once<'r, R: Print + Eprint + AllocGlobal + Host>(
     rt: &'r R,
     output: &OutputOf<'r, R>,
     name: &str,
-    begun: &mut Option<Begun>,
+    whole: bool,
+    destination: &mut Option<Destination>,
 ) -> Result<(), Fault> {
-    if begun.is_none() {
-        *begun = Some(Begun {
-            part: open_output(rt, output, name)?,
-        });
+    if destination.is_none() {
+        *destination = Some(open_output(rt, output, name, whole)?);
     }
     Ok(())
 }

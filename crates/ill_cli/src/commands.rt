@@ -4,9 +4,9 @@ use crate::each::print_each;
 use crate::input::write_input;
 use crate::plan::{InputTask, Plan};
 use crate::tally::{Tally, end};
-use crate::words::words_of;
+use crate::words::{printable_fault, words_of};
 use ber_core::ToWrite;
-use ill_files::{Console, Fault, Progress, open_alone};
+use ill_files::{Fault, Host, Progress, open_alone, print_fault, status_of};
 use ill_jobs::{RunFault, Verdict, run_same};
 use ill_orders::{Order, order};
 use std::io::{self, BufWriter, Write};
@@ -14,19 +14,31 @@ use std::rt::{Env, Files};
 
 /// Does what the process's words say, prints the line of each fault, and returns the exit status: 0, 1, 2 or 3, as [`status_of`] says.
 /// Of several files it is 3 if one gave 3, else 1 if one gave 1.
-pub fn run_program<R: Print + Eprint + Input + Files + Env + AllocGlobal + Console>(rt: &R) -> u8 {
+pub fn run_program<R: Print + Eprint + Input + Files + Env + AllocGlobal + Host>(rt: &R) -> u8 {
     let words = match words_of(rt) {
         Ok(words) => words,
         Err(fault) => return end(rt, &Err(fault)),
     };
-    match order(rt.alloc(), words.as_slice()) {
+    let alloc = rt.alloc();
+    match order(alloc, words.as_slice()) {
         Ok(order) => run_order(rt, order),
-        Err(fault) => end(rt, &Err(Fault::from(fault))),
+        Err(fault) => end_of_words(rt, printable_fault(alloc, words.as_slice(), fault)),
+    }
+}
+
+/// Prints why words give no order, or the help that they ask for, and returns the exit status.
+fn end_of_words<R: Print + Eprint>(rt: &R, fault: Fault) -> u8 {
+    let printed = print_fault(rt, &fault);
+    let status = status_of(&Err(fault));
+    match printed {
+        // Help that can't be written is not help.
+        Err(error) if status == 0 => end(rt, &Err(Fault::of_output(&error))),
+        _ => status,
     }
 }
 
 /// Does what an order says, prints the line of each fault and that of the summary, and returns the exit status.
-pub fn run_order<R: Print + Eprint + Input + Files + AllocGlobal + Console>(
+pub fn run_order<R: Print + Eprint + Input + Files + AllocGlobal + Host>(
     rt: &R,
     order: Order<'_>,
 ) -> u8 {
@@ -41,14 +53,14 @@ pub fn run_order<R: Print + Eprint + Input + Files + AllocGlobal + Console>(
     if is_counted {
         progress.clear(rt);
         let summary = tally.summary;
-        // Where standard error is closed, the status alone reports what happened.
+        // A line that can't be written changes nothing of the work.
         let _ = eprintln!(rt; "illcanon: {summary}");
     }
     status
 }
 
 /// Does what a plan says, prints the line of each fault, and returns the exit status.
-fn run_plan<R: Print + Eprint + Input + Files + AllocGlobal + Console>(
+fn run_plan<R: Print + Eprint + Input + Files + AllocGlobal + Host>(
     rt: &R,
     plan: Plan<'_>,
     tally: &mut Tally<'_>,
@@ -59,16 +71,18 @@ fn run_plan<R: Print + Eprint + Input + Files + AllocGlobal + Console>(
             action,
             input,
             output,
+            whole,
         } => {
             let task = InputTask::new(action, input, 1);
-            let done = write_input(rt, task, input, output, tally);
+            let done = write_input(rt, task, input, output, whole, tally);
             tally.end(rt, &done)
         }
         Plan::Collect {
             action,
             inputs,
             output,
-        } => collect(rt, action, &inputs, output, tally),
+            whole,
+        } => collect(rt, action, &inputs, output, whole, tally),
         Plan::Compare { hex, first, second } => end(rt, &compare(rt, hex, first, second)),
     }
 }
@@ -89,19 +103,21 @@ fn compare<R: Print + Input + Files + AllocGlobal>(
     flushed(done, &mut writer)
 }
 
-/// Writes what is still in the buffer. A write fault counts the octets that left the buffer.
+/// Writes what is still in the buffer. A write fault counts the octets that left the buffer, and is [`Fault::Closed`] where nobody reads the
+/// output any more.
 fn flushed<W: Write + Drop>(
     done: Result<Verdict, RunFault>,
     writer: &mut BufWriter<W>,
 ) -> Result<Verdict, Fault> {
-    let flushed = writer.flush();
+    let flushed = writer.flush().map_err(|error| Fault::of_output(&error));
     let kept = writer.buffer().len() as u128;
-    match done {
-        Err(RunFault::WriteFault(count)) => {
+    match (done, flushed) {
+        (_, Err(Fault::Closed)) => Err(Fault::Closed),
+        (Err(RunFault::WriteFault(count)), _) => {
             Err(Fault::from(RunFault::WriteFault(count.saturating_sub(kept))))
         }
-        _ if flushed.is_err() => Err(Fault::Flush),
-        Ok(verdict) => Ok(verdict),
-        Err(fault) => Err(Fault::from(fault)),
+        (_, Err(fault)) => Err(fault),
+        (Ok(verdict), Ok(())) => Ok(verdict),
+        (Err(fault), Ok(())) => Err(Fault::from(fault)),
     }
 }

@@ -6,15 +6,15 @@ ghost use Rattle.ill_files.specs.Status.{IsStatusOfEach, worst};
 use crate::input::print_input;
 use crate::plan::{Action, InputTask};
 use crate::tally::Tally;
-use ill_files::{Console, Fault, FileId, Name, is_output_lost, printed, read_whole, status_of};
-use ill_jobs::Verdict;
+use ill_files::{Fault, FileId, Host, Name, is_output_lost, printed, read_whole, status_of};
+use ill_jobs::{Job, Verdict};
 use ill_orders::{Inputs, LineFault};
 use std::alloc::{AllocError, Global};
 use std::rt::Files;
 use std::str;
 
 /// Prints what is made of each input, and the line of each fault, and returns the exit status. Of several files each line names its file.
-pub fn print_each<R: Print + Eprint + Input + Files + AllocGlobal + Console>(
+pub fn print_each<R: Print + Eprint + Input + Files + AllocGlobal + Host>(
     rt: &R,
     action: Action,
     inputs: &Inputs<'_>,
@@ -104,7 +104,7 @@ pub fn is_dash_twice(names: &[&[u8]], list: Option<&str>) -> bool {
 
 /// Prints what is made of each file, and the line of each fault, and returns the status of all that were done. Once output is lost, no
 /// file more is done.
-fn each_file<R: Print + Eprint + Input + Files + AllocGlobal + Console>(
+fn each_file<R: Print + Eprint + Input + Files + AllocGlobal + Host>(
     rt: &R,
     action: Action,
     names: &[&[u8]],
@@ -138,7 +138,7 @@ pub fn worse(before: u8, next: u8) -> u8
 }
 
 /// Prints what is made of the file of this name, one of `count`.
-fn one_file<R: Print + Eprint + Input + Files + AllocGlobal + Console>(
+fn one_file<R: Print + Eprint + Input + Files + AllocGlobal + Host>(
     rt: &R,
     action: Action,
     name: &[u8],
@@ -147,6 +147,10 @@ fn one_file<R: Print + Eprint + Input + Files + AllocGlobal + Console>(
 ) -> Result<Verdict, Fault> {
     let alloc = rt.alloc();
     let file = text_of(alloc, name)?;
+    // JSON has a form of its own for each character.
+    if let Action::Messages(Job::Json, _) = action {
+        return print_input(rt, InputTask::new(action, file, count), file, tally);
+    }
     let name = printed(alloc, file).map_err(|_| Fault::out_of_memory())?;
     print_input(rt, InputTask::new(action, &name, count), file, tally)
 }

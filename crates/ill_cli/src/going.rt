@@ -1,5 +1,5 @@
 //! The lines of messages that are refused, where the work goes on after them.
-use ill_files::{Progress, RunLine};
+use ill_files::{NameOf, Progress, RunLine};
 use ill_jobs::{Report, Reports, RunFault};
 use std::fmt;
 
@@ -30,6 +30,8 @@ impl fmt::Display for ReportLine {
 pub struct Printed<'a, R> {
     pub rt: &'a R,
     pub name: Option<&'a str>,
+    /// Whether the name is the file's own, and not yet as names are printed.
+    pub is_raw: bool,
     pub progress: &'a Progress,
 }
 
@@ -41,8 +43,11 @@ impl<R: Eprint> Reports for Printed<'_, R> {
     fn report(&mut self, report: Report) {
         let line = ReportLine(report);
         self.progress.clear(self.rt);
-        // Where standard error is closed, the status alone reports it.
+        // A line that can't be written changes nothing of the work.
         let _ = match self.name {
+            Some(name) if self.is_raw => {
+                eprintln!(self.rt; "illcanon: {}: {line}", NameOf(name.as_bytes()))
+            }
             Some(name) => eprintln!(self.rt; "illcanon: {name}: {line}"),
             None => eprintln!(self.rt; "illcanon: {line}"),
         };

@@ -16,17 +16,17 @@ use crate::tally::Tally;
 use ber_core::{Ahead, AtHand, Sink, ToWrite};
 use ill_dump::{Dump, run_dump};
 use ill_files::{
-    Console, Fault, FileId, Output, OutputOf, Shared, ToOutput, close_output, open_and_identify,
-    open_input, open_output, open_standard_output,
+    Fault, FileId, Host, Output, OutputOf, Shared, ToOutput, close_output, keeps_output,
+    open_and_identify, open_output, open_standard_output,
 };
-use ill_jobs::{RunFault, Verdict, Work, run_by, run_on_by, verdict_of};
+use ill_jobs::{Job, RunFault, Verdict, Work, run_by, run_on_by, verdict_of};
 use ill_lines::{LineJob, LinesFault, run_lines};
 use std::alloc::Global;
 use std::io::{Read, Write};
 use std::rt::Files;
 
 /// Prints what is made of the input of this name.
-pub(crate) fn print_input<R: Print + Eprint + Input + Files + AllocGlobal + Console>(
+pub(crate) fn print_input<R: Print + Eprint + Input + Files + AllocGlobal + Host>(
     rt: &R,
     task: InputTask<'_>,
     input: &str,
@@ -37,37 +37,46 @@ pub(crate) fn print_input<R: Print + Eprint + Input + Files + AllocGlobal + Cons
     output.finish(done)
 }
 
-/// Opens the input of this name, and then standard output, and writes what is made of the input.
-fn put_input<'r, R: Print + Eprint + Input + Files + AllocGlobal + Console>(
+/// Opens the input of this name, and then standard output, and writes what is made of the input. Results of lines can be lines themselves, so
+/// that they don't go to the file that they are read of.
+fn put_input<'r, R: Print + Eprint + Input + Files + AllocGlobal + Host>(
     rt: &'r R,
     task: InputTask<'_>,
     input: &str,
     output: &OutputOf<'r, R>,
     tally: &mut Tally<'_>,
 ) -> Result<Verdict, Fault> {
-    let mut source = open_input(rt, input, output, tally.progress)?;
+    let (mut source, read) = open_and_identify(rt, input, output, tally.progress)?;
+    if matches!(task, InputTask::Lines(_))
+        && read.is_some()
+        && read == FileId::of_standard_output(rt)
+    {
+        return Err(Fault::SameFile);
+    }
     open_standard_output(rt, output)?;
     put_all(rt, task, &mut source, output, tally)
 }
 
-/// Writes what is made of the input of this name to an output. This is opened only once the input is, and only if it isn't the same file.
-pub(crate) fn write_input<R: Print + Eprint + Input + Files + AllocGlobal + Console>(
+/// Writes what is made of the input of this name to an output. This is opened only once the input is, and only if it isn't the same file. It is
+/// replaced as [`keeps_output`] says.
+pub(crate) fn write_input<R: Print + Eprint + Input + Files + AllocGlobal + Host>(
     rt: &R,
     task: InputTask<'_>,
     input: &str,
     name: &str,
+    whole: bool,
     tally: &mut Tally<'_>,
 ) -> Result<Verdict, Fault> {
-    // If standard output is closed, the input may be opened in its place: so this is asked first.
     let written = FileId::of_output(rt, name);
     let output = Output::new();
     let (mut source, read) = open_and_identify(rt, input, &output, tally.progress)?;
     if read.is_some() && read == written {
         return Err(Fault::SameFile);
     }
-    let part = open_output(rt, &output, name)?;
+    let destination = open_output(rt, &output, name, whole)?;
     let done = put_all(rt, task, &mut source, &output, tally);
-    close_output(rt, &output, part, name, done)
+    let keep = keeps_output(whole, &done);
+    close_output(rt, &output, destination, name, keep, done)
 }
 
 /// Writes what is made of an input, and counts its messages.
@@ -132,9 +141,12 @@ fn put_good_messages<R: Eprint + AllocGlobal, S: Ahead, W: Sink>(
         (putting (W.contents sink.old) (W.contents sink.new) (W.is_broken sink.new))
         (reporting None None) gone) }
 {
-    let name = work.is_named.then_some(work.name);
-    let progress = tally.progress;
-    let mut reports = Printed { rt, name, progress };
+    let mut reports = Printed {
+        rt,
+        name: work.is_named.then_some(work.name),
+        is_raw: matches!(work.job, Job::Json),
+        progress: tally.progress,
+    };
     match run_on_by::<S, AtHand, W, _>(rt.alloc(), work, source, sink, &mut reports) {
         Ok(gone) => {
             tally.summary.add_gone(gone);

@@ -45,12 +45,16 @@ pub enum Plan<'a> {
         action: Action,
         input: &'a str,
         output: &'a str,
+        /// Whether the output is replaced only if every message was good.
+        whole: bool,
     },
     /// What is made of each input, in turn, is written to one output.
     Collect {
         action: Action,
         inputs: Inputs<'a>,
         output: &'a str,
+        /// Whether the output is replaced only if every message of every input was good.
+        whole: bool,
     },
     /// Whether two inputs hold the same message is printed.
     Compare {
@@ -77,6 +81,7 @@ impl<'a> Plan<'a> {
             keep_going,
             json,
             summary,
+            whole,
             task,
         } = order;
         let reading = Reading {
@@ -94,11 +99,13 @@ impl<'a> Plan<'a> {
                 action: canonical,
                 input,
                 output,
+                whole,
             },
             Task::Collect { inputs, output } => Plan::Collect {
                 action: canonical,
                 inputs,
                 output,
+                whole,
             },
             Task::Compare { first, second } => Plan::Compare { hex, first, second },
         }

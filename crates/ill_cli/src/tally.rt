@@ -40,7 +40,7 @@ impl<'p> Tally<'p> {
     pub fn print_of<R: Print + Eprint>(&self, rt: &R, name: &[u8], done: &Result<Verdict, Fault>) {
         if let Err(fault) = done {
             self.progress.clear(rt);
-            // Where standard error is closed, the status alone reports it.
+            // A line that can't be written changes nothing of the work.
             let _ = print_fault_of(rt, name, fault);
         }
     }

@@ -1,36 +1,30 @@
 //! The words of the command line.
-use ill_files::{Fault, Name};
-use std::alloc::Global;
+use ill_files::{Fault, printable, word};
+use ill_orders::{LineFault, order};
+use std::alloc::{AllocError, Global};
 use std::env::FillError;
 use std::rt::Env;
 
-/// Reads the process's words, the program's own name first.
+/// Reads the process's words, the program's own name first. A word that isn't UTF-8 text names a file that can't be opened.
 ///
 /// # Errors
 ///
-/// A word other than the program's name that isn't UTF-8 text names a file that can't be opened. Or memory ran out.
+/// Memory ran out.
 pub fn words_of<R: Env + AllocGlobal>(rt: &R) -> Result<Vec<String>, Fault> {
     let alloc = rt.alloc();
     let mut words = Vec::new(alloc);
     for index in 0..usize::MAX {
-        let Some(octets) = word(rt, alloc, index)? else {
+        let Some(octets) = octets_of_word(rt, alloc, index)? else {
             break;
         };
-        let word = match String::from_utf8(octets) {
-            Ok(word) => word,
-            // Nothing is read from the program's own name.
-            Err(_error) if index == 0 => String::new(alloc),
-            Err(error) => return Err(Fault::CannotOpen(Name(error.into_bytes()))),
-        };
-        if words.push(word).is_err() {
-            return Err(Fault::out_of_memory());
-        }
+        let word = word(alloc, octets).map_err(|_| Fault::out_of_memory())?;
+        words.push(word).map_err(|_| Fault::out_of_memory())?;
     }
     Ok(words)
 }
 
 /// The octets of the word of this number, or None after the last.
-fn word<R: Env>(rt: &R, alloc: Global, index: usize) -> Result<Option<Vec<u8>>, Fault> {
+fn octets_of_word<R: Env>(rt: &R, alloc: Global, index: usize) -> Result<Option<Vec<u8>>, Fault> {
     let mut size = 256usize;
     loop {
         let mut octets = Vec::new(alloc);
@@ -46,4 +40,34 @@ fn word<R: Env>(rt: &R, alloc: Global, index: usize) -> Result<Option<Vec<u8>>, 
             Err(FillError::TooLong) => size = octets.len() * 2,
         }
     }
+}
+
+/// The fault of words that give no order, as it is printed: clap's texts have the words, so that it is the fault of the same words with
+/// their hidden characters as escapes.
+pub fn printable_fault(alloc: Global, words: &[String], fault: LineFault) -> Fault {
+    let words = match printable_words(alloc, words) {
+        Ok(Some(words)) => words,
+        Ok(None) => return Fault::from(fault),
+        Err(_) => return Fault::out_of_memory(),
+    };
+    match order(alloc, words.as_slice()) {
+        Err(fault) => Fault::from(fault),
+        Ok(_) => Fault::HiddenCharacters,
+    }
+}
+
+/// The words with their hidden characters as escapes. None where no word has one.
+fn printable_words(alloc: Global, words: &[String]) -> Result<Option<Vec<String>>, AllocError> {
+    let mut escaped = Vec::with_capacity(alloc, words.len())?;
+    let mut is_any = false;
+    for word in words {
+        match printable(alloc, word)? {
+            Some(word) => {
+                is_any = true;
+                escaped.push(word)?;
+            }
+            None => escaped.push(String::from_str(alloc, word)?)?,
+        }
+    }
+    Ok(is_any.then_some(escaped))
 }

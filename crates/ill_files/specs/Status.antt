@@ -29,6 +29,7 @@ line_status_is error = kind_status (kind_of error)
 abbrev pub fault_status : Fault → ℕ
 fault_status (Fault.Line (LineFault.Line error)) = line_status_is error
 fault_status (Fault.Line _) = 2
+fault_status Fault.HiddenCharacters = 2
 fault_status Fault.SameFile = 2
 fault_status (Fault.Run line) = run_status_is line.0
 fault_status _ = 3
@@ -39,11 +40,25 @@ status_is (Ok Verdict.Good) = 0
 status_is (Ok Verdict.NotGood) = 1
 status_is (Err fault) = fault_status fault
 
--- some of the output was not written: a write, flush or sync fault
+-- some of the output was not written: a write, flush or sync fault, or nobody reads it
 abbrev pub is_output_lost : Result Verdict Fault → Bool
 is_output_lost (Err Fault.Flush) = true
+is_output_lost (Err Fault.Closed) = true
 is_output_lost (Err (Fault.Run line)) = elim line.0 as (λ _. Bool) [ RunFault.WriteFault n ↦ true | _ ↦ false ]
 is_output_lost _ = false
+
+-- some of the output was not written, or some of the input was not read, or memory ran out
+abbrev pub loses_output : Fault → Bool
+loses_output Fault.Flush = true
+loses_output Fault.Closed = true
+loses_output (Fault.Run line) = elim line.0 as (λ _. Bool) [ RunFault.WriteFault n ↦ true | RunFault.ReadFault ↦ true | RunFault.OutOfMemory ↦ true | _ ↦ false ]
+loses_output _ = false
+
+-- an output that is a file stays as it was; as a `whole` it is replaced only where all messages were good
+abbrev pub keeps_output : Bool → Result Verdict Fault → Bool
+keeps_output whole (Ok Verdict.Good) = false
+keeps_output whole (Ok Verdict.NotGood) = whole
+keeps_output whole (Err fault) = if whole then true else loses_output fault
 
 -- of several files: 3 if one of them gave 3, else 1 if one gave 1
 abbrev pub worst : List ℕ → ℕ

@@ -1,6 +1,6 @@
 //! The line that the program prints where it fails, and the status that it ends with.
 ghost use Rattle.std.specs.Prelude.{◌≡◌};
-ghost use Rattle.ill_files.specs.Status.{is_output_lost, line_status_is, run_status_is, status_is};
+ghost use Rattle.ill_files.specs.Status.{is_output_lost, keeps_output, line_status_is, loses_output, run_status_is, status_is};
 
 use crate::names::{Name, NameOf};
 use clap::Error as LineError;
@@ -18,6 +18,9 @@ pub enum Fault {
     /// The words give no order.
     #[error("{0}")]
     Line(LineFault),
+    /// The words give no order, and have hidden characters, so that they are not printed.
+    #[error("the words are no command line, and have hidden characters")]
+    HiddenCharacters,
     /// The job was not done to the end of its input.
     #[error("{0}")]
     Run(RunLine),
@@ -30,9 +33,15 @@ pub enum Fault {
     /// The output was written to a new file, which can't be given this name. The file of this name is as it was.
     #[error("cannot replace {0}")]
     CannotReplace(Name),
+    /// The output was to be written to a new file beside the file of this name, but all names for it are taken. Nothing was written.
+    #[error("cannot write {0}: all names from {0}.part to {0}.part99 are taken")]
+    NamesAreTaken(Name),
     /// The end of the output could not be written. A file that was to be replaced is as it was.
     #[error("flush fault")]
     Flush,
+    /// Nobody reads the output any more. This is printed as no line.
+    #[error("the output is closed")]
+    Closed,
 }
 
 impl Fault {
@@ -41,18 +50,34 @@ impl Fault {
         Fault::from(RunFault::OutOfMemory)
     }
 
+    /// The end of the output could not be written, for this reason.
+    pub fn of_output(error: &io::Error) -> Fault {
+        match error.kind() {
+            io::ErrorKind::BrokenPipe => Fault::Closed,
+            _ => Fault::Flush,
+        }
+    }
+
     /// There is no file of this name to be read or written.
     pub fn cannot_open(alloc: Global, name: &str) -> Fault {
-        match name.as_bytes().to_vec(alloc) {
-            Ok(octets) => Fault::CannotOpen(Name(octets)),
+        match Name::of(alloc, name) {
+            Ok(name) => Fault::CannotOpen(name),
             Err(_) => Fault::out_of_memory(),
         }
     }
 
     /// A new file can't be given this name.
     pub fn cannot_replace(alloc: Global, name: &str) -> Fault {
-        match name.as_bytes().to_vec(alloc) {
-            Ok(octets) => Fault::CannotReplace(Name(octets)),
+        match Name::of(alloc, name) {
+            Ok(name) => Fault::CannotReplace(name),
+            Err(_) => Fault::out_of_memory(),
+        }
+    }
+
+    /// All names for a new file beside the one of this name are taken.
+    pub fn names_are_taken(alloc: Global, name: &str) -> Fault {
+        match Name::of(alloc, name) {
+            Ok(name) => Fault::NamesAreTaken(name),
             Err(_) => Fault::out_of_memory(),
         }
     }
@@ -145,9 +170,15 @@ pub fn status_of(done: &Result<Verdict, Fault>) -> u8
         Ok(Verdict::Good) => 0,
         Ok(Verdict::NotGood) => 1,
         Err(Fault::Line(LineFault::Line(error))) => line_status(error),
-        Err(Fault::Line(_) | Fault::SameFile) => 2,
+        Err(Fault::Line(_) | Fault::HiddenCharacters | Fault::SameFile) => 2,
         Err(Fault::Run(RunLine(fault))) => run_status(fault),
-        Err(Fault::CannotOpen(_) | Fault::CannotReplace(_) | Fault::Flush) => 3,
+        Err(
+            Fault::CannotOpen(_)
+            | Fault::CannotReplace(_)
+            | Fault::NamesAreTaken(_)
+            | Fault::Flush
+            | Fault::Closed,
+        ) => 3,
     }
 }
 
@@ -174,20 +205,45 @@ fn line_status(error: &LineError) -> u8
     }
 }
 
-/// Whether some of the output was not written, so that it must not replace a file.
+/// Whether some of the output was not written.
 pub fn is_output_lost(done: &Result<Verdict, Fault>) -> bool
     ensures { result ≡ is_output_lost done.now }
 {
     matches!(
         done,
-        Err(Fault::Flush | Fault::Run(RunLine(RunFault::WriteFault(_))))
+        Err(Fault::Flush | Fault::Closed | Fault::Run(RunLine(RunFault::WriteFault(_))))
+    )
+}
+
+/// Whether an output that is a file stays as it was: some of the output was not written, the input could not be read, or memory ran out.
+/// Where it is replaced only as a `whole`, it stays as it was after any fault, and where a message is refused.
+pub fn keeps_output(whole: bool, done: &Result<Verdict, Fault>) -> bool
+    ensures { result ≡ keeps_output whole done.now }
+{
+    match done {
+        Ok(Verdict::Good) => false,
+        Ok(Verdict::NotGood) => whole,
+        Err(fault) => whole || loses_output(fault),
+    }
+}
+
+fn loses_output(fault: &Fault) -> bool
+    ensures { result ≡ loses_output fault.now }
+{
+    matches!(
+        fault,
+        Fault::Flush
+            | Fault::Closed
+            | Fault::Run(RunLine(
+                RunFault::OutOfMemory | RunFault::ReadFault | RunFault::WriteFault(_)
+            ))
     )
 }
 
 /// Prints the fault of one of several files as one line, which names the file.
 pub fn print_fault_of<R: Print + Eprint>(rt: &R, name: &[u8], fault: &Fault) -> io::Result<()> {
     match fault {
-        Fault::CannotOpen(_) => print_fault(rt, fault),
+        Fault::CannotOpen(_) | Fault::Closed => print_fault(rt, fault),
         _ => eprintln!(rt; "illcanon: {}: {fault}", NameOf(name)),
     }
 }
@@ -198,6 +254,7 @@ pub fn print_fault<R: Print + Eprint>(rt: &R, fault: &Fault) -> io::Result<()> {
         Fault::Line(
             LineFault::Line(error) | LineFault::Missing(error) | LineFault::Unexpected(error),
         ) => error.print(rt),
+        Fault::Closed => Ok(()),
         _ => eprintln!(rt; "illcanon: {fault}"),
     }
 }

@@ -2,8 +2,9 @@
 ghost use Rattle.ill_files.specs.Opened.{left_of, is_broken_of};
 
 use crate::fault::Fault;
+use crate::host::Host;
 use crate::output::{Flushing, Output, OutputOf};
-use crate::progress::{Console, Progress, Watched};
+use crate::progress::{Progress, Watched};
 use crate::same_file::FileId;
 use ber_core::{Ahead, Broken, FromBuffer, FromRead, Source};
 use ill_jobs::{RunFault, read_most};
@@ -79,7 +80,7 @@ pub type InputSource<'o, 'r, R> = Shared<
 /// # Errors
 ///
 /// There is no file of this name that can be read, or memory ran out.
-pub fn open_input<'o, 'r: 'o, R: Print + Eprint + Input + Files + AllocGlobal + Console>(
+pub fn open_input<'o, 'r: 'o, R: Print + Eprint + Input + Files + AllocGlobal + Host>(
     rt: &'r R,
     name: &str,
     output: &'o OutputOf<'r, R>,
@@ -147,7 +148,7 @@ fn open_file<R: Files + AllocGlobal>(rt: &R, name: &str) -> Result<R::File, Faul
 }
 
 /// Opens an input as [`open_input`] does, and returns which regular file it is, None where it is not one.
-pub fn open_and_identify<'o, 'r: 'o, R: Print + Eprint + Input + Files + AllocGlobal + Console>(
+pub fn open_and_identify<'o, 'r: 'o, R: Print + Eprint + Input + Files + AllocGlobal + Host>(
     rt: &'r R,
     name: &str,
     output: &'o OutputOf<'r, R>,

@@ -10,23 +10,28 @@
 
 mod count;
 mod fault;
+mod host;
 mod input;
 mod names;
 mod output;
 mod progress;
 mod replacement;
 mod same_file;
+mod streams;
 
 pub use count::Count;
 pub use fault::{
-    CauseName, Fault, RunLine, is_output_lost, print_fault, print_fault_of, status_of,
+    CauseName, Fault, RunLine, is_output_lost, keeps_output, print_fault, print_fault_of, status_of,
 };
+pub use host::Host;
 pub use input::{
     AloneSource, InputSource, Opened, Shared, open_alone, open_and_identify, open_input, read_whole,
 };
-pub use names::{Name, NameOf, printed};
+pub use names::{Name, NameOf, printable, printed, word};
 pub use output::{
-    Flushing, Output, OutputOf, ToOutput, close_output, open_output, open_standard_output,
+    Destination, Flushing, Output, OutputOf, ToOutput, close_output, open_output,
+    open_standard_output,
 };
-pub use progress::{Console, Progress, Watched};
+pub use progress::{Progress, Watched};
 pub use same_file::FileId;
+pub use streams::open_closed_streams;

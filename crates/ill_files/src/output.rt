@@ -1,8 +1,11 @@
 //! The output of a command. It is flushed before the input waits for more.
 ghost use Rattle.std.specs.Prelude.{◌≤◌, length, IfOk};
 
-use crate::fault::{Fault, RunLine, is_output_lost};
-use crate::replacement::{self, Replacement};
+use crate::fault::{Fault, RunLine, is_output_lost, keeps_output};
+use crate::host::Host;
+use crate::names::NameOf;
+use crate::replacement::{self, Obstacle, Replacement, Way, sync_folder};
+use crate::same_file::FileId;
 use ill_jobs::{RunFault, Verdict};
 use std::alloc::Global;
 use std::cell::RefCell;
@@ -15,6 +18,8 @@ use std::rt::Files;
 pub struct Target<S, F> {
     kind: Kind<S, F>,
     written: u128,
+    /// Whether a write found that nobody reads the output any more.
+    is_closed: bool,
 }
 
 #[derive(Drop)]
@@ -25,12 +30,20 @@ enum Kind<S, F> {
 
 impl<S: Write, F: Write> Write for Target<S, F> {
     fn write(&mut self, buf: &[u8]) -> io::Result<usize> {
-        let count = match &mut self.kind {
-            Kind::Standard(writer) => writer.write(buf)?,
-            Kind::File(writer) => writer.write(buf)?,
+        let written = match &mut self.kind {
+            Kind::Standard(writer) => writer.write(buf),
+            Kind::File(writer) => writer.write(buf),
         };
-        self.written = self.written.saturating_add(count as u128);
-        Ok(count)
+        match written {
+            Ok(count) => {
+                self.written = self.written.saturating_add(count as u128);
+                Ok(count)
+            }
+            Err(error) => {
+                self.is_closed = self.is_closed | (error.kind() == ErrorKind::BrokenPipe);
+                Err(error)
+            }
+        }
     }
 
     fn flush(&mut self) -> io::Result<()> {
@@ -67,7 +80,11 @@ impl<S: Write + Drop, F: Write + Drop> Output<S, F> {
     }
 
     fn open(&self, alloc: Global, kind: Kind<S, F>) -> Result<(), Fault> {
-        let target = Target { kind, written: 0 };
+        let target = Target {
+            kind,
+            written: 0,
+            is_closed: false,
+        };
         let writer = BufWriter::new(alloc, target).map_err(|_| Fault::out_of_memory())?;
         let open = Open {
             writer,
@@ -120,10 +137,23 @@ impl<S: Write + Drop, F: Write + Drop> Output<S, F> {
         0
     }
 
+    /// Whether nobody reads the output any more.
+    fn is_closed(&self) -> bool {
+        if let Ok(held) = self.open.try_borrow() {
+            if let Some(open) = held.as_ref() {
+                return open.writer.get_ref().is_closed;
+            }
+        }
+        false
+    }
+
     /// Writes what is still in the buffer, so that the output of the messages before a fault isn't lost. A write fault counts the octets that
-    /// left the buffer.
+    /// left the buffer, and is [`Fault::Closed`] where nobody reads the output any more.
     pub fn finish(&self, done: Result<Verdict, Fault>) -> Result<Verdict, Fault> {
         let flushed = self.flush();
+        if (flushed.is_err() || is_output_lost(&done)) && self.is_closed() {
+            return Err(Fault::Closed);
+        }
         match done {
             Err(Fault::Run(RunLine(RunFault::WriteFault(_)))) => {
                 Err(Fault::from(RunFault::WriteFault(self.written())))
@@ -145,6 +175,18 @@ impl<S: Write + Drop, F: Write + OpenFile + Drop> Output<S, F> {
             }
         }
         Ok(())
+    }
+
+    /// Which regular file the output is; None where it is not one.
+    fn file_id(&self) -> Option<FileId> {
+        if let Ok(held) = self.open.try_borrow() {
+            if let Some(open) = held.as_ref() {
+                if let Kind::File(file) = &open.writer.get_ref().kind {
+                    return FileId::of(file.metadata());
+                }
+            }
+        }
+        None
     }
 }
 
@@ -189,24 +231,55 @@ pub fn open_standard_output<'r, R: Print + Files + AllocGlobal>(
     output.open(rt.alloc(), Kind::Standard(io::writer(rt)))
 }
 
-/// Opens the output of this name, `-` for standard output. Returns the name of the new file that is written in place of a regular file.
-pub fn open_output<'r, R: Print + Files + AllocGlobal>(
+/// The name by which the system knows standard output.
+const STANDARD_OUTPUT: &str = "/dev/stdout";
+
+/// Where the octets of an output go until it is closed.
+#[derive(Drop)]
+pub enum Destination {
+    /// To the output itself.
+    Itself,
+    /// To a new file of this name, which takes the name of the output at the end.
+    Beside(String),
+}
+
+/// Opens the output of this name, `-` or `/dev/stdout` for standard output. Where it is to be replaced as a whole, nothing else is opened.
+/// Where a regular file is there that can't be replaced, it is written directly, and a line on standard error says so.
+///
+/// # Errors
+///
+/// The output can't be opened, or not replaced as a whole, or memory ran out.
+pub fn open_output<'r, R: Print + Eprint + Host + AllocGlobal>(
     rt: &'r R,
     output: &OutputOf<'r, R>,
     name: &str,
-) -> Result<Option<String>, Fault> {
-    let alloc = rt.alloc();
-    if name == "-" {
-        open_standard_output(rt, output)?;
-        return Ok(None);
-    }
-    let Some(Replacement { name: part, file }) = replacement::begin(rt, name)? else {
-        let file = fs::create(rt, name).map_err(|_| Fault::cannot_open(alloc, name))?;
-        output.open(alloc, Kind::File(file))?;
-        return Ok(None);
+    whole: bool,
+) -> Result<Destination, Fault> {
+    let way = if name == "-" || name == STANDARD_OUTPUT {
+        None
+    } else {
+        Some(replacement::begin(rt, name)?)
     };
-    match output.open(alloc, Kind::File(file)) {
-        Ok(()) => Ok(Some(part)),
+    match way {
+        Some(Way::Beside(new)) => open_beside(rt, output, new),
+        _ if whole => Err(Fault::cannot_replace(rt.alloc(), name)),
+        Some(Way::Direct(obstacle)) => open_directly(rt, output, name, obstacle),
+        None => {
+            open_standard_output(rt, output)?;
+            Ok(Destination::Itself)
+        }
+    }
+}
+
+/// Opens a new file as the output.
+fn open_beside<'r, R: Print + Host + AllocGlobal>(
+    rt: &'r R,
+    output: &OutputOf<'r, R>,
+    new: Replacement<R::File>,
+) -> Result<Destination, Fault> {
+    let Replacement { name: part, file } = new;
+    match output.open(rt.alloc(), Kind::File(file)) {
+        Ok(()) => Ok(Destination::Beside(part)),
         Err(fault) => {
             let _ = fs::remove_file(rt, part.as_str());
             Err(fault)
@@ -214,20 +287,39 @@ pub fn open_output<'r, R: Print + Files + AllocGlobal>(
     }
 }
 
-/// Writes what is still in the buffer, and gives a new file the name of the output. Where not all of the output reached the disk, the new
-/// file is removed, and the old one stays as it was.
-pub fn close_output<'r, R: Print + Files + AllocGlobal>(
+/// Opens the file of this name as the output, and says so if a regular file is lost by that.
+fn open_directly<'r, R: Print + Eprint + Host + AllocGlobal>(
     rt: &'r R,
     output: &OutputOf<'r, R>,
-    part: Option<String>,
     name: &str,
+    obstacle: Option<Obstacle>,
+) -> Result<Destination, Fault> {
+    let alloc = rt.alloc();
+    let file = fs::create(rt, name).map_err(|_| Fault::cannot_open(alloc, name))?;
+    output.open(alloc, Kind::File(file))?;
+    if let Some(obstacle) = obstacle {
+        let name = NameOf(name.as_bytes());
+        // A line that can't be written changes nothing of the output.
+        let _ = eprintln!(rt; "illcanon: {name} is written directly: {obstacle}");
+    }
+    Ok(Destination::Itself)
+}
+
+/// Writes what is still in the buffer, and gives a new file the name of the output. Where the old one has to be kept, or not all of the output
+/// reached the disk, the new file is removed, and the old one stays as it was.
+pub fn close_output<'r, R: Print + Host + AllocGlobal>(
+    rt: &'r R,
+    output: &OutputOf<'r, R>,
+    destination: Destination,
+    name: &str,
+    keep: bool,
     done: Result<Verdict, Fault>,
 ) -> Result<Verdict, Fault> {
     let done = output.finish(done);
-    let Some(part) = part else {
+    let Destination::Beside(part) = destination else {
         return done;
     };
-    if is_output_lost(&done) {
+    if keep || keeps_output(false, &done) {
         let _ = fs::remove_file(rt, part.as_str());
         return done;
     }
@@ -235,9 +327,26 @@ pub fn close_output<'r, R: Print + Files + AllocGlobal>(
         let _ = fs::remove_file(rt, part.as_str());
         return Err(Fault::Flush);
     }
-    if fs::rename(rt, part.as_str(), name).is_err() {
-        let _ = fs::remove_file(rt, part.as_str());
-        return Err(Fault::cannot_replace(rt.alloc(), name));
+    match is_still_named(rt, output, part.as_str()) {
+        // Another file has this name by now, which is not ours to remove.
+        Some(false) => return Err(Fault::cannot_replace(rt.alloc(), name)),
+        Some(true) if fs::rename(rt, part.as_str(), name).is_ok() => {}
+        _ => {
+            let _ = fs::remove_file(rt, part.as_str());
+            return Err(Fault::cannot_replace(rt.alloc(), name));
+        }
     }
+    sync_folder(rt, name);
     done
+}
+
+/// Whether this is still the name of the file that the output is. None where that can't be known.
+fn is_still_named<'r, R: Print + Host + AllocGlobal>(
+    rt: &'r R,
+    output: &OutputOf<'r, R>,
+    name: &str,
+) -> Option<bool> {
+    let file = output.file_id()?;
+    let named = fs::symlink_metadata(rt, name).ok()?;
+    Some(FileId::of(Ok(named)) == Some(file))
 }

@@ -1,8 +1,9 @@
 //! The line on a terminal that says how far the work is.
 use crate::count::Count;
+use crate::host::Host;
 use std::cell::Cell;
-use std::io::{self, IsTerminal, Read};
-use std::time::{Clock, Duration, Instant};
+use std::io::{self, Read};
+use std::time::{Duration, Instant};
 
 /// How many milliseconds the work goes on before its line is shown.
 const PATIENCE: u64 = 2_000;
@@ -12,18 +13,6 @@ const PAUSE: u64 = 200;
 
 /// Goes to the front of the line on a terminal, and erases it (ECMA-48, 8.3.15 and 8.3.41).
 const ERASE: &str = "\r\x1b[K";
-
-/// A runtime whose standard error may be a terminal.
-pub trait Console: Clock {
-    /// Whether standard error is a terminal.
-    fn is_terminal(&self) -> bool;
-}
-
-impl Console for HostRuntime {
-    fn is_terminal(&self) -> bool {
-        self.stderr().is_terminal()
-    }
-}
 
 /// How far the work is: how many files were opened, and how many octets were read. A line on a terminal says so while the work takes
 /// more than two seconds.
@@ -49,7 +38,7 @@ impl Progress {
     }
 
     /// Shows a line if standard error is a terminal.
-    pub fn begin<R: Console>(rt: &R) -> Progress {
+    pub fn begin<R: Host>(rt: &R) -> Progress {
         if rt.is_terminal() {
             Progress::due_at(time_in(rt, PATIENCE))
         } else {
@@ -83,7 +72,7 @@ impl Progress {
     }
 
     /// Shows how far the work is, if a line is due.
-    fn show<R: Eprint + Console>(&self, rt: &R) {
+    fn show<R: Eprint + Host>(&self, rt: &R) {
         let state = self.state.get();
         let Some(due) = state.due else {
             return;
@@ -119,7 +108,7 @@ impl Progress {
 }
 
 /// The time in this number of milliseconds; None where the clock can't be read.
-fn time_in<R: Console>(rt: &R, milliseconds: u64) -> Option<Instant> {
+fn time_in<R: Host>(rt: &R, milliseconds: u64) -> Option<Instant> {
     match Instant::now(rt) {
         Ok(now) => now.checked_add(Duration::from_millis(milliseconds)),
         Err(_) => None,
@@ -134,7 +123,7 @@ pub struct Watched<'o, R, I> {
     pub progress: &'o Progress,
 }
 
-impl<R: Eprint + Console, I: Read> Read for Watched<'_, R, I> {
+impl<R: Eprint + Host, I: Read> Read for Watched<'_, R, I> {
     fn read(&mut self, buf: &mut [u8]) -> io::Result<usize> {
         self.progress.show(self.rt);
         let count = self.inner.read(buf)?;

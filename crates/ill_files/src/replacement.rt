@@ -1,6 +1,8 @@
-//! A file that is written beside the one that it replaces, so that this one is whole or as it was.
+//! A new file that is written beside the one that it replaces, so that this one is replaced or as it was.
 use crate::fault::Fault;
+use crate::host::Host;
 use std::alloc::{AllocError, Global};
+use std::fmt;
 use std::fs::{self, Metadata, OpenFile, OpenOptions, Permissions};
 use std::io::{self, ErrorKind};
 use std::os::unix::fs::{MetadataExt, OpenOptionsExt, PermissionsExt};
@@ -12,6 +14,12 @@ const NAMES: u32 = 100;
 /// The bits of a mode that say who may read, write and run a file.
 const PERMISSIONS: u32 = 0o7777;
 
+/// The bit of a mode that says that the owner may write a file.
+const OWNER_WRITES: u32 = 0o200;
+
+/// The user that may write every file.
+const ROOT: u32 = 0;
+
 /// A new file, and the name that it has until it replaces another.
 #[derive(Drop)]
 pub struct Replacement<F> {
@@ -19,58 +27,109 @@ pub struct Replacement<F> {
     pub file: F,
 }
 
+/// How the file of a name is written.
+#[derive(Drop)]
+pub enum Way<F> {
+    /// To a new file beside it, which takes its name at the end.
+    Beside(Replacement<F>),
+    /// Directly. A regular file that is there can't be replaced for this reason; None where there is no regular file.
+    Direct(Option<Obstacle>),
+}
+
+/// Why a regular file is written directly, and not replaced.
+#[derive(Clone, Copy, Debug, PartialEq, Eq)]
+pub enum Obstacle {
+    /// Its name is a link to it.
+    Link,
+    /// It has other names.
+    Names,
+    /// No new file can be made beside it.
+    Folder,
+    /// A new file can't be given its owner, group and mode.
+    Owner,
+}
+
+impl fmt::Display for Obstacle {
+    fn fmt<W: fmt::Write>(&self, f: &mut fmt::Formatter<W>) -> fmt::Result {
+        f.write_str(match self {
+            Obstacle::Link => "it is a link",
+            Obstacle::Names => "it has several names",
+            Obstacle::Folder => "no new file can be made beside it",
+            Obstacle::Owner => "its owner and mode can't be given to a new file",
+        })
+    }
+}
+
 /// What a name stands for before it is written to.
 #[derive(Drop)]
 enum Target {
     /// No file.
     Absent,
-    /// A regular file with no other name, which may be written to.
+    /// A regular file with no other name.
     File(Metadata),
-    /// What can't be replaced: a device, a pipe, a link, a file with two names.
-    Other,
+    /// What can't be replaced: a regular file for this reason, or a device, a pipe, a folder.
+    Other(Option<Obstacle>),
 }
 
-/// Creates a new file beside the one of this name, with its owner, group and mode. None where the file of this name has
-/// to be written directly: it isn't a regular file with one name, or no such file can be made beside it.
+/// Creates a new file beside the one of this name, with its owner, group and mode, or says why the file of this name has to
+/// be written directly.
 ///
 /// # Errors
 ///
-/// The file of this name is there and may not be written to, or memory ran out.
-pub fn begin<R: Files + AllocGlobal>(
-    rt: &R,
-    name: &str,
-) -> Result<Option<Replacement<R::File>>, Fault> {
-    match target_of(rt, name).map_err(|_| Fault::cannot_open(rt.alloc(), name))? {
-        Target::Other => Ok(None),
-        Target::Absent => create_beside(rt, name, 0o666),
-        Target::File(old) => {
-            let Some(new) = create_beside(rt, name, old.mode() & 0o700)? else {
-                return Ok(None);
-            };
-            if take_over(rt, &new, &old).is_err() {
-                let _ = fs::remove_file(rt, new.name.as_str());
-                return Ok(None);
-            }
-            Ok(Some(new))
-        }
+/// The file of this name is there and may not be written to, all names for a new file are taken, or memory ran out.
+pub fn begin<R: Host + AllocGlobal>(rt: &R, name: &str) -> Result<Way<R::File>, Fault> {
+    match target_of(rt, name) {
+        Target::Other(obstacle) => Ok(Way::Direct(obstacle)),
+        Target::Absent => match create_beside(rt, name, 0o666)? {
+            Some(new) => Ok(Way::Beside(new)),
+            None => Ok(Way::Direct(Some(Obstacle::Folder))),
+        },
+        Target::File(old) => begin_beside(rt, name, &old),
     }
 }
 
-fn target_of<R: Files>(rt: &R, name: &str) -> io::Result<Target> {
+/// Creates a new file beside a regular one.
+fn begin_beside<R: Host + AllocGlobal>(
+    rt: &R,
+    name: &str,
+    old: &Metadata,
+) -> Result<Way<R::File>, Fault> {
+    let Some(new) = create_beside(rt, name, old.mode() & 0o700)? else {
+        return Ok(Way::Direct(Some(Obstacle::Folder)));
+    };
+    let taken_over = take_over(rt, &new, old);
+    if let Ok(true) = taken_over {
+        return Ok(Way::Beside(new));
+    }
+    let _ = fs::remove_file(rt, new.name.as_str());
+    match taken_over {
+        Ok(_) => Err(Fault::cannot_open(rt.alloc(), name)),
+        Err(_) => Ok(Way::Direct(Some(Obstacle::Owner))),
+    }
+}
+
+/// What a name stands for. It is not opened, since what it stands for may change meanwhile, and to open a pipe may wait.
+fn target_of<R: Files>(rt: &R, name: &str) -> Target {
     if name.is_empty() || name.ends_with('/') {
-        return Ok(Target::Other);
+        return Target::Other(None);
     }
     match fs::symlink_metadata(rt, name) {
-        Ok(found) if found.is_file() && found.nlink() == 1 => {
-            let file = OpenOptions::new().write(true).open(rt, name)?;
-            Ok(Target::File(file.metadata()?))
-        }
-        Err(error) if error.kind() == ErrorKind::NotFound => Ok(Target::Absent),
-        _ => Ok(Target::Other),
+        Ok(found) if found.is_file() && found.nlink() == 1 => Target::File(found),
+        Ok(found) if found.is_file() => Target::Other(Some(Obstacle::Names)),
+        Ok(_) => match fs::metadata(rt, name) {
+            Ok(found) if found.is_file() => Target::Other(Some(Obstacle::Link)),
+            _ => Target::Other(None),
+        },
+        Err(error) if error.kind() == ErrorKind::NotFound => Target::Absent,
+        Err(_) => Target::Other(None),
     }
 }
 
 /// Creates a file of a name that nothing has, made of this one. None where the folder or the file system allows none.
+///
+/// # Errors
+///
+/// All these names are taken, or memory ran out.
 fn create_beside<R: Files + AllocGlobal>(
     rt: &R,
     name: &str,
@@ -78,15 +137,15 @@ fn create_beside<R: Files + AllocGlobal>(
 ) -> Result<Option<Replacement<R::File>>, Fault> {
     for number in 0..NAMES {
         let part = part_name(rt.alloc(), name, number).map_err(|_| Fault::out_of_memory())?;
-        let mut how = OpenOptions::new();
-        how.write(true).create_new(true).mode(mode);
-        match how.open(rt, part.as_str()) {
+        let mut options = OpenOptions::new();
+        options.write(true).create_new(true).mode(mode);
+        match options.open(rt, part.as_str()) {
             Ok(file) => return Ok(Some(Replacement { name: part, file })),
             Err(error) if error.kind() == ErrorKind::AlreadyExists => {}
             Err(_) => return Ok(None),
         }
     }
-    Ok(None)
+    Err(Fault::names_are_taken(rt.alloc(), name))
 }
 
 /// `NAME.part`, and `NAME.part1` and so on.
@@ -98,12 +157,30 @@ fn part_name(alloc: Global, name: &str, number: u32) -> Result<String, AllocErro
     }
 }
 
-/// Gives a new file the owner, the group and the mode of the old one.
-fn take_over<R: Files>(rt: &R, new: &Replacement<R::File>, old: &Metadata) -> io::Result<()> {
+/// Gives a new file the owner, the group and the mode of the old one. False where the old one may not be written: it has the owner that
+/// new files have, and this owner may not write it.
+fn take_over<R: Host>(rt: &R, new: &Replacement<R::File>, old: &Metadata) -> io::Result<bool> {
     let made = new.file.metadata()?;
-    if made.uid() != old.uid() || made.gid() != old.gid() {
-        rt.lchown(new.name.as_str(), Some(old.uid()), Some(old.gid()))?;
+    let is_own = made.uid() == old.uid();
+    if is_own && made.uid() != ROOT && old.mode() & OWNER_WRITES == 0 {
+        return Ok(false);
+    }
+    if !is_own || made.gid() != old.gid() {
+        rt.change_owner(&new.file, old.uid(), old.gid())?;
     }
     new.file
-        .set_permissions(Permissions::from_mode(old.mode() & PERMISSIONS))
+        .set_permissions(Permissions::from_mode(old.mode() & PERMISSIONS))?;
+    Ok(true)
+}
+
+/// Has the disk keep which name a file has. Where the folder can't be synced, the name is kept when the system writes it.
+pub fn sync_folder<R: Files>(rt: &R, name: &str) {
+    let folder = match name.rsplit_once('/') {
+        Some(("", _)) => "/",
+        Some((folder, _)) => folder,
+        None => ".",
+    };
+    if let Ok(folder) = fs::open(rt, folder) {
+        let _ = folder.sync_all();
+    }
 }

@@ -2,8 +2,12 @@
 #![tactic(auto)]
 
 use ill_cli::run_program;
+use ill_files::open_closed_streams;
 use std::process::ExitCode;
 
 fn main(rt: HostRuntime) -> ExitCode {
-    ExitCode::from(run_program(&rt))
+    let streams = open_closed_streams(&rt);
+    let status = run_program(&rt);
+    drop(streams);
+    ExitCode::from(status)
 }

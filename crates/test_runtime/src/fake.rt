@@ -2,7 +2,7 @@
 //! files can be made to fail.
 ghost use Rattle.std.specs.Prelude.{◌≤◌, length, IfOk};
 
-use ill_files::Console;
+use ill_files::Host;
 use std::alloc::{Alloc, Allocator, Global};
 use std::cell::{Cell, RefCell};
 use std::env::FillError;
@@ -146,9 +146,13 @@ impl Clock for Fake<'_> {
     }
 }
 
-impl Console for Fake<'_> {
+impl Host for Fake<'_> {
     fn is_terminal(&self) -> bool {
         self.start.terminal.is_some()
+    }
+
+    fn change_owner(&self, file: &FakeFile, owner: u32, group: u32) -> io::Result<()> {
+        self.host.change_owner(&file.inner, owner, group)
     }
 }
 
@@ -362,9 +366,5 @@ impl Files for Fake<'_> {
 
     fn remove_dir_all<B: Allocator>(&self, alloc: B, path: &str) -> io::Result<()> {
         self.host.remove_dir_all(alloc, path)
-    }
-
-    fn lchown(&self, path: &str, uid: Option<u32>, gid: Option<u32>) -> io::Result<()> {
-        self.host.lchown(path, uid, gid)
     }
 }

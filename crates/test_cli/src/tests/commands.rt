@@ -131,13 +131,13 @@ static ROWS: [Row; 33] = [
     Row {
         words: "digest --hex",
         status: 2,
-        errors: "error: the following required arguments were not provided:\n  <FILE>...\n\nUsage: illcanon digest [OPTIONS] [FILE]...\n\nFor more information, try '--help'.\n",
+        errors: "error: the following required arguments were not provided:\n  <FILE>..., or --files-from <LIST>\n\nUsage: illcanon digest [OPTIONS] [FILE]...\n\nFor more information, try '--help'.\n",
         ..QUIET
     },
     Row {
         words: "dump",
         status: 2,
-        errors: "error: the following required arguments were not provided:\n  <FILE>...\n\nUsage: illcanon dump [OPTIONS] [FILE]...\n\nFor more information, try '--help'.\n",
+        errors: "error: the following required arguments were not provided:\n  <FILE>..., or --files-from <LIST>\n\nUsage: illcanon dump [OPTIONS] [FILE]...\n\nFor more information, try '--help'.\n",
         ..QUIET
     },
     Row {

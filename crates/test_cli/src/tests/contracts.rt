@@ -2,7 +2,7 @@
 //! doesn't meet its contract.
 use ber_core::{Pieces, Source};
 use ill_cli::{Action, InputTask, Plan, Reading};
-use ill_files::{Fault, Opened, status_of};
+use ill_files::{Fault, Opened, is_output_lost, keeps_output, status_of};
 use ill_jobs::{Job, Verdict};
 use ill_lines::LineJob;
 use ill_orders::{EachJob, Inputs, Order, Task};
@@ -13,6 +13,12 @@ fn ends_have_one_status(done: &Result<Verdict, Fault>) {
     prove!(status_of(done) < 4);
 }
 
+/// An output that is lost replaces nothing; as a whole it is replaced only where all is well.
+fn only_good_outputs_are_replaced(done: &Result<Verdict, Fault>) {
+    prove!(!is_output_lost(done) || keeps_output(false, done));
+    prove!(keeps_output(true, done) || status_of(done) == 0);
+}
+
 /// A file gives nothing only at its end.
 fn files_end_only_at_their_end(octets: &[u8], buffer: &mut [u8]) {
     let mut file: Opened<Pieces, Pieces> = Opened::File(Pieces::new(octets, 1, None));
@@ -21,9 +27,11 @@ fn files_end_only_at_their_end(octets: &[u8], buffer: &mut [u8]) {
     }
 }
 
-/// `canonicalise` makes normal forms, of hexadecimal text where that is asked for, and of lines where these are.
+/// `canonicalise` makes normal forms, of hexadecimal text where that is asked for, and of lines where these are. It replaces its output as a
+/// whole where that is asked for.
 fn canonicalise_makes_normal_forms(order: Order<'_>, input: &str, output: &str) {
     let lines = order.lines;
+    let asked = order.whole;
     let reading = Reading {
         hex: order.hex,
         keep_going: order.keep_going,
@@ -31,11 +39,13 @@ fn canonicalise_makes_normal_forms(order: Order<'_>, input: &str, output: &str) 
     };
     let task = Task::Canonicalise { input, output };
     match Plan::new(Order { task, ..order }) {
-        Plan::Write { action, .. } if lines => {
+        Plan::Write { action, whole, .. } if lines => {
             prove!(action == Action::Lines(LineJob::Canonicalise));
+            prove!(whole == asked);
         }
-        Plan::Write { action, .. } => {
+        Plan::Write { action, whole, .. } => {
             prove!(action == Action::Messages(Job::Canonicalise, reading));
+            prove!(whole == asked);
         }
         _ => unreachable!(),
     }

@@ -23,9 +23,16 @@ fn canonicalise<'n>(rt: &HostRuntime, input: &'n [u8], output: &'n [u8]) -> Ende
 
 /// Whether the normal form of B goes to the file of this name, without a word.
 fn goes_to(rt: &HostRuntime, name: &str) -> Result<bool, Fail> {
+    goes_directly_to(rt, name, "")
+}
+
+/// Whether the normal form of B goes to the file of this name, and this is printed of it on standard error.
+fn goes_directly_to(rt: &HostRuntime, name: &str, errors: &str) -> Result<bool, Fail> {
     let ended = canonicalise(rt, b"B", name.as_bytes());
-    let is_quiet = ended.status == 0 && ended.output.is_empty() && ended.errors.is_empty();
-    Ok(is_quiet && has_form(rt, name)?)
+    let is_right = ended.status == 0
+        && ended.output.is_empty()
+        && ended.errors.as_slice() == errors.as_bytes();
+    Ok(is_right && has_form(rt, name)?)
 }
 
 fn has_form(rt: &HostRuntime, name: &str) -> Result<bool, Fail> {
@@ -53,16 +60,57 @@ fn is_replaced(rt: &HostRuntime) -> Result<bool, Fail> {
 fn keeps_its_names(rt: &HostRuntime) -> Result<bool, Fail> {
     fs::write(rt, "one", b"old")?;
     fs::hard_link(rt, "one", "other")?;
-    Ok(goes_to(rt, "one")? && has_form(rt, "other")? && fs::metadata(rt, "one")?.nlink() == 2)
+    let line = "illcanon: one is written directly: it has several names\n";
+    Ok(
+        goes_directly_to(rt, "one", line)?
+            && has_form(rt, "other")?
+            && fs::metadata(rt, "one")?.nlink() == 2,
+    )
 }
 
-/// Whether a link stays, and the file is made that it leads to.
+/// Whether a link stays, and the file is made that it leads to, or written if it is there.
 fn keeps_the_link(rt: &HostRuntime) -> Result<bool, Fail> {
     symlink(rt, "target", "link")?;
+    let line = "illcanon: link is written directly: it is a link\n";
     Ok(
         goes_to(rt, "link")?
             && has_form(rt, "target")?
+            && goes_directly_to(rt, "link", line)?
             && fs::symlink_metadata(rt, "link")?.is_symlink(),
+    )
+}
+
+/// Whether a file that its owner may not write is left as it was. Nothing stops root.
+fn keeps_what_may_not_be_written(rt: &HostRuntime) -> Result<bool, Fail> {
+    fs::write(rt, "kept", b"kept")?;
+    if fs::metadata(rt, "kept")?.uid() == 0 {
+        return Ok(true);
+    }
+    fs::set_permissions(rt, "kept", Permissions::from_mode(0o440))?;
+    let ended = canonicalise(rt, b"B", b"kept");
+    Ok(
+        ended.status == 3
+            && ended.errors.as_slice() == b"illcanon: cannot open kept\n".as_slice()
+            && fs::read(rt, "kept")?.as_slice() == b"kept".as_slice()
+            && !fs::exists(rt, "kept.part")?,
+    )
+}
+
+/// Whether nothing is written where all names of a new file are taken.
+fn stops_where_no_name_is_free(rt: &HostRuntime) -> Result<bool, Fail> {
+    fs::write(rt, "taken", b"taken")?;
+    fs::write(rt, "taken.part", b"")?;
+    for number in 1..100u32 {
+        let name = format!(in rt.alloc(); "taken.part{number}")?;
+        fs::write(rt, name.as_str(), b"")?;
+    }
+    let ended = canonicalise(rt, b"B", b"taken");
+    let line =
+        b"illcanon: cannot write taken: all names from taken.part to taken.part99 are taken\n";
+    Ok(
+        ended.status == 3
+            && ended.errors.as_slice() == line.as_slice()
+            && fs::read(rt, "taken")?.as_slice() == b"taken".as_slice(),
     )
 }
 
@@ -77,7 +125,10 @@ fn long_name(rt: &HostRuntime) -> Result<String, AllocError> {
 
 fn is_written_under_a_long_name(rt: &HostRuntime) -> Result<bool, Fail> {
     let name = long_name(rt)?;
-    goes_to(rt, name.as_str())
+    let line = format!(in rt.alloc();
+        "illcanon: {name} is written directly: no new file can be made beside it\n"
+    )?;
+    goes_directly_to(rt, name.as_str(), line.as_str())
 }
 
 /// Whether an output that is absent is made, and no other file.
@@ -114,6 +165,10 @@ fn first_wrong(rt: &HostRuntime) -> Result<Option<&'static str>, Fail> {
         Some("a link")
     } else if !is_written_under_a_long_name(rt)? {
         Some("a long name")
+    } else if !keeps_what_may_not_be_written(rt)? {
+        Some("a file that may not be written")
+    } else if !stops_where_no_name_is_free(rt)? {
+        Some("a file whose new names are taken")
     } else if !is_refused_under_each_name(rt)? {
         Some("the input under another name")
     } else {

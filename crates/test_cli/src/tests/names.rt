@@ -6,7 +6,7 @@ use std::test::Fail;
 use test_runtime::{NO_FAULTS, Start};
 
 /// Names, and their form in a fault's line, as bash reads it back.
-static NAMES: [(&[u8], &[u8]); 9] = [
+static NAMES: [(&[u8], &[u8]); 13] = [
     (b"messages.ber", b"messages.ber"),
     (b"K\xc3\xb6ln 1'2\"3\\4.ber", b"K\xc3\xb6ln 1'2\"3\\4.ber"),
     (b"", b""),
@@ -16,6 +16,12 @@ static NAMES: [(&[u8], &[u8]); 9] = [
     (b"it's\n\\", b"$'it\\'s\\n\\\\'"),
     (b"\xc3\xb6\xc2\x85", b"$'\xc3\xb6\\302\\205'"),
     (b"caf\xe9 'x'", b"$'caf\\351 \\'x\\''"),
+    // What looks like this form is not the name of another file.
+    (b"$'\\n'", b"$'$\\'\\\\n\\''"),
+    (b"$5", b"$5"),
+    // RIGHT-TO-LEFT OVERRIDE, and LINE SEPARATOR.
+    (b"gpj.\xe2\x80\xaereb", b"$'gpj.\\342\\200\\256reb'"),
+    (b"a\xe2\x80\xa8b", b"$'a\\342\\200\\250b'"),
 ];
 
 /// Whether a name is printed so.
@@ -57,5 +63,42 @@ fn words_are_read_whole(rt: HostRuntime) -> Result<(), Fail> {
     assert!(rt; check_absent(&rt, &long) == (3, line + 5000));
     // It is no text, and printed as $'caf\351.ber'.
     assert!(rt; check_absent(&rt, b"caf\xe9.ber") == (3, line + 14));
+    Ok(())
+}
+
+/// Whether a run on these words ends with this status, and prints this on standard error.
+fn ends_with(rt: &HostRuntime, words: &[&[u8]], status: u8, errors: &[u8]) -> bool {
+    let ended = run(
+        rt,
+        Start {
+            words,
+            input: b"",
+            standard: None,
+            faults: NO_FAULTS,
+            terminal: None,
+        },
+    );
+    ended.status == status && ended.errors.as_slice() == errors
+}
+
+#[test]
+fn words_that_are_no_text_stop_no_other(rt: HostRuntime) -> Result<(), Fail> {
+    let words: [&[u8]; 3] = [b"check", b"M\xfc.ber", b"/dev/null"];
+    assert!(rt; ends_with(&rt, &words, 3, b"illcanon: cannot open $'M\\374.ber'\n"));
+    let words: [&[u8]; 3] = [b"canonicalise", b"/dev/null", b"M\xfc.der"];
+    assert!(rt; ends_with(&rt, &words, 3, b"illcanon: cannot open $'M\\374.der'\n"));
+    Ok(())
+}
+
+#[test]
+fn words_are_printed_with_escapes(rt: HostRuntime) -> Result<(), Fail> {
+    let words: [&[u8]; 2] = [b"check", b"--\x1b]0;t\x07\nerror: x"];
+    let wanted =
+        b"error: unexpected argument '--\\033]0;t\\007\\nerror: x' found\n\n  tip: to pass '--\\033]0;t\\007\\nerror: x' as a value, use '-- --\\033]0;t\\007\\nerror: x'\n\nUsage: illcanon check [OPTIONS] [FILE]...\n\nFor more information, try '--help'.\n";
+    assert!(rt; ends_with(&rt, &words, 2, wanted));
+    let words: [&[u8]; 2] = [b"\xff\n", b"F"];
+    let wanted =
+        b"error: unrecognized subcommand '$'\\377\\n''\n\nUsage: illcanon <COMMAND>\n\nFor more information, try '--help'.\n";
+    assert!(rt; ends_with(&rt, &words, 2, wanted));
     Ok(())
 }

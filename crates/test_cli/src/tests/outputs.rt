@@ -5,7 +5,7 @@ use std::test::Fail;
 use test_runtime::{Faults, NO_FAULTS};
 
 /// Commands with an output. O is absent, and `none` is no folder.
-static ROWS: [Row; 43] = [
+static ROWS: [Row; 55] = [
     Row {
         words: "canonicalise B OUT",
         out: Repeated(EXPIRED, 33),
@@ -59,7 +59,7 @@ static ROWS: [Row; 43] = [
         errors: "illcanon: cannot open none/OUT\n",
         ..QUIET
     },
-    // A fault of the input leaves the messages before it.
+    // A refusal leaves the messages before it, and a read fault what was there.
     Row {
         words: "canonicalise two OUT",
         status: 1,
@@ -75,7 +75,71 @@ static ROWS: [Row; 43] = [
         },
         status: 3,
         errors: "illcanon: read fault\n",
+        ..QUIET
+    },
+    // As a whole, OUT is replaced only where every message is good.
+    Row {
+        words: "canonicalise --whole B OUT",
         out: Repeated(EXPIRED, 33),
+        ..QUIET
+    },
+    Row {
+        words: "canonicalise --whole two OUT",
+        status: 1,
+        errors: "illcanon: refused at 0 in message 2: UnexpectedTag\n",
+        ..QUIET
+    },
+    Row {
+        words: "canonicalise --whole --keep-going first OUT",
+        status: 1,
+        errors: "illcanon: refused at 2 in message 1: Missing Expired.protocol-version-num\n",
+        ..QUIET
+    },
+    Row {
+        words: "canonicalise --whole -o OUT A B",
+        out: Repeated(EXPIRED, 66),
+        ..QUIET
+    },
+    Row {
+        words: "canonicalise --whole -o OUT A middle B",
+        status: 1,
+        errors: "illcanon: middle: refused at 2 in message 2: Missing Expired.protocol-version-num\n",
+        ..QUIET
+    },
+    Row {
+        words: "canonicalise --whole -o OUT A O",
+        status: 3,
+        errors: "illcanon: cannot open O\n",
+        ..QUIET
+    },
+    Row {
+        words: "canonicalise --whole B /dev/null",
+        status: 3,
+        errors: "illcanon: cannot replace /dev/null\n",
+        ..QUIET
+    },
+    Row {
+        words: "canonicalise --whole B /dev/stdout",
+        status: 3,
+        errors: "illcanon: cannot replace /dev/stdout\n",
+        ..QUIET
+    },
+    Row {
+        words: "canonicalise --whole B -",
+        status: 2,
+        errors: "illcanon: --whole needs a file for OUT\n",
+        ..QUIET
+    },
+    Row {
+        words: "canonicalise --whole -o - A B",
+        status: 2,
+        errors: "illcanon: --whole needs a file for OUT\n",
+        ..QUIET
+    },
+    // The system's name of standard output.
+    Row {
+        words: "canonicalise B /dev/stdout",
+        output: Repeated(EXPIRED, 33),
         ..QUIET
     },
     Row {
@@ -149,14 +213,25 @@ static ROWS: [Row; 43] = [
         errors: "illcanon: write fault after 20000 octets\n",
         ..QUIET
     },
-    // Where no new file can be made, OUT is written directly.
+    // Where no new file can be made, OUT is written directly, but not as a whole.
     Row {
         words: "canonicalise B OUT",
         faults: Faults {
             create_new: true,
             ..NO_FAULTS
         },
+        errors: "illcanon: OUT is written directly: no new file can be made beside it\n",
         out: Repeated(EXPIRED, 33),
+        ..QUIET
+    },
+    Row {
+        words: "canonicalise --whole B OUT",
+        faults: Faults {
+            create_new: true,
+            ..NO_FAULTS
+        },
+        status: 3,
+        errors: "illcanon: cannot replace OUT\n",
         ..QUIET
     },
     // One file under two names is refused.

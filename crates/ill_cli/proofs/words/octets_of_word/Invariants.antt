@@ -1,5 +1,5 @@
 use Rattle.std.proofs.Common.{◌-◌, ◌^◌, ◌<◌}
-use Rattle.ill_cli.proofs.words.word.Given as goal
+use Rattle.ill_cli.proofs.words.octets_of_word.Given as goal
 
 abbrev pub invariant-loop-alloc : goal.invariant-loop-alloc
 invariant-loop-alloc g l = 0 < l.size
