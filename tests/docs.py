@@ -28,7 +28,7 @@ WORDS = [
     (re.compile(r"\btold\b"), "reported"),
     (re.compile(r"\bstands?\b(?! for)|\bstanding\b"), "is"),
 ]
-LARGEST = {"README.md": 9216, "docs/DECISIONS.md": 11264}
+LARGEST = {"README.md": 9216, "docs/DECISIONS.md": 12288}
 faults = []
 
 

@@ -132,11 +132,11 @@ usage='\n\nUsage: illcanon '
 help="\n\nFor more information, try '--help'.\n"
 two_forms="${usage}canonicalise [OPTIONS] <IN> <OUT>\n       illcanon canonicalise [OPTIONS] -o <OUT> <FILE>...$help"
 for command in show check digest; do
-    row "no-file: $command" 2 '' "$required<FILE>...$usage$command [OPTIONS] [FILE]...$help" $command
+    row "no-file: $command" 2 '' "$required<FILE>..., or --files-from <LIST>$usage$command [OPTIONS] [FILE]...$help" $command
 done
 row no-in 2 '' "$required<IN>\n  <OUT>$two_forms" canonicalise
 row no-out 2 '' "$required<OUT>$two_forms" canonicalise F
-row no-file-for-out 2 '' "$required<FILE>...$two_forms" canonicalise -o F
+row no-file-for-out 2 '' "$required<FILE>..., or --files-from <LIST>$two_forms" canonicalise -o F
 row list-without-out 2 '' "$required-o <OUT>$two_forms" canonicalise --files-from F G H
 row a-third-word 2 '' "error: unexpected argument 'H' found$two_forms" canonicalise F G H
 row lines-and-keep-going 2 '' 'illcanon: --lines excludes --keep-going\n' check --lines --keep-going F
@@ -240,7 +240,7 @@ row absent-ones-leave-out-as-it-was 3 '' 'illcanon: cannot open ABSENT\nillcanon
 forms absent-ones-leave-out-as-it-was 1
 row out-is-one-of-many 2 '' 'illcanon: IN and OUT are the same file\n' canonicalise -o OUT GOOD ./OUT
 row out-is-the-list 2 '' 'illcanon: IN and OUT are the same file\n' canonicalise -o ./OUT GOOD --files-from OUT
-row out-is-one-of-the-words 2 '' 'illcanon: the same word twice\n' canonicalise -o OUT GOOD OUT
+row out-is-one-of-the-words 2 '' 'illcanon: OUT is one of the files that are read\n' canonicalise -o OUT GOOD OUT
 row full-device-for-many 3 '' 'illcanon: write fault after 0 octets\n' canonicalise -o /dev/full GOOD GOOD
 forms what-many-leave 1
 ls | grep part && failed=$((failed + 1)) && echo 'failed: a temporary file is left'
@@ -376,9 +376,12 @@ cmp -s G OTHER || { failed=$((failed + 1)) && echo 'failed: the fifo got somethi
 row full-device-as-output 3 '' 'illcanon: flush fault\n' canonicalise F /dev/full
 ln -s TARGET LINK
 row link-as-output 0 '' '' canonicalise F LINK
+row link-to-a-file-as-output 0 '' 'illcanon: LINK is written directly: it is a link\n' canonicalise F LINK
+row link-as-whole-output 3 '' 'illcanon: cannot replace LINK\n' canonicalise --whole F LINK
 { [ -L LINK ] && cmp -s G TARGET; } || { failed=$((failed + 1)) && echo 'failed: the link is gone, or its file is not written'; }
 cp OLD OUT && ln OUT SECOND
-row second-name-as-output 0 '' '' canonicalise F OUT
+row second-name-as-output 0 '' 'illcanon: OUT is written directly: it has several names\n' canonicalise F OUT
+row second-name-as-whole-output 3 '' 'illcanon: cannot replace OUT\n' canonicalise --whole F OUT
 cmp -s G SECOND || { failed=$((failed + 1)) && echo 'failed: the second name has something else'; }
 rm OUT SECOND LINK TARGET OTHER
 ls | grep part && failed=$((failed + 1)) && echo 'failed: a temporary file is left'
@@ -395,7 +398,7 @@ if [ "$as_nobody" != skip ]; then
     $as_nobody ./illcanon canonicalise F READONLY/OUT >out 2>err
     status=$?
     : >want-out
-    : >want-err
+    echo 'illcanon: READONLY/OUT is written directly: no new file can be made beside it' >want-err
     compare read-only-folder 0
     cmp -s G READONLY/OUT || { failed=$((failed + 1)) && echo 'failed: OUT in a read-only folder is not the normal form'; }
     for name in READONLY/NEW READONLY/LOCKED; do
@@ -418,7 +421,7 @@ if [ "$as_nobody" != skip ]; then
         number=$(stat -c %i WRITABLE/OUT)
         $as_nobody ./illcanon canonicalise F WRITABLE/OUT >out 2>err
         status=$?
-        : >want-err
+        echo "illcanon: WRITABLE/OUT is written directly: its owner and mode can't be given to a new file" >want-err
         compare owned-by-another 0
         { cmp -s G WRITABLE/OUT && [ "$(stat -c %i,%u WRITABLE/OUT)" = "$number,0" ]; } || { failed=$((failed + 1)) && echo 'failed: OUT has lost its owner'; }
         [ "$(ls WRITABLE)" = "$(printf 'LOCKED\nOUT')" ] || { failed=$((failed + 1)) && echo 'failed: a temporary file is left'; }
@@ -450,8 +453,80 @@ row after-a-kill 0 '' '' canonicalise F OUT
 cmp -s G OUT || { failed=$((failed + 1)) && echo 'failed: OUT is not the normal form after a kill'; }
 rm OUT.part
 
+# All of OUT, or OUT as it was.
+octets TWO $EXPIRED$EXPIRED
+octets MIDDLE $EXPIRED$EMPTY$EXPIRED
+cp OLD OUT
+refused="illcanon: refused at 2 in message 2: $missing"
+# kept NAME: OUT is as it was, and no file is left beside it
+kept() {
+    cmp -s OLD OUT || { failed=$((failed + 1)) && echo "failed: $1: OUT has changed"; }
+    ls | grep part && failed=$((failed + 1)) && echo "failed: $1: a temporary file is left"
+}
+row whole-with-a-refusal 1 '' "$refused" canonicalise --whole MIDDLE OUT
+kept whole-with-a-refusal
+row whole-going-on 1 '' "$refused" canonicalise --whole --keep-going MIDDLE OUT
+kept whole-going-on
+row whole-of-many 1 '' "illcanon: MIDDLE: refused at 2 in message 2: $missing" canonicalise --whole -o OUT GOOD MIDDLE
+kept whole-of-many
+row whole-without-a-file 3 '' 'illcanon: cannot open ABSENT\n' canonicalise --whole -o OUT GOOD ABSENT
+kept whole-without-a-file
+row directory-as-input-of-out 3 '' 'illcanon: read fault\n' canonicalise D OUT
+kept directory-as-input-of-out
+row whole-to-standard-output 2 '' 'illcanon: --whole needs a file for OUT\n' canonicalise --whole GOOD -
+row whole 0 '' '' canonicalise --whole TWO OUT
+cmp -s TWO OUT || { failed=$((failed + 1)) && echo 'failed: whole: OUT is not the normal forms'; }
+# All names for a new file are taken.
+cp OLD OUT && touch OUT.part $(seq -f OUT.part%g 99)
+row names-are-taken 3 '' 'illcanon: cannot write OUT: all names from OUT.part to OUT.part99 are taken\n' canonicalise GOOD OUT
+rm OUT.part*
+kept names-are-taken
+# The system's name of standard output appends as `-` does.
+cp OLD LOG
+"$program" canonicalise GOOD /dev/stdout >>LOG 2>err
+status=$?
+cat OLD GOOD | cmp -s - LOG || { failed=$((failed + 1)) && echo 'failed: standard output by its name: the file was emptied'; }
+cp LOG out && cat OLD GOOD >want-out && : >want-err
+compare standard-output-by-its-name 0
+# Lines that are read of the file that they are written to would never end.
+echo 7400 >SELF
+for command in check digest; do
+    "$program" $command --lines SELF >>SELF 2>err
+    status=$?
+    printf "$same_line" >want-err
+    : >out && : >want-out
+    compare "lines-into-their-file: $command" 2
+done
+[ "$(cat SELF)" = 7400 ] || { failed=$((failed + 1)) && echo 'failed: lines were written to their own file'; }
+rm OUT LOG SELF
+# Help that can't be written, and help that nobody reads.
+printf 'illcanon: flush fault\n' >want-err
+for words in --help --version 'help causes'; do
+    "$program" $words >/dev/full 2>err
+    status=$?
+    compare "full-device: $words" 3
+done
+# Nobody reads the output any more, which is more than a pipe holds: nothing is said of that.
+for _ in 1 2 3 4 5 6 7 8 9 10; do cat MANY; done >BIG
+: >want-err && : >out && : >want-out
+for words in 'show BIG' 'canonicalise BIG -' 'check BIG'; do
+    "$program" $words 2>err | true
+    status=${PIPESTATUS[0]}
+    compare "closed-pipe: $words" 3
+done
+rm BIG
+# Words that are no text stop no other, and clap's texts have no control of theirs.
+other=$(printf 'M\374ller.ber')
+row word-that-is-no-text 3 "GOOD: message 1: $normal" "illcanon: cannot open \$'M\\\\374ller.ber'\n" check GOOD "$other"
+"$program" check "$(printf -- '--\033]0;owned\007\nx')" >out 2>err
+status=$?
+word='--\\033]0;owned\\007\\nx'
+printf "error: unexpected argument '$word' found\n\n  tip: to pass '$word' as a value, use '-- $word'\n\nUsage: illcanon check [OPTIONS] [FILE]...$help" >want-err
+: >want-out
+compare hidden-characters-in-a-word 2
+
 # Names in lines: one line each, and the shell reads it back.
-for name in 'a b' "it's" 'K\303\266ln' 'x\ny' '\033[2J' 'caf\351' '\302\205' "a\\tb'c"; do
+for name in 'a b' "it's" 'K\303\266ln' 'x\ny' '\033[2J' 'caf\351' '\302\205' "a\\tb'c" "\$'\\\\n'" 'gpj.\342\200\256reb'; do
     word=$(printf "$name.")
     word=${word%.}
     "$program" check "$word" >out 2>err
