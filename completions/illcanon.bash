@@ -18,7 +18,7 @@ _illcanon() {
         digest) words='--hex --keep-going --summary --lines --files-from --help -h' ;;
         dump) words='--hex --files-from --help -h' ;;
         same) words='--hex --help -h' ;;
-        canonicalise) words='--hex --keep-going --summary --lines --output -o --files-from --help -h' ;;
+        canonicalise) words='--hex --keep-going --summary --whole --lines --output -o --files-from --help -h' ;;
     esac
     COMPREPLY=()
     if [[ -z $command || $command == help || ($options && $word == -*) ]]; then
