@@ -415,6 +415,16 @@ if [ "$as_nobody" != skip ]; then
     printf "illcanon: cannot open WRITABLE/LOCKED\n" >want-err
     compare read-only-file 3
     cmp -s OLD WRITABLE/LOCKED || { failed=$((failed + 1)) && echo 'failed: a locked OUT was replaced'; }
+    # A read-only file of the user's own.
+    if [ "$(id -u)" = 0 ]; then
+        cp OLD WRITABLE/OWN && chown 65534:65534 WRITABLE/OWN && chmod 444 WRITABLE/OWN
+        $as_nobody ./illcanon canonicalise F WRITABLE/OWN >out 2>err
+        status=$?
+        printf "illcanon: cannot open WRITABLE/OWN\n" >want-err
+        compare own-read-only-file 3
+        cmp -s OLD WRITABLE/OWN || { failed=$((failed + 1)) && echo 'failed: a read-only OUT was replaced'; }
+        rm -f WRITABLE/OWN
+    fi
     # A file of another owner, whom a new file can't have.
     if [ "$(id -u)" = 0 ]; then
         cp OLD WRITABLE/OUT && chmod 666 WRITABLE/OUT
