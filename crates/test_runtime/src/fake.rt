@@ -23,6 +23,8 @@ pub struct Faults {
     pub rename: bool,
     /// No new file can be made.
     pub create_new: bool,
+    /// Another file takes the name of a new one before it is renamed.
+    pub swapped: bool,
 }
 
 /// No call fails.
@@ -32,6 +34,7 @@ pub const NO_FAULTS: Faults = Faults {
     sync: false,
     rename: false,
     create_new: false,
+    swapped: false,
 };
 
 /// What the program starts with.
@@ -338,6 +341,9 @@ impl Files for Fake<'_> {
     }
 
     fn symlink_metadata(&self, path: &str) -> io::Result<Metadata> {
+        if self.start.faults.swapped && path.ends_with(".part") {
+            return self.host.symlink_metadata(".");
+        }
         self.host.symlink_metadata(path)
     }
 

@@ -5,7 +5,7 @@ use std::alloc::AllocError;
 use std::fs::{self, Permissions};
 use std::os::unix::fs::{MetadataExt, PermissionsExt, symlink};
 use std::test::Fail;
-use test_runtime::{Ended, NO_FAULTS, Start};
+use test_runtime::{Ended, Faults, NO_FAULTS, Start};
 
 fn canonicalise<'n>(rt: &HostRuntime, input: &'n [u8], output: &'n [u8]) -> Ended {
     let words: [&[u8]; 3] = [b"canonicalise", input, output];
@@ -123,6 +123,32 @@ fn long_name(rt: &HostRuntime) -> Result<String, AllocError> {
     Ok(name)
 }
 
+/// Whether a file is left as it was where another takes the name of its new one, and that name isn't removed.
+fn keeps_what_another_took(rt: &HostRuntime) -> Result<bool, Fail> {
+    fs::write(rt, "swapped", b"old")?;
+    let words: [&[u8]; 3] = [b"canonicalise", b"B", b"swapped"];
+    let faults = Faults {
+        swapped: true,
+        ..NO_FAULTS
+    };
+    let ended = run(
+        rt,
+        Start {
+            words: &words,
+            input: b"",
+            standard: None,
+            faults,
+            terminal: None,
+        },
+    );
+    Ok(
+        ended.status == 3
+            && ended.errors.as_slice() == b"illcanon: cannot replace swapped\n".as_slice()
+            && fs::read(rt, "swapped")?.as_slice() == b"old".as_slice()
+            && fs::exists(rt, "swapped.part")?,
+    )
+}
+
 fn is_written_under_a_long_name(rt: &HostRuntime) -> Result<bool, Fail> {
     let name = long_name(rt)?;
     let line = format!(in rt.alloc();
@@ -165,6 +191,8 @@ fn first_wrong(rt: &HostRuntime) -> Result<Option<&'static str>, Fail> {
         Some("a link")
     } else if !is_written_under_a_long_name(rt)? {
         Some("a long name")
+    } else if !keeps_what_another_took(rt)? {
+        Some("a name that another took")
     } else if !keeps_what_may_not_be_written(rt)? {
         Some("a file that may not be written")
     } else if !stops_where_no_name_is_free(rt)? {
