@@ -27,7 +27,7 @@ pub struct Replacement<F> {
     pub file: F,
 }
 
-/// How the file of a name is written.
+/// The way in which the file of a name is written.
 #[derive(Drop)]
 pub enum Way<F> {
     /// To a new file beside it, which takes its name at the end.
@@ -36,7 +36,7 @@ pub enum Way<F> {
     Direct(Option<Obstacle>),
 }
 
-/// Why a regular file is written directly, and not replaced.
+/// The reason why a regular file is written directly, and not replaced.
 #[derive(Clone, Copy, Debug, PartialEq, Eq)]
 pub enum Obstacle {
     /// Its name is a link to it.
@@ -108,7 +108,7 @@ fn begin_beside<R: Host + AllocGlobal>(
     }
 }
 
-/// What a name stands for. It is not opened, since what it stands for may change meanwhile, and to open a pipe may wait.
+/// The target of a name. It is not opened, since what it stands for may change meanwhile, and to open a pipe may wait.
 fn target_of<R: Files>(rt: &R, name: &str) -> Target {
     if name.is_empty() || name.ends_with('/') {
         return Target::Other(None);

@@ -40,7 +40,7 @@ fn open_next(rt: &HostRuntime) -> Option<File> {
     }
 }
 
-/// Opens the null device, or where there is none a folder, which can't be written either.
+/// Opens the null device. If the system has no such device, opens a folder for reading, which can't be written either.
 fn open_null(rt: &HostRuntime, options: &OpenOptions) -> Option<File> {
     match options.open(rt, NULL) {
         Ok(file) => Some(file),
