@@ -4,7 +4,7 @@
 # makes the call and looks. The programs are those of tests/growths_calls and tests/growths_typed, which are no crates of this repository,
 # since their proofs take minutes: they are made in a copy. Needs `cc`, since the refusals are made by a wrapper round malloc and realloc.
 cd "$(dirname "$0")/../crates" || exit 2
-(cd ill_apdu_requests && rt lib >/dev/null 2>&1) || exit 2
+(cd ill_apdu && rt lib >/dev/null 2>&1) || exit 2
 (cd illcanon && rt run -- --version >/dev/null 2>&1) || exit 2
 folder=$(mktemp -d) || exit 2
 trap 'rm -rf "$folder"' EXIT
@@ -27,7 +27,7 @@ make_program() {
     (cd "$folder/copy/crates/$1" && rt run >/dev/null 2>&1)
 }
 make_program growths_calls "ber_core ber_leaf ill_schema ill_read ill_write ill_normal ill_text ill_jobs test_support" || exit 2
-make_program growths_typed "ber_leaf ill_schema ill_parts ill_apdu_requests test_support" || exit 2
+make_program growths_typed "ber_leaf ill_schema ill_parts ill_apdu test_support" || exit 2
 calls=$folder/copy/crates/growths_calls/out/growths_calls
 typed=$folder/copy/crates/growths_typed/out/growths_typed
 

@@ -257,7 +257,7 @@ NAMES = {"feed": "Decoder::feed"}
 # Definitions that a law states in the words of others, so that nobody has to believe them: the law, and what they are.
 READING = "Rattle.ill_refusals.specs.Reading"
 LAWS = {(READING, name): ("ill_refusals", "headers_are_read") for name in ("class_of", "tagged", "read_digits", "read_number", "read_identifier", "read_length")}
-PRODUCT = "ber_core ber_frame ber_leaf ill_schema ill_refusals ill_read ill_write ill_normal ill_going ill_text ill_json ill_jobs ill_dump ill_lines ill_orders ill_files ill_cli ill_digest ill_c ill_parts ill_apdu_results ill_apdu_requests ill_apdu".split()
+PRODUCT = "ber_core ber_frame ber_leaf ill_schema ill_refusals ill_read ill_write ill_normal ill_going ill_text ill_json ill_jobs ill_dump ill_lines ill_orders ill_files ill_cli ill_digest ill_c ill_typed ill_parts ill_apdu".split()
 
 
 def claims():

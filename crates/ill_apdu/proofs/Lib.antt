@@ -1,3 +1,4 @@
 pub mod Apdus
 pub mod Equality
+pub mod Requests
 pub mod SameApdu

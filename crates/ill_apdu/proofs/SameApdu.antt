@@ -4,16 +4,15 @@ use Rattle.std.proofs.lemmas.Bool.{eq-eqb}
 use Rattle.std.specs.Bool.{Decides}
 use Rattle.ill_schema.specs.Apdu.{Apdu as NumberedBody}
 use Rattle.ill_schema.specs.Content.{Content}
-use Rattle.ill_parts.proofs.Exact.{no_truth}
-use Rattle.ill_apdu_requests.proofs.Equality.{ill_request_exact, ill_answer_exact, conditional_reply_exact, cancel_exact, cancel_reply_exact, expired_exact}
-use Rattle.ill_apdu.proofs.Equality.{shipped_exact, received_exact, recall_exact, returned_exact, checked_in_exact, overdue_exact, renew_exact, renew_answer_exact, lost_exact, damaged_exact, message_apdu_exact, status_query_exact}
+use Rattle.ill_typed.proofs.Exact.{no_truth}
+use Rattle.ill_apdu.proofs.Equality.{ill_request_exact, ill_answer_exact, conditional_reply_exact, cancel_exact, cancel_reply_exact, expired_exact, shipped_exact, received_exact, recall_exact, returned_exact, checked_in_exact, overdue_exact, renew_exact, renew_answer_exact, lost_exact, damaged_exact, message_apdu_exact, status_query_exact}
 use Rattle.ill_apdu.specs.declared.apdu.Apdu.{Apdu}
-use Rattle.ill_apdu_requests.specs.declared.request.IllRequest.{IllRequest}
+use Rattle.ill_apdu.specs.declared.request.IllRequest.{IllRequest}
 use Rattle.ill_apdu.specs.declared.shipped.Shipped.{Shipped}
-use Rattle.ill_apdu_requests.specs.declared.answer.IllAnswer.{IllAnswer}
-use Rattle.ill_apdu_requests.specs.declared.conditional_reply.ConditionalReply.{ConditionalReply}
-use Rattle.ill_apdu_requests.specs.declared.cancel.Cancel.{Cancel}
-use Rattle.ill_apdu_requests.specs.declared.cancel.CancelReply.{CancelReply}
+use Rattle.ill_apdu.specs.declared.answer.IllAnswer.{IllAnswer}
+use Rattle.ill_apdu.specs.declared.conditional_reply.ConditionalReply.{ConditionalReply}
+use Rattle.ill_apdu.specs.declared.cancel.Cancel.{Cancel}
+use Rattle.ill_apdu.specs.declared.cancel.CancelReply.{CancelReply}
 use Rattle.ill_apdu.specs.declared.received.Received.{Received}
 use Rattle.ill_apdu.specs.declared.recall.Recall.{Recall}
 use Rattle.ill_apdu.specs.declared.returned.Returned.{Returned}
@@ -25,7 +24,7 @@ use Rattle.ill_apdu.specs.declared.lost.Lost.{Lost}
 use Rattle.ill_apdu.specs.declared.lost.Damaged.{Damaged}
 use Rattle.ill_apdu.specs.declared.text.MessageApdu.{MessageApdu}
 use Rattle.ill_apdu.specs.declared.status_query.StatusQuery.{StatusQuery}
-use Rattle.ill_apdu_requests.specs.declared.expired.Expired.{Expired}
+use Rattle.ill_apdu.specs.declared.expired.Expired.{Expired}
 use Rattle.ill_apdu.specs.contracts.apdu.ApduPartialEq.TheImpl.{eq-value as apdu_eq}
 use Rattle.ill_apdu.specs.Carried.{view_of}
 

@@ -3,8 +3,7 @@ use Rattle.std.specs.Prelude.{ℕ}
 use Rattle.ill_schema.specs.Apdu.{Apdu as NumberedBody}
 use Rattle.ill_schema.specs.Content.{Content}
 use Rattle.ill_schema.specs.declared.node.NodeId.{NodeId}
-use Rattle.ill_apdu_requests.specs.Views.{ill_request, ill_answer, conditional_reply, cancel, cancel_reply, expired}
-use Rattle.ill_apdu.specs.Views.{shipped, received, recall, returned, checked_in, overdue, renew, renew_answer, lost, damaged, message_apdu, status_query}
+use Rattle.ill_apdu.specs.Views.{ill_request, ill_answer, conditional_reply, cancel, cancel_reply, expired, shipped, received, recall, returned, checked_in, overdue, renew, renew_answer, lost, damaged, message_apdu, status_query}
 use Rattle.ill_apdu.specs.declared.apdu.Apdu.{Apdu}
 
 abbrev pub number_of : Apdu → ℕ

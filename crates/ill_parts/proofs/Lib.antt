@@ -1,3 +1,1 @@
-pub mod Shapes
-pub mod Exact
 pub mod Equality

@@ -1,0 +1,125 @@
+//! CANCEL and CANCEL-REPLY.
+use ber_leaf::IllString;
+use ill_parts::{
+    Head, Node, Part, Typed, entries, headed, optional, optional_value, read_head, required,
+    required_value,
+};
+use ill_schema::{NodeId, Value};
+use std::alloc::{AllocError, Global};
+
+/// CANCEL: the requester wants the request cancelled (APDU 6).
+///
+/// `cancel-extensions` (row 6) is left out.
+#[derive(Debug, Drop, PartialEq, Eq)]
+pub struct Cancel {
+    /// What each APDU begins with (rows 0 to 4).
+    pub head: Head,
+    /// A note of the requester (row 5).
+    pub requester_note: Option<IllString>,
+}
+
+impl Node for Cancel {
+    ghost use Rattle.ill_schema.specs.declared.node.NodeId.TheVariants.{Cancel as TheNode};
+    ghost use Rattle.ill_apdu.specs.Views.{cancel_rows};
+
+    ghost NODE = { TheNode };
+
+    ghost entries = { cancel_rows };
+
+    const NODE: NodeId = NodeId::CANCEL;
+}
+
+#[tactic(auto, unfolding(crate::specs::Views::cancel))]
+impl Part for Cancel {
+    ghost use Rattle.ill_schema.specs.declared.node.NodeId.TheVariants.{Cancel as TheNode};
+    ghost use Rattle.ill_typed.specs.Shape.{Is};
+    ghost use Rattle.ill_apdu.specs.Views.{cancel};
+
+    ghost content = { cancel };
+
+    ghost accepts = { Is TheNode };
+
+    fn to_value(&self, alloc: Global) -> Result<Value, AllocError> {
+        let others = [optional_value(alloc, &self.requester_note), Ok(None)];
+        headed(alloc, self, &self.head, others)
+    }
+
+    fn read(alloc: Global, value: &Value) -> Result<Self, AllocError> {
+        let entries = entries::<Self>(value);
+        Ok(Cancel {
+            requester_note: optional(alloc, entries, 5)?,
+            head: read_head(alloc, entries)?,
+        })
+    }
+}
+
+impl Typed for Cancel {
+    #[tactic(auto, using(crate::proofs::Equality::cancel_exact))]
+    fn one_view(&self, other: &Self) {
+        let _ = other;
+    }
+
+    ghost is_node = { λ _. (λ fits. fits, λ fits. fits) };
+}
+
+/// CANCEL-REPLY: the responder agrees to the cancellation or declines it (APDU 7).
+///
+/// `cancel-reply-extensions` (row 7) is left out.
+#[derive(Debug, Drop, PartialEq, Eq)]
+pub struct CancelReply {
+    /// What each APDU begins with (rows 0 to 4).
+    pub head: Head,
+    /// Whether the request is cancelled (row 5).
+    pub answer: bool,
+    /// A note of the responder (row 6).
+    pub responder_note: Option<IllString>,
+}
+
+impl Node for CancelReply {
+    ghost use Rattle.ill_schema.specs.declared.node.NodeId.TheVariants.{CancelReply as TheNode};
+    ghost use Rattle.ill_apdu.specs.Views.{cancel_reply_rows};
+
+    ghost NODE = { TheNode };
+
+    ghost entries = { cancel_reply_rows };
+
+    const NODE: NodeId = NodeId::CANCEL_REPLY;
+}
+
+#[tactic(auto, unfolding(crate::specs::Views::cancel_reply))]
+impl Part for CancelReply {
+    ghost use Rattle.ill_schema.specs.declared.node.NodeId.TheVariants.{CancelReply as TheNode};
+    ghost use Rattle.ill_typed.specs.Shape.{Is};
+    ghost use Rattle.ill_apdu.specs.Views.{cancel_reply};
+
+    ghost content = { cancel_reply };
+
+    ghost accepts = { Is TheNode };
+
+    fn to_value(&self, alloc: Global) -> Result<Value, AllocError> {
+        let others = [
+            required_value(alloc, &self.answer),
+            optional_value(alloc, &self.responder_note),
+            Ok(None),
+        ];
+        headed(alloc, self, &self.head, others)
+    }
+
+    fn read(alloc: Global, value: &Value) -> Result<Self, AllocError> {
+        let entries = entries::<Self>(value);
+        Ok(CancelReply {
+            answer: required(alloc, entries, 5)?,
+            responder_note: optional(alloc, entries, 6)?,
+            head: read_head(alloc, entries)?,
+        })
+    }
+}
+
+impl Typed for CancelReply {
+    #[tactic(auto, using(crate::proofs::Equality::cancel_reply_exact))]
+    fn one_view(&self, other: &Self) {
+        let _ = other;
+    }
+
+    ghost is_node = { λ _. (λ fits. fits, λ fits. fits) };
+}

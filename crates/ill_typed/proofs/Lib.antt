@@ -1,0 +1,2 @@
+pub mod Shapes
+pub mod Exact
