@@ -1,6 +1,0 @@
-use Rattle.test_normal.proofs.FrontForms.{kept_front}
-use Rattle.test_normal.proofs.tests.contracts.kept_normal_forms_have_nothing_of_the_room.Goals as goal
-
-pub returns : goal.returns
-returns c a n h = kept_front c.args.source.now.octets c.read_kept.new.source.octets c.args.kept.now.items c.read_kept.new.kept.items
-    _ _ a n c.read_kept.result h c.read_kept.ensures.next

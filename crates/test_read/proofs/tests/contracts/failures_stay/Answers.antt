@@ -1,5 +1,0 @@
-use Rattle.std.proofs.Common.{arith}
-use Rattle.test_read.proofs.tests.contracts.failures_stay.Goals as goal
-
-pub feed-again-requires : goal.feed-again-requires
-feed-again-requires c = (c.need-need.result, c.need-need.ensures.needs, omega arith)
