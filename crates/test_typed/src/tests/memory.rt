@@ -4,7 +4,7 @@
 use ill_apdu::{Apdu, MessageFault};
 use ill_parts::{Part, TransactionId, Typed, optional_value, required_value};
 use ill_schema::{Message, Value};
-use std::alloc::Global;
+use std::alloc::{AllocError, Global};
 use std::test::Fail;
 use test_support::{Hoard, Outcome, message, value};
 
@@ -53,24 +53,48 @@ fn part_calls<T: Typed>(
     ]
 }
 
-/// What comes of the calls on a part that words write, with memory and then without.
-fn part_calls_twice<T: Typed>(alloc: Global, words: &str) -> Result<[[Outcome; 5]; 2], Fail> {
-    let value = value(alloc, words)?;
-    let part = T::from_value(alloc, &value)?;
+/// The list of one part that a value is.
+fn list_of<T: Typed>(alloc: Global, value: &Value) -> Result<Vec<T>, Fail> {
     let mut list = Vec::new(alloc);
-    if let Some(item) = T::from_value(alloc, &value)? {
+    if let Some(item) = T::from_value(alloc, value)? {
         list.push(item)?;
     }
-    let with = part_calls(alloc, &part, &list, &value);
+    Ok(list)
+}
+
+/// What comes of the calls on a part and a list of it, with memory and then without.
+fn calls_with_and_without<T: Typed>(
+    alloc: Global,
+    part: &Option<T>,
+    list: &Vec<T>,
+    value: &Value,
+) -> Result<[[Outcome; 5]; 2], Fail> {
+    let with = part_calls(alloc, part, list, value);
     let hoard = Hoard::of_all(alloc)?;
     let is_empty_before = hoard.has_all();
-    let without = part_calls(alloc, &part, &list, &value);
+    let without = part_calls(alloc, part, list, value);
     let is_empty = is_empty_before && hoard.has_all();
     drop(hoard);
     if !is_empty {
         return Err("memory was left")?;
     }
     Ok([with, without])
+}
+
+/// The same of the part that a value is.
+fn calls_on_part<T: Typed>(alloc: Global, value: &Value) -> Result<[[Outcome; 5]; 2], Fail> {
+    let list = list_of(alloc, value)?;
+    let part: Result<Option<T>, AllocError> = T::from_value(alloc, value);
+    match &part {
+        Ok(part) => calls_with_and_without(alloc, part, &list, value),
+        Err(_) => Err("no memory")?,
+    }
+}
+
+/// What comes of the calls on a part that words write, with memory and then without.
+fn part_calls_twice<T: Typed>(alloc: Global, words: &str) -> Result<[[Outcome; 5]; 2], Fail> {
+    let value = value(alloc, words)?;
+    calls_on_part::<T>(alloc, &value)
 }
 
 #[test]

@@ -5,7 +5,7 @@ use ill_parts::{
     CostInfo, DateDue, DateTime, Node, Part, SearchType, ServiceDateTime, Symbol, SystemId,
     TransactionId, Typed, UnitsPerMedium,
 };
-use ill_schema::{NodeId, equal};
+use ill_schema::{NodeId, Value, equal};
 use std::alloc::Global;
 use std::test::Fail;
 use test_support::{date_text, general_string, value};
@@ -27,14 +27,24 @@ fn values_that_do_not_fit_are_no_parts(rt: HostRuntime) -> Result<(), Fail> {
     Ok(())
 }
 
+/// Whether the part is read from the value.
+fn is_read_from<T: Typed>(alloc: Global, part: &T, value: &Value) -> Result<bool, Fail> {
+    match T::from_value(alloc, value)? {
+        Some(read) => Ok(read == *part),
+        None => Ok(false),
+    }
+}
+
+/// Whether the part has the value.
+fn has_value<T: Typed>(alloc: Global, part: &T, wanted: &Value) -> Result<bool, Fail> {
+    let made = part.to_value(alloc)?;
+    Ok(equal(&made, wanted))
+}
+
 /// Whether the part has the value that the words write, and is read from it.
 fn is_written<T: Typed>(alloc: Global, part: &T, words: &str) -> Result<bool, Fail> {
     let wanted = value(alloc, words)?;
-    let made = part.to_value(alloc)?;
-    match T::from_value(alloc, &wanted)? {
-        Some(read) => Ok(read == *part && equal(&made, &wanted)),
-        None => Ok(false),
-    }
+    Ok(has_value(alloc, part, &wanted)? && is_read_from(alloc, part, &wanted)?)
 }
 
 #[test]
@@ -162,6 +172,13 @@ fn parts_differ_where_their_texts_differ(rt: HostRuntime) -> Result<(), Fail> {
     Ok(())
 }
 
+/// Whether the list is read from its value.
+fn is_read_again(alloc: Global, list: &Vec<UnitsPerMedium>) -> Result<bool, Fail> {
+    let value = list.to_value(alloc)?;
+    let again = Vec::<UnitsPerMedium>::read(alloc, &value)?;
+    Ok(again == *list)
+}
+
 #[test]
 fn lists_are_equal_item_by_item(rt: HostRuntime) -> Result<(), Fail> {
     let units = |medium, no_of_units| UnitsPerMedium {
@@ -170,8 +187,6 @@ fn lists_are_equal_item_by_item(rt: HostRuntime) -> Result<(), Fail> {
     };
     let list = vec![in rt.alloc(); units(1, 2), units(3, -4)]?;
     let other = vec![in rt.alloc(); units(1, 2), units(3, 4)]?;
-    let value = list.to_value(rt.alloc())?;
-    let again = Vec::<UnitsPerMedium>::read(rt.alloc(), &value)?;
-    assert!(rt; list != other && again == list);
+    assert!(rt; list != other && is_read_again(rt.alloc(), &list)?);
     Ok(())
 }
