@@ -1,5 +1,5 @@
 -- The elements that may be in an open element, by their tags (X.690, 8.9, 8.10, 8.13 and 8.14).
-use Rattle.std.specs.Prelude.{ℕ, ◌+◌, List, [], ◌∷◌, ◌++◌, flat_map}
+use Rattle.std.specs.Prelude.{Bool, ℕ, ◌+◌, List, [], ◌∷◌, ◌++◌, flat_map}
 use Rattle.ber_core.specs.Identifier.{Tag}
 use Rattle.ill_schema.specs.declared.node.Kind.{Kind}
 use Rattle.ill_schema.specs.declared.node.LeafKind.{LeafKind}
@@ -9,7 +9,7 @@ use Rattle.ill_schema.specs.declared.part.Presence.{Presence}
 use Rattle.ill_schema.specs.declared.part.Row.{Row}
 use Rattle.ber_leaf.specs.Leaf.{Leaf, boolean, integer, enumerated, general_string, visible_string, printable_string, iso_date, iso_time}
 use Rattle.ber_leaf.specs.Profile.{Profile}
-use Rattle.ill_schema.specs.Tagging.{Tagging, untagged, implicit, explicit, explicit_or_bare, tagging, sequence_tag, leaf_tag}
+use Rattle.ill_schema.specs.Tagging.{Tagging, untagged, implicit, explicit, explicit_or_bare, row_tagging, sequence_tag, leaf_tag}
 use Rattle.ill_schema.specs.Table.{kind_of, rows_of}
 
 -- a component of a SEQUENCE (8.9): a row with its place in the tables
@@ -19,11 +19,18 @@ pub record Component : Type 0 where
   pub tagging : Tagging
   pub node : NodeId
 
+-- the components by the rows from a number on; of a profile they depend on whether tags may be bare, and on nothing else
+abbrev pub components_by : Bool → NodeId → ℕ → List Row → List Component
+components_by bare node n [] = []
+components_by bare node n (row ∷ rows) =
+    record { part = record { node = node; row = n }; presence = row.presence; tagging = row_tagging bare row; node = row.node }
+    ∷ components_by bare node (n + 1) rows
+
+abbrev pub node_components : Bool → NodeId → List Component
+node_components bare node = components_by bare node 0 (rows_of node)
+
 abbrev pub components_from : Profile → NodeId → ℕ → List Row → List Component
-components_from p node n [] = []
-components_from p node n (row ∷ rows) =
-    record { part = record { node = node; row = n }; presence = row.presence; tagging = tagging p row; node = row.node }
-    ∷ components_from p node (n + 1) rows
+components_from p node n rows = components_by p.bare node n rows
 
 abbrev pub components : Profile → NodeId → List Component
 components p node = components_from p node 0 (rows_of node)
@@ -94,8 +101,11 @@ component_starts c = elim c.presence as (λ _. List Start) [
 ]
 
 -- the elements by which the component may begin: an untagged choice goes by its alternatives (8.13)
-abbrev pub starts : Profile → Component → List Start
-starts p c = elim c.tagging as (λ _. List Start) [
-  | untagged ↦ component_starts c ++ elim (kind_of c.node) as (λ _. List Start) [ Kind.Choice ↦ flat_map component_starts (components p c.node) | _ ↦ [] ]
+abbrev pub starts_by : Bool → Component → List Start
+starts_by bare c = elim c.tagging as (λ _. List Start) [
+  | untagged ↦ component_starts c ++ elim (kind_of c.node) as (λ _. List Start) [ Kind.Choice ↦ flat_map component_starts (node_components bare c.node) | _ ↦ [] ]
   | _ ↦ component_starts c
 ]
+
+abbrev pub starts : Profile → Component → List Start
+starts p c = starts_by p.bare c

@@ -1,5 +1,5 @@
 -- What may come next in an open element (X.690, 8.7.3, 8.9 and 8.10).
-use Rattle.std.specs.Prelude.{◌≡◌, true, false, List, [], ◌∷◌, Option, Some, None, if◌then◌else◌, find}
+use Rattle.std.specs.Prelude.{◌≡◌, Bool, true, false, List, [], ◌∷◌, Option, Some, None, if◌then◌else◌, find}
 use Rattle.ber_core.specs.Identifier.{Tag}
 use Rattle.ber_core.specs.Tree.{Tree, Trees, none, more, tag_of, octet_string, IsString}
 use Rattle.ill_schema.specs.declared.part.PartId.{PartId}
@@ -9,7 +9,7 @@ use Rattle.ber_leaf.specs.Profile.{Profile}
 use Rattle.ill_schema.specs.Tagging.{same_tag, sequence_tag}
 use Rattle.ill_schema.specs.Presence.{IsCarried}
 use Rattle.ill_schema.specs.Meaning.{Means}
-use Rattle.ill_refusals.specs.Element.{Component, components, Element, leaf, sequence, list, wrapper, loose_wrapper, segment, left_out, Start, starts}
+use Rattle.ill_refusals.specs.Element.{Component, node_components, Element, leaf, sequence, list, wrapper, loose_wrapper, segment, left_out, Start, starts_by}
 
 -- what may come next
 pub data Next : Type 0 where
@@ -36,23 +36,32 @@ next_of (part c e n) = n
 next_of octets = segments
 
 -- the start of a component that has the tag
+abbrev pub start_by : Bool → Tag → Component → Option Start
+start_by bare tag c = find (λ s. same_tag s.tag tag) (starts_by bare c)
+
 abbrev pub start_of : Profile → Tag → Component → Option Start
-start_of p tag c = find (λ s. same_tag s.tag tag) (starts p c)
+start_of p tag c = start_by p.bare tag c
 
 -- a component is due if each before it may be absent (8.9.2, 8.9.3)
-abbrev pub due_in : Profile → Tag → List Component → Option Due
-due_in p tag [] = None
-due_in p tag (c ∷ cs) = elim (start_of p tag c) as (λ _. Option Due) [
+abbrev pub due_by : Bool → Tag → List Component → Option Due
+due_by bare tag [] = None
+due_by bare tag (c ∷ cs) = elim (start_by bare tag c) as (λ _. Option Due) [
   | Some s ↦ Some (part c s.element (rows cs))
-  | None ↦ elim c.presence as (λ _. Option Due) [ Presence.Must ↦ None | _ ↦ due_in p tag cs ]
+  | None ↦ elim c.presence as (λ _. Option Due) [ Presence.Must ↦ None | _ ↦ due_by bare tag cs ]
 ]
 
--- the element that is due with this tag
+abbrev pub due_in : Profile → Tag → List Component → Option Due
+due_in p tag cs = due_by p.bare tag cs
+
+-- the element that is due with this tag: of a profile it depends on whether tags may be bare, and on nothing else
+abbrev pub next_due : Bool → Tag → Next → Option Due
+next_due bare tag (rows cs) = due_by bare tag cs
+next_due bare tag (items c) = elim (start_by bare tag c) as (λ _. Option Due) [ Some s ↦ Some (part c s.element (items c)) | None ↦ None ]
+next_due bare tag (either c) = elim (same_tag tag sequence_tag) as (λ _. Option Due) [ true ↦ due_by bare tag (c ∷ []) | false ↦ due_by bare tag (node_components bare c.node) ]
+next_due bare tag segments = if same_tag tag octet_string then Some octets else None
+
 abbrev pub due : Profile → Tag → Next → Option Due
-due p tag (rows cs) = due_in p tag cs
-due p tag (items c) = elim (start_of p tag c) as (λ _. Option Due) [ Some s ↦ Some (part c s.element (items c)) | None ↦ None ]
-due p tag (either c) = elim (same_tag tag sequence_tag) as (λ _. Option Due) [ true ↦ due_in p tag (c ∷ []) | false ↦ due_in p tag (components p c.node) ]
-due p tag segments = if same_tag tag octet_string then Some octets else None
+due p tag n = next_due p.bare tag n
 
 -- the first component that may not be absent
 abbrev pub first_mandatory : List Component → Option PartId
@@ -60,26 +69,35 @@ first_mandatory [] = None
 first_mandatory (c ∷ cs) = elim c.presence as (λ _. Option PartId) [ Presence.Must ↦ Some c.part | _ ↦ first_mandatory cs ]
 
 -- the first mandatory part that is still to come
+abbrev pub next_missing : Bool → Next → Option PartId
+next_missing bare (rows cs) = first_mandatory cs
+next_missing bare (items c) = None
+next_missing bare (either c) = first_mandatory (node_components bare c.node)
+next_missing bare segments = None
+
 abbrev pub missing : Profile → Next → Option PartId
-missing p (rows cs) = first_mandatory cs
-missing p (items c) = None
-missing p (either c) = first_mandatory (components p c.node)
-missing p segments = None
+missing p n = next_missing p.bare n
 
 -- what may come in an element when it opens
+abbrev pub opening_by : Bool → Element → Next
+opening_by bare (leaf l) = segments
+opening_by bare (sequence node) = rows (node_components bare node)
+opening_by bare (list node) = elim (node_components bare node) as (λ _. Next) [ [] ↦ rows [] | c ∷ _ ↦ items c ]
+opening_by bare (wrapper c) = rows (c ∷ [])
+opening_by bare (loose_wrapper c) = either c
+opening_by bare segment = segments
+opening_by bare (left_out _) = rows []
+
 abbrev pub opening : Profile → Element → Next
-opening p (leaf l) = segments
-opening p (sequence node) = rows (components p node)
-opening p (list node) = elim (components p node) as (λ _. Next) [ [] ↦ rows [] | c ∷ _ ↦ items c ]
-opening p (wrapper c) = rows (c ∷ [])
-opening p (loose_wrapper c) = either c
-opening p segment = segments
-opening p (left_out _) = rows []
+opening p e = opening_by p.bare e
 
 -- what may come after the trees
+abbrev pub after_by : Bool → Next → Trees → Next
+after_by bare n none = n
+after_by bare n (more T ts) = elim (next_due bare (tag_of T) n) as (λ _. Next) [ Some d ↦ after_by bare (next_of d) ts | None ↦ n ]
+
 abbrev pub next_after : Profile → Next → Trees → Next
-next_after p n none = n
-next_after p n (more T ts) = elim (due p (tag_of T) n) as (λ _. Next) [ Some d ↦ next_after p (next_of d) ts | None ↦ n ]
+next_after p n ts = after_by p.bare n ts
 
 -- a whole tree of the element that is due
 abbrev pub IsWhole : Profile → Due → Tree → Type 0

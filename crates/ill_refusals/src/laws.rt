@@ -1,5 +1,13 @@
 //! What holds of each input. Each law is the contract of a function that does nothing.
+ghost use Rattle.std.specs.Prelude.{◌≡◌};
+ghost use Rattle.ber_core.specs.Identifier.{Tag};
+ghost use Rattle.ber_core.specs.Tree.{Trees};
 ghost use Rattle.ber_leaf.specs.Profile.{Profile};
+ghost use Rattle.ill_schema.specs.declared.node.NodeId.{NodeId};
+ghost use Rattle.ill_schema.specs.declared.part.Row.{Row};
+ghost use Rattle.ill_schema.specs.Tagging.{tagging};
+ghost use Rattle.ill_refusals.specs.Element.{Component, Element, components, starts};
+ghost use Rattle.ill_refusals.specs.Next.{Next, due, missing, opening, next_after};
 ghost use Rattle.ill_refusals.specs.Bounds.{ValuesAreSmall};
 ghost use Rattle.ill_refusals.specs.Headers.{IdentifiersAreRead, LengthsAreRead};
 ghost use Rattle.ill_refusals.specs.Outcome.{OutcomesAreExact, RefusalsStay, PrefixesAreTruncated, TruncatedIsAtTheEnd, PlacesAreApart, FaultsAreLast};
@@ -35,4 +43,22 @@ pub fn values_are_small()
 pub fn headers_are_read()
     ensures identifiers { IdentifiersAreRead }
     ensures lengths { LengthsAreRead }
+{}
+
+/// What is due where depends on a profile by whether tags may be bare, and by nothing else.
+pub fn due_by_bare_tags()
+    ensures tags { (p q : Profile) → p.bare ≡ q.bare
+        → (row : Row) → tagging p row ≡ tagging q row }
+    ensures rows { (p q : Profile) → p.bare ≡ q.bare
+        → (node : NodeId) → components p node ≡ components q node }
+    ensures begins { (p q : Profile) → p.bare ≡ q.bare
+        → (c : Component) → starts p c ≡ starts q c }
+    ensures element { (p q : Profile) → p.bare ≡ q.bare
+        → (t : Tag) (n : Next) → due p t n ≡ due q t n }
+    ensures lacks { (p q : Profile) → p.bare ≡ q.bare
+        → (n : Next) → missing p n ≡ missing q n }
+    ensures opens { (p q : Profile) → p.bare ≡ q.bare
+        → (e : Element) → opening p e ≡ opening q e }
+    ensures later { (p q : Profile) → p.bare ≡ q.bare
+        → (n : Next) (ts : Trees) → next_after p n ts ≡ next_after q n ts }
 {}

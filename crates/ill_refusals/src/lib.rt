@@ -5,5 +5,6 @@
 mod laws;
 
 pub use laws::{
-    headers_are_read, one_outcome, one_place, refusals_stay, truncated_at_the_end, values_are_small,
+    due_by_bare_tags, headers_are_read, one_outcome, one_place, refusals_stay,
+    truncated_at_the_end, values_are_small,
 };

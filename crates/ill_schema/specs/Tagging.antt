@@ -52,16 +52,19 @@ pub data Tagging : Type 0 where
   -- of the rows that the profile lets be bare: round the SEQUENCE, or directly round its components
   explicit_or_bare : Tag → Tagging
 
--- the tagging that a row's mode and tag say
-abbrev tagged_by : Profile → Mode → Tag → Tagging
-tagged_by p Mode.Implicit tag = implicit tag
-tagged_by p Mode.Explicit tag = explicit tag
-tagged_by p Mode.ExplicitOrBare tag = if p.bare then explicit_or_bare tag else explicit tag
-tagged_by p Mode.Untagged tag = untagged
+-- the tagging that a row's mode and tag say, where the tags of APDUs and results may be bare or not
+abbrev tagged_by : Bool → Mode → Tag → Tagging
+tagged_by bare Mode.Implicit tag = implicit tag
+tagged_by bare Mode.Explicit tag = explicit tag
+tagged_by bare Mode.ExplicitOrBare tag = if bare then explicit_or_bare tag else explicit tag
+tagged_by bare Mode.Untagged tag = untagged
+
+abbrev pub row_tagging : Bool → Row → Tagging
+row_tagging bare row = elim row.tag as (λ _. Tagging) [ None ↦ untagged | Some t ↦ tagged_by bare row.mode (record { class = t.0; number = t.1 }) ]
 
 -- how the elements of a row are tagged
 abbrev pub tagging : Profile → Row → Tagging
-tagging p row = elim row.tag as (λ _. Tagging) [ None ↦ untagged | Some t ↦ tagged_by p row.mode (record { class = t.0; number = t.1 }) ]
+tagging p row = row_tagging p.bare row
 
 -- the tree T is an element under a tagging: E says of a tag and a tree that the tree has the tag and is the element
 abbrev pub Tagged : Tagging → Tag → (Tag → Tree → Type 0) → Tree → Type 0
