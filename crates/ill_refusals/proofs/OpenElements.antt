@@ -46,17 +46,17 @@ IsProperNext p segments = Unit {0}
 abbrev is_carried_row : Profile → Row → Bool
 is_carried_row p row = is_tagged (tagging p row) || is_carried row.presence
 
-at_carried : (f : ℕ → Bool) (b : Bool) (l : ℕ) (node : NodeId) → IsTrue (list_all (is_carried_row (record { general = f; bare = b; limit = l })) (rows_of node))
-at_carried f true l Boolean = refl
-at_carried f true l _ = refl
-at_carried f false l Boolean = refl
-at_carried f false l _ = refl
+at_carried : (f : ℕ → Bool) (b : Bool) (l : ℕ) (full : Bool) (node : NodeId) → IsTrue (list_all (is_carried_row (record { general = f; bare = b; limit = l; full = full })) (rows_of node))
+at_carried f true l full Boolean = refl
+at_carried f true l full _ = refl
+at_carried f false l full Boolean = refl
+at_carried f false l full _ = refl
 
 -- the component of a row
 pub row_proper : (node : NodeId) (n : ℕ) (row : Row) → slice_get (rows_of node) n ≡ Some row → IsProperComponent profile_two (component_of profile_two node n row)
 row_proper node n row e = record {
   proper = at_row (is_proper_row profile_two) (rows_of node) n row (tables_proper profile_two node) e;
-  carried = at_row (is_carried_row profile_two) (rows_of node) n row (at_carried profile_two.general profile_two.bare profile_two.limit node) e;
+  carried = at_row (is_carried_row profile_two) (rows_of node) n row (at_carried profile_two.general profile_two.bare profile_two.limit profile_two.full node) e;
 }
 
 rows_proper : (p : Profile) (node : NodeId) (n : ℕ) (rs : List Row) → IsTrue (list_all (is_proper_row p) rs) → IsTrue (list_all (is_carried_row p) rs) → AllProper p (components_from p node n rs)
@@ -67,7 +67,7 @@ rows_proper p node n (row ∷ rs) h k =
     (record { proper = a.0; carried = b.0 }, rows_proper p node (n + 1) rs a.1 b.1)
 
 pub components_proper : (p : Profile) (node : NodeId) → AllProper p (components p node)
-components_proper p node = rows_proper p node 0 (rows_of node) (tables_proper p node) (at_carried p.general p.bare p.limit node)
+components_proper p node = rows_proper p node 0 (rows_of node) (tables_proper p node) (at_carried p.general p.bare p.limit p.full node)
 
 pub inner_proper : (p : Profile) (c : Component) → c.presence ≡ Presence.Must → c.tagging ≡ untagged → IsProperComponent p c
 inner_proper p c e f = record {
@@ -328,16 +328,16 @@ items_carried node e = subst (λ k. IsTrue (are_items k (rows_of node))) e (all_
 abbrev untagged_component : PartId → Presence → Tagging → NodeId → Component
 untagged_component x pr g node = record { part = x; presence = pr; tagging = g; node = node }
 
-at_inner : (f : ℕ → Bool) (b : Bool) (l : ℕ) (x : PartId) (node : NodeId)
-    → IsTrue (same_tags (map tag_at (starts (record { general = f; bare = b; limit = l }) (untagged_component x Presence.Must untagged node))) (node_tags (record { general = f; bare = b; limit = l }) node))
-at_inner f true l x Boolean = refl
-at_inner f true l x _ = refl
-at_inner f false l x Boolean = refl
-at_inner f false l x _ = refl
+at_inner : (f : ℕ → Bool) (b : Bool) (l : ℕ) (full : Bool) (x : PartId) (node : NodeId)
+    → IsTrue (same_tags (map tag_at (starts (record { general = f; bare = b; limit = l; full = full }) (untagged_component x Presence.Must untagged node))) (node_tags (record { general = f; bare = b; limit = l; full = full }) node))
+at_inner f true l full x Boolean = refl
+at_inner f true l full x _ = refl
+at_inner f false l full x Boolean = refl
+at_inner f false l full x _ = refl
 
 pub inner_tags : (p : Profile) (c : Component) → c.presence ≡ Presence.Must → c.tagging ≡ untagged → map tag_at (starts p c) ≡ node_tags p c.node
 inner_tags p c e f =
-    ap₂ (λ (pr : Presence) (g : Tagging). map tag_at (starts p (untagged_component c.part pr g c.node))) e f ∙ same_tags-is _ _ (at_inner p.general p.bare p.limit c.part c.node)
+    ap₂ (λ (pr : Presence) (g : Tagging). map tag_at (starts p (untagged_component c.part pr g c.node))) e f ∙ same_tags-is _ _ (at_inner p.general p.bare p.limit p.full c.part c.node)
 
 wrapped_read : (p : Profile) (c : Component) (U : Tree) (v : Content) → c.presence ≡ Presence.Must → c.tagging ≡ untagged → Means p v c.node untagged U → AreRead p (rows (c ∷ [])) (more U none)
 wrapped_read p c U v e f m =

@@ -40,14 +40,14 @@ abbrev pub are_started : Profile → NodeId → ℕ → List Row → Bool
 are_started p node n [] = true
 are_started p node n (row ∷ rest) = elim (components_from p node n (row ∷ rest)) as (λ _. Bool) [ [] ↦ false | c ∷ _ ↦ same_tags (map tag_at (starts p c)) (row_tags p row) && are_started p node (n + 1) rest ]
 
-at_started : (f : ℕ → Bool) (b : Bool) (l : ℕ) (node : NodeId) → IsTrue (are_started (record { general = f; bare = b; limit = l }) node 0 (rows_of node))
-at_started f true l Boolean = refl
-at_started f true l _ = refl
-at_started f false l Boolean = refl
-at_started f false l _ = refl
+at_started : (f : ℕ → Bool) (b : Bool) (l : ℕ) (full : Bool) (node : NodeId) → IsTrue (are_started (record { general = f; bare = b; limit = l; full = full }) node 0 (rows_of node))
+at_started f true l full Boolean = refl
+at_started f true l full _ = refl
+at_started f false l full Boolean = refl
+at_started f false l full _ = refl
 
 pub tables_started : (p : Profile) (node : NodeId) → IsTrue (are_started p node 0 (rows_of node))
-tables_started p node = at_started p.general p.bare p.limit node
+tables_started p node = at_started p.general p.bare p.limit p.full node
 
 class_same : (c d : Class) → class_bits c ≡ class_bits d → c ≡ d
 class_same Class.Universal Class.Universal e = refl

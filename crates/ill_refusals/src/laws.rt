@@ -2,9 +2,11 @@
 ghost use Rattle.std.specs.Prelude.{◌≡◌};
 ghost use Rattle.ber_core.specs.Identifier.{Tag};
 ghost use Rattle.ber_core.specs.Tree.{Trees};
-ghost use Rattle.ber_leaf.specs.Profile.{Profile};
+ghost use Rattle.ber_leaf.specs.Profile.{Profile, profile_two};
 ghost use Rattle.ill_schema.specs.declared.node.NodeId.{NodeId};
 ghost use Rattle.ill_schema.specs.declared.part.Row.{Row};
+ghost use Rattle.ill_schema.specs.declared.profile.Profile.{Profile as Named};
+ghost use Rattle.ill_schema.specs.Profiles.{profile_of};
 ghost use Rattle.ill_schema.specs.Tagging.{tagging};
 ghost use Rattle.ill_refusals.specs.Element.{Component, Element, components, starts};
 ghost use Rattle.ill_refusals.specs.Next.{Next, due, missing, opening, next_after};
@@ -45,7 +47,8 @@ pub fn headers_are_read()
     ensures lengths { LengthsAreRead }
 {}
 
-/// What is due where depends on a profile by whether tags may be bare, and by nothing else.
+/// What is due where depends on a profile by whether tags may be bare, and by nothing else; so the profiles that a program can name
+/// have the same due.
 pub fn due_by_bare_tags()
     ensures tags { (p q : Profile) → p.bare ≡ q.bare
         → (row : Row) → tagging p row ≡ tagging q row }
@@ -61,4 +64,5 @@ pub fn due_by_bare_tags()
         → (e : Element) → opening p e ≡ opening q e }
     ensures later { (p q : Profile) → p.bare ≡ q.bare
         → (n : Next) (ts : Trees) → next_after p n ts ≡ next_after q n ts }
+    ensures named { (p : Named) → (profile_of p).bare ≡ profile_two.bare }
 {}

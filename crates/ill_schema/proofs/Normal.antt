@@ -28,18 +28,18 @@ in_tagging (explicit t) own E f h = (f own, refl, h own)
 in_tagging (explicit_or_bare t) own E f h = inl (f own, refl, h own)
 
 -- DER is the same in each profile
-same_at : (tag : Option (Class × ℕ)) (m : Mode) (pr : Presence) (node : NodeId) (general : ℕ → Bool) (bare : Bool) (limit : ℕ) (own : Tag) (f : Tag → Tree)
+same_at : (tag : Option (Class × ℕ)) (m : Mode) (pr : Presence) (node : NodeId) (general : ℕ → Bool) (bare : Bool) (limit : ℕ) (full : Bool) (own : Tag) (f : Tag → Tree)
     → tag_tree (tagging profile_two (record { tag = tag; mode = m; presence = pr; node = node })) own f
-    ≡ tag_tree (tagging (record { general = general; bare = bare; limit = limit }) (record { tag = tag; mode = m; presence = pr; node = node })) own f
-same_at None m pr node general bare limit own f = refl
-same_at (Some t) Mode.Implicit pr node general bare limit own f = refl
-same_at (Some t) Mode.Explicit pr node general bare limit own f = refl
-same_at (Some t) Mode.Untagged pr node general bare limit own f = refl
-same_at (Some t) Mode.ExplicitOrBare pr node general true limit own f = refl
-same_at (Some t) Mode.ExplicitOrBare pr node general false limit own f = refl
+    ≡ tag_tree (tagging (record { general = general; bare = bare; limit = limit; full = full }) (record { tag = tag; mode = m; presence = pr; node = node })) own f
+same_at None m pr node general bare limit full own f = refl
+same_at (Some t) Mode.Implicit pr node general bare limit full own f = refl
+same_at (Some t) Mode.Explicit pr node general bare limit full own f = refl
+same_at (Some t) Mode.Untagged pr node general bare limit full own f = refl
+same_at (Some t) Mode.ExplicitOrBare pr node general true limit full own f = refl
+same_at (Some t) Mode.ExplicitOrBare pr node general false limit full own f = refl
 
 same_tagged : (p : Profile) (row : Row) (own : Tag) (f : Tag → Tree) → tag_tree (tagging profile_two row) own f ≡ tag_tree (tagging p row) own f
-same_tagged p row own f = same_at row.tag row.mode row.presence row.node p.general p.bare p.limit own f
+same_tagged p row own f = same_at row.tag row.mode row.presence row.node p.general p.bare p.limit p.full own f
 
 pub same_tree : (p : Profile) (c : Content) (row : Row) → normal_tree c row.node (tagging profile_two row) ≡ normal_tree c row.node (tagging p row)
 same_tree p (simple v) row = same_tagged p row _ _

@@ -35,23 +35,23 @@ are_good p Kind.Seq rows = not (list_any (same_tag sequence_tag) (flat_map (row_
 are_good p Kind.Choice rows = list_all (λ row. is_tagged (tagging p row)) rows && are_distinct (flat_map (alternative_tags p) rows)
 are_good p _ rows = true
 
-at_good : (f : ℕ → Bool) (b : Bool) (l : ℕ) (node : NodeId) → IsTrue (are_good (record { general = f; bare = b; limit = l }) (kind_of node) (rows_of node))
-at_good f true l Boolean = refl
-at_good f true l _ = refl
-at_good f false l Boolean = refl
-at_good f false l _ = refl
+at_good : (f : ℕ → Bool) (b : Bool) (l : ℕ) (full : Bool) (node : NodeId) → IsTrue (are_good (record { general = f; bare = b; limit = l; full = full }) (kind_of node) (rows_of node))
+at_good f true l full Boolean = refl
+at_good f true l full _ = refl
+at_good f false l full Boolean = refl
+at_good f false l full _ = refl
 
 pub tables_good : (p : Profile) (node : NodeId) → IsTrue (are_good p (kind_of node) (rows_of node))
-tables_good p node = at_good p.general p.bare p.limit node
+tables_good p node = at_good p.general p.bare p.limit p.full node
 
-at_proper : (f : ℕ → Bool) (b : Bool) (l : ℕ) (node : NodeId) → IsTrue (list_all (is_proper_row (record { general = f; bare = b; limit = l })) (rows_of node))
-at_proper f true l Boolean = refl
-at_proper f true l _ = refl
-at_proper f false l Boolean = refl
-at_proper f false l _ = refl
+at_proper : (f : ℕ → Bool) (b : Bool) (l : ℕ) (full : Bool) (node : NodeId) → IsTrue (list_all (is_proper_row (record { general = f; bare = b; limit = l; full = full })) (rows_of node))
+at_proper f true l full Boolean = refl
+at_proper f true l full _ = refl
+at_proper f false l full Boolean = refl
+at_proper f false l full _ = refl
 
 pub tables_proper : (p : Profile) (node : NodeId) → IsTrue (list_all (is_proper_row p) (rows_of node))
-tables_proper p node = at_proper p.general p.bare p.limit node
+tables_proper p node = at_proper p.general p.bare p.limit p.full node
 
 -- membership and difference
 abbrev pub Mem : Tag → List Tag → Type 0
@@ -127,14 +127,14 @@ at_row test [] n row h e = absurd cc
 at_row test (r ∷ rows) zero row h e = let g : r ≡ row = cc in subst (λ y. IsTrue (test y)) g ((and_parts (test r) (list_all test rows) h).0)
 at_row test (r ∷ rows) (suc n) row h e = at_row test rows n row ((and_parts (test r) (list_all test rows) h).1) e
 
-different_at : (f : ℕ → Bool) (b : Bool) (l : ℕ) (node : NodeId) → IsTrue (has_different_tags (record { general = f; bare = b; limit = l }) node)
-different_at f true l Boolean = refl
-different_at f true l _ = refl
-different_at f false l Boolean = refl
-different_at f false l _ = refl
+different_at : (f : ℕ → Bool) (b : Bool) (l : ℕ) (full : Bool) (node : NodeId) → IsTrue (has_different_tags (record { general = f; bare = b; limit = l; full = full }) node)
+different_at f true l full Boolean = refl
+different_at f true l full _ = refl
+different_at f false l full Boolean = refl
+different_at f false l full _ = refl
 
 pub tags_differ : (p : Profile) (node : NodeId) → IsTrue (has_different_tags p node)
-tags_differ p node = different_at p.general p.bare p.limit node
+tags_differ p node = different_at p.general p.bare p.limit p.full node
 
 pub rows_name_below : (node : NodeId) → IsTrue (names_below node)
 rows_name_below Boolean = refl

@@ -4,6 +4,7 @@ pub mod TableFacts
 pub mod Presence
 pub mod Causes
 pub mod Tagging
+pub mod Profiles
 pub mod Meaning
 pub mod Normal
 pub mod Apdu

@@ -1,7 +1,9 @@
 //! What holds of the definitions alone. Each law is the contract of a function that does nothing.
 ghost use Rattle.std.specs.Prelude.{◌≡◌, ℕ, ◌<◌, ◌≤◌, ◌^◌, List, [], ◌++◌, length, codes, IsTrue};
 ghost use Rattle.ber_core.specs.Tree.{Tree, Spells, depth};
-ghost use Rattle.ber_leaf.specs.Profile.{Profile, profile_one, profile_two};
+ghost use Rattle.ber_leaf.specs.Profile.{Profile, profile_one, profile_two, profile_three};
+ghost use Rattle.ill_schema.specs.declared.profile.Profile.TheVariants.{Two, Module};
+ghost use Rattle.ill_schema.specs.Profiles.{profile_of};
 ghost use Rattle.ill_schema.specs.Content.{Content};
 ghost use Rattle.ill_schema.specs.Tagging.{Tagging, untagged};
 ghost use Rattle.ill_schema.specs.TableFacts.{has_different_tags, names_below};
@@ -65,6 +67,12 @@ pub fn normal_form_is_no_longer()
 pub fn profile_two_extends_profile_one()
     ensures small { (a : Apdu) (octets : List ℕ) → Encodes (profile_one 65_535) a octets → SpellsApdu profile_two a octets }
     ensures large { (a : Apdu) (octets : List ℕ) → SpellsApdu (profile_one 1_048_576) a octets → SpellsApdu profile_two a octets }
+{}
+
+/// The profiles that a program can name are profile 2 and the module profile.
+pub fn named_profiles()
+    ensures two { profile_of Two ≡ profile_two }
+    ensures module { profile_of Module ≡ profile_three }
 {}
 
 /// Worked messages. An Expired, an ILL-Request and three ILL-Answers are spelled by their normal forms, one of them of the greatest

@@ -17,6 +17,7 @@ mod message;
 mod names;
 mod node;
 mod part;
+mod profile;
 mod refusal;
 mod shape;
 mod size;
@@ -28,7 +29,7 @@ mod value;
 pub use entry::{is_carried, is_default, may_lack};
 pub use equality::equal;
 pub use laws::{
-    normal_form_is_a_spelling, normal_form_is_no_longer, normal_form_is_one_to_one,
+    named_profiles, normal_form_is_a_spelling, normal_form_is_no_longer, normal_form_is_one_to_one,
     normal_tree_means_the_value, one_meaning, one_value, profile_two_extends_profile_one,
     tables_are_well_formed, what_is_meant_fits, worked_messages,
 };
@@ -37,6 +38,7 @@ pub use message::Message;
 pub use names::{apdu_name, apdu_node, part_name, row_names};
 pub use node::{Kind, LeafKind, NodeId};
 pub use part::{Mode, PartId, Presence, Row};
+pub use profile::Profile;
 pub use refusal::{Cause, Refusal};
 pub use shape::fits;
 pub use size::{LIMIT, normal_size};

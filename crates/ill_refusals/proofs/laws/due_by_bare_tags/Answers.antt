@@ -1,4 +1,4 @@
-use Rattle.std.proofs.Common.{Bool, ap}
+use Rattle.std.proofs.Common.{Bool, ap, refl}
 use Rattle.ill_schema.specs.Tagging.{row_tagging}
 use Rattle.ill_refusals.specs.Element.{node_components, starts_by}
 use Rattle.ill_refusals.specs.Next.{next_due, next_missing, opening_by, after_by}
@@ -24,3 +24,6 @@ returns-clause-opens c = λ p q e x. ap (λ (bare : Bool). opening_by bare x) e
 
 pub returns-clause-later : goal.returns-clause-later
 returns-clause-later c = λ p q e n ts. ap (λ (bare : Bool). after_by bare n ts) e
+
+pub returns-clause-named : goal.returns-clause-named
+returns-clause-named c = λ p. refl
