@@ -42,6 +42,7 @@ begun_by k node = own_starts k node ++ elim k as (λ _. List Start) [ Kind.Choic
 joined-nested : (k : Kind) (node : NodeId) → kind_of node ≡ k → is_nested k ≡ true → joined (nested_starts k node) ≡ begun_by k node
 joined-nested Kind.Choice node e h = joined-map (components profile_two node)
 joined-nested Kind.IllString node e h = joined-alone (node_starts node) ∙ ap (λ k. begun_by k node) e
+joined-nested Kind.Any node e h = refl
 joined-nested Kind.Seq node e h = absurd cc
 joined-nested Kind.SeqOf node e h = absurd cc
 joined-nested (Kind.Leaf l) node e h = absurd cc
@@ -99,6 +100,7 @@ alternative-of Kind.Choice t node i cs c k n e h s =
     let r = alternative-at i cs (components profile_two node) c e h in
     (r.0, r.1, ap (element_with t) r.2 ∙ element_with-found t (cell_start c) [] s)
 alternative-of Kind.IllString t node i cs c k n e h s = tt
+alternative-of Kind.Any t node i cs c k n e h s = tt
 alternative-of Kind.Seq t node i cs c k n e h s = absurd cc
 alternative-of Kind.SeqOf t node i cs c k n e h s = absurd cc
 alternative-of (Kind.Leaf l) t node i cs c k n e h s = absurd cc

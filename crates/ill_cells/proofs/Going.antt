@@ -79,6 +79,7 @@ leaf-first p node Kind.IllString h = refl
 leaf-first p node Kind.Seq h = absurd cc
 leaf-first p node Kind.SeqOf h = absurd cc
 leaf-first p node Kind.Choice h = absurd cc
+leaf-first p node Kind.Any h = absurd cc
 
 sequence-first : (p : PartId) (node : NodeId) (k : Kind) → is_sequence k ≡ true → next_of_kind k p node 1 ≡ rows (components profile_two node)
 sequence-first p node Kind.Seq h = refl
@@ -86,6 +87,7 @@ sequence-first p node (Kind.Leaf l) h = absurd cc
 sequence-first p node Kind.IllString h = absurd cc
 sequence-first p node Kind.SeqOf h = absurd cc
 sequence-first p node Kind.Choice h = absurd cc
+sequence-first p node Kind.Any h = absurd cc
 
 loose-first : (p : PartId) (node : NodeId) (k : Kind) → is_sequence k ≡ true → next_of_kind k p node 0 ≡ either (wrapped p node)
 loose-first p node Kind.Seq h = refl
@@ -93,6 +95,7 @@ loose-first p node (Kind.Leaf l) h = absurd cc
 loose-first p node Kind.IllString h = absurd cc
 loose-first p node Kind.SeqOf h = absurd cc
 loose-first p node Kind.Choice h = absurd cc
+loose-first p node Kind.Any h = absurd cc
 
 list-first : (p : PartId) (node : NodeId) (k : Kind) → is_list k ≡ true → next_of_kind k p node 1 ≡ opening profile_two (list node)
 list-first p node Kind.SeqOf h = refl
@@ -100,6 +103,7 @@ list-first p node (Kind.Leaf l) h = absurd cc
 list-first p node Kind.IllString h = absurd cc
 list-first p node Kind.Seq h = absurd cc
 list-first p node Kind.Choice h = absurd cc
+list-first p node Kind.Any h = absurd cc
 
 wrapper-first : (p : PartId) (node : NodeId) (k : Kind) → is_other k ≡ true → next_of_kind k p node 0 ≡ rows (wrapped p node ∷ [])
 wrapper-first p node Kind.SeqOf h = refl
@@ -107,6 +111,7 @@ wrapper-first p node (Kind.Leaf l) h = refl
 wrapper-first p node Kind.IllString h = refl
 wrapper-first p node Kind.Seq h = absurd cc
 wrapper-first p node Kind.Choice h = refl
+wrapper-first p node Kind.Any h = refl
 
 empty-first : (p : PartId) (node : NodeId) (k : Kind) (cs : List Component) → components profile_two node ≡ cs → is_empty k cs ≡ true → next_of_kind k p node 1 ≡ rows []
 empty-first p node Kind.Seq [] e h = ap rows e
@@ -115,6 +120,7 @@ empty-first p node (Kind.Leaf l) cs e h = absurd cc
 empty-first p node Kind.IllString cs e h = absurd cc
 empty-first p node Kind.SeqOf cs e h = absurd cc
 empty-first p node Kind.Choice cs e h = absurd cc
+empty-first p node Kind.Any cs e h = absurd cc
 
 first-kind : (w : What) (p : PartId) (node : NodeId) (k : Kind) (cs : List Component) → components profile_two node ≡ cs → opens w k cs ≡ true
     → next_of_kind k p node (first_position w) ≡ opening profile_two (element_in p node w)
@@ -154,6 +160,7 @@ after-kind p node zero e k h = absurd cc
 after-kind p node (suc row) e Kind.Seq h = behind-row (wrapped p node) e (components profile_two node) row _ refl
 after-kind p node (suc row) e Kind.SeqOf h = absurd cc
 after-kind p node (suc row) e Kind.Choice h = absurd cc
+after-kind p node (suc row) e Kind.Any h = absurd cc
 after-kind p node (suc row) e (Kind.Leaf l) h = absurd cc
 after-kind p node (suc row) e Kind.IllString h = absurd cc
 
@@ -174,6 +181,7 @@ pub after-item : (p : PartId) (node : NodeId) (position : ℕ) (e : Element) (k 
 after-item p node (suc zero) e Kind.SeqOf f h = ap (λ (k : Kind). next_of_kind k p node 1) f ∙ item-next (wrapped p node) e (components profile_two node)
 after-item p node (suc zero) e Kind.Seq f h = absurd cc
 after-item p node (suc zero) e Kind.Choice f h = absurd cc
+after-item p node (suc zero) e Kind.Any f h = absurd cc
 after-item p node (suc zero) e (Kind.Leaf l) f h = absurd cc
 after-item p node (suc zero) e Kind.IllString f h = absurd cc
 after-item p node zero e k f h = absurd cc

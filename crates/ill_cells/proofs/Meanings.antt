@@ -53,6 +53,7 @@ begins-untagged : (t : Tag) (c : Component) (a : Option ℕ) (e : Element) (k : 
     → element_with t (component_starts c ++ others_of k c) ≡ Some e → BeginsIn t (choice_of k c.node) a e → Begins t c a e
 begins-untagged t c None e Kind.Choice f g h b = absurd b
 begins-untagged t c (Some n) e Kind.Choice f g h b = (f, g, b)
+begins-untagged t c a e Kind.Any f g h b = begins-plain t c a e _ (append-nil (component_starts c)) h b
 begins-untagged t c a e Kind.Seq f g h b = begins-plain t c a e _ (append-nil (component_starts c)) h b
 begins-untagged t c a e Kind.SeqOf f g h b = begins-plain t c a e _ (append-nil (component_starts c)) h b
 begins-untagged t c a e (Kind.Leaf l) f g h b = begins-plain t c a e _ (append-nil (component_starts c)) h b
@@ -151,6 +152,9 @@ said-kind Kind.SeqOf node (suc (suc n)) m ms f = absurd (let g : [] ≡ m ∷ ms
 said-kind Kind.Choice node zero m ms f =
     let g : meant (node_starts node) slot.Inner true true (node_choice node) None ≡ m = cc in subst (IsSaid Kind.Choice node zero) g (said-around Kind.Choice node true true)
 said-kind Kind.Choice node (suc n) m ms f = absurd (let g : [] ≡ m ∷ ms = sym (drop-none n) ∙ f in cc)
+said-kind Kind.Any node zero m ms f =
+    let g : meant (node_starts node) slot.Inner true true (node_choice node) None ≡ m = cc in subst (IsSaid Kind.Any node zero) g (said-around Kind.Any node true true)
+said-kind Kind.Any node (suc n) m ms f = absurd (let g : [] ≡ m ∷ ms = sym (drop-none n) ∙ f in cc)
 said-kind (Kind.Leaf l) node position m ms f = said-string (Kind.Leaf l) node position m ms refl f
 said-kind Kind.IllString node position m ms f = said-string Kind.IllString node position m ms refl f
 

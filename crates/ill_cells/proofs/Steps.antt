@@ -74,6 +74,7 @@ around : (k : Kind) (node : NodeId) (m : Meant) (ms : List Meant) → kind_meant
 around Kind.Seq node m ms e = let g : meant (node_starts node) slot.Inner false (is_some (first_mandatory (components profile_two node))) (node_choice node) None ≡ m = cc in ap (λ x. x.starts) (sym g)
 around Kind.SeqOf node m ms e = let g : meant (node_starts node) slot.Inner true true (node_choice node) None ≡ m = cc in ap (λ x. x.starts) (sym g)
 around Kind.Choice node m ms e = let g : meant (node_starts node) slot.Inner true true (node_choice node) None ≡ m = cc in ap (λ x. x.starts) (sym g)
+around Kind.Any node m ms e = let g : meant (node_starts node) slot.Inner true true (node_choice node) None ≡ m = cc in ap (λ x. x.starts) (sym g)
 around (Kind.Leaf l) node m ms e = let g : meant (node_starts node) slot.Inner true true (node_choice node) None ≡ m = cc in ap (λ x. x.starts) (sym g)
 around Kind.IllString node m ms e = let g : meant (node_starts node) slot.Inner true true (node_choice node) None ≡ m = cc in ap (λ x. x.starts) (sym g)
 

@@ -67,14 +67,14 @@ fn nested_start(node: NodeId, id: Id) -> Option<&'static Cell>
     None
 }
 
-/// The number as that of an alternative, None where the node has two types instead.
+/// The number as that of an alternative, None where the node has two types instead, or is of the open type.
 #[inline(always)]
 fn alternative_number(node: NodeId, number: u8) -> Option<u8>
     requires { is_nested (kind_of node) ≡ true }
     ensures { result ≡ option_map (λ _. number) (node_choice node) }
 {
     match node {
-        NodeId::IllString => None,
+        NodeId::IllString | NodeId::Any => None,
         _ => Some(number),
     }
 }

@@ -142,7 +142,7 @@ macro_rules! alternatives {
     };
 }
 
-/// The cell of a node that begins by its alternatives.
+/// The cell of a node that begins by its alternatives; the open type has none.
 macro_rules! nested {
     ($node:ident) => {
         Cell {
@@ -323,6 +323,8 @@ const EXPIRED: [Cell; 7] = table!(Expired, sequence);
 
 const ILL_APDU: [Cell; 1] = [nested!(IllApdu)];
 
+const ANY: [Cell; 1] = [nested!(Any)];
+
 const SYMBOL_ALTERNATIVES: [Cell; 2] = table!(Symbol, alternatives);
 
 const NAME_ALTERNATIVES: [Cell; 2] = table!(Name, alternatives);
@@ -441,6 +443,7 @@ pub fn cells_of(node: NodeId) -> &'static [Cell]
         NodeId::StatusQuery => &STATUS_QUERY,
         NodeId::Expired => &EXPIRED,
         NodeId::IllApdu => &ILL_APDU,
+        NodeId::Any => &ANY,
     }
 }
 

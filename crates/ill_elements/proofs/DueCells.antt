@@ -290,12 +290,14 @@ placed-due t Kind.Seq p node (suc n) (suc zero) row _ D d e h b slot is = absurd
 placed-due t Kind.Seq p node (suc n) (suc (suc r)) row _ D d e h b slot is = absurd (let z : false ≡ true = h.placed in cc)
 placed-due t Kind.SeqOf p node zero at row s D d e h b slot is = around t p node at row Kind.SeqOf s D d h.is (h.passed refl) h.placed slot b is
 placed-due t Kind.Choice p node zero at row s D d e h b slot is = around t p node at row Kind.Choice s D d h.is (h.passed refl) h.placed slot b is
+placed-due t Kind.Any p node zero at row s D d e h b slot is = around t p node at row Kind.Any s D d h.is (h.passed refl) h.placed slot b is
 placed-due t (Kind.Leaf l) p node zero at row s D d e h b slot is = around t p node at row (Kind.Leaf l) s D d h.is (h.passed refl) h.placed slot b is
 placed-due t Kind.IllString p node zero at row s D d e h b slot is = around t p node at row Kind.IllString s D d h.is (h.passed refl) h.placed slot b is
 placed-due t Kind.SeqOf p node (suc zero) at row s D d e h b slot is = item-due t node D d h.is b (slot ∙ ap (slot_as row) (only-item at s h.later h.placed)) is
 placed-due t (Kind.Leaf l) p node (suc zero) at row s D d e h b slot is = segment-due t D d h.is (slot ∙ ap (slot_as row) (only-segment (Kind.Leaf l) at s refl h.later h.placed)) is
 placed-due t Kind.IllString p node (suc zero) at row s D d e h b slot is = segment-due t D d h.is (slot ∙ ap (slot_as row) (only-segment Kind.IllString at s refl h.later h.placed)) is
 placed-due t Kind.Choice p node (suc zero) at row s D d e h b slot is = absurd (let z : None ≡ Some D = h.is in cc)
+placed-due t Kind.Any p node (suc zero) at row s D d e h b slot is = absurd (let z : None ≡ Some D = h.is in cc)
 placed-due t Kind.Seq p node zero zero row _ D d e h b slot is = absurd (let z : false ≡ true = h.placed in cc)
 placed-due t _ p node (suc (suc n)) at row s D d e h b slot is = absurd (let z : None ≡ Some D = h.is in cc)
 

@@ -58,6 +58,7 @@ IsStart t e = (e ≡ segment → ⊥) × (t.class ≡ Universal → t.number ≡
 
 own_apart : (k : Kind) (node : NodeId) → AllStarts IsStart (own_starts k node)
 own_apart Kind.Choice node = tt
+own_apart Kind.Any node = tt
 own_apart Kind.IllString node = ((λ s. cc, λ c n. cc), ((λ s. cc, λ c n. cc), tt))
 own_apart (Kind.Leaf LeafKind.Boolean) node = ((λ s. cc, λ c n. cc), tt)
 own_apart _ node = ((λ s. cc, λ c n. cc), tt)

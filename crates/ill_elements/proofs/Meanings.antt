@@ -13,45 +13,57 @@ use Rattle.ill_schema.specs.Meaning.{Means}
 use Rattle.ill_schema.specs.Presence.{IsCarried}
 use Rattle.ill_schema.specs.Table.{kind_of, rows_of}
 use Rattle.ill_schema.specs.Tagging.{Tagging, Tagged, untagged, implicit, explicit, explicit_or_bare, tagging, leaf_of}
-use Rattle.ill_schema.proofs.Tags.{is_proper, is_proper_row, at_row, tables_proper}
+use Rattle.ill_schema.proofs.Tags.{improper_any, is_proper, is_proper_row, at_row, tables_proper}
 use Rattle.ill_schema.proofs.Unique.{leaf_at, no_leaf}
-use Rattle.ill_elements.specs.Elements.{component_at, element_with, found_is}
+use Rattle.ill_elements.specs.Elements.{component_of, component_at, element_with, found_is}
 use Rattle.ill_elements.specs.Due.{Begins, IsBegun, IsRowDue}
-use Rattle.ill_refusals.specs.Element.{Component, Element, Start, tagged_starts, component_starts}
+use Rattle.ill_refusals.specs.Element.{Component, Element, Start, own_starts, tagged_starts, component_starts}
 use Rattle.ill_elements.specs.Contents.{IsValueOf, with_alternative}
 use Rattle.ill_elements.specs.Found.{Found}
+use Rattle.ill_elements.specs.declared.element.Wrapped.{Wrapped}
 use Rattle.ill_refusals.proofs.WholeElements.{element_at, own_start, implicit_start, one_start, improper_choice, own_of, own_is, leaf_value, explicit_means, bare_kind, choice_starts, carried_starts, left_found, carried_or_left, left_starts, IsProperComponent, untagged_carried}
-use Rattle.ill_refusals.proofs.OpenElements.{row_proper}
+use Rattle.ill_refusals.proofs.OpenElements.{inner_proper, row_proper}
 use Rattle.ill_refusals.proofs.Rows.{starting}
 
+-- what an explicit tag is round is of no open type, since something begins it
+pub begun_proper : (t : Tag) (w : Wrapped) (alt : Option ℕ) (f : Found) → IsBegun t (component_of w) alt f → IsProperComponent profile_two (component_of w)
+begun_proper t w alt f h = inner_proper profile_two (component_of w) refl refl (closed alt h.begins)
+  where
+    closed : (alt : Option ℕ) → Begins t (component_of w) alt (found_is f) → kind_of w.node ≡ Kind.Any → ⊥
+    closed None b k = let q : element_with t (own_starts Kind.Any w.node) ≡ Some (found_is f) = subst (λ x. element_with t (own_starts x w.node) ≡ Some (found_is f)) k b in cc
+    closed (Some n) b k = let q : Kind.Choice ≡ Kind.Any = sym b.1 ∙ k in cc
+
 -- a whole element of a kind means its value, under a tagging that it suits
-kind_means : (node : NodeId) (g : Tagging) (T : Tree) (k : Kind) (c : Content) → kind_of node ≡ k → (k ≡ Kind.Choice → ⊥)
+kind_means : (node : NodeId) (g : Tagging) (T : Tree) (k : Kind) (c : Content) → kind_of node ≡ k → (k ≡ Kind.Choice → ⊥) → (k ≡ Kind.Any → ⊥)
     → ((E : Tag → Tree → Type 0) → E (tag_of T) T → Tagged g (own_of k (tag_of T).number) E T)
     → IsValueOf (element_at k node (tag_of T).number) c T → Means profile_two c node g T
 unfolding own_of
-kind_means node g T Kind.Seq c e n lift h =
+kind_means node g T Kind.Seq c e n o lift h =
     subst (λ x. Means profile_two x node g T) (sym h.4) (e, lift _ (h.1, h.3 ∙ ap (λ t. constructed t h.1) (sym (ap tag_of h.3)), h.5))
-kind_means node g T Kind.SeqOf c e n lift h =
+kind_means node g T Kind.SeqOf c e n o lift h =
     subst (λ x. Means profile_two x node g T) (sym h.4) (e, lift _ (h.1, h.3 ∙ ap (λ t. constructed t h.1) (sym (ap tag_of h.3)), h.5))
-kind_means node g T Kind.Choice c e n lift h = absurd (n refl)
-kind_means node g T Kind.IllString c e n lift h =
+kind_means node g T Kind.Choice c e n o lift h = absurd (n refl)
+kind_means node g T Kind.Any c e n o lift h = absurd (o refl)
+kind_means node g T Kind.IllString c e n o lift h =
     let l = leaf_at Kind.IllString (tag_of T).number in
     subst (λ x. Means profile_two x node g T) (sym h.3)
     (l, ap (λ k. leaf_of k (value l (text T))) e ∙ leaf_value Kind.IllString (tag_of T).number (text T) (λ x. no_shape x), lift _ (refl, h.0, (h.1, h.2, refl)))
   where
-    no_shape : (Kind.IllString ≡ Kind.Seq) ⊎ (Kind.IllString ≡ Kind.SeqOf) ⊎ (Kind.IllString ≡ Kind.Choice) → ⊥
+    no_shape : (Kind.IllString ≡ Kind.Seq) ⊎ (Kind.IllString ≡ Kind.SeqOf) ⊎ (Kind.IllString ≡ Kind.Choice) ⊎ (Kind.IllString ≡ Kind.Any) → ⊥
     no_shape (inl x) = cc
     no_shape (inr (inl x)) = cc
-    no_shape (inr (inr x)) = cc
-kind_means node g T (Kind.Leaf x) c e n lift h =
+    no_shape (inr (inr (inl x))) = cc
+    no_shape (inr (inr (inr x))) = cc
+kind_means node g T (Kind.Leaf x) c e n o lift h =
     let l = leaf_at (Kind.Leaf x) (tag_of T).number in
     subst (λ y. Means profile_two y node g T) (sym h.3)
     (l, ap (λ k. leaf_of k (value l (text T))) e ∙ leaf_value (Kind.Leaf x) (tag_of T).number (text T) (λ y. no_shape x y), lift _ (refl, h.0, (h.1, h.2, refl)))
   where
-    no_shape : (x : LeafKind) → (Kind.Leaf x ≡ Kind.Seq) ⊎ (Kind.Leaf x ≡ Kind.SeqOf) ⊎ (Kind.Leaf x ≡ Kind.Choice) → ⊥
+    no_shape : (x : LeafKind) → (Kind.Leaf x ≡ Kind.Seq) ⊎ (Kind.Leaf x ≡ Kind.SeqOf) ⊎ (Kind.Leaf x ≡ Kind.Choice) ⊎ (Kind.Leaf x ≡ Kind.Any) → ⊥
     no_shape x (inl y) = cc
     no_shape x (inr (inl y)) = cc
-    no_shape x (inr (inr y)) = cc
+    no_shape x (inr (inr (inl y))) = cc
+    no_shape x (inr (inr (inr y))) = cc
 
 sequence_means : (u : Tag) (node : NodeId) (U T : Tree) (c : Content) → kind_of node ≡ Kind.Seq → Means profile_two c node untagged U → T ≡ constructed u (more U none)
     → Means profile_two c node (explicit_or_bare u) T
@@ -59,16 +71,17 @@ sequence_means u node U T (content.sequence es) k x e = (k, inl (U, e, x.1))
 sequence_means u node U T (simple w) k x e = absurd (no_leaf (kind_of node) w x.0 x.1 (inl k))
 sequence_means u node U T (content.list is) k x e = absurd (let q : Kind.Seq ≡ Kind.SeqOf = sym k ∙ x.0 in cc)
 sequence_means u node U T (alternative n w) k x e = absurd (let q : Kind.Seq ≡ Kind.Choice = sym k ∙ x.1.0 in cc)
+sequence_means u node U T (content.foreign V) k x e = absurd (let q : Kind.Seq ≡ Kind.Any = sym k ∙ x.0 in cc)
 
 tagged_means : (g : Tagging) (w : Component) (s : Start) (c : Content) (T : Tree) → IsTrue (is_proper g (kind_of w.node)) → starting (tag_of T) (tagged_starts g w) ≡ Some s
     → IsValueOf s.element c T → Means profile_two c w.node g T
 tagged_means untagged w s c T ok h m =
     let q = own_start (kind_of w.node) w.node (tag_of T) s h in
-    kind_means w.node untagged T (kind_of w.node) c refl (λ e. choice_starts (kind_of w.node) w.node (tag_of T) s h e)
+    kind_means w.node untagged T (kind_of w.node) c refl (λ e. choice_starts (kind_of w.node) w.node (tag_of T) s h e) (improper_any untagged (kind_of w.node) ok)
     (λ E x. subst (λ t. E t T) (own_is (kind_of w.node) (tag_of T) q.0) x) (subst (λ x. IsValueOf x c T) q.1 m)
 tagged_means (implicit u) w s c T ok h m =
     let q = implicit_start (kind_of w.node) w.node (tag_of T) u s ok h in
-    kind_means w.node (implicit u) T (kind_of w.node) c refl (λ k. improper_choice u (kind_of w.node) ok k) (λ E x. subst (λ t. E t T) (sym q.0) x) (subst (λ x. IsValueOf x c T) q.2 m)
+    kind_means w.node (implicit u) T (kind_of w.node) c refl (λ k. improper_choice u (kind_of w.node) ok k) (improper_any (implicit u) (kind_of w.node) ok) (λ E x. subst (λ t. E t T) (sym q.0) x) (subst (λ x. IsValueOf x c T) q.2 m)
 tagged_means (explicit u) w s c T ok h m =
     let q = one_start (tag_of T) u _ s h in
     let x = subst (λ x. IsValueOf x c T) q.1 m in

@@ -10,10 +10,10 @@ use Rattle.ill_schema.specs.Content.{Content, simple, alternative}
 use Rattle.ill_schema.specs.Normal.{normal_tree}
 use Rattle.ill_schema.specs.Table.{kind_of, rows_of}
 use Rattle.ill_schema.specs.Tagging.{Tagging, untagged, implicit, explicit, explicit_or_bare, tagging, tag_tree, sequence_tag, leaf_tag, leaf_of}
-use Rattle.ill_schema.proofs.Tags.{is_proper, is_proper_row, at_row, tables_proper}
+use Rattle.ill_schema.proofs.Tags.{improper_any, is_proper, is_proper_row, at_row, tables_proper}
 use Rattle.ill_schema.proofs.Unique.{leaf_at}
 use Rattle.ill_refusals.specs.Element.{Component, Element, Start, tagged_starts, component_starts}
-use Rattle.ill_refusals.proofs.OpenElements.{inner_proper, row_proper}
+use Rattle.ill_refusals.proofs.OpenElements.{row_proper}
 use Rattle.ill_refusals.proofs.Rows.{starting}
 use Rattle.ill_refusals.proofs.WholeElements.{element_at, own_start, implicit_start, one_start, improper_choice, own_of, own_is, leaf_value, choice_starts, carried_starts, left_found, carried_or_left, left_starts, IsProperComponent}
 use Rattle.ill_elements.specs.Elements.{component_of, component_at, found_is}
@@ -22,6 +22,7 @@ use Rattle.ill_elements.specs.Contents.{IsValueOf, with_alternative}
 use Rattle.ill_elements.specs.Written.{normal_element}
 use Rattle.ill_elements.specs.Due.{Due}
 use Rattle.ill_elements.specs.Found.{Found}
+use Rattle.ill_elements.proofs.Meanings.{begun_proper}
 use Rattle.ill_elements.specs.declared.element.Wrapped.{Wrapped}
 
 -- what a value under a function comes from
@@ -30,7 +31,7 @@ mapped_some f None y e = absurd cc
 mapped_some f (Some x) y e = (x, refl, cc)
 
 -- a leaf of a kind, under a tagging that it suits
-leaf_tree : (node : NodeId) (g : Tagging) (t : Tag) (k : Kind) (n : ℕ) (octets : List ℕ) → kind_of node ≡ k → ((k ≡ Kind.Seq) ⊎ (k ≡ Kind.SeqOf) ⊎ (k ≡ Kind.Choice) → ⊥)
+leaf_tree : (node : NodeId) (g : Tagging) (t : Tag) (k : Kind) (n : ℕ) (octets : List ℕ) → kind_of node ≡ k → ((k ≡ Kind.Seq) ⊎ (k ≡ Kind.SeqOf) ⊎ (k ≡ Kind.Choice) ⊎ (k ≡ Kind.Any) → ⊥)
     → ((f : Tag → Tree) → tag_tree g (leaf_tag (leaf_at k n)) f ≡ f t)
     → normal_tree (simple (value (leaf_at k n) octets)) node g ≡ primitive t (normal_content (value (leaf_at k n) octets))
 leaf_tree node g t k n octets e h at =
@@ -40,15 +41,16 @@ leaf_tree node g t k n octets e h at =
     ∙ at (λ tag. primitive tag (normal_content v))
 
 -- an element of a kind, under a tagging that it suits
-kind_tree : (node : NodeId) (g : Tagging) (t : Tag) (k : Kind) (n : ℕ) (c : Content) (T : Tree) → kind_of node ≡ k → (k ≡ Kind.Choice → ⊥)
+kind_tree : (node : NodeId) (g : Tagging) (t : Tag) (k : Kind) (n : ℕ) (c : Content) (T : Tree) → kind_of node ≡ k → (k ≡ Kind.Choice → ⊥) → (k ≡ Kind.Any → ⊥)
     → ((f : Tag → Tree) → tag_tree g (own_of k n) f ≡ f t) → IsValueOf (element_at k node n) c T → normal_tree c node g ≡ normal_element (element_at k node n) t c
 unfolding own_of
-kind_tree node g t Kind.Choice n c T e other at h = absurd (other refl)
-kind_tree node g t Kind.IllString n c T e other at h =
-    rw h.3 (leaf_tree node g t Kind.IllString n (text T) e (λ x. elim x [ inl q ↦ cc | inr (inl q) ↦ cc | inr (inr q) ↦ cc ]) at)
-kind_tree node g t (Kind.Leaf l) n c T e other at h =
-    rw h.3 (leaf_tree node g t (Kind.Leaf l) n (text T) e (λ x. elim x [ inl q ↦ cc | inr (inl q) ↦ cc | inr (inr q) ↦ cc ]) at)
-kind_tree node g t _ n c T e other at h = rw h.4 (at _)
+kind_tree node g t Kind.Choice n c T e other typed at h = absurd (other refl)
+kind_tree node g t Kind.Any n c T e other typed at h = absurd (typed refl)
+kind_tree node g t Kind.IllString n c T e other typed at h =
+    rw h.3 (leaf_tree node g t Kind.IllString n (text T) e (λ x. elim x [ inl q ↦ cc | inr (inl q) ↦ cc | inr (inr (inl q)) ↦ cc | inr (inr (inr q)) ↦ cc ]) at)
+kind_tree node g t (Kind.Leaf l) n c T e other typed at h =
+    rw h.3 (leaf_tree node g t (Kind.Leaf l) n (text T) e (λ x. elim x [ inl q ↦ cc | inr (inl q) ↦ cc | inr (inr (inl q)) ↦ cc | inr (inr (inr q)) ↦ cc ]) at)
+kind_tree node g t _ n c T e other typed at h = rw h.4 (at _)
 
 -- an explicit tag holds the one tree, also where it may be bare
 wrapped_tree : (g : Tagging) (t : Tag) (c : Content) (node : NodeId) → ((own : Tag) (f : Tag → Tree) → tag_tree g own f ≡ constructed t (more (f own) none))
@@ -61,12 +63,12 @@ tagged_normal : (g : Tagging) (w : Component) (t : Tag) (s : Start) (c : Content
     → IsValueOf s.element c T → normal_tree c w.node g ≡ normal_element s.element t c
 tagged_normal untagged w t s c T ok h m =
     let q = own_start (kind_of w.node) w.node t s h in
-    kind_tree w.node untagged t (kind_of w.node) t.number c T refl (choice_starts (kind_of w.node) w.node t s h)
+    kind_tree w.node untagged t (kind_of w.node) t.number c T refl (choice_starts (kind_of w.node) w.node t s h) (improper_any untagged (kind_of w.node) ok)
     (λ f. ap f (sym (own_is (kind_of w.node) t q.0))) (subst (λ x. IsValueOf x c T) q.1 m)
     ∙ ap (λ x. normal_element x t c) (sym q.1)
 tagged_normal (implicit u) w t s c T ok h m =
     let q = implicit_start (kind_of w.node) w.node t u s ok h in
-    kind_tree w.node (implicit u) t (kind_of w.node) t.number c T refl (improper_choice u (kind_of w.node) ok) (λ f. ap f q.0) (subst (λ x. IsValueOf x c T) q.2 m)
+    kind_tree w.node (implicit u) t (kind_of w.node) t.number c T refl (improper_choice u (kind_of w.node) ok) (improper_any (implicit u) (kind_of w.node) ok) (λ f. ap f q.0) (subst (λ x. IsValueOf x c T) q.2 m)
     ∙ ap (λ x. normal_element x t c) (sym q.2)
 tagged_normal (explicit u) w t s c T ok h m =
     let q = one_start t u _ s h in
@@ -117,4 +119,4 @@ item_normal t node d c T h m =
 -- of the part of a wrapper
 pub inner_normal : (t : Tag) (w : Wrapped) (d : Due) (c : Content) (T : Tree) → IsInnerDue t w d → IsValueOf (found_is d.found) c T
     → normal_tree (with_alternative d.alternative c) w.node untagged ≡ normal_element (found_is d.found) t c
-inner_normal t w d c T h m = begins_normal t (component_of w) d.alternative (found_is d.found) c T (inner_proper profile_two (component_of w) refl refl) h.begun.begins m
+inner_normal t w d c T h m = begins_normal t (component_of w) d.alternative (found_is d.found) c T (begun_proper t w d.alternative d.found h.begun) h.begun.begins m

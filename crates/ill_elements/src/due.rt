@@ -55,7 +55,7 @@ impl Next {
             _ if position > 1 => Next::Nothing,
             Kind::SeqOf => Next::Items(node),
             Kind::Leaf(_) | Kind::IllString => Next::Segments,
-            Kind::Choice => Next::Nothing,
+            Kind::Choice | Kind::Any => Next::Nothing,
         }
     }
 }

@@ -28,13 +28,14 @@ use Rattle.ber_leaf.specs.Leaf.{Leaf, Holds, enumerated, integer, normal_content
 use Rattle.ber_leaf.specs.Profile.{Profile}
 use Rattle.ber_leaf.specs.Simple.{Simple, flag, whole, date, time, printable, general, visible}
 use Rattle.ber_leaf.proofs.Integers.{whole_bounds}
+use Rattle.ill_schema.proofs.Tags.{row_closed}
 use Rattle.ill_schema.specs.declared.node.Kind.{Kind}
 use Rattle.ill_schema.specs.declared.node.LeafKind.{LeafKind}
 use Rattle.ill_schema.specs.declared.node.NodeId.{NodeId}
 use Rattle.ill_schema.specs.declared.node.NodeId.TheVariants.{Boolean, IllApdu}
 use Rattle.ill_schema.specs.declared.part.Row.{Row}
 use Rattle.ill_schema.specs.Apdu.{Apdu, choice_of}
-use Rattle.ill_schema.specs.Content.{Content, simple, sequence, list, alternative, Entries, no_entries, absent, present, Items, no_items, item}
+use Rattle.ill_schema.specs.Content.{Content, simple, sequence, list, alternative, foreign, Entries, no_entries, absent, present, Items, no_items, item}
 use Rattle.ill_schema.specs.Fits.{Fits, FitItems, FitRows, FitsApdu}
 use Rattle.ill_schema.specs.Names.{names_of}
 use Rattle.ill_schema.specs.Table.{kind_of, rows_of}
@@ -146,6 +147,7 @@ kind_sort Kind.IllString = 5
 kind_sort Kind.Seq = 6
 kind_sort Kind.SeqOf = 7
 kind_sort Kind.Choice = 8
+kind_sort Kind.Any = 9
 
 sort_of : (k : Kind) (v : Simple) (l : Leaf) → leaf_of k v ≡ Some l → kind_sort k ≡ leaf_sort v
 sort_of (Kind.Leaf LeafKind.Boolean) (flag b) l e = refl
@@ -266,12 +268,14 @@ content_sort (simple v) = leaf_sort v
 content_sort (sequence es) = 6
 content_sort (list is) = 7
 content_sort (alternative n c) = 8
+content_sort (foreign T) = 9
 
 fit_sort : (p : Profile) (c : Content) (node : NodeId) → Fits p c node → kind_sort (kind_of node) ≡ content_sort c
 fit_sort p (simple v) node h = sort_of (kind_of node) v h.0 h.1
 fit_sort p (sequence es) node h = ap kind_sort h.0
 fit_sort p (list is) node h = ap kind_sort h.0
 fit_sort p (alternative n c) node h = ap kind_sort h.1.0
+fit_sort p (foreign T) node h = ap kind_sort h.0
 
 small_sort : (v : Simple) → leaf_sort v < 6
 small_sort (flag b) = omega arith
@@ -288,30 +292,36 @@ other p c d node h k = sym (fit_sort p c node h) ∙ fit_sort p d node k
 row_fits : (p : Profile) (node : NodeId) (i : ℕ) (c : Content) (row : Row) → slice_get (rows_of node) i ≡ Some row → Fits p c row.node → Fits p c (row_node node i)
 row_fits p node i c row e h = subst (λ n. Fits p c n) (sym (ap node_or_left_out e)) h
 
+-- no row is of an open type
+closed_at : (node : NodeId) (i : ℕ) (row : Row) → slice_get (rows_of node) i ≡ Some row → kind_of (row_node node i) ≡ Kind.Any → ⊥
+closed_at node i row e k = row_closed node i row e (subst (λ n. kind_of n ≡ Kind.Any) (ap node_or_left_out e) k)
+
 mutual
-  pub value_once : (p : Profile) (row : List ℕ) (node : NodeId) (c d : Content) → Fits p c node → Fits p d node → value_json row node c ≡ value_json row node d → c ≡ d
-  value_once p row node (simple v) (simple w) h k e = ap simple (leaf_once p row (kind_of node) v w h.0 k.0 h.1 k.1 h.2 k.2 e)
-  value_once p row node (sequence es) (sequence fs) h k e = ap sequence (entries_once p node 0 (rows_of node) es fs (from_all (rows_of node)) h.1 k.1 (object_same _ _ e))
-  value_once p row node (list is) (list js) h k e = ap list (items_once p row node is js h.1 k.1 (let q : item_values row (row_node node 0) is ≡ item_values row (row_node node 0) js = cc in q))
-  value_once p row node (alternative n c) (alternative m d) h k e =
+  pub value_once : (p : Profile) (row : List ℕ) (node : NodeId) (c d : Content) → (kind_of node ≡ Kind.Any → ⊥) → Fits p c node → Fits p d node → value_json row node c ≡ value_json row node d → c ≡ d
+  value_once p row node (simple v) (simple w) closed h k e = ap simple (leaf_once p row (kind_of node) v w h.0 k.0 h.1 k.1 h.2 k.2 e)
+  value_once p row node (sequence es) (sequence fs) closed h k e = ap sequence (entries_once p node 0 (rows_of node) es fs (from_all (rows_of node)) h.1 k.1 (object_same _ _ e))
+  value_once p row node (list is) (list js) closed h k e = ap list (items_once p row node is js h.1 k.1 (let q : item_values row (row_node node 0) is ≡ item_values row (row_node node 0) js = cc in q))
+  value_once p row node (alternative n c) (alternative m d) closed h k e =
       let parts = member_same _ _ _ _ _ _ (object_same _ _ e) in
       let same = row_once node n m h.0 k.0 h.1.1 k.1.1 parts.0 in
       let body = parts.1 ∙ ap (λ (x : ℕ). value_json (row_name node x) (row_node node x) d) (sym same) in
       let fits = subst (λ (x : ℕ). Fits p d (row_node node x)) (sym same) (row_fits p node m d k.0 k.1.1 k.2) in
-      let inner = value_once p (row_name node n) (row_node node n) c d (row_fits p node n c h.0 h.1.1 h.2) fits body in
+      let inner = value_once p (row_name node n) (row_node node n) c d (closed_at node n h.0 h.1.1) (row_fits p node n c h.0 h.1.1 h.2) fits body in
       ap (alternative n) inner ∙ ap (λ (x : ℕ). alternative x d) same
-  value_once p row node (simple v) (sequence fs) h k e = absurd (omega (arith, small_sort v, other p (simple v) (sequence fs) node h k))
-  value_once p row node (simple v) (list js) h k e = absurd (omega (arith, small_sort v, other p (simple v) (list js) node h k))
-  value_once p row node (simple v) (alternative m d) h k e = absurd (omega (arith, small_sort v, other p (simple v) (alternative m d) node h k))
-  value_once p row node (sequence es) (simple w) h k e = absurd (omega (arith, small_sort w, other p (sequence es) (simple w) node h k))
-  value_once p row node (list is) (simple w) h k e = absurd (omega (arith, small_sort w, other p (list is) (simple w) node h k))
-  value_once p row node (alternative n c) (simple w) h k e = absurd (omega (arith, small_sort w, other p (alternative n c) (simple w) node h k))
-  value_once p row node (sequence es) (list js) h k e = absurd (omega (arith, other p (sequence es) (list js) node h k))
-  value_once p row node (sequence es) (alternative m d) h k e = absurd (omega (arith, other p (sequence es) (alternative m d) node h k))
-  value_once p row node (list is) (sequence fs) h k e = absurd (omega (arith, other p (list is) (sequence fs) node h k))
-  value_once p row node (list is) (alternative m d) h k e = absurd (omega (arith, other p (list is) (alternative m d) node h k))
-  value_once p row node (alternative n c) (sequence fs) h k e = absurd (omega (arith, other p (alternative n c) (sequence fs) node h k))
-  value_once p row node (alternative n c) (list js) h k e = absurd (omega (arith, other p (alternative n c) (list js) node h k))
+  value_once p row node (simple v) (sequence fs) closed h k e = absurd (omega (arith, small_sort v, other p (simple v) (sequence fs) node h k))
+  value_once p row node (simple v) (list js) closed h k e = absurd (omega (arith, small_sort v, other p (simple v) (list js) node h k))
+  value_once p row node (simple v) (alternative m d) closed h k e = absurd (omega (arith, small_sort v, other p (simple v) (alternative m d) node h k))
+  value_once p row node (sequence es) (simple w) closed h k e = absurd (omega (arith, small_sort w, other p (sequence es) (simple w) node h k))
+  value_once p row node (list is) (simple w) closed h k e = absurd (omega (arith, small_sort w, other p (list is) (simple w) node h k))
+  value_once p row node (alternative n c) (simple w) closed h k e = absurd (omega (arith, small_sort w, other p (alternative n c) (simple w) node h k))
+  value_once p row node (sequence es) (list js) closed h k e = absurd (omega (arith, other p (sequence es) (list js) node h k))
+  value_once p row node (sequence es) (alternative m d) closed h k e = absurd (omega (arith, other p (sequence es) (alternative m d) node h k))
+  value_once p row node (list is) (sequence fs) closed h k e = absurd (omega (arith, other p (list is) (sequence fs) node h k))
+  value_once p row node (list is) (alternative m d) closed h k e = absurd (omega (arith, other p (list is) (alternative m d) node h k))
+  value_once p row node (alternative n c) (sequence fs) closed h k e = absurd (omega (arith, other p (alternative n c) (sequence fs) node h k))
+  value_once p row node (alternative n c) (list js) closed h k e = absurd (omega (arith, other p (alternative n c) (list js) node h k))
+  value_once p row node (foreign T) d closed h k e = absurd (closed h.0)
+  value_once p row node c (foreign U) closed h k e = absurd (closed k.0)
 
   entries_once : (p : Profile) (node : NodeId) (i : ℕ) (rows : List Row) (es fs : Entries) → From rows i (rows_of node) → FitRows p es rows → FitRows p fs rows → entry_members node i es ≡ entry_members node i fs → es ≡ fs
   entries_once p node i [] no_entries no_entries from h k e = refl
@@ -330,7 +340,7 @@ mutual
   entries_once p node i (row ∷ rows) (present c es) (present d fs) from h k e =
       let parts = member_same _ _ _ _ _ _ e in
       let at = from_here row rows i (rows_of node) from in
-      let first = value_once p (row_name node i) (row_node node i) c d (row_fits p node i c row at h.1) (row_fits p node i d row at k.1) parts.1 in
+      let first = value_once p (row_name node i) (row_node node i) c d (closed_at node i row at) (row_fits p node i c row at h.1) (row_fits p node i d row at k.1) parts.1 in
       let rest = entries_once p node (suc i) rows es fs (from_next row rows i (rows_of node) from) h.2 k.2 parts.2 in
       ap (λ (x : Content). present x es) first ∙ ap (present d) rest
 
@@ -341,7 +351,7 @@ mutual
   items_once p row node (item c is) (item d js) h k e =
       let one : value_json row (row_node node 0) c ≡ value_json row (row_node node 0) d = cc in
       let values : item_values row (row_node node 0) is ≡ item_values row (row_node node 0) js = cc in
-      let first = value_once p row (row_node node 0) c d (row_fits p node 0 c h.0 h.1 h.2) (row_fits p node 0 d k.0 k.1 k.2) one in
+      let first = value_once p row (row_node node 0) c d (closed_at node 0 h.0 h.1) (row_fits p node 0 c h.0 h.1 h.2) (row_fits p node 0 d k.0 k.1 k.2) one in
       let rest = items_once p row node is js h.3 k.3 values in
       ap (λ (x : Content). item x is) first ∙ ap (item d) rest
 
@@ -364,7 +374,7 @@ apdu_once p file head head' a b h k e =
     let name : row_name IllApdu n ≡ row_name IllApdu m = let q = apdu.1 in cc in
     let same = row_once IllApdu n m h.1.0 k.1.0 h.1.1.1 k.1.1.1 name in
     let fits = subst (λ (x : ℕ). Fits p b.body (row_node IllApdu x)) (sym same) (row_fits p IllApdu m b.body k.1.0 k.1.1.1 k.1.2) in
-    let inner = value_once p [] (row_node IllApdu n) a.body b.body (row_fits p IllApdu n a.body h.1.0 h.1.1.1 h.1.2) fits (body.1 ∙ ap (λ (x : ℕ). value_json [] (row_node IllApdu x) b.body) (sym same)) in
+    let inner = value_once p [] (row_node IllApdu n) a.body b.body (closed_at IllApdu n h.1.0 h.1.1.1) (row_fits p IllApdu n a.body h.1.0 h.1.1.1 h.1.2) fits (body.1 ∙ ap (λ (x : ℕ). value_json [] (row_node IllApdu x) b.body) (sym same)) in
     ap (alternative n) inner ∙ ap (λ (x : ℕ). alternative x b.body) same
 
 -- ---- texts
@@ -426,13 +436,14 @@ leaf_written p row k (general o) l e h = ((tt, tt), (IsUtf8-are_low _ refl, IsUt
 leaf_written p row k (visible o) l e h = ((tt, tt), (IsUtf8-are_low _ refl, IsUtf8-characters o h.0, tt))
 
 mutual
-  value_written : (p : Profile) (row : List ℕ) (node : NodeId) (c : Content) → Fits p c node → IsWritten (value_json row node c)
-  value_written p row node (simple v) h = leaf_written p row (kind_of node) v h.0 h.1 h.2
-  value_written p row node (sequence es) h = entries_written p node 0 (rows_of node) es (from_all (rows_of node)) h.1
-  value_written p row node (list is) h = items_written p row node is h.1
-  value_written p row node (alternative n c) h =
-      let v = value_written p (row_name node n) (row_node node n) c (row_fits p node n c h.0 h.1.1 h.2) in
+  value_written : (p : Profile) (row : List ℕ) (node : NodeId) (c : Content) → (kind_of node ≡ Kind.Any → ⊥) → Fits p c node → IsWritten (value_json row node c)
+  value_written p row node (simple v) closed h = leaf_written p row (kind_of node) v h.0 h.1 h.2
+  value_written p row node (sequence es) closed h = entries_written p node 0 (rows_of node) es (from_all (rows_of node)) h.1
+  value_written p row node (list is) closed h = items_written p row node is h.1
+  value_written p row node (alternative n c) closed h =
+      let v = value_written p (row_name node n) (row_node node n) c (closed_at node n h.0 h.1.1) (row_fits p node n c h.0 h.1.1 h.2) in
       ((v.0, tt), (IsUtf8-row_name node n, v.1, tt))
+  value_written p row node (foreign T) closed h = absurd (closed h.0)
 
   entries_written : (p : Profile) (node : NodeId) (i : ℕ) (rows : List Row) (es : Entries) → From rows i (rows_of node) → FitRows p es rows → IsWritten (json.object (entry_members node i es))
   entries_written p node i rows no_entries from h = (tt, tt)
@@ -440,14 +451,15 @@ mutual
   entries_written p node i [] (present c es) from h = absurd h
   entries_written p node i (row ∷ rows) (absent es) from h = entries_written p node (suc i) rows es (from_next row rows i (rows_of node) from) h.1
   entries_written p node i (row ∷ rows) (present c es) from h =
-      let v = value_written p (row_name node i) (row_node node i) c (row_fits p node i c row (from_here row rows i (rows_of node) from) h.1) in
+      let at = from_here row rows i (rows_of node) from in
+      let v = value_written p (row_name node i) (row_node node i) c (closed_at node i row at) (row_fits p node i c row at h.1) in
       let rest = entries_written p node (suc i) rows es (from_next row rows i (rows_of node) from) h.2 in
       ((v.0, rest.0), (IsUtf8-row_name node i, v.1, rest.1))
 
   items_written : (p : Profile) (row : List ℕ) (node : NodeId) (is : Items) → FitItems p is (rows_of node) → IsWritten (json.array (item_values row (row_node node 0) is))
   items_written p row node no_items h = (tt, tt)
   items_written p row node (item c is) h =
-      let v = value_written p row (row_node node 0) c (row_fits p node 0 c h.0 h.1 h.2) in
+      let v = value_written p row (row_node node 0) c (closed_at node 0 h.0 h.1) (row_fits p node 0 c h.0 h.1 h.2) in
       let rest = items_written p row node is h.3 in
       ((v.0, rest.0), (v.1, rest.1))
 
@@ -455,7 +467,7 @@ mutual
 line_written : (p : Profile) (head : Head) (a : Apdu) → IsSmall head → FitsApdu p a → IsWritten (line_json None head a)
 line_written p head a small h =
     let n = a.number - 1 in
-    let v = value_written p [] (row_node IllApdu n) a.body (row_fits p IllApdu n a.body h.1.0 h.1.1.1 h.1.2) in
+    let v = value_written p [] (row_node IllApdu n) a.body (closed_at IllApdu n h.1.0 h.1.1.1) (row_fits p IllApdu n a.body h.1.0 h.1.1.1 h.1.2) in
     let name : (k : List ℕ) → are_low k ≡ true → IsUtf8 k = IsUtf8-are_low in (
       (IsNumber-decimal head.number small.0, (IsNumber-decimal head.offset small.1, (IsNumber-decimal head.octets small.2, (tt, (tt, (v.0, tt)))))),
       (name _ refl, tt, (name _ refl, tt, (name _ refl, tt, (name _ refl, IsUtf8-row_name IllApdu n, (name _ refl, tt, (name _ refl, v.1, tt)))))),

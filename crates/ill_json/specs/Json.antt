@@ -8,13 +8,14 @@ use Rattle.json.specs.Json.{Json, boolean, number, string, array, object, Member
 use Rattle.json.specs.Json as json
 use Rattle.json.specs.Print.{print}
 use Rattle.json.specs.Tree.{json_tokens}
+use Rattle.ber_core.specs.Der.{encoding}
 use Rattle.ber_leaf.specs.Simple.{Simple, flag, whole, date, time, printable, general, visible}
 use Rattle.ill_schema.specs.declared.node.NodeId.{NodeId}
 use Rattle.ill_schema.specs.declared.node.NodeId.TheVariants.{IllApdu}
 use Rattle.ill_schema.specs.Apdu.{Apdu}
-use Rattle.ill_schema.specs.Content.{Content, simple, sequence, list, alternative, Entries, no_entries, absent, present, Items, no_items, item}
+use Rattle.ill_schema.specs.Content.{Content, simple, sequence, list, alternative, foreign, Entries, no_entries, absent, present, Items, no_items, item}
 use Rattle.ill_text.specs.Numbers.{number_name}
-use Rattle.ill_text.specs.Shown.{row_name, row_node}
+use Rattle.ill_text.specs.Shown.{hexadecimal, row_name, row_node}
 use Rattle.ill_json.specs.declared.line.Head.{Head}
 
 -- each octet is the character of its number, in UTF-8
@@ -41,12 +42,13 @@ leaf_json row (general octets) = text_json (codes "general") octets
 leaf_json row (visible octets) = text_json (codes "visible") octets
 
 abbrev mutual
-  -- a value of this type, in a row of this name
+  -- a value of this type, in a row of this name; a foreign tree by its octets in DER, in hexadecimal
   pub value_json : List ℕ → NodeId → Content → Json
   value_json row node (simple v) = leaf_json row v
   value_json row node (sequence es) = object (entry_members node 0 es)
   value_json row node (list is) = array (item_values row (row_node node 0) is)
   value_json row node (alternative n c) = object (member (row_name node n) (value_json (row_name node n) (row_node node n) c) no_members)
+  value_json row node (foreign T) = object (member (codes "foreign") (string (hexadecimal (encoding T))) no_members)
 
   -- the entries from row i on; an absent one is no member
   pub entry_members : NodeId → ℕ → Entries → Members

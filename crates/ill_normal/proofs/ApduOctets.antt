@@ -7,7 +7,7 @@ use Rattle.ber_core.specs.Tree.{Tree, Trees, constructed, none}
 use Rattle.ber_core.specs.declared.id.Class.TheVariants.{Application}
 use Rattle.ber_leaf.specs.Profile.{profile_two}
 use Rattle.ill_schema.specs.Apdu.{Apdu, SpellsApdu, normal_form}
-use Rattle.ill_schema.specs.Content.{Content, simple, sequence, list, alternative}
+use Rattle.ill_schema.specs.Content.{Content, simple, sequence, list, alternative, foreign}
 use Rattle.ill_schema.specs.Normal.{normal_tree}
 use Rattle.ill_schema.specs.Presence.{IsCarried}
 use Rattle.ill_schema.specs.Table.{rows_of}
@@ -88,6 +88,7 @@ tagged (simple v) node t = (_, refl)
 tagged (sequence es) node t = (_, refl)
 tagged (list is) node t = (_, refl)
 tagged (alternative n c) node t = (_, refl)
+tagged (foreign V) node t = (_, refl)
 
 one_octet : (n : ℕ) → n < 31 → (rest : List ℕ) × (identifier (apdu_tag n) true ≡ (96 + n) ∷ rest)
 one_octet n h = go (nat_lt n 31) refl

@@ -29,8 +29,8 @@ use Rattle.ill_elements.specs.declared.element.Element.TheVariants.{Leaf, Sequen
 use Rattle.ill_elements.specs.Found.{Found}
 use Rattle.ill_elements.specs.declared.element.Wrapped.{Wrapped}
 use Rattle.ill_elements.proofs.Entries.{row_added, item_added}
-use Rattle.ill_elements.proofs.Meanings.{begun_means, row_means}
-use Rattle.ill_refusals.proofs.OpenElements.{inner_proper, row_proper}
+use Rattle.ill_elements.proofs.Meanings.{begun_means, begun_proper, row_means}
+use Rattle.ill_refusals.proofs.OpenElements.{row_proper}
 use Rattle.ill_refusals.proofs.WholeElements.{IsProperComponent}
 
 -- in the rows of a sequence
@@ -44,7 +44,7 @@ in_row T node n r alt f c held ts h m k =
 -- in a wrapper
 in_wrapper : (T : Tree) (w : Wrapped) (d : Due) (c : Content) → IsInnerDue (tag_of T) w d → IsValueOf (found_is d.found) c T → HoldsPart w (Some (with_alternative d.alternative c) ∷ []) (more T none)
 in_wrapper T w d c h m =
-    let q = begun_means (component_of w) d.alternative d.found c T (inner_proper profile_two (component_of w) refl refl) h.begun m in
+    let q = begun_means (component_of w) d.alternative d.found c T (begun_proper (tag_of T) w d.alternative d.found h.begun) h.begun m in
     (with_alternative d.alternative c, T, refl, refl, q.1)
 
 some-append : (cs : List Content) (c : Content) → map Some cs ++ Some c ∷ [] ≡ map Some (cs ++ c ∷ [])
@@ -134,13 +134,13 @@ one_row T node n _ t a b el c h k v = absurd h
 pub one_due : (T : Tree) (n : Next) (s t : Slot) (a b : Option ℕ) (el : CodeElement) (c : Content) → IsDueIn (tag_of T) n (due_with s a el) → IsDueIn (tag_of T) n (due_with t b el)
     → IsValueOf (element_is el) c T → (s ≡ t) × (with_alternative a c ≡ with_alternative b c)
 one_due T (Rows node n) s t a b el c h k v = one_row T node n s t a b el c h k v
-one_due T (Inner w) s t a b el c h k v = (h.slot ∙ sym k.slot, one_begun T (component_of w) a b el c (inner_proper profile_two _ refl refl) h.begun k.begun v)
+one_due T (Inner w) s t a b el c h k v = (h.slot ∙ sym k.slot, one_begun T (component_of w) a b el c (begun_proper (tag_of T) w a (Found.Element el) h.begun) h.begun k.begun v)
 one_due T (Items node) s t a b el c h k v =
     let is : Some k.row ≡ Some h.row = sym k.is_row ∙ h.is_row in
     let same : k.row ≡ h.row = cc in
     let at : Row → Component = component_at (record { node = node; row = 0 }) in
     (h.slot ∙ sym k.slot, one_begun T (at h.row) a b el c (row_proper node 0 h.row h.is_row) h.begun (subst (λ (x : Row). IsBegun (tag_of T) (at x) b (Found.Element el)) same k.begun) v)
-one_due T (Either w) s t a b el c (inl h) (inl k) v = (h.1.slot ∙ sym k.1.slot, one_begun T (component_of w) a b el c (inner_proper profile_two _ refl refl) h.1.begun k.1.begun v)
+one_due T (Either w) s t a b el c (inl h) (inl k) v = (h.1.slot ∙ sym k.1.slot, one_begun T (component_of w) a b el c (begun_proper (tag_of T) w a (Found.Element el) h.1.begun) h.1.begun k.1.begun v)
 one_due T (Either w) s t a b el c (inr h) (inr k) v = one_row T w.node 0 s t a b el c h.1 k.1 v
 one_due T (Either w) s t a b el c (inl h) (inr k) v = absurd (let q : true ≡ false = sym h.0 ∙ k.0 in cc)
 one_due T (Either w) s t a b el c (inr h) (inl k) v = absurd (let q : false ≡ true = sym h.0 ∙ k.0 in cc)

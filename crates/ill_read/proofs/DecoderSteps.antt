@@ -71,6 +71,7 @@ means_apdu (alternative n d) T h =
 means_apdu (simple v) T h = absurd (let q : None ≡ Some h.0 = h.1 in cc)
 means_apdu (content.sequence es) T h = absurd (let q : Kind.Choice ≡ Kind.Seq = h.0 in cc)
 means_apdu (content.list is) T h = absurd (let q : Kind.Choice ≡ Kind.SeqOf = h.0 in cc)
+means_apdu (content.foreign V) T h = absurd (let q : Kind.Choice ≡ Kind.Any = h.0 in cc)
 
 -- the step of what is there
 record IsMade (at : ℕ) (s rest : List ℕ) (judgement : CodeJudgement) (st : Step) : Type 0 where

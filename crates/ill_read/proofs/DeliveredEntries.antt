@@ -72,7 +72,7 @@ entry_added holds frames levels new [] slot alt el c T at rest true h d apart af
     let next : top ≡ next_at frames = sym (ap next_at h.0) in
     let due : IsDueIn (tag_of T) top (due_with slot alt el) = subst (λ n. IsDueIn (tag_of T) n (due_with slot alt el)) (sym next) d in
     let x = given top_level [] h.1 (record { trees = none; held = (refl, refl, refl); next = next; is_due = due }) in
-    let q = begun_means (component_of top_part) alt (Found.Element el) c T (inner_proper profile_two (component_of top_part) refl refl) due.begun x.0 in
+    let q = begun_means (component_of top_part) alt (Found.Element el) c T (inner_proper profile_two (component_of top_part) refl refl (λ e. cc)) due.begun x.0 in
     (with_alternative alt c, x.1, q.1)
 entry_added holds frames levels new (o ∷ path) slot alt el c T at rest true h d apart after on goes given =
     absurd (let q : h.0 ++ h.1 ∷ [] ≡ [] = sym h.4 ∙ goes.0 in some_frame h.0 h.1 q)

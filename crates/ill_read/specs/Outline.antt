@@ -6,7 +6,7 @@ use Rattle.ber_leaf.specs.Simple.{Simple}
 use Rattle.ill_schema.specs.declared.part.PartId.{PartId}
 use Rattle.ill_schema.specs.declared.part.Row.{Row}
 use Rattle.ill_schema.specs.Apdu.{Apdu, choice_of}
-use Rattle.ill_schema.specs.Content.{Content, simple, sequence, list, alternative, Entries, no_entries, absent, present, Items, no_items, item}
+use Rattle.ill_schema.specs.Content.{Content, simple, sequence, list, alternative, foreign, Entries, no_entries, absent, present, Items, no_items, item}
 use Rattle.ill_schema.specs.Table.{rows_of}
 use Rattle.ill_elements.specs.LeafTypes.{leaf_is}
 use Rattle.ill_elements.specs.Contents.{absent_content}
@@ -30,12 +30,13 @@ IsLeafMarked v ms =
     ⊎ ((part : PartId) × (ms ≡ mark.Passed part ∷ []) × IsPassed part (Some (simple v)))
 
 abbrev mutual
-  -- the marks say this value
+  -- the marks say this value; no marks say a foreign tree
   pub IsMarked : Content → List Mark → Type 0
   IsMarked (simple v) ms = IsLeafMarked v ms
   IsMarked (sequence es) ms = (inside : List Mark) × (ms ≡ mark.Sequence ∷ (inside ++ mark.End ∷ [])) × AreEntries es inside
   IsMarked (list is) ms = (inside : List Mark) × (ms ≡ mark.List ∷ (inside ++ mark.End ∷ [])) × AreItems is inside
   IsMarked (alternative n c) ms = (inside : List Mark) × (ms ≡ mark.Alternative n ∷ inside) × IsMarked c inside
+  IsMarked (foreign T) ms = ⊥
 
   -- the entries of a sequence, row by row
   pub AreEntries : Entries → List Mark → Type 0

@@ -1,5 +1,6 @@
 -- A value holds no more text than its encoding has octets, and no more list items than half of them.
 use Rattle.std.proofs.Common.{◌≡◌, ℕ, ℤ, ◌+◌, ◌*◌, ◌≤◌, true, false, List, [], ◌∷◌, ◌++◌, length, length-append, IsTrue, refl, sym, ap, subst, ◌∙◌, inl, inr, arith}
+use Rattle.ber_core.specs.Foreign.{is_foreign, foreign_levels}
 use Rattle.ber_core.specs.Identifier.{Tag, identifier}
 use Rattle.ber_core.specs.Tree.{Tree, Trees, primitive, constructed, none, more, text, text_all, Spells, SpellsAll}
 use Rattle.ber_leaf.specs.Leaf.{Leaf, boolean, integer, enumerated, general_string, visible_string, printable_string, iso_date, iso_time, value}
@@ -11,11 +12,11 @@ use Rattle.ill_schema.specs.declared.node.NodeId.TheVariants.{IllApdu}
 use Rattle.ill_schema.specs.declared.part.Presence.{Presence}
 use Rattle.ill_schema.specs.declared.part.Row.{Row}
 use Rattle.ill_schema.specs.Apdu.{choice_of}
-use Rattle.ill_schema.specs.Content.{Content, simple, sequence, list, alternative, Entries, no_entries, absent, present, Items, no_items, item}
+use Rattle.ill_schema.specs.Content.{Content, simple, sequence, list, alternative, foreign, Entries, no_entries, absent, present, Items, no_items, item}
 use Rattle.ill_schema.specs.Meaning.{Means, Matches, MatchItems}
 use Rattle.ill_schema.specs.Presence.{is_default_of, default_value, same_value}
 use Rattle.ill_schema.specs.Table.{kind_of}
-use Rattle.ill_schema.specs.Tagging.{Tagging, Tagged, untagged, implicit, explicit, explicit_or_bare}
+use Rattle.ill_schema.specs.Tagging.{Tagging, Tagged, sequence_tag, untagged, implicit, explicit, explicit_or_bare}
 use Rattle.ill_refusals.specs.Bounds.{text_size, text_octets, entries_text, items_text, list_items, entries_items, items_items, ValuesAreSmall}
 use Rattle.ill_refusals.proofs.Judgements.{id_size, length_size}
 
@@ -106,6 +107,7 @@ default_text (Presence.Default d) k (simple v) h = (same_text k d v h, refl)
 default_text (Presence.Default d) k (sequence es) h = absurd cc
 default_text (Presence.Default d) k (list is) h = absurd cc
 default_text (Presence.Default d) k (alternative n c) h = absurd cc
+default_text (Presence.Default d) k (foreign V) h = absurd cc
 default_text Presence.Must k c h = absurd cc
 default_text Presence.May k c h = absurd cc
 default_text Presence.LeftOut k c h = absurd cc
@@ -124,6 +126,8 @@ mutual
   means_within p (sequence es) node g T h = tagged g _ _ (sequence es) T (λ t U e. within_constructed (sequence es) t e.0 U _ _ e.1 refl refl (matches_within p es _ e.0 e.2)) h.1
   means_within p (list is) node g T h = tagged g _ _ (list is) T (λ t U e. within_constructed (list is) t e.0 U _ _ e.1 refl refl (items_within p is _ e.0 e.2)) h.1
   means_within p (alternative n c) node g T h = tagged g _ _ (alternative n c) T (λ t U e. let r = means_within p c _ _ U e in record { texts = r.texts; items = r.items }) h.2
+  means_within p (foreign V) node g T h =
+      tagged g sequence_tag (λ _ U. (U ≡ V) × IsTrue (is_foreign foreign_levels U)) (foreign V) T (λ t U e. let q = ap (λ z. length (text z)) e.0 in record { texts = omega (arith, q); items = one_element U }) h.1
 
   matches_within : (p : Profile) (es : Entries) (rows : List Row) (ts : Trees) → Matches p es rows ts → AreWithin (entries_text es) (entries_items es) ts
   matches_within p no_entries [] ts h = record { texts = omega arith; items = omega arith }

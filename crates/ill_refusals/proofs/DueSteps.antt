@@ -92,6 +92,7 @@ apdu_of p (alternative n body) T m =
 apdu_of p (simple w) T m = absurd (no_leaf Kind.Choice w m.0 m.1 (inr (inr refl)))
 apdu_of p (content.sequence es) T m = absurd (let q : Kind.Choice ≡ Kind.Seq = m.0 in cc)
 apdu_of p (content.list is) T m = absurd (let q : Kind.Choice ≡ Kind.SeqOf = m.0 in cc)
+apdu_of p (content.foreign V) T m = absurd (let q : Kind.Choice ≡ Kind.Any = m.0 in cc)
 
 -- a whole tree is appended, or is the message
 pub add_tree : (p : Profile) (s : List ℕ) (path : List Open) (T : Tree) (u b x : List ℕ) (d : Due) → s ≡ u ++ (b ++ x) → IsPlace p u path → due p (tag_of T) (next_in p path) ≡ Some d → IsWhole p d T

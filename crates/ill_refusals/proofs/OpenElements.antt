@@ -29,7 +29,7 @@ use Rattle.ill_schema.specs.Table.{kind_of, rows_of}
 use Rattle.ill_schema.specs.TableFacts.{node_tags, row_tags}
 use Rattle.ill_schema.proofs.Tags.{is_proper, is_proper_row, is_tagged, Mem, tables_proper, at_row}
 use Rattle.std.proofs.lemmas.Bool.{and_parts}
-use Rattle.ill_schema.proofs.Unique.{means_begins, matches_begins, no_leaf, sequence_apart}
+use Rattle.ill_schema.proofs.Unique.{means_begins, matches_begins, no_leaf, proper_untagged, sequence_apart}
 use Rattle.ill_refusals.proofs.Rows.{AreRead, starting, starting_some, two_cases, same_tag-is, sequence_read, tables_started, are_started, same_tags, same_tags-is, tag_at, next_after-more, due-found}
 use Rattle.ill_refusals.proofs.WholeElements.{IsElement, IsProper, IsProperComponent, is_carried, component_of, start_element, start_value, start_proper}
 
@@ -69,9 +69,9 @@ rows_proper p node n (row ∷ rs) h k =
 pub components_proper : (p : Profile) (node : NodeId) → AllProper p (components p node)
 components_proper p node = rows_proper p node 0 (rows_of node) (tables_proper p node) (at_carried p.general p.bare p.limit p.full node)
 
-pub inner_proper : (p : Profile) (c : Component) → c.presence ≡ Presence.Must → c.tagging ≡ untagged → IsProperComponent p c
-inner_proper p c e f = record {
-  proper = subst (λ g. IsTrue (is_proper g (kind_of c.node))) (sym f) refl;
+pub inner_proper : (p : Profile) (c : Component) → c.presence ≡ Presence.Must → c.tagging ≡ untagged → (kind_of c.node ≡ Kind.Any → ⊥) → IsProperComponent p c
+inner_proper p c e f n = record {
+  proper = subst (λ g. IsTrue (is_proper g (kind_of c.node))) (sym f) (proper_untagged (kind_of c.node) n);
   carried = rw (e, f) refl;
 }
 
@@ -115,7 +115,7 @@ due_found p t (items c) d ok h = found (start_of p t c) refl
         subst (λ x. IsFound p t x) r (s, e, refl, ok, ok)
     found None e = absurd (let q : None ≡ Some d = sym (ap (items_body c) e) ∙ h in cc)
 due_found p t (either c) d ok h = elim (two_cases (same_tag t sequence_tag)) [
-  | inl e ↦ found_in p t (c ∷ []) d (inner_proper p c ok.0 ok.1, tt) (sym (ap (λ b. elim b as (λ _. Option Due) [ true ↦ due_in p t (c ∷ []) | false ↦ due_in p t (components p c.node) ]) e) ∙ h)
+  | inl e ↦ found_in p t (c ∷ []) d (inner_proper p c ok.0 ok.1 (λ q. let z : Kind.Seq ≡ Kind.Any = sym ok.2 ∙ q in cc), tt) (sym (ap (λ b. elim b as (λ _. Option Due) [ true ↦ due_in p t (c ∷ []) | false ↦ due_in p t (components p c.node) ]) e) ∙ h)
   | inr e ↦ found_in p t (components p c.node) d (components_proper p c.node) (sym (ap (λ b. elim b as (λ _. Option Due) [ true ↦ due_in p t (c ∷ []) | false ↦ due_in p t (components p c.node) ]) e) ∙ h)
 ]
 due_found p t segments d ok h = elim (two_cases (same_tag t octet_string)) [
@@ -153,7 +153,7 @@ pub opening_proper : (p : Profile) (e : Element) → IsProper p e → IsProperNe
 opening_proper p (leaf l) h = tt
 opening_proper p (sequence node) h = components_proper p node
 opening_proper p (list node) h = first_proper p (components p node) (components_proper p node)
-opening_proper p (wrapper c) h = (inner_proper p c h.0 h.1, tt)
+opening_proper p (wrapper c) h = (inner_proper p c h.0 h.1 h.2, tt)
 opening_proper p (loose_wrapper c) h = h
 opening_proper p segment h = tt
 opening_proper p (left_out x) h = tt
@@ -181,6 +181,7 @@ same_simple (Kind.Leaf LeafKind.Printable) x = (signed_Decides x x).1 refl
 same_simple Kind.Seq x = (signed_Decides x x).1 refl
 same_simple Kind.SeqOf x = (signed_Decides x x).1 refl
 same_simple Kind.Choice x = (signed_Decides x x).1 refl
+same_simple Kind.Any x = (signed_Decides x x).1 refl
 same_simple Kind.IllString x = (signed_Decides x x).1 refl
 
 entry_skip : (p : Profile) (row : Row) (rs : List Row) (ts : Trees) → (row.presence ≡ Presence.Must → ⊥) → ((es : Entries) × Matches p es rs ts) → (es : Entries) × Matches p es (row ∷ rs) ts
@@ -339,9 +340,9 @@ pub inner_tags : (p : Profile) (c : Component) → c.presence ≡ Presence.Must 
 inner_tags p c e f =
     ap₂ (λ (pr : Presence) (g : Tagging). map tag_at (starts p (untagged_component c.part pr g c.node))) e f ∙ same_tags-is _ _ (at_inner p.general p.bare p.limit p.full c.part c.node)
 
-wrapped_read : (p : Profile) (c : Component) (U : Tree) (v : Content) → c.presence ≡ Presence.Must → c.tagging ≡ untagged → Means p v c.node untagged U → AreRead p (rows (c ∷ [])) (more U none)
-wrapped_read p c U v e f m =
-    let s = starting_some (tag_of U) (starts p c) (subst (λ z. Mem (tag_of U) z) (sym (inner_tags p c e f)) (means_begins p v c.node untagged U refl m)) in
+wrapped_read : (p : Profile) (c : Component) (U : Tree) (v : Content) → c.presence ≡ Presence.Must → c.tagging ≡ untagged → (kind_of c.node ≡ Kind.Any → ⊥) → Means p v c.node untagged U → AreRead p (rows (c ∷ [])) (more U none)
+wrapped_read p c U v e f n m =
+    let s = starting_some (tag_of U) (starts p c) (subst (λ z. Mem (tag_of U) z) (sym (inner_tags p c e f)) (means_begins p v c.node untagged U (proper_untagged (kind_of c.node) n) m)) in
     let d = due-found p (tag_of U) c [] s.0 s.1 in
     record {
       whole = (part c s.0.element (rows []), d, (subst IsCarried (sym e) tt, (v, subst (λ g. Means p v c.node g U) (sym f) m)), tt);
@@ -377,11 +378,12 @@ sequence_begins p (content.sequence es) node U k m = ap tag_of m.1.1
 sequence_begins p (simple w) node U k m = absurd (no_leaf (kind_of node) w m.0 m.1 (inl k))
 sequence_begins p (content.list is) node U k m = absurd (let q : Kind.Seq ≡ Kind.SeqOf = sym k ∙ m.0 in cc)
 sequence_begins p (alternative n w) node U k m = absurd (let q : Kind.Seq ≡ Kind.Choice = sym k ∙ m.1.0 in cc)
+sequence_begins p (content.foreign V) node U k m = absurd (let q : Kind.Seq ≡ Kind.Any = sym k ∙ m.0 in cc)
 
 loose_wrapped_read : (p : Profile) (c : Component) (U : Tree) (v : Content) → IsProper p (loose_wrapper c) → Means p v c.node untagged U → AreRead p (either c) (more U none)
 loose_wrapped_read p c U v ok m =
     let e : same_tag (tag_of U) sequence_tag ≡ true = ap (λ t. same_tag t sequence_tag) (sequence_begins p v c.node U ok.2 m) in
-    read_alike p (rows (c ∷ [])) (either c) U none (sym (ap (either_body p (tag_of U) c) e)) (wrapped_read p c U v ok.0 ok.1 m)
+    read_alike p (rows (c ∷ [])) (either c) U none (sym (ap (either_body p (tag_of U) c) e)) (wrapped_read p c U v ok.0 ok.1 (λ q. let z : Kind.Seq ≡ Kind.Any = sym ok.2 ∙ q in cc) m)
 
 loose_bare_read : (p : Profile) (c : Component) (es : Entries) (ts : Trees) → IsProper p (loose_wrapper c) → Matches p es (rows_of c.node) ts → AreRead p (either c) ts
 loose_bare_read p c es none ok m = record { whole = tt; complete = (sequence_read p c.node es none ok.2 m).complete }
@@ -408,7 +410,7 @@ element_read p (leaf l) t ts ok h = (segments_read p ts h.0.1, h.0.0, h.2)
 element_read p (sequence node) t ts ok h = (sequence_read p node h.3.0 ts ok (subst (λ z. Matches p h.3.0 (rows_of node) z) (same_inside _ _ _ _ h.2) h.3.1), refl, refl)
 element_read p (list node) t ts ok h =
     (list_read p node (rows_of node) h.3.0 ts (items_carried node ok) (tables_proper p node) (tables_started p node) (subst (λ z. MatchItems p h.3.0 (rows_of node) z) (same_inside _ _ _ _ h.2) h.3.1), refl, refl)
-element_read p (wrapper c) t ts ok h = (subst (λ z. AreRead p (rows (c ∷ [])) z) (same_inside _ _ _ _ h.2) (wrapped_read p c h.1 h.3.0 ok.0 ok.1 h.3.1), refl, refl)
+element_read p (wrapper c) t ts ok h = (subst (λ z. AreRead p (rows (c ∷ [])) z) (same_inside _ _ _ _ h.2) (wrapped_read p c h.1 h.3.0 ok.0 ok.1 ok.2 h.3.1), refl, refl)
 element_read p (loose_wrapper c) t ts ok (inl h) = (subst (λ z. AreRead p (either c) z) (same_inside _ _ _ _ h.2) (loose_wrapped_read p c h.1 h.3.0 ok h.3.1), refl, refl)
 element_read p (loose_wrapper c) t ts ok (inr h) = (subst (λ z. AreRead p (either c) z) (same_inside _ _ _ _ h.2) (loose_bare_read p c h.3.0 h.1 ok h.3.1), refl, refl)
 element_read p segment t ts ok h = (segments_read p ts h, refl, refl)

@@ -25,7 +25,7 @@ abbrev pub root : Component
 root = record { part = record { node = IllApdu; row = 0 }; presence = Presence.Must; tagging = untagged; node = IllApdu }
 
 pub root_proper : (p : Profile) → IsProperNext p (next_in p [])
-root_proper p = (inner_proper p root refl refl, tt)
+root_proper p = (inner_proper p root refl refl (λ e. cc), tt)
 
 pub place_proper : (p : Profile) (path : List Open) (u : List ℕ) → IsPlace p u path → IsProperNext p (next_in p path)
 place_proper p [] u h = root_proper p

@@ -21,7 +21,7 @@ use Rattle.ill_schema.specs.Tagging.{Tagging, untagged, implicit, explicit, expl
 use Rattle.ill_schema.specs.Presence.{IsCarried}
 use Rattle.ill_schema.specs.Table.{kind_of, rows_of}
 use Rattle.ill_schema.specs.TableFacts.{own_tags, alternative_tags, tagging_tags}
-use Rattle.ill_schema.proofs.Tags.{is_proper, is_proper_row, is_tagged, Mem, same_place, at_row, tables_proper}
+use Rattle.ill_schema.proofs.Tags.{improper_any, is_proper, is_proper_row, is_tagged, Mem, same_place, at_row, tables_proper}
 use Rattle.ill_schema.proofs.Unique.{leaf_at, leaf_is, no_leaf, kind_says, means_begins, good_choice, same_tags}
 use Rattle.ill_refusals.proofs.Rows.{same_tag-is, starting, two_cases}
 
@@ -41,6 +41,7 @@ abbrev pub element_at : Kind → NodeId → ℕ → Element
 element_at Kind.Seq node n = sequence node
 element_at Kind.SeqOf node n = list node
 element_at Kind.Choice node n = segment
+element_at Kind.Any node n = segment
 element_at kind node n = leaf (leaf_at kind n)
 
 pub one_start : (t u : Tag) (e : Element) (s : Start) → starting t (start u e ∷ []) ≡ Some s → (u ≡ t) × (s.element ≡ e)
@@ -63,6 +64,7 @@ unfolding leaf_at
 own_start Kind.Seq node t s h = let q = one_start t _ _ s h in (inl (sym q.0), q.1)
 own_start Kind.SeqOf node t s h = let q = one_start t _ _ s h in (inl (sym q.0), q.1)
 own_start Kind.Choice node t s h = absurd cc
+own_start Kind.Any node t s h = absurd cc
 own_start (Kind.Leaf LeafKind.Boolean) node t s h = let q = one_start t _ _ s h in (inl (sym q.0), q.1)
 own_start (Kind.Leaf LeafKind.Integer) node t s h = let q = one_start t _ _ s h in (inl (sym q.0), q.1)
 own_start (Kind.Leaf LeafKind.Enumerated) node t s h = let q = one_start t _ _ s h in (inl (sym q.0), q.1)
@@ -80,6 +82,7 @@ unfolding leaf_at
 implicit_start Kind.Seq node t u s ok h = let q = one_start t _ _ s h in (q.0, λ e. cc, q.1)
 implicit_start Kind.SeqOf node t u s ok h = let q = one_start t _ _ s h in (q.0, λ e. cc, q.1)
 implicit_start Kind.Choice node t u s ok h = absurd cc
+implicit_start Kind.Any node t u s ok h = absurd cc
 implicit_start (Kind.Leaf LeafKind.Boolean) node t u s ok h = let q = one_start t _ _ s h in (q.0, λ e. cc, q.1)
 implicit_start (Kind.Leaf LeafKind.Integer) node t u s ok h = let q = one_start t _ _ s h in (q.0, λ e. cc, q.1)
 implicit_start (Kind.Leaf LeafKind.Enumerated) node t u s ok h = let q = one_start t _ _ s h in (q.0, λ e. cc, q.1)
@@ -92,6 +95,7 @@ is_leaf : (k : Kind) (v : Simple) (node : NodeId) (l : Leaf) (e : ℕ) → leaf_
 is_leaf Kind.Seq v node l e h = absurd cc
 is_leaf Kind.SeqOf v node l e h = absurd cc
 is_leaf Kind.Choice v node l e h = absurd cc
+is_leaf Kind.Any v node l e h = absurd cc
 is_leaf Kind.IllString v node l e h = refl
 is_leaf (Kind.Leaf x) v node l e h = refl
 
@@ -100,14 +104,15 @@ leaf_element : (p : Profile) (v : Simple) (node : NodeId) (T : Tree) (k : Kind) 
 leaf_element p v node T k l u e a h = subst (λ x. IsElement p x T) (ap leaf a ∙ sym (is_leaf k v node l _ e)) (h.1, h.2.0, h.2.1)
 
 -- at a kind's own tag: what means a value is a whole element, and the other way round
-own_element : (p : Profile) (v : Content) (node : NodeId) (T : Tree) → (kind_of node ≡ Kind.Choice → ⊥) → Means p v node untagged T → IsElement p (element_at (kind_of node) node (tag_of T).number) T
-own_element p (simple v) node T n h =
+own_element : (p : Profile) (v : Content) (node : NodeId) (T : Tree) → (kind_of node ≡ Kind.Choice → ⊥) → (kind_of node ≡ Kind.Any → ⊥) → Means p v node untagged T → IsElement p (element_at (kind_of node) node (tag_of T).number) T
+own_element p (simple v) node T n o h =
     leaf_element p v node T (kind_of node) h.0 (leaf_tag h.0) h.1 (leaf_is (kind_of node) v h.0 h.1 ∙ ap (λ (x : Tag). leaf_at (kind_of node) x.number) (sym h.2.0)) h.2
-own_element p (content.sequence es) node T n h =
+own_element p (content.sequence es) node T n o h =
     subst (λ k. IsElement p (element_at k node (tag_of T).number) T) (sym h.0) (sequence_tag, h.1.0, h.1.1, (es, h.1.2))
-own_element p (content.list is) node T n h =
+own_element p (content.list is) node T n o h =
     subst (λ k. IsElement p (element_at k node (tag_of T).number) T) (sym h.0) (sequence_tag, h.1.0, h.1.1, (is, h.1.2))
-own_element p (alternative m w) node T n h = absurd (n h.1.0)
+own_element p (alternative m w) node T n o h = absurd (n h.1.0)
+own_element p (content.foreign V) node T n o h = absurd (o h.0)
 
 pub improper_choice : (t : Tag) (k : Kind) → IsTrue (is_proper (implicit t) k) → k ≡ Kind.Choice → ⊥
 improper_choice t k ok e = let x : IsTrue (is_proper (implicit t) Kind.Choice) = subst (λ z. IsTrue (is_proper (implicit t) z)) e ok in cc
@@ -122,12 +127,14 @@ implicit_element p (content.sequence es) node t T ok h =
 implicit_element p (content.list is) node t T ok h =
     subst (λ k. IsElement p (element_at k node (tag_of T).number) T) (sym h.0) (t, h.1.0, h.1.1, (is, h.1.2))
 implicit_element p (alternative m w) node t T ok h = absurd (improper_choice t (kind_of node) ok h.1.0)
+implicit_element p (content.foreign V) node t T ok h = absurd (improper_any (implicit t) (kind_of node) ok h.0)
 
 -- the tag of an element of a kind where no other is in its place
 unfoldable pub own_of : Kind → ℕ → Tag
 own_of Kind.Seq n = sequence_tag
 own_of Kind.SeqOf n = sequence_tag
 own_of Kind.Choice n = sequence_tag
+own_of Kind.Any n = sequence_tag
 own_of kind n = leaf_tag (leaf_at kind n)
 
 pub own_is : (k : Kind) (t : Tag) → Mem t (own_tags k) → t ≡ own_of k t.number
@@ -152,12 +159,14 @@ own_is (Kind.Leaf LeafKind.Time) t (inr m) = absurd m
 own_is (Kind.Leaf LeafKind.Printable) t (inr m) = absurd m
 own_is Kind.IllString t (inr (inr m)) = absurd m
 own_is Kind.Choice t m = absurd m
+own_is Kind.Any t m = absurd m
 
-pub leaf_value : (k : Kind) (n : ℕ) (octets : List ℕ) → ((k ≡ Kind.Seq) ⊎ (k ≡ Kind.SeqOf) ⊎ (k ≡ Kind.Choice) → ⊥) → leaf_of k (value (leaf_at k n) octets) ≡ Some (leaf_at k n)
+pub leaf_value : (k : Kind) (n : ℕ) (octets : List ℕ) → ((k ≡ Kind.Seq) ⊎ (k ≡ Kind.SeqOf) ⊎ (k ≡ Kind.Choice) ⊎ (k ≡ Kind.Any) → ⊥) → leaf_of k (value (leaf_at k n) octets) ≡ Some (leaf_at k n)
 unfolding leaf_at
 leaf_value Kind.Seq n octets h = absurd (h (inl refl))
 leaf_value Kind.SeqOf n octets h = absurd (h (inr (inl refl)))
-leaf_value Kind.Choice n octets h = absurd (h (inr (inr refl)))
+leaf_value Kind.Choice n octets h = absurd (h (inr (inr (inl refl))))
+leaf_value Kind.Any n octets h = absurd (h (inr (inr (inr refl))))
 leaf_value (Kind.Leaf LeafKind.Boolean) n octets h = refl
 leaf_value (Kind.Leaf LeafKind.Integer) n octets h = refl
 leaf_value (Kind.Leaf LeafKind.Enumerated) n octets h = refl
@@ -167,39 +176,42 @@ leaf_value (Kind.Leaf LeafKind.Printable) n octets h = refl
 leaf_value Kind.IllString n octets h = elim (two_cases (nat_eq n 27)) [ inl e ↦ rw e refl | inr e ↦ rw e refl ]
 
 -- a whole element of a kind means a value, under a tagging that it suits
-kind_value : (p : Profile) (node : NodeId) (g : Tagging) (T : Tree) (k : Kind) → kind_of node ≡ k → (k ≡ Kind.Choice → ⊥)
+kind_value : (p : Profile) (node : NodeId) (g : Tagging) (T : Tree) (k : Kind) → kind_of node ≡ k → (k ≡ Kind.Choice → ⊥) → (k ≡ Kind.Any → ⊥)
     → ((E : Tag → Tree → Type 0) → E (tag_of T) T → Tagged g (own_of k (tag_of T).number) E T)
     → IsElement p (element_at k node (tag_of T).number) T → (v : Content) × Means p v node g T
 unfolding own_of
-kind_value p node g T Kind.Seq e n lift h =
+kind_value p node g T Kind.Seq e n o lift h =
     (content.sequence h.3.0, (e, lift _ (h.1, h.2 ∙ ap (λ t. constructed t h.1) (sym (ap tag_of h.2)), h.3.1)))
-kind_value p node g T Kind.SeqOf e n lift h =
+kind_value p node g T Kind.SeqOf e n o lift h =
     (content.list h.3.0, (e, lift _ (h.1, h.2 ∙ ap (λ t. constructed t h.1) (sym (ap tag_of h.2)), h.3.1)))
-kind_value p node g T Kind.Choice e n lift h = absurd (n refl)
-kind_value p node g T Kind.IllString e n lift h =
+kind_value p node g T Kind.Choice e n o lift h = absurd (n refl)
+kind_value p node g T Kind.Any e n o lift h = absurd (o refl)
+kind_value p node g T Kind.IllString e n o lift h =
     let l = leaf_at Kind.IllString (tag_of T).number in
     (simple (value l (text T)), (l, ap (λ k. leaf_of k (value l (text T))) e ∙ leaf_value Kind.IllString (tag_of T).number (text T) (λ x. no_shape x), lift _ (refl, h.0, (h.1, h.2, refl))))
   where
-    no_shape : (Kind.IllString ≡ Kind.Seq) ⊎ (Kind.IllString ≡ Kind.SeqOf) ⊎ (Kind.IllString ≡ Kind.Choice) → ⊥
+    no_shape : (Kind.IllString ≡ Kind.Seq) ⊎ (Kind.IllString ≡ Kind.SeqOf) ⊎ (Kind.IllString ≡ Kind.Choice) ⊎ (Kind.IllString ≡ Kind.Any) → ⊥
     no_shape (inl x) = cc
     no_shape (inr (inl x)) = cc
-    no_shape (inr (inr x)) = cc
-kind_value p node g T (Kind.Leaf x) e n lift h =
+    no_shape (inr (inr (inl x))) = cc
+    no_shape (inr (inr (inr x))) = cc
+kind_value p node g T (Kind.Leaf x) e n o lift h =
     let l = leaf_at (Kind.Leaf x) (tag_of T).number in
     (simple (value l (text T)), (l, ap (λ k. leaf_of k (value l (text T))) e ∙ leaf_value (Kind.Leaf x) (tag_of T).number (text T) (λ y. no_shape x y), lift _ (refl, h.0, (h.1, h.2, refl))))
   where
-    no_shape : (x : LeafKind) → (Kind.Leaf x ≡ Kind.Seq) ⊎ (Kind.Leaf x ≡ Kind.SeqOf) ⊎ (Kind.Leaf x ≡ Kind.Choice) → ⊥
+    no_shape : (x : LeafKind) → (Kind.Leaf x ≡ Kind.Seq) ⊎ (Kind.Leaf x ≡ Kind.SeqOf) ⊎ (Kind.Leaf x ≡ Kind.Choice) ⊎ (Kind.Leaf x ≡ Kind.Any) → ⊥
     no_shape x (inl y) = cc
     no_shape x (inr (inl y)) = cc
-    no_shape x (inr (inr y)) = cc
+    no_shape x (inr (inr (inl y))) = cc
+    no_shape x (inr (inr (inr y))) = cc
 
-own_value : (p : Profile) (node : NodeId) (T : Tree) → (kind_of node ≡ Kind.Choice → ⊥) → Mem (tag_of T) (own_tags (kind_of node)) → IsElement p (element_at (kind_of node) node (tag_of T).number) T
+own_value : (p : Profile) (node : NodeId) (T : Tree) → (kind_of node ≡ Kind.Choice → ⊥) → (kind_of node ≡ Kind.Any → ⊥) → Mem (tag_of T) (own_tags (kind_of node)) → IsElement p (element_at (kind_of node) node (tag_of T).number) T
     → (v : Content) × Means p v node untagged T
-own_value p node T n m h = kind_value p node untagged T (kind_of node) refl n (λ E x. subst (λ t. E t T) (own_is (kind_of node) (tag_of T) m) x) h
+own_value p node T n o m h = kind_value p node untagged T (kind_of node) refl n o (λ E x. subst (λ t. E t T) (own_is (kind_of node) (tag_of T) m) x) h
 
 implicit_value : (p : Profile) (node : NodeId) (t : Tag) (T : Tree) → IsTrue (is_proper (implicit t) (kind_of node)) → t ≡ tag_of T
     → IsElement p (element_at (kind_of node) node (tag_of T).number) T → (v : Content) × Means p v node (implicit t) T
-implicit_value p node t T ok e h = kind_value p node (implicit t) T (kind_of node) refl (λ k. improper_choice t (kind_of node) ok k) (λ E x. subst (λ u. E u T) (sym e) x) h
+implicit_value p node t T ok e h = kind_value p node (implicit t) T (kind_of node) refl (λ k. improper_choice t (kind_of node) ok k) (λ k. improper_any (implicit t) (kind_of node) ok k) (λ E x. subst (λ u. E u T) (sym e) x) h
 
 -- an explicit tag is round what means the value
 pub explicit_means : (p : Profile) (v : Content) (node : NodeId) (t : Tag) (T : Tree) → Means p v node (explicit t) T ↔ ((U : Tree) × (T ≡ constructed t (more U none)) × Means p v node untagged U)
@@ -207,6 +219,7 @@ explicit_means p (simple v) node t T = ((λ h. (h.2.0, h.2.1, (h.0, h.1, h.2.2))
 explicit_means p (content.sequence es) node t T = ((λ h. (h.1.0, h.1.1, (h.0, h.1.2))), (λ h. (h.2.0, (h.0, h.1, h.2.1))))
 explicit_means p (content.list is) node t T = ((λ h. (h.1.0, h.1.1, (h.0, h.1.2))), (λ h. (h.2.0, (h.0, h.1, h.2.1))))
 explicit_means p (alternative m w) node t T = ((λ h. (h.2.0, h.2.1, (h.0, h.1, h.2.2))), (λ h. (h.2.0, h.2.1, (h.0, h.1, h.2.2))))
+explicit_means p (content.foreign V) node t T = ((λ h. (h.1.0, h.1.1, (h.0, h.1.2))), (λ h. (h.2.0, (h.0, h.1, h.2.1))))
 
 abbrev pub is_carried : Presence → Bool
 is_carried Presence.LeftOut = false
@@ -222,7 +235,7 @@ abbrev pub IsProper : Profile → Element → Type 0
 IsProper p (leaf l) = Unit {0}
 IsProper p (sequence node) = kind_of node ≡ Kind.Seq
 IsProper p (list node) = kind_of node ≡ Kind.SeqOf
-IsProper p (wrapper c) = (c.presence ≡ Presence.Must) × (c.tagging ≡ untagged)
+IsProper p (wrapper c) = (c.presence ≡ Presence.Must) × (c.tagging ≡ untagged) × (kind_of c.node ≡ Kind.Any → ⊥)
 IsProper p (loose_wrapper c) = (c.presence ≡ Presence.Must) × (c.tagging ≡ untagged) × (kind_of c.node ≡ Kind.Seq)
 IsProper p segment = Unit {0}
 IsProper p (left_out part) = Unit {0}
@@ -231,6 +244,7 @@ pub bare_kind : (t : Tag) (k : Kind) → IsTrue (is_proper (explicit_or_bare t) 
 bare_kind t Kind.Seq h = refl
 bare_kind t Kind.SeqOf h = absurd cc
 bare_kind t Kind.Choice h = absurd cc
+bare_kind t Kind.Any h = absurd cc
 bare_kind t Kind.IllString h = absurd cc
 bare_kind t (Kind.Leaf x) h = absurd cc
 
@@ -238,13 +252,14 @@ own_proper : (p : Profile) (node : NodeId) (k : Kind) (n : ℕ) → kind_of node
 own_proper p node Kind.Seq n e = e
 own_proper p node Kind.SeqOf n e = e
 own_proper p node Kind.Choice n e = tt
+own_proper p node Kind.Any n e = tt
 own_proper p node Kind.IllString n e = tt
 own_proper p node (Kind.Leaf x) n e = tt
 
 tagged_proper : (p : Profile) (g : Tagging) (c : Component) (t : Tag) (s : Start) → IsTrue (is_proper g (kind_of c.node)) → starting t (tagged_starts g c) ≡ Some s → IsProper p s.element
 tagged_proper p untagged c t s ok h = subst (λ x. IsProper p x) (sym ((own_start (kind_of c.node) c.node t s h).1)) (own_proper p c.node (kind_of c.node) _ refl)
 tagged_proper p (implicit u) c t s ok h = subst (λ x. IsProper p x) (sym ((implicit_start (kind_of c.node) c.node t u s ok h).2)) (own_proper p c.node (kind_of c.node) _ refl)
-tagged_proper p (explicit u) c t s ok h = subst (λ x. IsProper p x) (sym ((one_start t u (wrapper (inner c)) s h).1)) (refl, refl)
+tagged_proper p (explicit u) c t s ok h = subst (λ x. IsProper p x) (sym ((one_start t u (wrapper (inner c)) s h).1)) (refl, refl, improper_any (explicit u) (kind_of c.node) ok)
 tagged_proper p (explicit_or_bare u) c t s ok h = subst (λ x. IsProper p x) (sym ((one_start t u (loose_wrapper (inner c)) s h).1)) (refl, refl, bare_kind u (kind_of c.node) ok)
 
 pub choice_starts : (k : Kind) (node : NodeId) (t : Tag) (s : Start) → starting t (own_starts k node) ≡ Some s → k ≡ Kind.Choice → ⊥
@@ -253,7 +268,7 @@ choice_starts k node t s h e = let r : starting t (own_starts Kind.Choice node) 
 tagged_element : (p : Profile) (g : Tagging) (c : Component) (s : Start) (v : Content) (T : Tree) → IsTrue (is_proper g (kind_of c.node)) → starting (tag_of T) (tagged_starts g c) ≡ Some s
     → Means p v c.node g T → IsElement p s.element T
 tagged_element p untagged c s v T ok h m =
-    subst (λ x. IsElement p x T) (sym ((own_start (kind_of c.node) c.node (tag_of T) s h).1)) (own_element p v c.node T (λ e. choice_starts (kind_of c.node) c.node (tag_of T) s h e) m)
+    subst (λ x. IsElement p x T) (sym ((own_start (kind_of c.node) c.node (tag_of T) s h).1)) (own_element p v c.node T (λ e. choice_starts (kind_of c.node) c.node (tag_of T) s h e) (improper_any untagged (kind_of c.node) ok) m)
 tagged_element p (implicit u) c s v T ok h m =
     subst (λ x. IsElement p x T) (sym ((implicit_start (kind_of c.node) c.node (tag_of T) u s ok h).2)) (implicit_element p v c.node u T ok m)
 tagged_element p (explicit u) c s v T ok h m =
@@ -268,12 +283,13 @@ tagged_element p (explicit_or_bare u) c s v T ok h m =
     loose (simple w) k x = absurd (no_leaf (kind_of c.node) w x.0 x.1 (inl k))
     loose (content.list is) k x = absurd (let q : Kind.Seq ≡ Kind.SeqOf = sym k ∙ x.0 in cc)
     loose (alternative n w) k x = absurd (let q : Kind.Seq ≡ Kind.Choice = sym k ∙ x.1.0 in cc)
+    loose (content.foreign V) k x = absurd (let q : Kind.Seq ≡ Kind.Any = sym k ∙ x.0 in cc)
 
 tagged_value : (p : Profile) (g : Tagging) (c : Component) (s : Start) (T : Tree) → IsTrue (is_proper g (kind_of c.node)) → starting (tag_of T) (tagged_starts g c) ≡ Some s
     → IsElement p s.element T → (v : Content) × Means p v c.node g T
 tagged_value p untagged c s T ok h m =
     let q = own_start (kind_of c.node) c.node (tag_of T) s h in
-    own_value p c.node T (λ e. choice_starts (kind_of c.node) c.node (tag_of T) s h e) q.0 (subst (λ x. IsElement p x T) q.1 m)
+    own_value p c.node T (λ e. choice_starts (kind_of c.node) c.node (tag_of T) s h e) (improper_any untagged (kind_of c.node) ok) q.0 (subst (λ x. IsElement p x T) q.1 m)
 tagged_value p (implicit u) c s T ok h m =
     let q = implicit_start (kind_of c.node) c.node (tag_of T) u s ok h in
     implicit_value p c.node u T ok q.0 (subst (λ x. IsElement p x T) q.2 m)
@@ -290,6 +306,7 @@ tagged_value p (explicit_or_bare u) c s T ok h m =
     sequence_value U (simple w) k x e = absurd (no_leaf (kind_of c.node) w x.0 x.1 (inl k))
     sequence_value U (content.list is) k x e = absurd (let q : Kind.Seq ≡ Kind.SeqOf = sym k ∙ x.0 in cc)
     sequence_value U (alternative n w) k x e = absurd (let q : Kind.Seq ≡ Kind.Choice = sym k ∙ x.1.0 in cc)
+    sequence_value U (content.foreign V) k x e = absurd (let q : Kind.Seq ≡ Kind.Any = sym k ∙ x.0 in cc)
 
     loose : u ≡ tag_of T → IsElement p (loose_wrapper (inner c)) T → (v : Content) × Means p v c.node (explicit_or_bare u) T
     loose e (inl x) = sequence_value x.1 x.3.0 (bare_kind u (kind_of c.node) ok) x.3.1 (x.2 ∙ ap (λ t. constructed t (more x.1 none)) (sym (ap tag_of x.2) ∙ sym e))
@@ -369,6 +386,7 @@ no_alternatives p Kind.Choice node t s h = (refl, h)
 no_alternatives p Kind.Seq node t s h = absurd cc
 no_alternatives p Kind.SeqOf node t s h = absurd cc
 no_alternatives p Kind.IllString node t s h = absurd cc
+no_alternatives p Kind.Any node t s h = absurd cc
 no_alternatives p (Kind.Leaf x) node t s h = absurd cc
 
 starts_found : (p : Profile) (g : Tagging) (c : Component) (t : Tag) (s : Start) → c.tagging ≡ g → starting t (starts p c) ≡ Some s
@@ -419,6 +437,7 @@ start_element p c s v T ok h i m = elim (starts_found p c.tagging c (tag_of T) s
         → starting (tag_of T) (flat_map component_starts (components p node)) ≡ Some s → IsElement p s.element T
     choice_element node k (simple w) x f = absurd (no_leaf (kind_of node) w x.0 x.1 (inr (inr k)))
     choice_element node k (content.sequence es) x f = absurd (let q : Kind.Seq ≡ Kind.Choice = sym x.0 ∙ k in cc)
+    choice_element node k (content.foreign V) x f = absurd (let q : Kind.Any ≡ Kind.Choice = sym x.0 ∙ k in cc)
     choice_element node k (content.list is) x f = absurd (let q : Kind.SeqOf ≡ Kind.Choice = sym x.0 ∙ k in cc)
     choice_element node k (alternative n w) x f =
         let r = alternatives_found p (tag_of T) node 0 (rows_of node) s f in

@@ -1,9 +1,10 @@
 -- How much an APDU's value holds beside the octets that spell it.
 use Rattle.std.specs.Prelude.{ℕ, ◌+◌, ◌*◌, ◌≤◌, List, length}
+use Rattle.ber_core.specs.Tree.{text}
 use Rattle.ber_leaf.specs.Profile.{Profile}
 use Rattle.ber_leaf.specs.Simple.{Simple, flag, whole, date, time, printable, general, visible}
 use Rattle.ill_schema.specs.Apdu.{Apdu, Encodes}
-use Rattle.ill_schema.specs.Content.{Content, simple, sequence, list, alternative, Entries, no_entries, absent, present, Items, no_items, item}
+use Rattle.ill_schema.specs.Content.{Content, simple, sequence, list, alternative, foreign, Entries, no_entries, absent, present, Items, no_items, item}
 
 abbrev pub text_size : Simple → ℕ
 text_size (flag b) = 0
@@ -15,12 +16,13 @@ text_size (general octets) = length octets
 text_size (visible octets) = length octets
 
 abbrev mutual
-  -- the octets of all texts
+  -- the octets of all texts, and of all primitive elements of foreign trees
   pub text_octets : Content → ℕ
   text_octets (simple v) = text_size v
   text_octets (sequence es) = entries_text es
   text_octets (list is) = items_text is
   text_octets (alternative n c) = text_octets c
+  text_octets (foreign T) = length (text T)
 
   pub entries_text : Entries → ℕ
   entries_text no_entries = 0
@@ -38,6 +40,7 @@ abbrev mutual
   list_items (sequence es) = entries_items es
   list_items (list is) = items_items is
   list_items (alternative n c) = list_items c
+  list_items (foreign T) = 0
 
   pub entries_items : Entries → ℕ
   entries_items no_entries = 0

@@ -68,6 +68,7 @@ abbrev pub own_starts : Kind → NodeId → List Start
 own_starts Kind.Seq node = start sequence_tag (sequence node) ∷ []
 own_starts Kind.SeqOf node = start sequence_tag (list node) ∷ []
 own_starts Kind.Choice node = []
+own_starts Kind.Any node = []
 own_starts (Kind.Leaf LeafKind.Boolean) node = leaf_start boolean ∷ []
 own_starts (Kind.Leaf LeafKind.Integer) node = leaf_start integer ∷ []
 own_starts (Kind.Leaf LeafKind.Enumerated) node = leaf_start enumerated ∷ []

@@ -6,13 +6,15 @@ use Rattle.ber_core.specs.Identifier.{Tag}
 use Rattle.ber_core.specs.Tree.{Tree, Trees, constructed, depth, depth_all, none, more}
 use Rattle.ill_schema.specs.declared.node.Kind.{Kind}
 use Rattle.ill_schema.specs.declared.node.NodeId.{NodeId}
-use Rattle.ill_schema.specs.declared.node.NodeId.TheVariants.{Boolean, Integer, Enumerated, IsoDate, IsoTime, PrintableString, IllString, LeftOut, Symbol, Name, SystemId, TransactionId, DateTime, ServiceDateTime, PostalAddress, SystemAddress, DeliveryAddress, ClientId, DeliveryService, RequesterOptionalMessages, ResponderOptionalMessages, SearchType, SupplyMediumInfo, ItemId, Amount, CostInfo, SendTo, SendToList, AlreadyTriedList, ThirdPartyInfo, UnitsPerMedium, UnitsPerMediumList, DateDue, ShippedVia, SupplyDetails, IllServiceTypes, SupplyMediumInfos, IllRequest, LocationInfo, Locs, Conditional, Retry, Unfilled, Locations, WillSupply, HoldPlaced, Estimate, Results, IllAnswer, IllApdu}
+use Rattle.ill_schema.specs.declared.node.NodeId.TheVariants.{Boolean, Integer, Enumerated, IsoDate, IsoTime, PrintableString, IllString, LeftOut, Symbol, Name, SystemId, TransactionId, DateTime, ServiceDateTime, PostalAddress, SystemAddress, DeliveryAddress, ClientId, DeliveryService, RequesterOptionalMessages, ResponderOptionalMessages, SearchType, SupplyMediumInfo, ItemId, Amount, CostInfo, SendTo, SendToList, AlreadyTriedList, ThirdPartyInfo, UnitsPerMedium, UnitsPerMediumList, DateDue, ShippedVia, SupplyDetails, IllServiceTypes, SupplyMediumInfos, IllRequest, LocationInfo, Locs, Conditional, Retry, Unfilled, Locations, WillSupply, HoldPlaced, Estimate, Results, IllAnswer, IllApdu, Any}
 use Rattle.ill_schema.specs.declared.part.Row.{Row}
 use Rattle.ill_schema.specs.Apdu.{Apdu, choice_of}
-use Rattle.ill_schema.specs.Content.{Content, simple, sequence, list, alternative, Entries, no_entries, absent, present, Items, no_items, item}
+use Rattle.ill_schema.specs.Content.{Content, simple, sequence, list, alternative, foreign, Entries, no_entries, absent, present, Items, no_items, item}
 use Rattle.ill_schema.specs.Fits.{Fits, FitRows, FitItems, FitsApdu}
 use Rattle.ber_leaf.specs.Profile.{Profile, profile_two}
 use Rattle.ill_schema.specs.Tagging.{Tagging, untagged, implicit, explicit, explicit_or_bare, tagging, tag_tree, sequence_tag}
+use Rattle.ber_core.specs.Foreign.{foreign_levels}
+use Rattle.ber_core.proofs.Foreign.{foreign_depth}
 use Rattle.ill_schema.specs.Presence.{is_default}
 use Rattle.ill_schema.specs.Normal.{normal_tree, normal_trees, normal_items}
 use Rattle.ill_schema.specs.Table.{kind_of, rows_of}
@@ -71,6 +73,7 @@ height Estimate = 7
 height Results = 8
 height IllAnswer = 10
 height IllApdu = 11
+height Any = 20
 height _ = 6
 
 abbrev wrap : Tagging → ℕ
@@ -112,6 +115,18 @@ tag_depth (explicit_or_bare s) t f n h = let q = h t in omega arith
 first_below : (n : ℕ) (row : Row) (rows : List Row) → IsTrue (list_all (is_below n) (row ∷ rows)) → wrap (tagging profile_two row) + height row.node ≤ n
 first_below n row rows h = le_of _ _ ((and_parts _ _ h).0)
 
+-- the depth of an element of open type
+abbrev is_any_high : Kind → ℕ → Bool
+is_any_high Kind.Any n = nat_le 20 n
+is_any_high _ n = true
+
+all_any_high : (node : NodeId) → IsTrue (is_any_high (kind_of node) (height node))
+all_any_high Boolean = refl
+all_any_high _ = refl
+
+any_height : (node : NodeId) → kind_of node ≡ Kind.Any → 20 ≤ height node
+any_height node e = le_of 20 (height node) (subst (λ k. IsTrue (is_any_high k (height node))) e (all_any_high node))
+
 mutual
   tree_depth : (p : Profile) (c : Content) (node : NodeId) (g : Tagging) → Fits p c node → depth (normal_tree c node g) ≤ wrap g + height node
   tree_depth p (simple v) node g fit = tag_depth g _ _ (height node) (λ t. tall node)
@@ -126,6 +141,8 @@ mutual
       let r : depth (normal_tree c row.node (tagging profile_two row)) ≤ height node = omega arith in
       tag_depth g sequence_tag _ (height node) (λ t.
       subst (λ o. depth (elim o as (λ _. Tree) [ Some x ↦ normal_tree c x.node (tagging profile_two x) | None ↦ constructed t none ]) ≤ height node) (sym fit.1.1) r)
+  tree_depth p (foreign V) node g fit = tag_depth g sequence_tag (λ _. V) (height node) (λ t.
+      let q = foreign_depth foreign_levels V fit.1 in let r : 20 ≤ height node = any_height node fit.0 in omega arith)
 
   trees_depth : (p : Profile) (es : Entries) (rows : List Row) (n : ℕ) → IsTrue (list_all (is_below n) rows) → FitRows p es rows → depth_all (normal_trees es rows) ≤ n
   trees_depth p no_entries rows n h fit = omega arith

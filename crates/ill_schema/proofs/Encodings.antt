@@ -1,5 +1,7 @@
 -- The normal form of a value is an encoding of its normal tree.
-use Rattle.std.proofs.Common.{◌≡◌, ℕ, ◌<◌, ◌≤◌, ◌^◌, Bool, true, false, ◌&&◌, not, List, [], ◌∷◌, ◌++◌, length, Option, Some, None, IsTrue, refl, sym, ap, subst, arith, slice_get, lit≤}
+use Rattle.std.proofs.Common.{◌≡◌, ℕ, ◌<◌, ◌≤◌, ◌^◌, Bool, true, false, ◌&&◌, not, List, [], ◌∷◌, ◌++◌, length, Option, Some, None, IsTrue, refl, sym, ap, subst, arith, slice_get, lit≤, ltb-true, nat_lt, ◌||◌}
+use Rattle.ber_core.specs.Foreign.{foreign_levels}
+use Rattle.ber_core.proofs.Foreign.{foreign_identified}
 use Rattle.std.specs.Prelude.{nat_le}
 use Rattle.std.specs.List.{list_all}
 use Rattle.ber_core.specs.declared.id.Class.{Class}
@@ -13,7 +15,7 @@ use Rattle.ill_schema.specs.declared.node.NodeId.TheVariants.{Boolean, IllApdu}
 use Rattle.ill_schema.specs.declared.part.Presence.{Presence}
 use Rattle.ill_schema.specs.declared.part.Row.{Row}
 use Rattle.ill_schema.specs.Apdu.{Apdu, choice_of, normal_form, MeansApdu, SpellsApdu}
-use Rattle.ill_schema.specs.Content.{Content, simple, sequence, list, alternative, Entries, no_entries, absent, present, Items, no_items, item}
+use Rattle.ill_schema.specs.Content.{Content, simple, sequence, list, alternative, foreign, Entries, no_entries, absent, present, Items, no_items, item}
 use Rattle.ill_schema.specs.Fits.{Fits, FitRows, FitItems, FitsApdu}
 use Rattle.ber_leaf.specs.Leaf.{Leaf, boolean, integer, enumerated, general_string, visible_string, printable_string, iso_date, iso_time, normal_content}
 use Rattle.ber_leaf.specs.Profile.{Profile, profile_two}
@@ -56,14 +58,16 @@ is_universal Class.Universal = true
 is_universal _ = false
 
 abbrev is_valid : Row → Bool
-is_valid row = elim row.tag as (λ _. Bool) [ None ↦ true | Some t ↦ not (is_universal t.0) && nat_le t.1 268_435_455 ]
+is_valid row = elim row.tag as (λ _. Bool) [ None ↦ true | Some t ↦ (not (is_universal t.0) || nat_lt 0 t.1) && nat_le t.1 268_435_455 ]
 
 all_valid : (node : NodeId) → IsTrue (list_all is_valid (rows_of node))
 all_valid Boolean = refl
 all_valid _ = refl
 
-class_id : (c : Class) (n : ℕ) (f : Bool) → IsTrue (not (is_universal c) && nat_le n 268_435_455) → HasIdentifier (record { class = c; number = n }) f
-class_id Class.Universal n f h = absurd cc
+class_id : (c : Class) (n : ℕ) (f : Bool) → IsTrue ((not (is_universal c) || nat_lt 0 n) && nat_le n 268_435_455) → HasIdentifier (record { class = c; number = n }) f
+class_id Class.Universal n f h =
+    let p = and_parts (nat_lt 0 n) (nat_le n 268_435_455) h in
+    universal_id n f (let q : nat_le n 268_435_455 ≡ true = p.1 in grind (arith, q)) (λ e. let q : nat_lt 0 n ≡ true = p.0 in absurd (omega (arith, ltb-true 0 n q, e)))
 class_id Class.Application n f h = record { number = let q : nat_le n 268_435_455 ≡ true = h in grind (arith, q); not_end = λ e _. cc }
 class_id Class.Context n f h = record { number = let q : nat_le n 268_435_455 ≡ true = h in grind (arith, q); not_end = λ e _. cc }
 class_id Class.Private n f h = record { number = let q : nat_le n 268_435_455 ≡ true = h in grind (arith, q); not_end = λ e _. cc }
@@ -102,6 +106,8 @@ mutual
       let w : (t : Tag) → HasIdentifiers (elim (slice_get (rows_of node) n) as (λ _. Tree) [ Some x ↦ normal_tree c x.node (tagging profile_two x) | None ↦ constructed t none ]) =
       λ t. subst (λ o. HasIdentifiers (elim o as (λ _. Tree) [ Some x ↦ normal_tree c x.node (tagging profile_two x) | None ↦ constructed t none ])) (sym fit.1.1) v in
       tag_valid g sequence_tag _ ok (w sequence_tag) (λ s h. w s)
+  normal_valid p (foreign V) node g ok fit =
+      let v = foreign_identified foreign_levels V fit.1 in tag_valid g sequence_tag (λ _. V) ok v (λ s h. v)
 
   trees_valid : (p : Profile) (es : Entries) (rows : List Row) → IsTrue (list_all is_valid rows) → FitRows p es rows → HaveIdentifiers (normal_trees es rows)
   trees_valid p no_entries rows h fit = tt

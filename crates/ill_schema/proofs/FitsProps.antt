@@ -1,14 +1,15 @@
 -- That a value fits its node is a proposition: it has one proof at most.
-use Rattle.std.specs.Prelude.{◌≡◌, ℕ, List, [], ◌∷◌, Option, Some, slice_get}
+use Rattle.std.specs.Prelude.{◌≡◌, ℕ, Bool, IsTrue, List, [], ◌∷◌, Option, Some, slice_get}
 use Rattle.std.specs.Coded.{Coded, Coded-set, codes, coded_option, ×_prop, Unit-prop, le_prop}
 use mathlib.Core.HLevel.{is_prop→PathP, ×₃_prop}
 use Rattle.ber_leaf.specs.{Simple.Simple, Profile.Profile}
 use Rattle.ber_leaf.specs.Leaf.{Leaf, Holds, normal_content}
 use Rattle.ill_schema.specs.declared.{node.NodeId.NodeId, node.NodeId.TheVariants.IllApdu, node.Kind.Kind, part.Presence.Presence, part.Row.Row}
 use Rattle.ill_schema.specs.Apdu.{Apdu, choice_of}
-use Rattle.ill_schema.specs.Content.{Content, simple, sequence, list, alternative, Entries, no_entries, absent, present, Items, no_items, item}
+use Rattle.ill_schema.specs.Content.{Content, simple, sequence, list, alternative, foreign, Entries, no_entries, absent, present, Items, no_items, item}
 use Rattle.ill_schema.specs.Fits.{FitsSimple, Fits, FitRows, FitItems, FitsApdu}
 use Rattle.ill_schema.specs.{Meaning.IsAlternative, Tagging.leaf_of}
+use Rattle.ber_core.specs.Foreign.{is_foreign, foreign_levels}
 use Rattle.ill_schema.specs.Presence.{IsCarried, MayLack}
 use Rattle.ill_schema.specs.Table.{kind_of, rows_of}
 
@@ -17,6 +18,9 @@ kind_set = Coded-set (hlevel codes)
 
 leaf_coded : Coded Leaf
 leaf_coded = hlevel codes
+
+bool_prop : (b : Bool) → IsProp (IsTrue b)
+bool_prop b = hlevel codes
 
 row_coded : Coded Row
 row_coded = hlevel codes
@@ -65,6 +69,7 @@ mutual
   Fits-prop p (alternative n c) node =
       named_prop (λ row. IsAlternative node n row) (λ row. Fits p c row.node) (λ row. IsAlternative-prop node n row) (λ row. Fits-prop p c row.node)
       (λ x y a b. Some-one (slice_get (rows_of node) n) x y a.1 b.1)
+  Fits-prop p (foreign V) node = ×_prop (kind_set (kind_of node) Kind.Any) (bool_prop (is_foreign foreign_levels V))
 
   FitRows-prop : (p : Profile) (es : Entries) (rows : List Row) → IsProp (FitRows p es rows)
   FitRows-prop p no_entries [] = Unit-prop

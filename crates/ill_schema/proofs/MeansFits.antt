@@ -10,13 +10,14 @@ use Rattle.ill_schema.specs.declared.node.NodeId.TheVariants.{Boolean, IllApdu}
 use Rattle.ill_schema.specs.declared.part.Presence.{Presence}
 use Rattle.ill_schema.specs.declared.part.Row.{Row}
 use Rattle.ill_schema.specs.Apdu.{Apdu, MeansApdu, choice_of}
-use Rattle.ill_schema.specs.Content.{Content, simple, sequence, list, alternative, Entries, no_entries, absent, present, Items, no_items, item}
+use Rattle.ill_schema.specs.Content.{Content, simple, sequence, list, alternative, foreign, Entries, no_entries, absent, present, Items, no_items, item}
 use Rattle.ber_leaf.specs.Simple.{Simple, flag, whole}
 use Rattle.ill_schema.specs.Fits.{Fits, FitRows, FitItems, FitsApdu}
 use Rattle.ber_leaf.specs.Leaf.{Leaf, boolean, integer, enumerated, Holds, normal_content}
 use Rattle.ber_leaf.specs.Profile.{Profile}
 use Rattle.ill_schema.specs.Tagging.{Tagging, untagged, implicit, explicit, explicit_or_bare, tagging, Tagged, sequence_tag, leaf_tag, leaf_of}
 use Rattle.ill_schema.specs.Presence.{is_default, is_default_of}
+use Rattle.ber_core.specs.Foreign.{is_foreign, foreign_levels}
 use Rattle.ill_schema.specs.Meaning.{Means, Matches, MatchItems, HoldsLeaf}
 use Rattle.ill_schema.specs.Table.{kind_of, rows_of}
 use Rattle.std.proofs.lemmas.Bool.{and_parts}
@@ -92,6 +93,7 @@ mutual
       (m.0, inside g sequence_tag _ T (λ t U x. match_items_fit p is (rows_of node) x.0 x.2) m.1)
   means_fits p (alternative n c) node g T m =
       (m.0, m.1, inside g sequence_tag (λ _ U. Means p c m.0.node (tagging p m.0) U) T (λ t U x. means_fits p c m.0.node (tagging p m.0) U x) m.2)
+  means_fits p (foreign V) node g T m = (m.0, inside g sequence_tag _ T (λ t U x. subst (λ z. IsTrue (is_foreign foreign_levels z)) x.0 x.1) m.1)
 
   matches_fit : (p : Profile) (es : Entries) (rows : List Row) (ts : Trees) → IsTrue (list_all has_held rows) → Matches p es rows ts → FitRows p es rows
   matches_fit p no_entries [] ts h m = tt

@@ -9,13 +9,14 @@ use Rattle.ill_schema.specs.declared.node.NodeId.TheVariants.{IllApdu}
 use Rattle.ill_schema.specs.declared.part.Presence.{Presence}
 use Rattle.ill_schema.specs.declared.part.Row.{Row}
 use Rattle.ill_schema.specs.Apdu.{Apdu, MeansApdu, choice_of}
-use Rattle.ill_schema.specs.Content.{Content, simple, sequence, list, alternative, Entries, no_entries, absent, present, Items, no_items, item}
+use Rattle.ill_schema.specs.Content.{Content, simple, sequence, list, alternative, foreign, Entries, no_entries, absent, present, Items, no_items, item}
 use Rattle.ber_leaf.specs.Simple.{Simple}
 use Rattle.ill_schema.specs.Fits.{Fits, FitRows, FitItems, FitsApdu}
 use Rattle.ber_leaf.specs.Leaf.{normal_content}
 use Rattle.ber_leaf.specs.Profile.{Profile, profile_two}
 use Rattle.ill_schema.specs.Tagging.{Tagging, untagged, implicit, explicit, explicit_or_bare, tagging, Tagged, tag_tree, sequence_tag, leaf_tag}
 use Rattle.ill_schema.specs.Presence.{is_default}
+use Rattle.ber_core.specs.Foreign.{is_foreign, foreign_levels}
 use Rattle.ill_schema.specs.Meaning.{Means, Matches, MatchItems, MeansSimple, HoldsLeaf}
 use Rattle.ill_schema.specs.Normal.{normal_tree, normal_trees, normal_items}
 use Rattle.ill_schema.specs.Table.{rows_of}
@@ -46,6 +47,7 @@ same_tree p (simple v) row = same_tagged p row _ _
 same_tree p (sequence es) row = same_tagged p row _ _
 same_tree p (list is) row = same_tagged p row _ _
 same_tree p (alternative n c) row = same_tagged p row _ _
+same_tree p (foreign V) row = same_tagged p row _ _
 
 simple_means : (p : Profile) (v : Simple) (node : NodeId) (g : Tagging) → Fits p (simple v) node → MeansSimple p v node g (normal_tree (simple v) node g)
 simple_means p v node g fit = (
@@ -81,6 +83,7 @@ mutual
             subst (λ o. Means p c row.node (tagging p row)
             (elim o as (λ _. Tree) [ Some r ↦ normal_tree c r.node (tagging profile_two r) | None ↦ constructed t none ])) (sym fit.1.1) m),
       )
+  normal_means p (foreign V) node g fit = (fit.0, in_tagging g sequence_tag (λ _ U. (U ≡ V) × IsTrue (is_foreign foreign_levels U)) _ (λ t. (refl, fit.1)))
 
   pub normal_matches : (p : Profile) (es : Entries) (rows : List Row) → FitRows p es rows → Matches p es rows (normal_trees es rows)
   normal_matches p no_entries [] fit = refl

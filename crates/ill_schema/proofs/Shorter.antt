@@ -14,12 +14,13 @@ use Rattle.ill_schema.specs.declared.node.NodeId.TheVariants.{IllApdu}
 use Rattle.ill_schema.specs.declared.part.Presence.{Presence}
 use Rattle.ill_schema.specs.declared.part.Row.{Row}
 use Rattle.ill_schema.specs.Apdu.{Apdu, MeansApdu, Encodes, SpellsApdu, choice_of, normal_form}
-use Rattle.ill_schema.specs.Content.{Content, simple, sequence, list, alternative, Entries, no_entries, absent, present, Items, no_items, item}
+use Rattle.ill_schema.specs.Content.{Content, simple, sequence, list, alternative, foreign, Entries, no_entries, absent, present, Items, no_items, item}
 use Rattle.ber_leaf.specs.Simple.{Simple}
 use Rattle.ber_leaf.specs.Leaf.{normal_content}
 use Rattle.ber_leaf.specs.Profile.{profile_one, profile_two}
 use Rattle.ill_schema.specs.Tagging.{Tagging, untagged, implicit, explicit, explicit_or_bare, tagging, Tagged, tag_tree, sequence_tag, leaf_tag}
 use Rattle.ill_schema.specs.Presence.{is_default}
+use Rattle.ber_core.specs.Foreign.{is_foreign, foreign_levels}
 use Rattle.ill_schema.specs.Meaning.{Means, Matches, MatchItems, HoldsLeaf}
 use Rattle.ill_schema.specs.Normal.{normal_tree, normal_trees, normal_items}
 use Rattle.ber_core.specs.Der.{size, sizes, header_size}
@@ -188,6 +189,8 @@ mutual
       tagged_least g sequence_tag (λ _ U. Means (profile_one limit) c row.node (tagging (profile_one limit) row) U) _ T ok
       (λ t U x. subst (λ o. size (elim o as (λ _. Tree) [ Some r ↦ normal_tree c r.node (tagging profile_two r) | None ↦ constructed t none ]) ≤ size U) (sym m.1.1)
       (subst (λ V. size V ≤ size U) (sym (same_tree (profile_one limit) c row)) (normal_least limit c row.node (tagging (profile_one limit) row) U (plain_row limit row) x))) m.2
+  normal_least limit (foreign V) node g T ok m =
+      tagged_least g sequence_tag (λ _ U. (U ≡ V) × IsTrue (is_foreign foreign_levels U)) (λ _. V) T ok (λ t U x. let e = ap size x.0 in omega (arith, e)) m.1
 
   matches_least : (limit : ℕ) (es : Entries) (rows : List Row) (ts : Trees) → Matches (profile_one limit) es rows ts → sizes (normal_trees es rows) ≤ sizes ts
   matches_least limit no_entries rows ts m = omega arith

@@ -13,13 +13,17 @@ use Rattle.ill_schema.specs.Tagging.{Tagging, untagged, implicit, explicit, expl
 use Rattle.ill_schema.specs.Table.{kind_of, rows_of}
 use Rattle.ill_schema.specs.TableFacts.{alternative_tags, row_tags, are_distinct, has_different_tags, names_below}
 
+-- a tagging suits a kind; no row is of an open type
 abbrev pub is_proper : Tagging → Kind → Bool
+is_proper untagged Kind.Any = false
 is_proper untagged kind = true
+is_proper (explicit tag) Kind.Any = false
 is_proper (explicit tag) kind = true
 is_proper (explicit_or_bare tag) Kind.Seq = true
 is_proper (explicit_or_bare tag) _ = false
 is_proper (implicit tag) Kind.Choice = false
 is_proper (implicit tag) Kind.IllString = false
+is_proper (implicit tag) Kind.Any = false
 is_proper (implicit tag) _ = true
 
 abbrev pub is_proper_row : Profile → Row → Bool
@@ -126,6 +130,29 @@ pub at_row : (test : Row → Bool) (rows : List Row) (n : ℕ) (row : Row) → I
 at_row test [] n row h e = absurd cc
 at_row test (r ∷ rows) zero row h e = let g : r ≡ row = cc in subst (λ y. IsTrue (test y)) g ((and_parts (test r) (list_all test rows) h).0)
 at_row test (r ∷ rows) (suc n) row h e = at_row test rows n row ((and_parts (test r) (list_all test rows) h).1) e
+
+pub improper_any : (g : Tagging) (k : Kind) → IsTrue (is_proper g k) → k ≡ Kind.Any → ⊥
+improper_any g k ok e = none_proper g (subst (λ z. IsTrue (is_proper g z)) e ok)
+  where
+    none_proper : (g : Tagging) → IsTrue (is_proper g Kind.Any) → ⊥
+    none_proper untagged h = absurd cc
+    none_proper (implicit t) h = absurd cc
+    none_proper (explicit t) h = absurd cc
+    none_proper (explicit_or_bare t) h = absurd cc
+
+-- no row is of an open type
+abbrev pub is_closed : Row → Bool
+is_closed row = elim (kind_of row.node) as (λ _. Bool) [ Kind.Any ↦ false | _ ↦ true ]
+
+pub rows_closed : (node : NodeId) → IsTrue (list_all is_closed (rows_of node))
+rows_closed Boolean = refl
+rows_closed _ = refl
+
+pub closed : (row : Row) → IsTrue (is_closed row) → kind_of row.node ≡ Kind.Any → ⊥
+closed row h e = let q : IsTrue false = subst (λ (k : Kind). IsTrue (elim k as (λ _. Bool) [ Kind.Any ↦ false | _ ↦ true ])) e h in cc
+
+pub row_closed : (node : NodeId) (n : ℕ) (row : Row) → slice_get (rows_of node) n ≡ Some row → kind_of row.node ≡ Kind.Any → ⊥
+row_closed node n row e = closed row (at_row is_closed (rows_of node) n row (rows_closed node) e)
 
 different_at : (f : ℕ → Bool) (b : Bool) (l : ℕ) (full : Bool) (node : NodeId) → IsTrue (has_different_tags (record { general = f; bare = b; limit = l; full = full }) node)
 different_at f true l full Boolean = refl

@@ -12,7 +12,7 @@ use Rattle.ill_schema.specs.declared.part.Mode.{Mode}
 use Rattle.ill_schema.specs.declared.part.Presence.{Presence}
 use Rattle.ill_schema.specs.declared.part.Row.{Row}
 use Rattle.ill_schema.specs.declared.value.Value.{Value}
-use Rattle.ill_schema.specs.Content.{Content, simple, sequence, list, alternative, Entries, Items}
+use Rattle.ill_schema.specs.Content.{Content, simple, sequence, list, alternative, foreign, Entries, Items}
 use Rattle.ill_schema.specs.Elements.{tag_at, wrapper, wrapper_at, row_tree, trees_unless, entry_trees, joined, element_tag, element_tree, place_trees, item_trees}
 use Rattle.ill_schema.specs.Normal.{normal_tree, normal_trees, normal_items}
 use Rattle.ill_schema.specs.Presence.{is_default}
@@ -30,12 +30,14 @@ in_wrapper (simple v) node t = refl
 in_wrapper (sequence es) node t = refl
 in_wrapper (list is) node t = refl
 in_wrapper (alternative n c) node t = refl
+in_wrapper (foreign V) node t = refl
 
 not_bare : (c : Content) (node : NodeId) (t : Tag) → normal_tree c node (explicit_or_bare t) ≡ normal_tree c node (explicit t)
 not_bare (simple v) node t = refl
 not_bare (sequence es) node t = refl
 not_bare (list is) node t = refl
 not_bare (alternative n c) node t = refl
+not_bare (foreign V) node t = refl
 
 wrapped_at : (tag : Option (Class × ℕ)) (mode : Mode) (presence : Presence) (node : NodeId) (c : Content) (t : Class × ℕ) → wrapper_at mode tag ≡ Some t
     → normal_tree c node (tagging profile_two (record { tag = tag; mode = mode; presence = presence; node = node })) ≡ constructed (tag_at t) (more (normal_tree c node untagged) none)

@@ -11,12 +11,13 @@ use Rattle.ill_schema.specs.declared.node.LeafKind.{LeafKind}
 use Rattle.ill_schema.specs.declared.node.NodeId.{NodeId}
 use Rattle.ill_schema.specs.declared.part.Presence.{Presence}
 use Rattle.ill_schema.specs.declared.part.Row.{Row}
-use Rattle.ill_schema.specs.Content.{Content, simple, sequence, list, alternative, Entries, no_entries, absent, present, Items, no_items, item}
+use Rattle.ill_schema.specs.Content.{Content, simple, sequence, list, alternative, foreign, Entries, no_entries, absent, present, Items, no_items, item}
 use Rattle.ber_leaf.specs.Simple.{Simple, flag, whole, date, time, printable, general, visible}
 use Rattle.ber_leaf.specs.Leaf.{Leaf, boolean, integer, enumerated, general_string, visible_string, printable_string, iso_date, iso_time, value}
 use Rattle.ber_leaf.specs.Profile.{Profile}
 use Rattle.ill_schema.specs.Tagging.{Tagging, untagged, implicit, explicit, explicit_or_bare, tagging, Tagged, sequence_tag, leaf_tag, leaf_of}
 use Rattle.ill_schema.specs.Presence.{is_default_of, same_value, MayLack}
+use Rattle.ber_core.specs.Foreign.{is_foreign, foreign_levels}
 use Rattle.ill_schema.specs.Meaning.{Means, Matches, MatchItems, MeansSimple, HoldsLeaf, IsAlternative}
 use Rattle.ill_schema.specs.Table.{kind_of, rows_of}
 use Rattle.std.proofs.lemmas.Bool.{and_parts}
@@ -58,6 +59,7 @@ kind_says t Kind.IllString m n h v l e = absurd cc
 kind_says t Kind.Choice m n h v l e = absurd cc
 kind_says t Kind.Seq m n h v l e = absurd cc
 kind_says t Kind.SeqOf m n h v l e = absurd cc
+kind_says t Kind.Any m n h v l e = absurd cc
 
 leaf_own : (k : Kind) (v : Simple) (l : Leaf) → leaf_of k v ≡ Some l → Mem (leaf_tag l) (own_tags k)
 leaf_own (Kind.Leaf LeafKind.Boolean) (flag _) l e = let h : boolean ≡ l = cc in subst (λ x. Mem (leaf_tag x) (own_tags (Kind.Leaf LeafKind.Boolean))) h (inl refl)
@@ -74,12 +76,21 @@ pub no_leaf : (k : Kind) (v : Simple) (l : Leaf) → leaf_of k v ≡ Some l → 
 no_leaf Kind.Seq v l e h = cc
 no_leaf Kind.SeqOf v l e h = cc
 no_leaf Kind.Choice v l e h = cc
+no_leaf Kind.Any v l e h = cc
 no_leaf (Kind.Leaf x) v l e (inl h) = cc
 no_leaf (Kind.Leaf x) v l e (inr (inl h)) = cc
 no_leaf (Kind.Leaf x) v l e (inr (inr h)) = cc
 no_leaf Kind.IllString v l e (inl h) = cc
 no_leaf Kind.IllString v l e (inr (inl h)) = cc
 no_leaf Kind.IllString v l e (inr (inr h)) = cc
+
+pub no_any_leaf : (k : Kind) (v : Simple) (l : Leaf) → leaf_of k v ≡ Some l → k ≡ Kind.Any → ⊥
+no_any_leaf Kind.Any v l e h = cc
+no_any_leaf Kind.Seq v l e h = cc
+no_any_leaf Kind.SeqOf v l e h = cc
+no_any_leaf Kind.Choice v l e h = cc
+no_any_leaf Kind.IllString v l e h = cc
+no_any_leaf (Kind.Leaf x) v l e h = cc
 
 held_same : (p : Profile) (l m : Leaf) (v w : Simple) (s t : Tag) (T : Tree) → l ≡ m → HoldsLeaf p l v s T → HoldsLeaf p m w t T → v ≡ w
 held_same p l m v w s t T e h k = h.2.2 ∙ ap (λ x. value x (text T)) e ∙ sym k.2.2
@@ -104,6 +115,7 @@ simple_unique p v w node (explicit_or_bare t) T ok h k = absurd (bare_seq (kind_
     bare_seq Kind.SeqOf t v l e h = cc
     bare_seq Kind.Choice t v l e h = cc
     bare_seq Kind.IllString t v l e h = cc
+    bare_seq Kind.Any t v l e h = cc
     bare_seq (Kind.Leaf x) t v l e h = cc
 
 int_same : (a b x : ℤ) → int_eq a x ≡ true → int_eq b x ≡ true → a ≡ b
@@ -148,6 +160,7 @@ no_choice_tags Kind.Seq ts n = refl
 no_choice_tags Kind.SeqOf ts n = refl
 no_choice_tags Kind.Choice ts n = absurd (n refl)
 no_choice_tags Kind.IllString ts n = refl
+no_choice_tags Kind.Any ts n = refl
 no_choice_tags (Kind.Leaf x) ts n = refl
 
 node_tags-own : (p : Profile) (node : NodeId) (k : Kind) → kind_of node ≡ k → (k ≡ Kind.Choice → ⊥) → node_tags p node ≡ own_tags k
@@ -167,6 +180,13 @@ simple_begins p v node g T h =
     tagged_begins g (leaf_tag h.0) (node_tags p node) (HoldsLeaf p h.0 v) T (λ t U x. x.0)
     (subst (λ ts. Mem (leaf_tag h.0) ts) (sym (node_tags-own p node (kind_of node) refl (λ e. no_leaf (kind_of node) v h.0 h.1 (inr (inr e))))) (leaf_own (kind_of node) v h.0 h.1))
     h.2
+
+-- an element of open type stands in an explicit tag
+pub any_proper : (g : Tagging) (k : Kind) → k ≡ Kind.Any → IsTrue (is_proper g k) → (t : Tag) × (g ≡ explicit t)
+any_proper untagged k e ok = let x : IsTrue (is_proper untagged Kind.Any) = subst (λ z. IsTrue (is_proper untagged z)) e ok in absurd cc
+any_proper (implicit t) k e ok = let x : IsTrue (is_proper (implicit t) Kind.Any) = subst (λ z. IsTrue (is_proper (implicit t) z)) e ok in absurd cc
+any_proper (explicit t) k e ok = (t, refl)
+any_proper (explicit_or_bare t) k e ok = let x : IsTrue (is_proper (explicit_or_bare t) Kind.Any) = subst (λ z. IsTrue (is_proper (explicit_or_bare t) z)) e ok in absurd cc
 
 -- a tree that means something at a node begins by one of its tags
 pub means_begins : (p : Profile) (c : Content) (node : NodeId) (g : Tagging) (T : Tree) → IsTrue (is_proper g (kind_of node)) → Means p c node g T
@@ -195,6 +215,10 @@ means_begins p (alternative n c) node (explicit_or_bare t) T ok h = absurd (impr
   where
     improper : (t : Tag) (k : Kind) → IsTrue (is_proper (explicit_or_bare t) k) → k ≡ Kind.Choice → ⊥
     improper t k ok e = let x : IsTrue (is_proper (explicit_or_bare t) Kind.Choice) = subst (λ z. IsTrue (is_proper (explicit_or_bare t) z)) e ok in cc
+means_begins p (foreign V) node g T ok h =
+    let a = any_proper g (kind_of node) h.0 ok in
+    let x : (U : Tree) × (T ≡ constructed a.0 (more U none)) × ((U ≡ V) × IsTrue (is_foreign foreign_levels U)) = subst (λ z. Tagged z sequence_tag (λ _ U. (U ≡ V) × IsTrue (is_foreign foreign_levels U)) T) a.1 h.1 in
+    subst (λ z. Mem (tag_of T) (tagging_tags z (node_tags p node))) (sym a.1) (inl (ap tag_of x.1))
 
 -- the first of the trees that match rows begins by one of their tags
 pub matches_begins : (p : Profile) (es : Entries) (rows : List Row) (T : Tree) (ts : Trees) → IsTrue (list_all (is_proper_row p) rows)
@@ -263,6 +287,7 @@ bare_sequence : (t : Tag) (g : Tagging) (k : Kind) → IsTrue (is_proper g k) �
 bare_sequence t g Kind.Seq ok e = refl
 bare_sequence t g Kind.SeqOf ok e = let h : IsTrue (is_proper (explicit_or_bare t) Kind.SeqOf) = subst (λ x. IsTrue (is_proper x Kind.SeqOf)) e ok in absurd cc
 bare_sequence t g Kind.Choice ok e = let h : IsTrue (is_proper (explicit_or_bare t) Kind.Choice) = subst (λ x. IsTrue (is_proper x Kind.Choice)) e ok in absurd cc
+bare_sequence t g Kind.Any ok e = let h : IsTrue (is_proper (explicit_or_bare t) Kind.Any) = subst (λ x. IsTrue (is_proper x Kind.Any)) e ok in absurd cc
 bare_sequence t g Kind.IllString ok e = let h : IsTrue (is_proper (explicit_or_bare t) Kind.IllString) = subst (λ x. IsTrue (is_proper x Kind.IllString)) e ok in absurd cc
 bare_sequence t g (Kind.Leaf l) ok e = let h : IsTrue (is_proper (explicit_or_bare t) (Kind.Leaf l)) = subst (λ x. IsTrue (is_proper x (Kind.Leaf l))) e ok in absurd cc
 
@@ -310,6 +335,20 @@ mutual
       (λ t e U f x y. absurd (let s = bare_sequence t g (kind_of node) ok e in let q : Kind.Seq ≡ Kind.Choice = sym s ∙ h.1.0 in cc))
       (λ t e U f y x. absurd (let s = bare_sequence t g (kind_of node) ok e in let q : Kind.Seq ≡ Kind.Choice = sym s ∙ h.1.0 in cc))
       h.2 k.2
+  means_unique p (foreign V) (foreign W) node g T ok h k =
+      ap foreign (under g sequence_tag _ _ T
+      (λ t U x y. sym x.0 ∙ y.0)
+      (λ t e U f x y. absurd (let s = bare_sequence t g (kind_of node) ok e in let q : Kind.Seq ≡ Kind.Any = sym s ∙ h.0 in cc))
+      (λ t e U f y x. absurd (let s = bare_sequence t g (kind_of node) ok e in let q : Kind.Seq ≡ Kind.Any = sym s ∙ h.0 in cc))
+      h.1 k.1)
+  means_unique p (foreign _) (simple v) node g T ok h k = absurd (no_any_leaf (kind_of node) v k.0 k.1 h.0)
+  means_unique p (simple v) (foreign _) node g T ok h k = absurd (no_any_leaf (kind_of node) v h.0 h.1 k.0)
+  means_unique p (foreign _) (sequence _) node g T ok h k = absurd (let q : Kind.Any ≡ Kind.Seq = sym h.0 ∙ k.0 in cc)
+  means_unique p (sequence _) (foreign _) node g T ok h k = absurd (let q : Kind.Seq ≡ Kind.Any = sym h.0 ∙ k.0 in cc)
+  means_unique p (foreign _) (list _) node g T ok h k = absurd (let q : Kind.Any ≡ Kind.SeqOf = sym h.0 ∙ k.0 in cc)
+  means_unique p (list _) (foreign _) node g T ok h k = absurd (let q : Kind.SeqOf ≡ Kind.Any = sym h.0 ∙ k.0 in cc)
+  means_unique p (foreign _) (alternative _ _) node g T ok h k = absurd (let q : Kind.Any ≡ Kind.Choice = sym h.0 ∙ k.1.0 in cc)
+  means_unique p (alternative _ _) (foreign _) node g T ok h k = absurd (let q : Kind.Choice ≡ Kind.Any = sym h.1.0 ∙ k.0 in cc)
   means_unique p (simple v) (sequence _) node g T ok h k = absurd (no_leaf (kind_of node) v h.0 h.1 (inl k.0))
   means_unique p (simple v) (list _) node g T ok h k = absurd (no_leaf (kind_of node) v h.0 h.1 (inr (inl k.0)))
   means_unique p (simple v) (alternative _ _) node g T ok h k = absurd (no_leaf (kind_of node) v h.0 h.1 (inr (inr k.1.0)))
@@ -376,3 +415,37 @@ mutual
       (means_unique p c d h.0.node (tagging p h.0) h.1 (at_row (is_proper_row p) (rows_of node) 0 h.0 (tables_proper p node) h.3) h.5
       (subst (λ z. Means p d h.0.node (tagging p h.0) z) t (subst (λ z. Means p d z.node (tagging p z) k.1) r k.5)))
       (items_unique p is js node h.2 h.6 (subst (λ z. MatchItems p js (rows_of node) z) u k.6))
+
+-- an untagged row suits each kind but the open type
+pub proper_untagged : (k : Kind) → (k ≡ Kind.Any → ⊥) → IsTrue (is_proper untagged k)
+proper_untagged Kind.Any n = absurd (n refl)
+proper_untagged Kind.Seq n = refl
+proper_untagged Kind.SeqOf n = refl
+proper_untagged Kind.Choice n = refl
+proper_untagged Kind.IllString n = refl
+proper_untagged (Kind.Leaf x) n = refl
+
+-- the same where an element of open type has no tag round it
+pub value_unique : (p : Profile) (c d : Content) (node : NodeId) (T : Tree) → Means p c node untagged T → Means p d node untagged T → c ≡ d
+value_unique p c d node T h k = go (kind_of node) refl
+  where
+    is_any : (c : Content) → kind_of node ≡ Kind.Any → Means p c node untagged T → (U : Tree) × (c ≡ foreign U)
+    is_any (foreign U) e m = (U, refl)
+    is_any (simple v) e m = absurd (no_any_leaf (kind_of node) v m.0 m.1 e)
+    is_any (sequence _) e m = absurd (let q : Kind.Any ≡ Kind.Seq = sym e ∙ m.0 in cc)
+    is_any (list _) e m = absurd (let q : Kind.Any ≡ Kind.SeqOf = sym e ∙ m.0 in cc)
+    is_any (alternative _ _) e m = absurd (let q : Kind.Any ≡ Kind.Choice = sym e ∙ m.1.0 in cc)
+
+    both : (U V : Tree) → c ≡ foreign U → d ≡ foreign V → c ≡ d
+    both U V e f =
+        let a : Means p (foreign U) node untagged T = subst (λ x. Means p x node untagged T) e h in
+        let b : Means p (foreign V) node untagged T = subst (λ x. Means p x node untagged T) f k in
+        e ∙ ap foreign (sym a.1.0 ∙ b.1.0) ∙ sym f
+
+    go : (x : Kind) → kind_of node ≡ x → c ≡ d
+    go Kind.Any e = let a = is_any c e h in let b = is_any d e k in both a.0 b.0 a.1 b.1
+    go Kind.Seq e = means_unique p c d node untagged T (proper_untagged (kind_of node) (λ q. let z : Kind.Seq ≡ Kind.Any = sym e ∙ q in cc)) h k
+    go Kind.SeqOf e = means_unique p c d node untagged T (proper_untagged (kind_of node) (λ q. let z : Kind.SeqOf ≡ Kind.Any = sym e ∙ q in cc)) h k
+    go Kind.Choice e = means_unique p c d node untagged T (proper_untagged (kind_of node) (λ q. let z : Kind.Choice ≡ Kind.Any = sym e ∙ q in cc)) h k
+    go Kind.IllString e = means_unique p c d node untagged T (proper_untagged (kind_of node) (λ q. let z : Kind.IllString ≡ Kind.Any = sym e ∙ q in cc)) h k
+    go (Kind.Leaf x) e = means_unique p c d node untagged T (proper_untagged (kind_of node) (λ q. let z : Kind.Leaf x ≡ Kind.Any = sym e ∙ q in cc)) h k

@@ -1,5 +1,5 @@
 -- What is spelled in profile one is spelled in profile two.
-use Rattle.std.proofs.Common.{◌≡◌, ◌⊎◌, ℕ, ◌≤◌, List, [], ◌∷◌, Option, Some, None, refl, sym, subst, inl, inr, arith}
+use Rattle.std.proofs.Common.{◌≡◌, ◌⊎◌, ℕ, ◌≤◌, List, [], ◌∷◌, Option, Some, None, IsTrue, refl, sym, subst, inl, inr, arith}
 use Rattle.ber_core.specs.declared.id.Class.{Class}
 use Rattle.ber_core.specs.Identifier.{Tag}
 use Rattle.ber_core.specs.Tree.{Tree, Trees, constructed, more, none}
@@ -9,9 +9,10 @@ use Rattle.ill_schema.specs.declared.node.NodeId.TheVariants.{IllApdu}
 use Rattle.ill_schema.specs.declared.part.Presence.{Presence}
 use Rattle.ill_schema.specs.declared.part.Row.{Row}
 use Rattle.ill_schema.specs.Apdu.{Apdu, choice_of, Encodes, SpellsApdu}
-use Rattle.ill_schema.specs.Content.{Content, simple, sequence, list, alternative, Entries, no_entries, absent, present, Items, no_items, item}
+use Rattle.ill_schema.specs.Content.{Content, simple, sequence, list, alternative, foreign, Entries, no_entries, absent, present, Items, no_items, item}
 use Rattle.ber_leaf.specs.Profile.{profile_one, profile_two}
 use Rattle.ill_schema.specs.Tagging.{Tagging, untagged, implicit, explicit, explicit_or_bare, tagging, Tagged, leaf_tag, sequence_tag}
+use Rattle.ber_core.specs.Foreign.{is_foreign, foreign_levels}
 use Rattle.ill_schema.specs.Meaning.{Means, Matches, MatchItems, HoldsLeaf}
 use Rattle.ill_schema.specs.Table.{rows_of}
 use Rattle.ber_leaf.proofs.Leaves.{wider_content}
@@ -63,6 +64,7 @@ mutual
       (m.0, wider_tagged g h sequence_tag _ _ T w (λ t U x. (x.0, x.1, wider_items limit is (rows_of node) x.0 x.2)) m.1)
   wider limit (alternative n c) node g h T w m =
       (m.0, m.1, wider_tagged g h sequence_tag _ _ T w (λ t U x. wider limit c m.0.node _ _ U (of_row limit m.0) x) m.2)
+  wider limit (foreign V) node g h T w m = (m.0, wider_tagged g h sequence_tag (λ _ U. (U ≡ V) × IsTrue (is_foreign foreign_levels U)) (λ _ U. (U ≡ V) × IsTrue (is_foreign foreign_levels U)) T w (λ t U x. x) m.1)
 
   wider_rows : (limit : ℕ) (es : Entries) (rows : List Row) (ts : Trees) → Matches (profile_one limit) es rows ts → Matches profile_two es rows ts
   wider_rows limit no_entries [] ts m = m

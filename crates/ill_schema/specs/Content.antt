@@ -1,5 +1,6 @@
 -- The content of a value: the tree that it stands for.
 use Rattle.std.specs.Prelude.{ℕ}
+use Rattle.ber_core.specs.Tree.{Tree}
 use Rattle.ber_leaf.specs.Simple.{Simple}
 
 mutual
@@ -8,6 +9,8 @@ mutual
     sequence : Entries → Content
     list : Items → Content
     alternative : ℕ → Content → Content
+    -- of an open type: the element itself
+    foreign : Tree → Content
 
   -- the entries of a sequence, one for each row
   pub data Entries : Type 0 where

@@ -1,8 +1,9 @@
 -- Which values a node has, and which APDUs there are.
-use Rattle.std.specs.Prelude.{◌≡◌, ◌≤◌, List, [], ◌∷◌, Some, slice_get}
+use Rattle.std.specs.Prelude.{◌≡◌, ◌≤◌, List, [], ◌∷◌, Some, IsTrue, slice_get}
+use Rattle.ber_core.specs.Foreign.{is_foreign, foreign_levels}
 use Rattle.ill_schema.specs.declared.{node.Kind.Kind, node.NodeId.NodeId, node.NodeId.TheVariants.IllApdu, part.Row.Row}
 use Rattle.ill_schema.specs.Apdu.{Apdu, choice_of}
-use Rattle.ill_schema.specs.Content.{Content, simple, sequence, list, alternative, Entries, no_entries, absent, present, Items, no_items, item}
+use Rattle.ill_schema.specs.Content.{Content, simple, sequence, list, alternative, foreign, Entries, no_entries, absent, present, Items, no_items, item}
 use Rattle.ber_leaf.specs.{Simple.Simple, Profile.Profile}
 use Rattle.ber_leaf.specs.Leaf.{Leaf, Holds, normal_content}
 use Rattle.ill_schema.specs.{Tagging.leaf_of, Meaning.IsAlternative}
@@ -20,6 +21,7 @@ abbrev mutual
   Fits p (sequence es) node = (kind_of node ≡ Kind.Seq) × FitRows p es (rows_of node)
   Fits p (list is) node = (kind_of node ≡ Kind.SeqOf) × FitItems p is (rows_of node)
   Fits p (alternative n c) node = (row : Row) × IsAlternative node n row × Fits p c row.node
+  Fits p (foreign V) node = (kind_of node ≡ Kind.Any) × IsTrue (is_foreign foreign_levels V)
 
   -- one entry per row, which holds a value, or may lack one
   pub FitRows : Profile → Entries → List Row → Type 0

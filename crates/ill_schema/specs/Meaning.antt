@@ -3,10 +3,11 @@ use Rattle.std.specs.Prelude.{◌≡◌, ◌⊎◌, ℕ, List, [], ◌∷◌, So
 use Rattle.ber_core.specs.Identifier.{Tag}
 use Rattle.ber_core.specs.Tree.{Tree, Trees, primitive, constructed, none, more, tag_of, IsString, text}
 use Rattle.ill_schema.specs.declared.{node.Kind.Kind, node.NodeId.NodeId, part.Row.Row}
-use Rattle.ill_schema.specs.Content.{Content, simple, sequence, list, alternative, Entries, no_entries, absent, present, Items, no_items, item}
+use Rattle.ill_schema.specs.Content.{Content, simple, sequence, list, alternative, foreign, Entries, no_entries, absent, present, Items, no_items, item}
 use Rattle.ber_leaf.specs.{Simple.Simple, Profile.Profile}
 use Rattle.ber_leaf.specs.Leaf.{Leaf, is_string, Holds}
 use Rattle.ill_schema.specs.Tagging.{Tagging, tagging, Tagged, leaf_tag, leaf_of, sequence_tag}
+use Rattle.ber_core.specs.Foreign.{is_foreign, foreign_levels}
 use Rattle.ill_schema.specs.Presence.{IsCarried, MayLack, is_default}
 use Rattle.ill_schema.specs.Table.{kind_of, rows_of}
 
@@ -28,7 +29,7 @@ abbrev pub IsAlternative : NodeId → ℕ → Row → Type 0
 IsAlternative node n row = (kind_of node ≡ Kind.Choice) × (slice_get (rows_of node) n ≡ Some row) × IsCarried row.presence
 
 abbrev mutual
-  -- under a tagging, the tree means the value as the type of the node: a leaf, a SEQUENCE (8.9), a SEQUENCE OF (8.10), a CHOICE (8.13)
+  -- under a tagging, the tree means the value as the type of the node: a leaf, a SEQUENCE (8.9), a SEQUENCE OF (8.10), a CHOICE (8.13), an open type (8.15)
   pub Means : Profile → Content → NodeId → Tagging → Tree → Type 0
   Means p (simple v) node g T = MeansSimple p v node g T
   Means p (sequence es) node g T =
@@ -37,6 +38,8 @@ abbrev mutual
       (kind_of node ≡ Kind.SeqOf) × Tagged g sequence_tag (λ tag U. (ts : Trees) × (U ≡ constructed tag ts) × MatchItems p is (rows_of node) ts) T
   Means p (alternative n c) node g T =
       (row : Row) × IsAlternative node n row × Tagged g sequence_tag (λ _ U. Means p c row.node (tagging p row) U) T
+  Means p (foreign V) node g T =
+      (kind_of node ≡ Kind.Any) × Tagged g sequence_tag (λ _ U. (U ≡ V) × IsTrue (is_foreign foreign_levels U)) T
 
   -- the trees of a SEQUENCE's rows, in their order (8.9.2): none for an absent row, one for a present one, or none where it is the default (8.9.3)
   pub Matches : Profile → Entries → List Row → Trees → Type 0

@@ -2,7 +2,7 @@
 use Rattle.std.specs.Prelude.{ℕ, List, [], ◌∷◌, Some, None, pos, ℤ}
 use Rattle.ber_core.specs.declared.id.Class.{Class}
 use Rattle.ill_schema.specs.declared.{node.NodeId.NodeId, node.Kind.Kind, node.LeafKind.LeafKind, part.Mode.Mode, part.Presence.Presence, part.Row.Row}
-use Rattle.ill_schema.specs.declared.node.NodeId.TheVariants.{Boolean, Integer, Enumerated, IsoDate, IsoTime, PrintableString, IllString, LeftOut, Symbol, Name, SystemId, TransactionId, DateTime, ServiceDateTime, PostalAddress, SystemAddress, DeliveryAddress, ClientId, DeliveryService, RequesterOptionalMessages, ResponderOptionalMessages, SearchType, SupplyMediumInfo, ItemId, Amount, CostInfo, SendTo, SendToList, AlreadyTriedList, ThirdPartyInfo, UnitsPerMedium, UnitsPerMediumList, DateDue, ShippedVia, SupplyDetails, IllServiceTypes, SupplyMediumInfos, IllRequest, Shipped, LocationInfo, Locs, Conditional, Retry, Unfilled, Locations, WillSupply, HoldPlaced, Estimate, Results, IllAnswer, ConditionalReply, Cancel, CancelReply, Received, Recall, Returned, CheckedIn, Overdue, Renew, RenewAnswer, Lost, Damaged, MessageApdu, StatusQuery, Expired, IllApdu}
+use Rattle.ill_schema.specs.declared.node.NodeId.TheVariants.{Boolean, Integer, Enumerated, IsoDate, IsoTime, PrintableString, IllString, LeftOut, Symbol, Name, SystemId, TransactionId, DateTime, ServiceDateTime, PostalAddress, SystemAddress, DeliveryAddress, ClientId, DeliveryService, RequesterOptionalMessages, ResponderOptionalMessages, SearchType, SupplyMediumInfo, ItemId, Amount, CostInfo, SendTo, SendToList, AlreadyTriedList, ThirdPartyInfo, UnitsPerMedium, UnitsPerMediumList, DateDue, ShippedVia, SupplyDetails, IllServiceTypes, SupplyMediumInfos, IllRequest, Shipped, LocationInfo, Locs, Conditional, Retry, Unfilled, Locations, WillSupply, HoldPlaced, Estimate, Results, IllAnswer, ConditionalReply, Cancel, CancelReply, Received, Recall, Returned, CheckedIn, Overdue, Renew, RenewAnswer, Lost, Damaged, MessageApdu, StatusQuery, Expired, IllApdu, Any}
 
 abbrev pub kind_of : NodeId → Kind
 kind_of Boolean = Kind.Leaf LeafKind.Boolean
@@ -24,12 +24,14 @@ kind_of SupplyMediumInfos = Kind.SeqOf
 kind_of Locs = Kind.SeqOf
 kind_of Results = Kind.Choice
 kind_of IllApdu = Kind.Choice
+kind_of Any = Kind.Any
 kind_of _ = Kind.Seq
 
--- a tag is explicit on a choice, and so on an ILL-String, and implicit elsewhere
+-- a tag is explicit on a choice, and so on an ILL-String, and on an open type, and implicit elsewhere (X.680, 31.2.7)
 abbrev pub tag_mode : Kind → Mode
 tag_mode Kind.Choice = Mode.Explicit
 tag_mode Kind.IllString = Mode.Explicit
+tag_mode Kind.Any = Mode.Explicit
 tag_mode _ = Mode.Implicit
 
 abbrev tagged : Class → Mode → Presence → ℕ → NodeId → Row

@@ -7,11 +7,12 @@ use Rattle.ill_schema.specs.declared.{node.Kind.Kind, node.LeafKind.LeafKind, no
 use Rattle.ill_schema.specs.Table.{kind_of, rows_of}
 use Rattle.ill_schema.specs.Tagging.{Tagging, untagged, implicit, explicit, explicit_or_bare, tagging, universal, sequence_tag, same_tag}
 
--- the tags by which elements of this kind begin, where no other is in their place
+-- the tags by which elements of this kind begin, where no other is in their place; an open type is never known by a tag
 abbrev pub own_tags : Kind → List Tag
 own_tags Kind.Seq = sequence_tag ∷ []
 own_tags Kind.SeqOf = sequence_tag ∷ []
 own_tags Kind.Choice = []
+own_tags Kind.Any = []
 own_tags Kind.IllString = universal 27 ∷ universal 26 ∷ []
 own_tags (Kind.Leaf LeafKind.Boolean) = universal 1 ∷ []
 own_tags (Kind.Leaf LeafKind.Integer) = universal 2 ∷ []

@@ -30,6 +30,7 @@ pub fn kind(node: NodeId) -> Kind
         | NodeId::IllServiceTypes
         | NodeId::SupplyMediumInfos
         | NodeId::Locs => Kind::SeqOf,
+        NodeId::Any => Kind::Any,
         _ => Kind::Seq,
     }
 }

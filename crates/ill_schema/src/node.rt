@@ -17,6 +17,8 @@ pub enum Kind {
     Choice,
     Leaf(LeafKind),
     IllString,
+    /// An open type: any one element (X.690, 8.15).
+    Any,
 }
 
 /// A node of the schema. Its rows name only nodes of lower levels.
@@ -88,6 +90,8 @@ pub enum NodeId {
     StatusQuery,
     Expired,
     IllApdu,
+    /// The open type; no row has it.
+    Any,
 }
 
 impl NodeId {
@@ -222,4 +226,6 @@ impl NodeId {
     pub const EXPIRED: NodeId = NodeId::Expired;
 
     pub const ILL_APDU: NodeId = NodeId::IllApdu;
+
+    pub const ANY: NodeId = NodeId::Any;
 }

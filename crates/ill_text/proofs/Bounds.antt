@@ -23,7 +23,7 @@ use Rattle.ill_schema.specs.declared.node.Kind.{Kind}
 use Rattle.ill_schema.specs.declared.part.Presence.{Presence}
 use Rattle.ill_schema.specs.declared.part.Row.{Row}
 use Rattle.ill_schema.specs.Apdu.{Apdu, SpellsApdu, choice_of}
-use Rattle.ill_schema.specs.Content.{Content, simple, sequence, list, alternative, Entries, no_entries, absent, present, Items, no_items, item}
+use Rattle.ill_schema.specs.Content.{Content, simple, sequence, list, alternative, foreign, Entries, no_entries, absent, present, Items, no_items, item}
 use Rattle.ill_schema.specs.Fits.{Fits, FitRows, FitItems, FitsSimple}
 use Rattle.ill_schema.specs.Names.{names_of}
 use Rattle.ill_schema.specs.Normal.{normal_tree, normal_trees, normal_items}
@@ -31,7 +31,8 @@ use Rattle.ill_schema.specs.Presence.{default_value, is_default, is_default_of, 
 use Rattle.ill_schema.specs.Table.{kind_of, rows_of}
 use Rattle.ill_schema.specs.Tagging.{Tagging, untagged, implicit, explicit, explicit_or_bare, sequence_tag, tag_tree, tagging}
 use Rattle.ill_schema.proofs.MeansFits.{means_apdu_fits}
-use Rattle.ill_schema.proofs.Tags.{at_row}
+use Rattle.std.proofs.lemmas.Bool.{and_parts}
+use Rattle.ill_schema.proofs.Tags.{at_row, closed, is_closed, row_closed, rows_closed}
 use Rattle.ill_text.specs.Numbers.{number_name, number_names}
 use Rattle.ill_text.specs.Shown.{Place, body_place, entry_lines, escaped, in_brackets, is_empty, item_lines, item_of, leaf_text, line, lines_of, name_or_none, part, quoted, row_name, shown_text, within}
 
@@ -155,6 +156,7 @@ default_lines p (Presence.Default d) k (simple v) node h e =
 default_lines p (Presence.Default d) k (sequence es) node h e = absurd cc
 default_lines p (Presence.Default d) k (list is) node h e = absurd cc
 default_lines p (Presence.Default d) k (alternative n c) node h e = absurd cc
+default_lines p (Presence.Default d) k (foreign T) node h e = absurd cc
 default_lines p Presence.Must k c node h e = absurd cc
 default_lines p Presence.May k c node h e = absurd cc
 default_lines p Presence.LeftOut k c node h e = absurd cc
@@ -217,11 +219,13 @@ little_more_path (simple v) = omega arith
 little_more_path (sequence es) = omega arith
 little_more_path (list is) = omega arith
 little_more_path (alternative n c) = omega arith
+little_more_path (foreign T) = omega arith
 
 no_more_path : (c : Content) (node : NodeId) → Fits profile_two c node → IsTrue (not (is_choice (kind_of node))) → more_path c ≡ 0
 no_more_path (simple v) node h other = refl
 no_more_path (sequence es) node h other = refl
 no_more_path (list is) node h other = refl
+no_more_path (foreign T) node h other = refl
 no_more_path (alternative n c) node h other = absurd (let e = h.1.0 in apart (kind_of node) e other)
   where
     apart : (k : Kind) → k ≡ Kind.Choice → IsTrue (not (is_choice k)) → ⊥
@@ -271,47 +275,49 @@ present_bound false row c es rows p i e h le first others =
     omega (arith, first room, others (omega (arith, le)), length-append (lines_of (part p i) c) (entry_lines p (suc i) es))
 
 mutual
-  value_bound : (c : Content) (node : NodeId) (g : Tagging) (p : Place) → Fits profile_two c node → length p.path + more_path c + 100 * size (normal_tree c node g) ≤ longest
+  value_bound : (c : Content) (node : NodeId) (g : Tagging) (p : Place) → (kind_of node ≡ Kind.Any → ⊥) → Fits profile_two c node → length p.path + more_path c + 100 * size (normal_tree c node g) ≤ longest
       → length (lines_of p c) ≤ octet_room * size (normal_tree c node g)
-  value_bound (simple v) node g p h le =
+  value_bound (simple v) node g p typed h le =
       let n : length (normal_content v) + 2 ≤ size (normal_tree (simple v) node g) = tagged_size g _ _ _ (λ t. primitive_size t (normal_content v)) in
       omega (arith, le, n, leaf_size p.name v node h, line_size p.path (leaf_text p.name v))
-  value_bound (sequence es) node g p h le =
+  value_bound (sequence es) node g p typed h le =
       let n : sizes (normal_trees es (rows_of node)) + 2 ≤ size (normal_tree (sequence es) node g) = tagged_size g _ _ _ (λ t. constructed_size t (normal_trees es (rows_of node))) in
-      let inside = entries_bound es (rows_of node) p 0 h.1 (omega (arith, le, n)) in
+      let inside = entries_bound es (rows_of node) p 0 (rows_closed node) h.1 (omega (arith, le, n)) in
       sequence_bound es p (size (normal_tree (sequence es) node g)) (omega (arith, le)) (omega (arith, n)) (omega (arith, n, inside, rows_few node))
-  value_bound (list no_items) node g p h le =
+  value_bound (list no_items) node g p typed h le =
       omega (arith, le, some_size (normal_tree (list no_items) node g), line_size p.path (codes "[]"))
-  value_bound (list (item c is)) node g p h le =
+  value_bound (list (item c is)) node g p typed h le =
       let n : sizes (normal_items (item c is) (rows_of node)) + 2 ≤ size (normal_tree (list (item c is)) node g) = tagged_size g _ _ _ (λ t. constructed_size t (normal_items (item c is) (rows_of node))) in
-      omega (arith, n, items_bound (item c is) (rows_of node) p 0 h.1 (omega (arith, le, n)))
-  value_bound (alternative n c) node g p h le =
+      omega (arith, n, items_bound (item c is) (rows_of node) p 0 (rows_closed node) h.1 (omega (arith, le, n)))
+  value_bound (foreign T) node g p typed h le = absurd (typed h.0)
+  value_bound (alternative n c) node g p typed h le =
       let row = h.0 in
       let s = alternative_size c node n g row h.1.1 in
       let none = no_more_path c row.node h.2 (no_choice node n row h.1.0 h.1.1) in
-      omega (arith, s, value_bound c row.node (tagging profile_two row) (part p n) h.2 (omega (arith, le, s, none, part_size p n)))
+      omega (arith, s, value_bound c row.node (tagging profile_two row) (part p n) (row_closed node n row h.1.1) h.2 (omega (arith, le, s, none, part_size p n)))
 
-  entries_bound : (es : Entries) (rows : List Row) (p : Place) (i : ℕ) → FitRows profile_two es rows → length p.path + 122 + 100 * sizes (normal_trees es rows) ≤ longest
+  entries_bound : (es : Entries) (rows : List Row) (p : Place) (i : ℕ) → IsTrue (list_all is_closed rows) → FitRows profile_two es rows → length p.path + 122 + 100 * sizes (normal_trees es rows) ≤ longest
       → length (entry_lines p i es) ≤ row_room * length rows + octet_room * sizes (normal_trees es rows)
-  entries_bound no_entries [] p i h le = omega arith
-  entries_bound no_entries (row ∷ rows) p i h le = absurd h
-  entries_bound (absent es) [] p i h le = absurd h
-  entries_bound (absent es) (row ∷ rows) p i h le = omega (arith, entries_bound es rows p (suc i) h.1 le)
-  entries_bound (present c es) [] p i h le = absurd h
-  entries_bound (present c es) (row ∷ rows) p i h le =
-      present_bound (is_default row c) row c es rows p i refl h.1 le (λ fits. value_bound c row.node (tagging profile_two row) (part p i) h.1 fits) (λ fits. entries_bound es rows p (suc i) h.2 fits)
+  entries_bound no_entries [] p i ok h le = omega arith
+  entries_bound no_entries (row ∷ rows) p i ok h le = absurd h
+  entries_bound (absent es) [] p i ok h le = absurd h
+  entries_bound (absent es) (row ∷ rows) p i ok h le = omega (arith, entries_bound es rows p (suc i) (and_parts _ _ ok).1 h.1 le)
+  entries_bound (present c es) [] p i ok h le = absurd h
+  entries_bound (present c es) (row ∷ rows) p i ok h le =
+      let parts = and_parts _ _ ok in
+      present_bound (is_default row c) row c es rows p i refl h.1 le (λ fits. value_bound c row.node (tagging profile_two row) (part p i) (closed row parts.0) h.1 fits) (λ fits. entries_bound es rows p (suc i) parts.1 h.2 fits)
 
-  items_bound : (is : Items) (rows : List Row) (p : Place) (i : ℕ) → FitItems profile_two is rows → length p.path + i + 164 + 100 * sizes (normal_items is rows) ≤ longest
+  items_bound : (is : Items) (rows : List Row) (p : Place) (i : ℕ) → IsTrue (list_all is_closed rows) → FitItems profile_two is rows → length p.path + i + 164 + 100 * sizes (normal_items is rows) ≤ longest
       → length (item_lines p i is) ≤ octet_room * sizes (normal_items is rows)
-  items_bound no_items rows p i h le = omega arith
-  items_bound (item c is) [] p i h le = absurd (let e = h.1 in cc)
-  items_bound (item c is) (row ∷ rows) p i h le =
+  items_bound no_items rows p i ok h le = omega arith
+  items_bound (item c is) [] p i ok h le = absurd (let e = h.1 in cc)
+  items_bound (item c is) (row ∷ rows) p i ok h le =
       let same : row ≡ h.0 = let e = h.1 in cc in
       let fits : Fits profile_two c row.node = subst (λ (r : Row). Fits profile_two c r.node) (sym same) h.2 in
       let some = some_size (normal_tree c row.node (tagging profile_two row)) in
       let small : i < 2 ^ 64 = omega (arith, le) in
-      let first = value_bound c row.node (tagging profile_two row) (item_of p i) fits (omega (arith, le, some, item_size p i small, little_more_path c)) in
-      omega (arith, first, items_bound is (row ∷ rows) p (suc i) h.3 (omega (arith, le, some)), length-append (lines_of (item_of p i) c) (item_lines p (suc i) is))
+      let first = value_bound c row.node (tagging profile_two row) (item_of p i) (closed row (and_parts _ _ ok).0) fits (omega (arith, le, some, item_size p i small, little_more_path c)) in
+      omega (arith, first, items_bound is (row ∷ rows) p (suc i) ok h.3 (omega (arith, le, some)), length-append (lines_of (item_of p i) c) (item_lines p (suc i) is))
 
 -- the text of a message
 head_size : (i : ℕ) (name : List ℕ) → i < 2 ^ 64 → length name ≤ 60 → length (codes "message " ++ decimal i ++ codes " " ++ name ++ codes "\n") ≤ 200
@@ -331,6 +337,6 @@ text_bound i a b small h =
     let n : size (normal_tree (choice_of a) IllApdu untagged) ≤ 1_048_576 = omega (arith, h.normal_short, length-encoding (normal_tree (choice_of a) IllApdu untagged)) in
     let s = alternative_size a.body IllApdu (a.number - 1) untagged row fits.1.1.1 in
     let none = no_more_path a.body row.node fits.1.2 (no_choice IllApdu (a.number - 1) row fits.1.1.0 fits.1.1.1) in
-    let lines = value_bound a.body row.node (tagging profile_two row) (body_place a) fits.1.2 (omega (arith, n, s, none)) in
+    let lines = value_bound a.body row.node (tagging profile_two row) (body_place a) (row_closed IllApdu (a.number - 1) row fits.1.1.1) fits.1.2 (omega (arith, n, s, none)) in
     let head = codes "message " ++ decimal i ++ codes " " ++ name ++ codes "\n" in
     omega (arith, n, s, lines, head_size i name small (name_size IllApdu (a.number - 1)), length-append head (lines_of (body_place a) a.body))

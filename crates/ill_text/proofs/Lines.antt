@@ -17,7 +17,7 @@ use Rattle.ill_schema.specs.declared.part.Presence.{Presence}
 use Rattle.ill_schema.specs.declared.part.Row.{Row as TableRow}
 use Rattle.ill_schema.specs.Presence.{default_value}
 use Rattle.ill_schema.specs.Table.{kind_of}
-use Rattle.ill_schema.specs.Content.{Content, simple, sequence, list, alternative, Entries, no_entries, absent, present, Items, no_items, item}
+use Rattle.ill_schema.specs.Content.{Content, simple, sequence, list, alternative, foreign, Entries, no_entries, absent, present, Items, no_items, item}
 use Rattle.ill_elements.specs.LeafTypes.{leaf_is}
 use Rattle.ill_read.specs.Outline.{AreEntries, AreItems, IsMarked, IsPassed}
 use Rattle.ill_read.specs.declared.mark.Mark.{Mark}
@@ -87,6 +87,7 @@ no_end (simple v) ms rest (inr h) = ap (λ x. is_at_end (x ++ rest)) h.1
 no_end (sequence es) ms rest h = ap (λ x. is_at_end (x ++ rest)) h.1
 no_end (list is) ms rest h = ap (λ x. is_at_end (x ++ rest)) h.1
 no_end (alternative n c) ms rest h = ap (λ x. is_at_end (x ++ rest)) h.1
+no_end (foreign T) ms rest h = absurd h
 
 -- ---- entries
 
@@ -391,6 +392,7 @@ leaf_first (simple v) ms rest tail l (inr h) e = absurd (let q : mark.Leaf l ≡
 leaf_first (sequence es) ms rest tail l h e = absurd (let q : mark.Leaf l ≡ mark.Sequence = (tail_of _ _ _ _ (front ms rest (h.0 ++ mark.End ∷ []) (mark.Leaf l ∷ tail) mark.Sequence h.1 e)).0 in cc)
 leaf_first (list is) ms rest tail l h e = absurd (let q : mark.Leaf l ≡ mark.List = (tail_of _ _ _ _ (front ms rest (h.0 ++ mark.End ∷ []) (mark.Leaf l ∷ tail) mark.List h.1 e)).0 in cc)
 leaf_first (alternative n c) ms rest tail l h e = absurd (let q : mark.Leaf l ≡ mark.Alternative n = (tail_of _ _ _ _ (front ms rest h.0 (mark.Leaf l ∷ tail) (mark.Alternative n) h.1 e)).0 in cc)
+leaf_first (foreign T) ms rest tail l h e = absurd h
 
 pub passed_first : (c : Content) (ms rest tail : List Mark) (p : PartId) → IsMarked c ms → mark.Passed p ∷ tail ≡ ms ++ rest → IsPassed p (Some c) × (tail ≡ rest)
 passed_first (simple v) ms rest tail p (inl h) e = absurd (let q : mark.Passed p ≡ mark.Leaf h.0 = (tail_of _ _ _ _ (front ms rest (map mark.Octet h.1 ++ mark.End ∷ []) (mark.Passed p ∷ tail) (mark.Leaf h.0) h.2 e)).0 in cc)
@@ -401,12 +403,14 @@ passed_first (simple v) ms rest tail p (inr h) e =
 passed_first (sequence es) ms rest tail p h e = absurd (let q : mark.Passed p ≡ mark.Sequence = (tail_of _ _ _ _ (front ms rest (h.0 ++ mark.End ∷ []) (mark.Passed p ∷ tail) mark.Sequence h.1 e)).0 in cc)
 passed_first (list is) ms rest tail p h e = absurd (let q : mark.Passed p ≡ mark.List = (tail_of _ _ _ _ (front ms rest (h.0 ++ mark.End ∷ []) (mark.Passed p ∷ tail) mark.List h.1 e)).0 in cc)
 passed_first (alternative n c) ms rest tail p h e = absurd (let q : mark.Passed p ≡ mark.Alternative n = (tail_of _ _ _ _ (front ms rest h.0 (mark.Passed p ∷ tail) (mark.Alternative n) h.1 e)).0 in cc)
+passed_first (foreign T) ms rest tail p h e = absurd h
 
 pub alternative_first : (c : Content) (ms rest tail : List Mark) (n : ℕ) → IsMarked c ms → mark.Alternative n ∷ tail ≡ ms ++ rest → (d : Content) × (inside : List Mark) × (c ≡ alternative n d) × IsMarked d inside × (tail ≡ inside ++ rest)
 alternative_first (simple v) ms rest tail n (inl h) e = absurd (let q : mark.Alternative n ≡ mark.Leaf h.0 = (tail_of _ _ _ _ (front ms rest (map mark.Octet h.1 ++ mark.End ∷ []) (mark.Alternative n ∷ tail) (mark.Leaf h.0) h.2 e)).0 in cc)
 alternative_first (simple v) ms rest tail n (inr h) e = absurd (let q : mark.Alternative n ≡ mark.Passed h.0 = (tail_of _ _ _ _ (front ms rest [] (mark.Alternative n ∷ tail) (mark.Passed h.0) h.1 e)).0 in cc)
 alternative_first (sequence es) ms rest tail n h e = absurd (let q : mark.Alternative n ≡ mark.Sequence = (tail_of _ _ _ _ (front ms rest (h.0 ++ mark.End ∷ []) (mark.Alternative n ∷ tail) mark.Sequence h.1 e)).0 in cc)
 alternative_first (list is) ms rest tail n h e = absurd (let q : mark.Alternative n ≡ mark.List = (tail_of _ _ _ _ (front ms rest (h.0 ++ mark.End ∷ []) (mark.Alternative n ∷ tail) mark.List h.1 e)).0 in cc)
+alternative_first (foreign T) ms rest tail n h e = absurd h
 alternative_first (alternative m c) ms rest tail n h e =
     let t = tail_of _ _ _ _ (front ms rest h.0 (mark.Alternative n ∷ tail) (mark.Alternative m) h.1 e) in
     let same : n ≡ m = let q : mark.Alternative n ≡ mark.Alternative m = t.0 in cc in
@@ -419,6 +423,7 @@ sequence_first (sequence es) ms rest tail h e =
     (es, h.0, refl, h.2, (tail_of _ _ _ _ (front ms rest (h.0 ++ mark.End ∷ []) (mark.Sequence ∷ tail) mark.Sequence h.1 e)).1 ∙ append_assoc h.0 (mark.End ∷ []) rest)
 sequence_first (list is) ms rest tail h e = absurd (let q : mark.Sequence ≡ mark.List = (tail_of _ _ _ _ (front ms rest (h.0 ++ mark.End ∷ []) (mark.Sequence ∷ tail) mark.List h.1 e)).0 in cc)
 sequence_first (alternative n c) ms rest tail h e = absurd (let q : mark.Sequence ≡ mark.Alternative n = (tail_of _ _ _ _ (front ms rest h.0 (mark.Sequence ∷ tail) (mark.Alternative n) h.1 e)).0 in cc)
+sequence_first (foreign T) ms rest tail h e = absurd h
 
 pub list_first : (c : Content) (ms rest tail : List Mark) → IsMarked c ms → mark.List ∷ tail ≡ ms ++ rest → (is : Items) × (inside : List Mark) × (c ≡ list is) × AreItems is inside × (tail ≡ inside ++ (mark.End ∷ rest))
 list_first (simple v) ms rest tail (inl h) e = absurd (let q : mark.List ≡ mark.Leaf h.0 = (tail_of _ _ _ _ (front ms rest (map mark.Octet h.1 ++ mark.End ∷ []) (mark.List ∷ tail) (mark.Leaf h.0) h.2 e)).0 in cc)
@@ -427,6 +432,7 @@ list_first (sequence es) ms rest tail h e = absurd (let q : mark.List ≡ mark.S
 list_first (list is) ms rest tail h e =
     (is, h.0, refl, h.2, (tail_of _ _ _ _ (front ms rest (h.0 ++ mark.End ∷ []) (mark.List ∷ tail) mark.List h.1 e)).1 ∙ append_assoc h.0 (mark.End ∷ []) rest)
 list_first (alternative n c) ms rest tail h e = absurd (let q : mark.List ≡ mark.Alternative n = (tail_of _ _ _ _ (front ms rest h.0 (mark.List ∷ tail) (mark.Alternative n) h.1 e)).0 in cc)
+list_first (foreign T) ms rest tail h e = absurd h
 
 -- a mark that begins a value
 abbrev pub begins : Mark → Bool
@@ -440,6 +446,7 @@ value_begins (simple v) ms (inr h) = (_, _, h.1, refl)
 value_begins (sequence es) ms h = (_, _, h.1, refl)
 value_begins (list is) ms h = (_, _, h.1, refl)
 value_begins (alternative n c) ms h = (_, _, h.1, refl)
+value_begins (foreign T) ms h = absurd h
 
 pub none_begins : (c : Content) (ms rest tail : List Mark) (m : Mark) → begins m ≡ false → IsMarked c ms → m ∷ tail ≡ ms ++ rest → ⊥
 none_begins c ms rest tail m off h e =
@@ -465,6 +472,7 @@ entry_passed (Some (simple v)) ms rest marks p (inr h) e is = let a = passed_alo
 entry_passed (Some (sequence es)) ms rest marks p h e is = absurd (let x : None ≡ Some p = sym (ap passed_in (front ms rest _ marks _ h.1 e)) ∙ is in cc)
 entry_passed (Some (list is')) ms rest marks p h e is = absurd (let x : None ≡ Some p = sym (ap passed_in (front ms rest _ marks _ h.1 e)) ∙ is in cc)
 entry_passed (Some (alternative n c)) ms rest marks p h e is = absurd (let x : None ≡ Some p = sym (ap passed_in (front ms rest _ marks _ h.1 e)) ∙ is in cc)
+entry_passed (Some (foreign T)) ms rest marks p h e is = absurd h
 
 pub entry_value : (e : Option Content) (ms rest marks : List Mark) → IsEntry e ms → marks ≡ ms ++ rest → passed_in marks ≡ None → (c : Content) × (e ≡ Some c) × IsMarked c ms
 entry_value None ms rest marks h e is = absurd (let x : Some h.0 ≡ None = sym (ap passed_in (front ms rest [] marks (mark.Passed h.0) h.1 e)) ∙ is in cc)

@@ -1,12 +1,15 @@
 -- The text that is shown of a message: a head line, and a line for each leaf.
 use Rattle.std.specs.Prelude.{ℕ, suc, ◌-◌, ◌/◌, ◌%◌, Bool, true, false, ◌&&◌, ◌||◌, nat_le, nat_eq, List, [], ◌∷◌, ◌++◌, codes, decimal, Option, Some, None, slice_get, slice_index, flat_map, if◌then◌else◌}
 use Rattle.std.specs.Fmt.{signed_decimal}
+use Rattle.std.specs.List.{list_all}
+use Rattle.ber_core.specs.Identifier.{identifier}
+use Rattle.ber_core.specs.Tree.{Tree, Trees, primitive, constructed, none, more}
 use Rattle.ber_leaf.specs.Simple.{Simple, flag, whole, date, time, printable, general, visible}
 use Rattle.ill_schema.specs.declared.node.NodeId.{NodeId}
 use Rattle.ill_schema.specs.declared.node.NodeId.TheVariants.{LeftOut, IllApdu}
 use Rattle.ill_schema.specs.declared.part.Row.{Row}
 use Rattle.ill_schema.specs.Apdu.{Apdu}
-use Rattle.ill_schema.specs.Content.{Content, simple, sequence, list, alternative, Entries, no_entries, absent, present, Items, no_items, item}
+use Rattle.ill_schema.specs.Content.{Content, simple, sequence, list, alternative, foreign, Entries, no_entries, absent, present, Items, no_items, item}
 use Rattle.ill_schema.specs.Names.{names_of}
 use Rattle.ill_schema.specs.Table.{rows_of}
 use Rattle.ill_text.specs.Numbers.{number_name}
@@ -35,6 +38,25 @@ leaf_text row (time text) = text
 leaf_text row (printable text) = quoted text
 leaf_text row (general text) = codes "general " ++ quoted text
 leaf_text row (visible text) = codes "visible " ++ quoted text
+
+-- each octet as two hexadecimal digits
+abbrev pub hexadecimal : List ℕ → List ℕ
+hexadecimal octets = flat_map (λ octet. slice_index (codes "0123456789abcdef") (octet / 16) ∷ slice_index (codes "0123456789abcdef") (octet % 16) ∷ []) octets
+
+-- contents of no known type: in quotes where all octets are printable ASCII, else in hexadecimal
+abbrev pub content_text : List ℕ → List ℕ
+content_text octets = if list_all (λ octet. nat_le 0x20 octet && nat_le octet 0x7E) octets then quoted octets else hexadecimal octets
+
+abbrev mutual
+  -- a foreign tree: of each element the identifier octets, and its contents or the elements in it
+  pub tree_text : Tree → List ℕ
+  tree_text (primitive tag octets) = hexadecimal (identifier tag false) ++ codes ":" ++ content_text octets
+  tree_text (constructed tag trees) = hexadecimal (identifier tag true) ++ codes "{" ++ trees_text trees ++ codes "}"
+
+  pub trees_text : Trees → List ℕ
+  trees_text none = []
+  trees_text (more T none) = tree_text T
+  trees_text (more T (more U trees)) = tree_text T ++ codes " " ++ trees_text (more U trees)
 
 -- where a value is: its path, the name of its row and its type
 pub record Place : Type 0 where
@@ -87,6 +109,7 @@ abbrev mutual
   lines_of p (list no_items) = line p.path (codes "[]")
   lines_of p (list (item c is)) = lines_of (item_of p 0) c ++ item_lines p 1 is
   lines_of p (alternative n c) = lines_of (part p n) c
+  lines_of p (foreign T) = line p.path (codes "foreign " ++ tree_text T)
 
   -- the lines of the entries from row i on; an absent one has none
   pub entry_lines : Place → ℕ → Entries → List ℕ

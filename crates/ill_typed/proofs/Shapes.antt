@@ -7,7 +7,7 @@ use Rattle.ber_leaf.specs.Simple.{Simple, whole}
 use Rattle.ill_schema.specs.declared.{node.Kind.Kind, node.NodeId.NodeId, part.Presence.Presence, part.Row.Row}
 use Rattle.ill_schema.specs.declared.node.NodeId.TheVariants.{Integer, Enumerated, SendToList, AlreadyTriedList, UnitsPerMediumList, IllServiceTypes, SupplyMediumInfos, Locs}
 use Rattle.ill_schema.specs.declared.value.Value.{Value, Seq, List as ListOf, Alt}
-use Rattle.ill_schema.specs.Content.{Content, simple, sequence, list, alternative, Items, no_items, item}
+use Rattle.ill_schema.specs.Content.{Content, simple, sequence, list, alternative, foreign, Items, no_items, item}
 use Rattle.ill_schema.specs.Fits.{Fits, FitRows, FitItems}
 use Rattle.ill_schema.specs.Presence.{IsCarried, MayLack}
 use Rattle.ill_schema.specs.Table.{kind_of, rows_of}
@@ -67,6 +67,7 @@ list_holds node (list is) e h = items_hold is (rows_of node) h.1
 list_holds node (simple v) e h = absurd (no_leaf (kind_of node) v h.0 e h.1)
 list_holds node (sequence es) e h = let g : kind_of node ≡ Kind.Seq = h.0 in cc
 list_holds node (alternative n c) e h = let g : kind_of node ≡ Kind.Choice = h.1.0 in cc
+list_holds node (foreign V) e h = let g : kind_of node ≡ Kind.Any = h.0 in cc
 
 of_list_holds : (node : NodeId) (c : Content) → kind_of node ≡ Kind.SeqOf → IsListOf (ItemHolds (rows_of node)) c → Fits profile_two c node
 unfolding IsListOf

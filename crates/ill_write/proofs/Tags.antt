@@ -10,7 +10,7 @@ use Rattle.ill_schema.specs.declared.node.Kind.{Kind}
 use Rattle.ill_schema.specs.declared.node.NodeId.{NodeId}
 use Rattle.ill_schema.specs.declared.node.NodeId.TheVariants.{Boolean}
 use Rattle.ill_schema.specs.declared.part.Row.{Row}
-use Rattle.ill_schema.specs.Content.{Content, simple, sequence, list, alternative}
+use Rattle.ill_schema.specs.Content.{Content, simple, sequence, list, alternative, foreign}
 use Rattle.ill_schema.specs.Elements.{element_tag, own_number}
 use Rattle.ill_schema.specs.Table.{kind_of, rows_of}
 use Rattle.ill_schema.specs.Tagging.{leaf_of, leaf_tag, universal}
@@ -35,6 +35,7 @@ own_id (simple v) k f = leaf_number_id (leaf_of k v) f
 own_id (sequence es) k f = universal_id 16 f (lit≤ tt) (λ e. cc)
 own_id (list is) k f = universal_id 16 f (lit≤ tt) (λ e. cc)
 own_id (alternative n c) k f = universal_id 16 f (lit≤ tt) (λ e. cc)
+own_id (foreign V) k f = universal_id 16 f (lit≤ tt) (λ e. cc)
 
 class_id : (c : Class) (n : ℕ) (f : Bool) → IsTrue (not (is_universal c) && nat_le n 268_435_455) → HasIdentifier (record { class = c; number = n }) f
 class_id Class.Universal n f h = absurd cc

@@ -44,9 +44,10 @@ opens what.LooseWrapper k cs = is_sequence k
 opens what.LeftOut k cs = is_empty k cs
 opens _ k cs = is_leaf k
 
--- a node of this kind begins by the tags of alternatives, or by two of its own
+-- a node of this kind begins by the tags of alternatives, by two of its own, or by none
 abbrev pub is_nested : Kind → Bool
 is_nested Kind.Choice = true
+is_nested Kind.Any = true
 is_nested Kind.IllString = true
 is_nested _ = false
 
@@ -125,6 +126,7 @@ kind_meant Kind.Seq node =
     meant (node_starts node) slot.Inner false (is_some (first_mandatory (components profile_two node))) (node_choice node) None ∷ rows_meant (components profile_two node)
 kind_meant Kind.SeqOf node = meant (node_starts node) slot.Inner true true (node_choice node) None ∷ item_meant (components profile_two node)
 kind_meant Kind.Choice node = meant (node_starts node) slot.Inner true true (node_choice node) None ∷ []
+kind_meant Kind.Any node = meant (node_starts node) slot.Inner true true (node_choice node) None ∷ []
 kind_meant (Kind.Leaf _) node = meant (node_starts node) slot.Inner true true (node_choice node) None ∷ segment_meant
 kind_meant Kind.IllString node = meant (node_starts node) slot.Inner true true (node_choice node) None ∷ segment_meant
 
