@@ -6,8 +6,8 @@ use Rattle.ill_schema.specs.declared.node.NodeId.{NodeId}
 use Rattle.ill_schema.specs.declared.part.PartId.{PartId}
 use Rattle.ill_schema.specs.declared.part.Presence.{Presence}
 use Rattle.ill_schema.specs.Table.{kind_of}
-use Rattle.ill_refusals.specs.Element.{Component, components, Element, leaf, sequence, list, wrapper, loose_wrapper, segment, left_out}
-use Rattle.ill_refusals.specs.Next.{Next, rows, items, either, segments, element_of, next_of, opening}
+use Rattle.ill_refusals.specs.Element.{Component, components, Element, leaf, sequence, list, wrapper, loose_wrapper, segment, foreign, left_out}
+use Rattle.ill_refusals.specs.Next.{Next, rows, items, either, segments, anything, element_of, next_of, opening}
 use Rattle.ill_cells.specs.Cells.{default_due, due_at, due_item, due_row, due_segment, element_in, first_position, is_leaf, is_list, is_placed, is_sequence, next_from, next_of_kind, presence_default, wrapped}
 use Rattle.ill_cells.specs.code.Meant.{default_at, default_first, is_empty, is_other, opens, opens_in}
 use Rattle.ill_cells.specs.declared.cell.What.{What}
@@ -32,6 +32,7 @@ segment-element other (wrapper c) = refl
 segment-element other (loose_wrapper c) = refl
 segment-element other segment = refl
 segment-element other (left_out p) = refl
+segment-element other (foreign n) = refl
 
 segment-next : (other : Component) (e : Element) → next_of (due_segment other e) ≡ segments
 segment-next other (leaf l) = refl
@@ -41,6 +42,7 @@ segment-next other (wrapper c) = refl
 segment-next other (loose_wrapper c) = refl
 segment-next other segment = refl
 segment-next other (left_out p) = refl
+segment-next other (foreign n) = refl
 
 -- what is due is the element
 pub element-due : (p : PartId) (node : NodeId) (position : ℕ) (s : Slot) (e : Element) → element_of (due_at p node position s e) ≡ e
@@ -65,6 +67,7 @@ segment-default other (wrapper c) h = ap presence_default (sym h)
 segment-default other (loose_wrapper c) h = ap presence_default (sym h)
 segment-default other segment h = refl
 segment-default other (left_out p) h = ap presence_default (sym h)
+segment-default other (foreign n) h = ap presence_default (sym h)
 
 -- the default of what is due
 pub default-due : (p : PartId) (node : NodeId) (position : ℕ) (s : Slot) (e : Element) → default_at node position s ≡ default_due (due_at p node position s e)
@@ -105,13 +108,19 @@ list-first p node Kind.Seq h = absurd cc
 list-first p node Kind.Choice h = absurd cc
 list-first p node Kind.Any h = absurd cc
 
-wrapper-first : (p : PartId) (node : NodeId) (k : Kind) → is_other k ≡ true → next_of_kind k p node 0 ≡ rows (wrapped p node ∷ [])
-wrapper-first p node Kind.SeqOf h = refl
-wrapper-first p node (Kind.Leaf l) h = refl
-wrapper-first p node Kind.IllString h = refl
-wrapper-first p node Kind.Seq h = absurd cc
-wrapper-first p node Kind.Choice h = refl
-wrapper-first p node Kind.Any h = refl
+wrapper-first : (p : PartId) (node : NodeId) (k : Kind) → kind_of node ≡ k → is_other k ≡ true → next_of_kind k p node 0 ≡ opening profile_two (wrapper (wrapped p node))
+wrapper-first p node k e h = opened k h ∙ sym (ap round e)
+  where
+    round : Kind → Next
+    round k = elim k as (λ _. Next) [ Kind.Any ↦ anything (wrapped p node) | _ ↦ rows (wrapped p node ∷ []) ]
+
+    opened : (k : Kind) → is_other k ≡ true → next_of_kind k p node 0 ≡ round k
+    opened Kind.SeqOf h = refl
+    opened (Kind.Leaf l) h = refl
+    opened Kind.IllString h = refl
+    opened Kind.Seq h = absurd cc
+    opened Kind.Choice h = refl
+    opened Kind.Any h = absurd cc
 
 empty-first : (p : PartId) (node : NodeId) (k : Kind) (cs : List Component) → components profile_two node ≡ cs → is_empty k cs ≡ true → next_of_kind k p node 1 ≡ rows []
 empty-first p node Kind.Seq [] e h = ap rows e
@@ -122,26 +131,26 @@ empty-first p node Kind.SeqOf cs e h = absurd cc
 empty-first p node Kind.Choice cs e h = absurd cc
 empty-first p node Kind.Any cs e h = absurd cc
 
-first-kind : (w : What) (p : PartId) (node : NodeId) (k : Kind) (cs : List Component) → components profile_two node ≡ cs → opens w k cs ≡ true
+first-kind : (w : What) (p : PartId) (node : NodeId) (k : Kind) (cs : List Component) → kind_of node ≡ k → components profile_two node ≡ cs → opens w k cs ≡ true
     → next_of_kind k p node (first_position w) ≡ opening profile_two (element_in p node w)
-first-kind what.Boolean p node k cs e h = leaf-first p node k h
-first-kind what.Integer p node k cs e h = leaf-first p node k h
-first-kind what.Enumerated p node k cs e h = leaf-first p node k h
-first-kind what.General p node k cs e h = leaf-first p node k h
-first-kind what.Visible p node k cs e h = leaf-first p node k h
-first-kind what.Printable p node k cs e h = leaf-first p node k h
-first-kind what.Date p node k cs e h = leaf-first p node k h
-first-kind what.Time p node k cs e h = leaf-first p node k h
-first-kind what.Segment p node k cs e h = leaf-first p node k h
-first-kind what.Sequence p node k cs e h = sequence-first p node k h
-first-kind what.List p node k cs e h = list-first p node k h
-first-kind what.Wrapper p node k cs e h = wrapper-first p node k h
-first-kind what.LooseWrapper p node k cs e h = loose-first p node k h
-first-kind what.LeftOut p node k cs e h = empty-first p node k cs e h
+first-kind what.Boolean p node k cs q e h = leaf-first p node k h
+first-kind what.Integer p node k cs q e h = leaf-first p node k h
+first-kind what.Enumerated p node k cs q e h = leaf-first p node k h
+first-kind what.General p node k cs q e h = leaf-first p node k h
+first-kind what.Visible p node k cs q e h = leaf-first p node k h
+first-kind what.Printable p node k cs q e h = leaf-first p node k h
+first-kind what.Date p node k cs q e h = leaf-first p node k h
+first-kind what.Time p node k cs q e h = leaf-first p node k h
+first-kind what.Segment p node k cs q e h = leaf-first p node k h
+first-kind what.Sequence p node k cs q e h = sequence-first p node k h
+first-kind what.List p node k cs q e h = list-first p node k h
+first-kind what.Wrapper p node k cs q e h = wrapper-first p node k q h
+first-kind what.LooseWrapper p node k cs q e h = loose-first p node k h
+first-kind what.LeftOut p node k cs q e h = empty-first p node k cs e h
 
 -- where an element that may be in its node begins inside
 pub first-opens : (w : What) (p : PartId) (node : NodeId) → IsTrue (opens_in w node) → next_from p node (first_position w) ≡ opening profile_two (element_in p node w)
-first-opens w p node h = first-kind w p node (kind_of node) (components profile_two node) refl h
+first-opens w p node h = first-kind w p node (kind_of node) (components profile_two node) refl refl h
 
 drop-more : {A : Type 0} (xs : List A) (n : ℕ) → drop n xs ≡ [] → drop (suc n) xs ≡ []
 drop-more [] zero e = refl

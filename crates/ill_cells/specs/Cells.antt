@@ -10,7 +10,7 @@ use Rattle.ill_schema.specs.declared.part.Presence.{Presence}
 use Rattle.ill_schema.specs.Table.{kind_of}
 use Rattle.ill_schema.specs.Tagging.{untagged, same_tag}
 use Rattle.ill_refusals.specs.Element.{Component, component_starts, components, Start, Element, leaf, sequence, list, wrapper, loose_wrapper, segment, left_out}
-use Rattle.ill_refusals.specs.Next.{Next, rows, items, either, segments, Due, part, octets, opening}
+use Rattle.ill_refusals.specs.Next.{Next, rows, items, either, segments, Due, part, octets, any, opening}
 use Rattle.ill_cells.specs.declared.cell.Cell.{Cell}
 use Rattle.ill_cells.specs.declared.cell.What.{What}
 use Rattle.ill_cells.specs.declared.cell.What.TheVariants as what
@@ -132,6 +132,7 @@ Begins t c (Some n) e = (c.tagging ≡ untagged) × (kind_of c.node ≡ Kind.Cho
 abbrev pub BeginsDue : Tag → Due → Option ℕ → Type 0
 BeginsDue t (part c e n) alternative = Begins t c alternative e
 BeginsDue t octets alternative = alternative ≡ None
+BeginsDue t (any n next) alternative = alternative ≡ None
 
 -- the part that is missing at a position of a node, where the wrapper round it is of a part
 abbrev pub part_at : PartId → NodeId → ℕ → Slot → PartId
@@ -146,3 +147,4 @@ presence_default _ = None
 abbrev pub default_due : Due → Option ℤ
 default_due (part c e n) = presence_default c.presence
 default_due octets = None
+default_due (any n next) = None

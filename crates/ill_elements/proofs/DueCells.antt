@@ -27,8 +27,8 @@ use Rattle.ill_cells.proofs.Going.{element-due}
 use Rattle.ill_cells.proofs.Scanning.{same_tag-swap, sequence_starts}
 use Rattle.ill_cells.specs.declared.cell.Slot.{Slot as CellSlot}
 use Rattle.ill_cells.specs.declared.cell.Slot.TheVariants as cell
-use Rattle.ill_elements.specs.Elements.{component_of, component_at, element_with, found_is}
-use Rattle.ill_elements.specs.Due.{Begins, BeginsAt, Due, IsComing, IsDueIn, IsDueInRows, IsItemDue, IsInnerDue, IsRowDue, IsSegmentDue, MayAllLack, behind, due_as, found_as, next_is, shape, shape_at, shape_of, slot_as}
+use Rattle.ill_elements.specs.Elements.{component_of, component_at, element_is, element_with, found_is}
+use Rattle.ill_elements.specs.Due.{Begins, BeginsAt, Due, IsComing, IsDueIn, IsDueInRows, IsItemDue, IsInnerDue, IsRowDue, IsSegmentDue, MayAllLack, behind, due_as, element_as, first_of, found_as, next_is, shape, shape_at, shape_of, slot_as}
 use Rattle.ill_elements.specs.declared.due.Next.{Next}
 use Rattle.ill_elements.specs.declared.due.Next.TheVariants.{Rows, Inner, Items, Either, Segments, Nothing}
 use Rattle.ill_elements.proofs.DueElements.{first_due}
@@ -369,6 +369,22 @@ begins-at what.List p node h = list-shape p node (kind_of node) h
 begins-at what.Wrapper p node h = wrapper-shape p node (kind_of node) h
 begins-at what.LeftOut p node h = tt
 begins-at _ p node h = leaf-shape p node (kind_of node) h
+
+-- what comes in what is found when it opens: an explicit tag that the cells know is round no open type
+pub opens-by : (w : What) (p : PartId) (node : NodeId) → IsTrue (opens_in w node) → next_is (first_of (element_as p node w)) ≡ next.opening profile_two (element_is (element_as p node w))
+opens-by what.Wrapper p node h = opened (kind_of node) refl h
+  where
+    round : Kind → next.Next
+    round k = elim k as (λ _. next.Next) [ Kind.Any ↦ next.anything (wrapped p node) | _ ↦ rows (wrapped p node ∷ []) ]
+
+    opened : (k : Kind) → kind_of node ≡ k → is_other k ≡ true → rows (wrapped p node ∷ []) ≡ round (kind_of node)
+    opened Kind.SeqOf e h = sym (ap round e)
+    opened Kind.Choice e h = sym (ap round e)
+    opened Kind.IllString e h = sym (ap round e)
+    opened (Kind.Leaf l) e h = sym (ap round e)
+    opened Kind.Seq e h = absurd cc
+    opened Kind.Any e h = absurd cc
+opens-by _ p node h = refl
 
 -- what is found, by the definitions
 pub found-means : (w : What) (p : PartId) (node : NodeId) → found_is (found_as p node w) ≡ cells.element_in p node w

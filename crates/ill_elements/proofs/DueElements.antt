@@ -8,7 +8,7 @@ use Rattle.ill_schema.specs.declared.part.Row.{Row}
 use Rattle.ill_schema.specs.Table.{rows_of}
 use Rattle.ill_refusals.specs.Element.{Component, Element, Start, components, components_from, list, starts}
 use Rattle.ill_refusals.specs.Next as next
-use Rattle.ill_refusals.specs.Next.{part, octets, rows, items, element_of, next_of, due, due_in, opening, start_of}
+use Rattle.ill_refusals.specs.Next.{part, octets, rows, items, element_of, next_of, due, due_in, is_last, opening, start_of}
 use Rattle.ill_elements.specs.Elements.{component_of, component_at, element_with, found_is}
 use Rattle.ill_elements.specs.Due.{IsDueIn, IsDueInRows, IsRowDue, IsInnerDue, next_is, behind}
 use Rattle.ill_elements.specs.Due.{Due}
@@ -57,6 +57,15 @@ due_in-found t c cs e h = at (start_of profile_two t c) h
 -- what comes in a list
 pub items-at : (node : NodeId) (row : Row) → slice_get (rows_of node) 0 ≡ Some row → opening profile_two (list node) ≡ items (component_at (record { node = node; row = 0 }) row)
 items-at node row h = ap (λ cs. elim cs as (λ _. next.Next) [ [] ↦ rows [] | c ∷ _ ↦ items c ]) (components-at node 0 row h)
+
+-- what may come next by the code's words is never after the last level of a foreign tree
+pub none_last : (n : Next) → is_last (next_is n) ≡ false
+none_last (Items node) = at (components profile_two node)
+  where
+    at : (cs : List Component) → is_last (elim cs as (λ _. next.Next) [ [] ↦ rows [] | c ∷ _ ↦ items c ]) ≡ false
+    at [] = refl
+    at (c ∷ cs) = refl
+none_last _ = refl
 
 -- an element that is due, and what may come after it
 abbrev Answer : Option next.Due → Element → next.Next → Type 0

@@ -13,7 +13,7 @@ use Rattle.ill_schema.specs.Meaning.{Means}
 use Rattle.ill_schema.specs.Presence.{IsCarried}
 use Rattle.ill_schema.specs.Table.{kind_of, rows_of}
 use Rattle.ill_schema.specs.Tagging.{Tagging, Tagged, untagged, implicit, explicit, explicit_or_bare, tagging, leaf_of}
-use Rattle.ill_schema.proofs.Tags.{improper_any, is_proper, is_proper_row, at_row, tables_proper}
+use Rattle.ill_schema.proofs.Tags.{untagged_any, implicit_any, is_proper, is_proper_row, at_row, tables_proper}
 use Rattle.ill_schema.proofs.Unique.{leaf_at, no_leaf}
 use Rattle.ill_elements.specs.Elements.{component_of, component_at, element_with, found_is}
 use Rattle.ill_elements.specs.Due.{Begins, IsBegun, IsRowDue}
@@ -77,11 +77,11 @@ tagged_means : (g : Tagging) (w : Component) (s : Start) (c : Content) (T : Tree
     → IsValueOf s.element c T → Means profile_two c w.node g T
 tagged_means untagged w s c T ok h m =
     let q = own_start (kind_of w.node) w.node (tag_of T) s h in
-    kind_means w.node untagged T (kind_of w.node) c refl (λ e. choice_starts (kind_of w.node) w.node (tag_of T) s h e) (improper_any untagged (kind_of w.node) ok)
+    kind_means w.node untagged T (kind_of w.node) c refl (λ e. choice_starts (kind_of w.node) w.node (tag_of T) s h e) (untagged_any (kind_of w.node) ok)
     (λ E x. subst (λ t. E t T) (own_is (kind_of w.node) (tag_of T) q.0) x) (subst (λ x. IsValueOf x c T) q.1 m)
 tagged_means (implicit u) w s c T ok h m =
     let q = implicit_start (kind_of w.node) w.node (tag_of T) u s ok h in
-    kind_means w.node (implicit u) T (kind_of w.node) c refl (λ k. improper_choice u (kind_of w.node) ok k) (improper_any (implicit u) (kind_of w.node) ok) (λ E x. subst (λ t. E t T) (sym q.0) x) (subst (λ x. IsValueOf x c T) q.2 m)
+    kind_means w.node (implicit u) T (kind_of w.node) c refl (λ k. improper_choice u (kind_of w.node) ok k) (implicit_any u (kind_of w.node) ok) (λ E x. subst (λ t. E t T) (sym q.0) x) (subst (λ x. IsValueOf x c T) q.2 m)
 tagged_means (explicit u) w s c T ok h m =
     let q = one_start (tag_of T) u _ s h in
     let x = subst (λ x. IsValueOf x c T) q.1 m in

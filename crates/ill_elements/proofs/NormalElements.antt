@@ -10,7 +10,7 @@ use Rattle.ill_schema.specs.Content.{Content, simple, alternative}
 use Rattle.ill_schema.specs.Normal.{normal_tree}
 use Rattle.ill_schema.specs.Table.{kind_of, rows_of}
 use Rattle.ill_schema.specs.Tagging.{Tagging, untagged, implicit, explicit, explicit_or_bare, tagging, tag_tree, sequence_tag, leaf_tag, leaf_of}
-use Rattle.ill_schema.proofs.Tags.{improper_any, is_proper, is_proper_row, at_row, tables_proper}
+use Rattle.ill_schema.proofs.Tags.{untagged_any, implicit_any, is_proper, is_proper_row, at_row, tables_proper}
 use Rattle.ill_schema.proofs.Unique.{leaf_at}
 use Rattle.ill_refusals.specs.Element.{Component, Element, Start, tagged_starts, component_starts}
 use Rattle.ill_refusals.proofs.OpenElements.{row_proper}
@@ -63,12 +63,12 @@ tagged_normal : (g : Tagging) (w : Component) (t : Tag) (s : Start) (c : Content
     → IsValueOf s.element c T → normal_tree c w.node g ≡ normal_element s.element t c
 tagged_normal untagged w t s c T ok h m =
     let q = own_start (kind_of w.node) w.node t s h in
-    kind_tree w.node untagged t (kind_of w.node) t.number c T refl (choice_starts (kind_of w.node) w.node t s h) (improper_any untagged (kind_of w.node) ok)
+    kind_tree w.node untagged t (kind_of w.node) t.number c T refl (choice_starts (kind_of w.node) w.node t s h) (untagged_any (kind_of w.node) ok)
     (λ f. ap f (sym (own_is (kind_of w.node) t q.0))) (subst (λ x. IsValueOf x c T) q.1 m)
     ∙ ap (λ x. normal_element x t c) (sym q.1)
 tagged_normal (implicit u) w t s c T ok h m =
     let q = implicit_start (kind_of w.node) w.node t u s ok h in
-    kind_tree w.node (implicit u) t (kind_of w.node) t.number c T refl (improper_choice u (kind_of w.node) ok) (improper_any (implicit u) (kind_of w.node) ok) (λ f. ap f q.0) (subst (λ x. IsValueOf x c T) q.2 m)
+    kind_tree w.node (implicit u) t (kind_of w.node) t.number c T refl (improper_choice u (kind_of w.node) ok) (implicit_any u (kind_of w.node) ok) (λ f. ap f q.0) (subst (λ x. IsValueOf x c T) q.2 m)
     ∙ ap (λ x. normal_element x t c) (sym q.2)
 tagged_normal (explicit u) w t s c T ok h m =
     let q = one_start t u _ s h in

@@ -1,5 +1,6 @@
 -- What the content of an element is.
-use Rattle.std.specs.Prelude.{◌≡◌, ◌⊎◌, ℕ, Option, Some, None, IsTrue}
+use Rattle.std.specs.Prelude.{◌≡◌, ◌⊎◌, ℕ, suc, Option, Some, None, IsTrue}
+use Rattle.ber_core.specs.Foreign.{is_foreign}
 use Rattle.ber_core.specs.Identifier.{Tag}
 use Rattle.ber_core.specs.Octets.{are_octets}
 use Rattle.ber_core.specs.Tree.{Tree, Trees, constructed, none, more, text}
@@ -13,7 +14,7 @@ use Rattle.ill_schema.specs.Table.{kind_of, rows_of}
 use Rattle.ill_schema.specs.Tagging.{untagged}
 use Rattle.ill_schema.specs.declared.part.Presence.{Presence}
 use Rattle.ill_schema.specs.declared.part.Row.{Row}
-use Rattle.ill_refusals.specs.Element.{Element, leaf, sequence, list, wrapper, loose_wrapper, segment, left_out}
+use Rattle.ill_refusals.specs.Element.{Element, leaf, sequence, list, wrapper, loose_wrapper, segment, foreign, left_out}
 
 -- the content is what the tree means as a whole element
 abbrev pub IsValueOf : Element → Content → Tree → Type 0
@@ -25,6 +26,7 @@ IsValueOf (loose_wrapper w) c T =
     ((tag : Tag) × (U : Tree) × (T ≡ constructed tag (more U none)) × Means profile_two c w.node untagged U)
     ⊎ ((tag : Tag) × (ts : Trees) × (es : Entries) × (T ≡ constructed tag ts) × (c ≡ content.sequence es) × Matches profile_two es (rows_of w.node) ts)
 IsValueOf segment c T = ⊥
+IsValueOf (foreign n) c T = IsTrue (is_foreign (suc n) T) × (c ≡ content.foreign T)
 IsValueOf (left_out part) c T = ⊥
 
 -- a value with the number of the alternative that it is

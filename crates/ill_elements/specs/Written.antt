@@ -18,7 +18,7 @@ use Rattle.ill_elements.specs.declared.due.Next.{Next}
 use Rattle.ill_elements.specs.declared.due.Next.TheVariants.{Rows, Either}
 use Rattle.ill_elements.specs.declared.due.Slot.{Slot}
 use Rattle.ill_elements.specs.declared.due.Slot.TheVariants.{Row as AtRow}
-use Rattle.ill_refusals.specs.Element.{Element, leaf, sequence, list, wrapper, loose_wrapper}
+use Rattle.ill_refusals.specs.Element.{Element, leaf, sequence, list, wrapper, loose_wrapper, foreign}
 
 -- the normal tree of an element with this tag that holds this content
 abbrev pub normal_element : Element → Tag → Content → Tree
@@ -27,6 +27,7 @@ normal_element (sequence node) t (content.sequence es) = constructed t (normal_t
 normal_element (list node) t (content.list is) = constructed t (normal_items is (rows_of node))
 normal_element (wrapper w) t c = constructed t (more (normal_tree c w.node untagged) none)
 normal_element (loose_wrapper w) t c = constructed t (more (normal_tree c w.node untagged) none)
+normal_element (foreign n) t (content.foreign T) = T
 normal_element _ t c = constructed t none
 
 -- the octets of a row's entry: none for a default

@@ -1,5 +1,5 @@
 -- What the decoder judges at a place, part by part.
-use Rattle.std.proofs.Common.{◌≡◌, ◌⊎◌, inl, inr, nat_eq, get_or, slice_get, ◌&&◌, ℕ, ◌+◌, ◌-◌, ◌<◌, ◌≤◌, Bool, true, false, List, [], ◌∷◌, ◌++◌, length, take, drop, Option, Some, None, IsTrue, refl, sym, ap, ap₂, subst, ◌∙◌, arith, if◌then◌else◌, length-append, length-drop}
+use Rattle.std.proofs.Common.{◌≡◌, ◌⊎◌, inl, inr, nat_eq, get_or, slice_get, ◌&&◌, ◌||◌, ℕ, ◌+◌, ◌-◌, ◌<◌, ◌≤◌, Bool, true, false, List, [], ◌∷◌, ◌++◌, length, take, drop, Option, Some, None, IsTrue, refl, sym, ap, ap₂, subst, ◌∙◌, arith, if◌then◌else◌, length-append, length-drop}
 use Rattle.std.specs.Prelude.{nat_le}
 use Rattle.std.proofs.lemmas.List.{take-append-le, drop-append-le}
 use Rattle.ber_core.specs.Id.{tag_of_id, form_of_id}
@@ -20,7 +20,7 @@ use Rattle.ill_refusals.specs.Fault.{Fault, fault, element_fault, ends_at, is_in
 use Rattle.ill_refusals.specs.code.Judge.{Judgement, faulty, closes, or_faulty, judge_end, judge_size, judge_length, judge_form, judge_tag, judge_element, judge_mark, judge_octets, judge}
 use Rattle.ill_read.specs.code.JudgeCode.{IsFormed, judge_identified}
 use Rattle.ill_read.specs.code.Judged.{IsBegin, IsEnd, content_in}
-use Rattle.ill_refusals.specs.Next.{Due, due, element_of, missing}
+use Rattle.ill_refusals.specs.Next.{Due, due, element_of, is_last, missing}
 use Rattle.ill_refusals.specs.Place.{Open, next_in, bound}
 use Rattle.ill_refusals.specs.Reading.{IdentifierRead, identified, part_identifier, no_identifier, read_identifier, definite, read_length}
 use Rattle.ill_read.specs.Standing.{StandsAt, next_at}
@@ -28,7 +28,7 @@ use Rattle.ill_elements.specs.Due.{Due as CodeDue}
 use Rattle.ill_elements.specs.Found.{Found}
 use Rattle.ill_read.specs.declared.frames.Frames.{Frames}
 use Rattle.ill_elements.proofs.DueCells.{begins-at}
-use Rattle.ill_elements.proofs.DueElements.{due_element_is}
+use Rattle.ill_elements.proofs.DueElements.{due_element_is, none_last}
 use Rattle.ill_read.proofs.OpenFrames.{next_open}
 use Rattle.ill_refusals.proofs.Judgements.{form_judged, length_body}
 use Rattle.ill_refusals.proofs.Headers.{read_is_length}
@@ -62,25 +62,28 @@ depth_body place tag f at i cut w b = if b then faulty (fault Cause.TooDeep at) 
 -- too deep
 pub deep_judged : (place : List Open) (tag : Tag) (f : Bool) (at i : ℕ) (cut : Fault) (w : List ℕ) → 32 ≤ length place
     → judge_identified place tag f at i cut w ≡ faulty (fault Cause.TooDeep at)
-deep_judged place tag f at i cut w h = let q : nat_le 32 (length place) ≡ true = grind (arith, h) in ap (depth_body place tag f at i cut w) q
+deep_judged place tag f at i cut w h = let q : nat_le 32 (length place) ≡ true = grind (arith, h) in ap (λ b. depth_body place tag f at i cut w (b || is_last (next_in profile_two place))) q
 
 -- not too deep
-shallow_judged : (place : List Open) (tag : Tag) (f : Bool) (at i : ℕ) (cut : Fault) (w : List ℕ) → length place < 32
+shallow_judged : (frames : Frames) (place : List Open) (tag : Tag) (f : Bool) (at i : ℕ) (cut : Fault) (w : List ℕ) → StandsAt frames place → length place < 32
     → judge_identified place tag f at i cut w ≡ judge_tag profile_two place tag f at i cut w
-shallow_judged place tag f at i cut w h = let q : nat_le 32 (length place) ≡ false = grind (arith, h) in ap (depth_body place tag f at i cut w) q
+shallow_judged frames place tag f at i cut w s h =
+    let few : nat_le 32 (length place) ≡ false = grind (arith, h) in
+    let more : is_last (next_in profile_two place) ≡ false = ap is_last (sym (next_open place _ _ s.1)) ∙ none_last (next_at frames.open.items) in
+    ap (depth_body place tag f at i cut w) (ap₂ (λ a b. a || b) few more)
 
 -- nothing is due with the tag
 pub unexpected_judged : (frames : Frames) (place : List Open) (tag : Tag) (f : Bool) (at i : ℕ) (cut : Fault) (w : List ℕ) → StandsAt frames place → length place < 32
     → due profile_two tag (next_is (next_at frames.open.items)) ≡ None → judge_identified place tag f at i cut w ≡ faulty (fault Cause.UnexpectedTag at)
 unexpected_judged frames place tag f at i cut w h s e =
-    shallow_judged place tag f at i cut w s ∙ ap (tag_body place tag f at i cut w) (ap (due profile_two tag) (sym (next_open place _ _ h.1)) ∙ e)
+    shallow_judged frames place tag f at i cut w h s ∙ ap (tag_body place tag f at i cut w) (ap (due profile_two tag) (sym (next_open place _ _ h.1)) ∙ e)
 
 -- what is due with the tag is judged by its form
 due_judged : (frames : Frames) (place : List Open) (tag : Tag) (f : Bool) (d : CodeDue) (at i : ℕ) (cut : Fault) (w : List ℕ) → StandsAt frames place → length place < 32
     → IsDueIn tag (next_at frames.open.items) d → judge_identified place tag f at i cut w ≡ judge_form profile_two place (found_is d.found) tag f at i cut w
 due_judged frames place tag f d at i cut w h s k =
     let e = due_element_is tag (next_at frames.open.items) d k in
-    shallow_judged place tag f at i cut w s
+    shallow_judged frames place tag f at i cut w h s
     ∙ ap (tag_body place tag f at i cut w) (ap (due profile_two tag) (sym (next_open place _ _ h.1)) ∙ e.1)
     ∙ ap (λ x. judge_form profile_two place x tag f at i cut w) e.2
 

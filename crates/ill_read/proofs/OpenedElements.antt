@@ -4,7 +4,7 @@ use Rattle.ber_core.specs.Id.{tag_of_id}
 use Rattle.ber_core.specs.Identifier.{Tag}
 use Rattle.ber_core.specs.Tree.{none}
 use Rattle.ber_leaf.specs.Profile.{profile_two}
-use Rattle.ill_cells.specs.Places.{alternative_of}
+use Rattle.ill_cells.specs.Places.{alternative_of, node_of, part_of, what_of}
 use Rattle.ill_elements.specs.Elements.{element_is}
 use Rattle.ill_elements.specs.Due.{IsDueIn, behind, first_of, next_is, shape, shape_at, read_as, slot_in, next_place}
 use Rattle.ill_refusals.specs.Element.{segment}
@@ -22,6 +22,7 @@ use Rattle.ill_read.specs.declared.frame.Frame.{Frame}
 use Rattle.ill_read.specs.declared.judge.Opening.{Opening}
 use Rattle.ill_read.specs.declared.path.Path.{Path}
 use Rattle.ill_read.proofs.DeliveredEntries.{innermost_level}
+use Rattle.ill_elements.proofs.DueCells.{opens-by}
 use Rattle.ill_elements.proofs.DueTags.{due_segment}
 use Rattle.ill_read.proofs.Segments.{text_with, no_text}
 
@@ -48,10 +49,6 @@ bound_opened : (end : Option ℕ) (round : ℕ) (e : CodeElement) (tag : Tag) (s
 bound_opened (Some n) round e tag start place h = refl
 bound_opened None round e tag start place h = h
 
-pub first_opening : (e : CodeElement) → next_is (first_of e) ≡ opening profile_two (element_is e)
-first_opening (Leaf l) = refl
-first_opening _ = refl
-
 pub opens_at : {D : Type 0} (holds : D → List Level → List ℕ → Type 0) (old new : Path D) (opening : Opening) (f : Frame) (place : List Open) (round : ℕ) → HoldsAt holds old place
     → IsDueIn (tag_of_id opening.id) (next_at old.frames.open.items) (due_with (slot_in f.found) (alternative_of f.found) (read_as f.found)) → shape_at (next_place f.found) ≡ behind (next_at old.frames.open.items) (slot_in f.found) → allows (element_is (read_as f.found)) true ≡ true → (shape f.place) ≡ first_of (read_as f.found)
     → round ≡ bound profile_two place → f.bound ≡ unwrap_or f.end round → HasOpened holds old.draft (next_at old.frames.open.items) opening f.base new.draft → new.frames.open.items ≡ old.frames.open.items ++ f ∷ [] → f.found ≡ opening.found
@@ -64,7 +61,7 @@ opens_at holds old new opening f place round h due after allowed first r b has f
       start = refl;
       end = refl;
       bound = b ∙ bound_opened f.end round (read_as f.found) tag f.start place r;
-      next = ap next_is first ∙ first_opening (read_as f.found);
+      next = ap next_is first ∙ opens-by (what_of f.found) (part_of f.found) (node_of f.found) f.found.opens;
       is_due = due;
       after = after;
       held = holds_none (read_as f.found) (shape f.place) first allowed;

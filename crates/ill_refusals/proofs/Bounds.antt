@@ -126,8 +126,7 @@ mutual
   means_within p (sequence es) node g T h = tagged g _ _ (sequence es) T (λ t U e. within_constructed (sequence es) t e.0 U _ _ e.1 refl refl (matches_within p es _ e.0 e.2)) h.1
   means_within p (list is) node g T h = tagged g _ _ (list is) T (λ t U e. within_constructed (list is) t e.0 U _ _ e.1 refl refl (items_within p is _ e.0 e.2)) h.1
   means_within p (alternative n c) node g T h = tagged g _ _ (alternative n c) T (λ t U e. let r = means_within p c _ _ U e in record { texts = r.texts; items = r.items }) h.2
-  means_within p (foreign V) node g T h =
-      tagged g sequence_tag (λ _ U. (U ≡ V) × IsTrue (is_foreign foreign_levels U)) (foreign V) T (λ t U e. let q = ap (λ z. length (text z)) e.0 in record { texts = omega (arith, q); items = one_element U }) h.1
+  means_within p (foreign V) node g T h = tagged g sequence_tag (λ _ U. (U ≡ V) × IsTrue (is_foreign foreign_levels U)) (foreign V) T (λ t U e. let q = ap (λ z. length (text z)) e.0 in record { texts = omega (arith, q); items = one_element U }) h.1
 
   matches_within : (p : Profile) (es : Entries) (rows : List Row) (ts : Trees) → Matches p es rows ts → AreWithin (entries_text es) (entries_items es) ts
   matches_within p no_entries [] ts h = record { texts = omega arith; items = omega arith }

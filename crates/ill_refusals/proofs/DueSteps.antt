@@ -138,7 +138,7 @@ reads_placed p s path k rest tag n octets ok h r =
     let os : IsTrue (are_octets octets) =
     octets_right r.octets octets (octets_right id (r.octets ++ octets) (octets_left b r.behind (octets_right u (b ++ r.behind) (subst (λ z. IsTrue (are_octets z)) (h.1 ∙ ap (λ z. u ++ z) begins) ok)))) in
     let st = r.started in
-    let w = due_whole p (next_in p path) d T (place_proper p path u h.3) st.is_due (primitive_element p (element_of d) tag octets st.allowed r.no_fault os) in
+    let w = due_whole p (next_in p path) d T (place_proper p path u h.3) st.is_due (primitive_element p (element_of d) tag octets st.allowed r.no_fault os st.has_identifier) in
     let sp : Spells T b = record { has_identifier = st.has_identifier; octets = r.octets; spell_length = r.is_length; joined = refl } in
     let shallow = st.shallow in let within = r.within in let at = h.2 in
     let q = add_tree p s path T u b r.behind d (h.1 ∙ ap (λ z. u ++ z) begins) h.3 st.is_due w sp (omega arith) (omega arith) in
@@ -201,7 +201,7 @@ ended_whole p s o outer u rest before header contents ok e pl i f may =
     octets_right header contents (octets_right before (header ++ contents) (subst (λ z. IsTrue (are_octets z)) f (octets_left u rest (subst (λ z. IsTrue (are_octets z)) e ok)))) in
     let is : IsProper p o.element = subst (IsProper p) i.is_due.2 ((due_proper p o.tag (next_in p outer) d proper i.is_due.1).0) in
     let m : IsElement p o.element (constructed o.tag o.trees) =
-    read_element p o.element o.tag o.trees is i.allowed (record { whole = i.whole; complete = may.complete }) may.no_fault (texts_octets o.trees contents i.spelled octets) in
+    read_element p o.element o.tag o.trees is i.allowed (record { whole = i.whole; complete = may.complete }) may.no_fault (texts_octets o.trees contents i.spelled octets) i.opens.1 in
     due_whole p (next_in p outer) d (constructed o.tag o.trees) proper i.is_due.1 (subst (λ x. IsElement p x (constructed o.tag o.trees)) (sym i.is_due.2) m)
 
 ended_definite : (p : Profile) (o : Open) (outer : List Open) (before header contents : List ℕ) (k : ℕ) → (i : IsOpen p outer o before header contents)

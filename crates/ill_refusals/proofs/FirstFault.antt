@@ -1,14 +1,14 @@
 -- The first condition that holds at a place gives the fault of what is done there.
 use Rattle.std.proofs.Common.{◌≡◌, ℕ, ◌+◌, ◌-◌, Bool, true, false, ◌&&◌, List, [], ◌∷◌, length, take, Option, Some, None, refl, sym, ap, ◌∙◌, if◌then◌else◌}
-use Rattle.std.specs.Prelude.{nat_eq, nat_lt, nat_le}
+use Rattle.std.specs.Prelude.{nat_eq, nat_lt}
 use Rattle.ber_core.specs.Identifier.{Tag}
 use Rattle.ber_core.specs.Tree.{text_all}
 use Rattle.ber_leaf.specs.declared.fault.LeafFault.{LeafFault}
 use Rattle.ber_leaf.specs.Profile.{Profile}
 use Rattle.ill_schema.specs.declared.refusal.Cause.{Cause}
 use Rattle.ill_schema.specs.declared.part.PartId.{PartId}
-use Rattle.ill_refusals.specs.Element.{Element, leaf, sequence, list, wrapper, loose_wrapper, segment, left_out}
-use Rattle.ill_refusals.specs.Fault.{Fault, fault, Finding, passes, finds, first_fault, no_octet, innermost_ends, ended, second_zero, of_element, after_identifier, bad_form, bad_length, too_long, too_deep, bad_content, at_fault, bad_identifier, end_mark, ends_at, is_indefinite, past_end, cut_fault, element_fault, fault_at}
+use Rattle.ill_refusals.specs.Element.{Element, leaf, sequence, list, wrapper, loose_wrapper, segment, foreign, left_out}
+use Rattle.ill_refusals.specs.Fault.{Fault, fault, Finding, passes, finds, first_fault, no_octet, innermost_ends, ended, second_zero, of_element, after_identifier, bad_form, bad_length, too_long, too_deep, bad_content, at_fault, bad_identifier, end_mark, ends_at, is_indefinite, past_end, cut_fault, element_fault, fault_at, is_deep}
 use Rattle.ill_refusals.specs.code.Judge.{Judgement, faulty, closes, opens, reads, or_faulty, judge_end, judge_content, judge_size, judge_length, judge_form, judge_tag, judge_element, judge_mark, judge_octets, judge, fault_in}
 use Rattle.ill_refusals.specs.Next.{Due, element_of, due, missing}
 use Rattle.ill_refusals.specs.Place.{Open, next_in, bound, allows}
@@ -88,6 +88,7 @@ form_judged p path d tag form k i cut w = go (element_of d)
     go (wrapper c) = judged (allows (wrapper c) form)
     go (loose_wrapper c) = judged (allows (loose_wrapper c) form)
     go segment = judged (allows segment form)
+    go (foreign n) = judged (allows (foreign n) form)
     go (left_out part) = refl
 
 tag_judged : (p : Profile) (path : List Open) (tag : Tag) (form : Bool) (k i : ℕ) (cut : Fault) (w : List ℕ)
@@ -100,7 +101,7 @@ tag_judged p path tag form k i cut w = go (due p tag (next_in p path))
     go (Some d) = form_judged p path d tag form k i cut w
 
 element_judged : (p : Profile) (path : List Open) (k : ℕ) (cut : Fault) (w : List ℕ)
-    → first_fault (bad_identifier k cut (read_identifier w) ∷ too_deep path k ∷ of_element p path k cut (length w) (read_identifier w)) ≡ fault_in (judge_element p path k cut w)
+    → first_fault (bad_identifier k cut (read_identifier w) ∷ too_deep p path k ∷ of_element p path k cut (length w) (read_identifier w)) ≡ fault_in (judge_element p path k cut w)
 element_judged p path k cut w = go (read_identifier w)
   where
     deep : (b : Bool) (tag : Tag) (form : Bool) (rest : List ℕ)
@@ -109,16 +110,16 @@ element_judged p path k cut w = go (read_identifier w)
     deep true tag form rest = refl
     deep false tag form rest = tag_judged p path tag form k (length w - length rest) cut rest
 
-    go : (x : IdentifierRead) → first_fault (bad_identifier k cut x ∷ too_deep path k ∷ of_element p path k cut (length w) x) ≡ fault_in (elim x as (λ _. Judgement) [
+    go : (x : IdentifierRead) → first_fault (bad_identifier k cut x ∷ too_deep p path k ∷ of_element p path k cut (length w) x) ≡ fault_in (elim x as (λ _. Judgement) [
       | part_identifier ↦ faulty cut
       | no_identifier ↦ faulty (fault Cause.BadTag k)
       | identified tag constructed rest ↦
-          if nat_le 32 (length path) then faulty (fault Cause.TooDeep k)
+          if is_deep p path then faulty (fault Cause.TooDeep k)
           else judge_tag p path tag constructed k (length w - length rest) cut rest
     ])
     go part_identifier = refl
     go no_identifier = refl
-    go (identified tag form rest) = deep (nat_le 32 (length path)) tag form rest
+    go (identified tag form rest) = deep (is_deep p path) tag form rest
 
 mark_judged : (p : Profile) (path : List Open) (k : ℕ) (cut : Fault) (w : List ℕ) (more : List Finding)
     → first_fault (second_zero p path k cut w ∷ more) ≡ fault_in (judge_mark p path k cut w)
@@ -131,13 +132,13 @@ mark_judged p path k cut (a ∷ w) more = go (nat_eq a 0)
     go false = refl
 
 octets_judged : (p : Profile) (path : List Open) (k : ℕ) (cut : Fault) (a : ℕ) (w : List ℕ)
-    → first_fault (end_mark p path k cut (a ∷ w) ∷ bad_identifier k cut (read_identifier (a ∷ w)) ∷ too_deep path k
+    → first_fault (end_mark p path k cut (a ∷ w) ∷ bad_identifier k cut (read_identifier (a ∷ w)) ∷ too_deep p path k
     ∷ of_element p path k cut (length (a ∷ w)) (read_identifier (a ∷ w)))
     ≡ fault_in (judge_octets p path k cut (a ∷ w))
 octets_judged p path k cut a w = go (is_indefinite path && nat_eq a 0)
   where
     more : List Finding
-    more = bad_identifier k cut (read_identifier (a ∷ w)) ∷ too_deep path k ∷ of_element p path k cut (length (a ∷ w)) (read_identifier (a ∷ w))
+    more = bad_identifier k cut (read_identifier (a ∷ w)) ∷ too_deep p path k ∷ of_element p path k cut (length (a ∷ w)) (read_identifier (a ∷ w))
 
     go : (b : Bool) → first_fault ((if b then second_zero p path k cut w else passes) ∷ more)
         ≡ fault_in (elim b as (λ _. Judgement) [ true ↦ judge_mark p path k cut w | false ↦ judge_element p path k cut (a ∷ w) ])
@@ -152,7 +153,7 @@ fault_judged p path k rest = go (ends_at path k) (take (bound p path - k) rest)
     cut = cut_fault p path k rest
 
     more : List ℕ → List Finding
-    more w = no_octet cut w ∷ end_mark p path k cut w ∷ bad_identifier k cut (read_identifier w) ∷ too_deep path k ∷ of_element p path k cut (length w) (read_identifier w)
+    more w = no_octet cut w ∷ end_mark p path k cut w ∷ bad_identifier k cut (read_identifier w) ∷ too_deep p path k ∷ of_element p path k cut (length w) (read_identifier w)
 
     go : (b : Bool) (w : List ℕ) → first_fault ((if b then innermost_ends p path k else passes) ∷ more w)
         ≡ fault_in (elim b as (λ _. Judgement) [ true ↦ judge_end p path k 0 | false ↦ judge_octets p path k cut w ])

@@ -1,5 +1,5 @@
 -- What is done at a place, by the octets that are there.
-use Rattle.std.proofs.Common.{◌≡◌, ◌⊎◌, ℕ, suc, ◌+◌, ◌-◌, ◌<◌, ◌≤◌, Bool, true, false, ◌&&◌, List, [], ◌∷◌, ◌++◌, length, take, drop, Option, Some, None, IsTrue, refl, sym, ap, subst, ◌∙◌, inl, inr, arith, if◌then◌else◌, append_assoc, append-nil, length-append, ltb-false}
+use Rattle.std.proofs.Common.{◌||◌, ◌≡◌, ◌⊎◌, ℕ, suc, ◌+◌, ◌-◌, ◌<◌, ◌≤◌, Bool, true, false, ◌&&◌, List, [], ◌∷◌, ◌++◌, length, take, drop, Option, Some, None, IsTrue, refl, sym, ap, subst, ◌∙◌, inl, inr, arith, if◌then◌else◌, append_assoc, append-nil, length-append, ltb-false, zero}
 use Rattle.std.specs.Prelude.{nat_eq, nat_lt, nat_le}
 use Rattle.std.proofs.Math.Seq.{take-append-add, take-append_seam}
 use Rattle.std.proofs.lemmas.List.{take-append-drop, length-take-le, length-take}
@@ -10,11 +10,11 @@ use Rattle.ber_core.proofs.Identifiers.{IsEnd, identifier_no_end}
 use Rattle.ber_leaf.specs.declared.fault.LeafFault.{LeafFault}
 use Rattle.ill_schema.specs.declared.refusal.Cause.{Cause}
 use Rattle.ill_schema.specs.declared.part.PartId.{PartId}
-use Rattle.ill_refusals.specs.Element.{Element, leaf, sequence, list, wrapper, loose_wrapper, segment, left_out}
-use Rattle.ill_refusals.specs.Fault.{Fault, fault, ends_at, is_indefinite, past_end, cut_fault, element_fault}
+use Rattle.ill_refusals.specs.Element.{Element, leaf, sequence, list, wrapper, loose_wrapper, segment, foreign, left_out}
+use Rattle.ill_refusals.specs.Fault.{Fault, fault, ends_at, is_indefinite, past_end, cut_fault, element_fault, is_deep}
 use Rattle.ill_refusals.specs.code.Judge.{Judgement, faulty, closes, opens, reads, or_faulty, judge_end, judge_content, judge_size, judge_length, judge_form, judge_tag, judge_element, judge_mark, judge_octets, judge}
 use Rattle.ber_core.specs.Octets.{are_octets}
-use Rattle.ill_refusals.specs.Next.{Due, element_of, due, missing}
+use Rattle.ill_refusals.specs.Next.{Next, rows, items, either, segments, anything, foreigns, is_last, Due, element_of, due, missing}
 use Rattle.ill_refusals.specs.Place.{Open, next_in, bound, allows}
 use Rattle.ber_leaf.specs.Profile.{Profile}
 use Rattle.ill_refusals.specs.Reading.{IdentifierRead, identified, part_identifier, no_identifier, read_identifier, LengthRead, definite, indefinite, part_length, no_length, read_length}
@@ -106,18 +106,36 @@ form_judged p path (list node) tag f k i cut w h = ap (λ x. elim x as (λ _. Ju
 form_judged p path (wrapper c) tag f k i cut w h = ap (λ x. elim x as (λ _. Judgement) [ true ↦ judge_length p path (wrapper c) tag f k i cut w | false ↦ faulty (fault Cause.WrongForm k) ]) h
 form_judged p path (loose_wrapper c) tag f k i cut w h = ap (λ x. elim x as (λ _. Judgement) [ true ↦ judge_length p path (loose_wrapper c) tag f k i cut w | false ↦ faulty (fault Cause.WrongForm k) ]) h
 form_judged p path segment tag f k i cut w h = ap (λ x. elim x as (λ _. Judgement) [ true ↦ judge_length p path segment tag f k i cut w | false ↦ faulty (fault Cause.WrongForm k) ]) h
+form_judged p path (foreign n) tag f k i cut w h = refl
 form_judged p path (left_out x) tag f k i cut w h = absurd cc
+
+-- what is due may open
+opens_further : (p : Profile) (tag : Tag) (n : Next) (d : Due) → due p tag n ≡ Some d → is_last n ≡ false
+opens_further p tag (foreigns zero) d h = absurd (let q : None ≡ Some d = h in cc)
+opens_further p tag (foreigns (suc n)) d h = refl
+opens_further p tag (rows cs) d h = refl
+opens_further p tag (items c) d h = refl
+opens_further p tag (either c) d h = refl
+opens_further p tag segments d h = refl
+opens_further p tag (anything c) d h = refl
+
+pub neither : (a b : Bool) → a || b ≡ false → (a ≡ false) × (b ≡ false)
+neither true b h = absurd cc
+neither false b h = (refl, h)
+
+none_of : (a b : Bool) → a ≡ false → b ≡ false → a || b ≡ false
+none_of a b e f = rw (e, f) refl
 
 element_judged : (p : Profile) (path : List Open) (tag : Tag) (f : Bool) (d : Due) (k : ℕ) (cut : Fault) (w : List ℕ) → IsStarted p path tag f d
     → judge_element p path k cut (identifier tag f ++ w) ≡ judge_length p path (element_of d) tag f k (length (identifier tag f)) cut w
 element_judged p path tag f d k cut w h =
-    let s : nat_le 32 (length path) ≡ false = let l = h.shallow in grind (arith, l) in
+    let s : is_deep p path ≡ false = none_of (nat_le 32 (length path)) (is_last (next_in p path)) (let l = h.shallow in grind (arith, l)) (opens_further p tag (next_in p path) d h.is_due) in
     let i : length (identifier tag f ++ w) - length w ≡ length (identifier tag f) = omega (arith, length-append (identifier tag f) w) in
     ap (λ r. elim r as (λ _. Judgement) [
       | part_identifier ↦ faulty cut
       | no_identifier ↦ faulty (fault Cause.BadTag k)
       | identified t form rest ↦
-          if nat_le 32 (length path) then faulty (fault Cause.TooDeep k)
+          if is_deep p path then faulty (fault Cause.TooDeep k)
           else judge_tag p path t form k (length (identifier tag f ++ w) - length rest) cut rest
     ]) (identifier_read tag f w h.has_identifier)
     ∙ ap (λ (b : Bool). if b then faulty (fault Cause.TooDeep k) else judge_tag p path tag f k (length (identifier tag f ++ w) - length w) cut w) s
@@ -271,6 +289,7 @@ form_cases p path (list node) tag f k i cut w = elim (two_cases (allows (list no
 form_cases p path (wrapper c) tag f k i cut w = elim (two_cases (allows (wrapper c) f)) [ inl h ↦ inl h | inr h ↦ inr (fault Cause.WrongForm k, ap (form_body p path (wrapper c) tag f k i cut w) h) ]
 form_cases p path (loose_wrapper c) tag f k i cut w = elim (two_cases (allows (loose_wrapper c) f)) [ inl h ↦ inl h | inr h ↦ inr (fault Cause.WrongForm k, ap (form_body p path (loose_wrapper c) tag f k i cut w) h) ]
 form_cases p path segment tag f k i cut w = inl refl
+form_cases p path (foreign n) tag f k i cut w = inl refl
 form_cases p path (left_out x) tag f k i cut w = inr (fault (Cause.LeftOut x) k, refl)
 
 -- octets that may be read: the front of the rest, within the bound
@@ -380,16 +399,16 @@ element_says p path k rest cut w front = go (read_identifier w) refl
       | part_identifier ↦ faulty cut
       | no_identifier ↦ faulty (fault Cause.BadTag k)
       | identified tag constructed r ↦
-          if nat_le 32 (length path) then faulty (fault Cause.TooDeep k)
+          if is_deep p path then faulty (fault Cause.TooDeep k)
           else judge_tag p path tag constructed k (length w - length r) cut r
     ])
     go part_identifier q = tt
     go no_identifier q = tt
-    go (identified tag f r) q = elim (two_cases (nat_le 32 (length path))) [
+    go (identified tag f r) q = elim (two_cases (is_deep p path)) [
       | inl e ↦ rw e tt
       | inr e ↦ rw e (
           let u = read_is_identifier w tag f r front.octets q in
-          tag_says p path tag f k (length w - length r) rest cut r u.0 (let z : length path < 32 = grind (arith, e) in z)
+          tag_says p path tag f k (length w - length r) rest cut r u.0 (let a = (neither (nat_le 32 (length path)) (is_last (next_in p path)) e).0 in let z : length path < 32 = grind (arith, a) in z)
           (subst (IsFront p path k rest) u.1 front) (omega (arith, ap length u.1, length-append (identifier tag f) r)))
     ]
 

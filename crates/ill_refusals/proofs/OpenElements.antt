@@ -1,10 +1,12 @@
 -- What may be in an open element, one tree after another, and what it is when it ends.
-use Rattle.std.proofs.Common.{◌≡◌, ℕ, ℤ, pos, ◌+◌, Bool, true, false, ◌||◌, List, [], ◌∷◌, Option, Some, None, IsTrue, refl, sym, ap, ap₂, subst, ◌∙◌, inl, inr, map, slice_get}
+use Rattle.std.proofs.Common.{◌≡◌, ℕ, zero, suc, ℤ, pos, ◌+◌, Bool, true, false, ◌||◌, List, [], ◌∷◌, Option, Some, None, IsTrue, refl, sym, ap, ap₂, subst, ◌∙◌, inl, inr, map, slice_get}
 use Rattle.std.specs.Prelude.{flat_map, if◌then◌else◌}
 use Rattle.std.specs.List.{list_all}
 use Rattle.std.specs.Ordering.{int_eq}
 use Rattle.std.specs.Cmp.{signed_Decides}
-use Rattle.ber_core.specs.Identifier.{Tag}
+use Rattle.ber_core.specs.Foreign.{is_foreign, are_foreign}
+use Rattle.ber_core.proofs.Foreign.{both, has_identified}
+use Rattle.ber_core.specs.Identifier.{Tag, HasIdentifier}
 use Rattle.ber_core.specs.Tree.{Tree, Trees, primitive, constructed, none, more, tag_of, AreSegments, text_all, octet_string}
 use Rattle.ill_schema.specs.declared.node.Kind.{Kind}
 use Rattle.ill_schema.specs.declared.node.LeafKind.{LeafKind}
@@ -16,11 +18,11 @@ use Rattle.ill_schema.specs.declared.part.Row.{Row}
 use Rattle.ill_schema.specs.Content.{Content, simple, alternative, Entries, no_entries, absent, present, Items, no_items, item}
 use Rattle.ber_leaf.specs.Simple.{flag}
 use Rattle.ill_schema.specs.Content as content
-use Rattle.ill_refusals.specs.Element.{Component, components, components_from, Element, leaf, sequence, list, wrapper, loose_wrapper, segment, left_out, Start, starts}
+use Rattle.ill_refusals.specs.Element.{Component, components, components_from, Element, leaf, sequence, list, wrapper, loose_wrapper, segment, foreign, left_out, Start, starts}
 use Rattle.ill_refusals.specs.Fault.{element_fault}
 use Rattle.ber_core.specs.Octets.{are_octets}
 use Rattle.ill_schema.specs.Meaning.{Means, Matches, MatchItems}
-use Rattle.ill_refusals.specs.Next.{Next, rows, items, either, segments, Due, part, octets, due, due_in, start_of, element_of, next_of, next_after, missing, first_mandatory, opening, IsWhole, AreWhole}
+use Rattle.ill_refusals.specs.Next.{Next, rows, items, either, segments, anything, foreigns, Due, part, octets, any, due, due_in, start_of, element_of, next_of, next_after, missing, first_mandatory, opening, IsWhole, AreWhole}
 use Rattle.ill_refusals.specs.Place.{allows}
 use Rattle.ber_leaf.specs.Profile.{Profile, profile_two}
 use Rattle.ill_schema.specs.Tagging.{Tagging, untagged, tagging, same_tag, sequence_tag}
@@ -29,7 +31,7 @@ use Rattle.ill_schema.specs.Table.{kind_of, rows_of}
 use Rattle.ill_schema.specs.TableFacts.{node_tags, row_tags}
 use Rattle.ill_schema.proofs.Tags.{is_proper, is_proper_row, is_tagged, Mem, tables_proper, at_row}
 use Rattle.std.proofs.lemmas.Bool.{and_parts}
-use Rattle.ill_schema.proofs.Unique.{means_begins, matches_begins, no_leaf, proper_untagged, sequence_apart}
+use Rattle.ill_schema.proofs.Unique.{means_begins, matches_begins, no_leaf, no_any_leaf, proper_untagged, sequence_apart}
 use Rattle.ill_refusals.proofs.Rows.{AreRead, starting, starting_some, two_cases, same_tag-is, sequence_read, tables_started, are_started, same_tags, same_tags-is, tag_at, next_after-more, due-found}
 use Rattle.ill_refusals.proofs.WholeElements.{IsElement, IsProper, IsProperComponent, is_carried, component_of, start_element, start_value, start_proper}
 
@@ -42,6 +44,8 @@ IsProperNext p (rows cs) = AllProper p cs
 IsProperNext p (items c) = IsProperComponent p c
 IsProperNext p (either c) = IsProper p (loose_wrapper c)
 IsProperNext p segments = Unit {0}
+IsProperNext p (anything c) = (c.presence ≡ Presence.Must) × (c.tagging ≡ untagged) × (kind_of c.node ≡ Kind.Any)
+IsProperNext p (foreigns n) = Unit {0}
 
 abbrev is_carried_row : Profile → Row → Bool
 is_carried_row p row = is_tagged (tagging p row) || is_carried row.presence
@@ -79,6 +83,7 @@ inner_proper p c e f n = record {
 abbrev IsFound : Profile → Tag → Due → Type 0
 IsFound p t (part c e n) = (s : Start) × (starting t (starts p c) ≡ Some s) × (s.element ≡ e) × IsProperComponent p c × IsProperNext p n
 IsFound p t octets = t ≡ octet_string
+IsFound p t (any n next) = IsProperNext p next
 
 -- what is due, by what was found
 abbrev pub in_body : Profile → Tag → Component → List Component → Option Start → Option Due
@@ -118,6 +123,9 @@ due_found p t (either c) d ok h = elim (two_cases (same_tag t sequence_tag)) [
   | inl e ↦ found_in p t (c ∷ []) d (inner_proper p c ok.0 ok.1 (λ q. let z : Kind.Seq ≡ Kind.Any = sym ok.2 ∙ q in cc), tt) (sym (ap (λ b. elim b as (λ _. Option Due) [ true ↦ due_in p t (c ∷ []) | false ↦ due_in p t (components p c.node) ]) e) ∙ h)
   | inr e ↦ found_in p t (components p c.node) d (components_proper p c.node) (sym (ap (λ b. elim b as (λ _. Option Due) [ true ↦ due_in p t (c ∷ []) | false ↦ due_in p t (components p c.node) ]) e) ∙ h)
 ]
+due_found p t (anything c) d ok h = let q : Some (any 19 (rows [])) ≡ Some d = h in let r : any 19 (rows []) ≡ d = cc in subst (λ x. IsFound p t x) r tt
+due_found p t (foreigns zero) d ok h = absurd (let q : None ≡ Some d = h in cc)
+due_found p t (foreigns (suc n)) d ok h = let q : Some (any n (foreigns (suc n))) ≡ Some d = h in let r : any n (foreigns (suc n)) ≡ d = cc in subst (λ x. IsFound p t x) r tt
 due_found p t segments d ok h = elim (two_cases (same_tag t octet_string)) [
   | inl e ↦ let q : Some octets ≡ Some d = sym (ap (λ (b : Bool). if b then Some octets else None) e) ∙ h in let r : octets ≡ d = cc in subst (λ x. IsFound p t x) r (same_tag-is t octet_string e)
   | inr e ↦ absurd (let q : None ≡ Some d = sym (ap (λ (b : Bool). if b then Some octets else None) e) ∙ h in cc)
@@ -129,18 +137,21 @@ due_element p n (part c e nx) T ok h w =
     let f : IsFound p (tag_of T) (part c e nx) = due_found p (tag_of T) n (part c e nx) ok h in
     subst (λ x. IsElement p x T) f.2 (start_element p c f.0 w.1.0 T f.3 f.1 w.0 w.1.1)
 due_element p n octets T ok h w = w
+due_element p n (any m nx) T ok h w = w
 
 pub due_whole : (p : Profile) (n : Next) (d : Due) (T : Tree) → IsProperNext p n → due p (tag_of T) n ≡ Some d → IsElement p (element_of d) T → IsWhole p d T
 due_whole p n (part c e nx) T ok h w =
     let f : IsFound p (tag_of T) (part c e nx) = due_found p (tag_of T) n (part c e nx) ok h in
     start_value p c f.0 T f.3 f.1 (subst (λ x. IsElement p x T) (sym f.2) w)
 due_whole p n octets T ok h w = w
+due_whole p n (any m nx) T ok h w = w
 
 pub due_proper : (p : Profile) (t : Tag) (n : Next) (d : Due) → IsProperNext p n → due p t n ≡ Some d → IsProper p (element_of d) × IsProperNext p (next_of d)
 due_proper p t n (part c e nx) ok h =
     let f : IsFound p t (part c e nx) = due_found p t n (part c e nx) ok h in
     (subst (λ x. IsProper p x) f.2 (start_proper p c t f.0 f.3 f.1), f.4)
 due_proper p t n octets ok h = (tt, tt)
+due_proper p t n (any m nx) ok h = (tt, due_found p t n (any m nx) ok h)
 
 abbrev first_items : List Component → Next
 first_items cs = elim cs as (λ _. Next) [ [] ↦ rows [] | c ∷ _ ↦ items c ]
@@ -153,9 +164,18 @@ pub opening_proper : (p : Profile) (e : Element) → IsProper p e → IsProperNe
 opening_proper p (leaf l) h = tt
 opening_proper p (sequence node) h = components_proper p node
 opening_proper p (list node) h = first_proper p (components p node) (components_proper p node)
-opening_proper p (wrapper c) h = (inner_proper p c h.0 h.1 h.2, tt)
+opening_proper p (wrapper c) h = go (kind_of c.node) refl
+  where
+    go : (k : Kind) → kind_of c.node ≡ k → IsProperNext p (elim k as (λ _. Next) [ Kind.Any ↦ anything c | _ ↦ rows (c ∷ []) ])
+    go Kind.Any e = (h.0, h.1, e)
+    go Kind.Seq e = (inner_proper p c h.0 h.1 (λ q. let z : Kind.Seq ≡ Kind.Any = sym e ∙ q in cc), tt)
+    go Kind.SeqOf e = (inner_proper p c h.0 h.1 (λ q. let z : Kind.SeqOf ≡ Kind.Any = sym e ∙ q in cc), tt)
+    go Kind.Choice e = (inner_proper p c h.0 h.1 (λ q. let z : Kind.Choice ≡ Kind.Any = sym e ∙ q in cc), tt)
+    go Kind.IllString e = (inner_proper p c h.0 h.1 (λ q. let z : Kind.IllString ≡ Kind.Any = sym e ∙ q in cc), tt)
+    go (Kind.Leaf l) e = (inner_proper p c h.0 h.1 (λ q. let z : Kind.Leaf l ≡ Kind.Any = sym e ∙ q in cc), tt)
 opening_proper p (loose_wrapper c) h = h
 opening_proper p segment h = tt
+opening_proper p (foreign n) h = tt
 opening_proper p (left_out x) h = tt
 
 pub after_proper : (p : Profile) (n : Next) (ts : Trees) → IsProperNext p n → IsProperNext p (next_after p n ts)
@@ -181,8 +201,8 @@ same_simple (Kind.Leaf LeafKind.Printable) x = (signed_Decides x x).1 refl
 same_simple Kind.Seq x = (signed_Decides x x).1 refl
 same_simple Kind.SeqOf x = (signed_Decides x x).1 refl
 same_simple Kind.Choice x = (signed_Decides x x).1 refl
-same_simple Kind.Any x = (signed_Decides x x).1 refl
 same_simple Kind.IllString x = (signed_Decides x x).1 refl
+same_simple Kind.Any x = (signed_Decides x x).1 refl
 
 entry_skip : (p : Profile) (row : Row) (rs : List Row) (ts : Trees) → (row.presence ≡ Presence.Must → ⊥) → ((es : Entries) × Matches p es rs ts) → (es : Entries) × Matches p es (row ∷ rs) ts
 entry_skip p row rs ts n m = skipped row.presence refl n
@@ -361,6 +381,72 @@ read_wrapped p c t (more U us) e f h = elim (first_read p c [] U us h) [
     no_more none w = refl
     no_more (more V vs) w = absurd (let q : None ≡ Some w.0 = w.1 in cc)
 
+-- an element of open type, and the elements in it
+foreigns_read : (p : Profile) (n : ℕ) (ts : Trees) → IsTrue (are_foreign n ts) → AreRead p (foreigns n) ts
+foreigns_read p n none h = record { whole = tt; complete = refl }
+foreigns_read p zero (more T ts) h = absurd (let q : false ≡ true = (and_parts (is_foreign zero T) (are_foreign zero ts) h).0 in cc)
+foreigns_read p (suc n) (more T ts) h =
+    let a = and_parts (is_foreign (suc n) T) (are_foreign (suc n) ts) h in
+    let r = foreigns_read p (suc n) ts a.1 in
+    record { whole = (any n (foreigns (suc n)), refl, a.0, r.whole); complete = ap (missing p) (next_after-more p (foreigns (suc n)) T ts (any n (foreigns (suc n))) refl) ∙ r.complete }
+
+read_foreigns : (p : Profile) (n : ℕ) (ts : Trees) → AreWhole p (foreigns n) ts → IsTrue (are_foreign n ts)
+read_foreigns p n none h = refl
+read_foreigns p zero (more T ts) h = absurd (let q : None ≡ Some h.0 = h.1 in cc)
+read_foreigns p (suc n) (more T ts) h =
+    let q : Some (any n (foreigns (suc n))) ≡ Some h.0 = h.1 in
+    let r : h.0 ≡ any n (foreigns (suc n)) = cc in
+    both _ _ (subst (λ d. IsWhole p d T) r h.2) (read_foreigns p (suc n) ts (subst (λ d. AreWhole p (next_of d) ts) r h.3))
+
+anything_read : (p : Profile) (c : Component) (U : Tree) → IsTrue (is_foreign 20 U) → AreRead p (anything c) (more U none)
+anything_read p c U h = record { whole = (any 19 (rows []), refl, h, tt); complete = refl }
+
+read_anything : (p : Profile) (c : Component) (t : Tag) (ts : Trees) → kind_of c.node ≡ Kind.Any → AreRead p (anything c) ts
+    → (tag : Tag) × (U : Tree) × (constructed t ts ≡ constructed tag (more U none)) × ((v : Content) × Means p v c.node untagged U)
+read_anything p c t none e h = absurd (let q : Some c.part ≡ None = h.complete in cc)
+read_anything p c t (more U us) e h =
+    let w = h.whole in
+    let q : Some (any 19 (rows [])) ≡ Some w.0 = w.1 in
+    let r : w.0 ≡ any 19 (rows []) = cc in
+    let i : IsTrue (is_foreign 20 U) = subst (λ d. IsWhole p d U) r w.2 in
+    (t, U, ap (λ z. constructed t (more U z)) (no_more us (subst (λ d. AreWhole p (next_of d) us) r w.3)), (content.foreign U, (e, (refl, i))))
+  where
+    no_more : (us : Trees) → AreWhole p (rows []) us → us ≡ none
+    no_more none w = refl
+    no_more (more V vs) w = absurd (let q : None ≡ Some w.0 = w.1 in cc)
+
+any_foreign : (p : Profile) (v : Content) (node : NodeId) (U : Tree) → kind_of node ≡ Kind.Any → Means p v node untagged U → IsTrue (is_foreign 20 U)
+any_foreign p (content.foreign V) node U e m = m.1.1
+any_foreign p (simple w) node U e m = absurd (no_any_leaf (kind_of node) w m.0 m.1 e)
+any_foreign p (content.sequence es) node U e m = absurd (let q : Kind.Any ≡ Kind.Seq = sym e ∙ m.0 in cc)
+any_foreign p (content.list is) node U e m = absurd (let q : Kind.Any ≡ Kind.SeqOf = sym e ∙ m.0 in cc)
+any_foreign p (alternative n w) node U e m = absurd (let q : Kind.Any ≡ Kind.Choice = sym e ∙ m.1.0 in cc)
+
+-- what an explicit tag is round, an element of open type or another
+wrapper_read : (p : Profile) (c : Component) (U : Tree) (v : Content) → c.presence ≡ Presence.Must → c.tagging ≡ untagged → Means p v c.node untagged U → AreRead p (opening p (wrapper c)) (more U none)
+wrapper_read p c U v e f m = go (kind_of c.node) refl
+  where
+    go : (k : Kind) → kind_of c.node ≡ k → AreRead p (elim k as (λ _. Next) [ Kind.Any ↦ anything c | _ ↦ rows (c ∷ []) ]) (more U none)
+    go Kind.Any q = anything_read p c U (any_foreign p v c.node U q m)
+    go Kind.Seq q = wrapped_read p c U v e f (λ r. let z : Kind.Seq ≡ Kind.Any = sym q ∙ r in cc) m
+    go Kind.SeqOf q = wrapped_read p c U v e f (λ r. let z : Kind.SeqOf ≡ Kind.Any = sym q ∙ r in cc) m
+    go Kind.Choice q = wrapped_read p c U v e f (λ r. let z : Kind.Choice ≡ Kind.Any = sym q ∙ r in cc) m
+    go Kind.IllString q = wrapped_read p c U v e f (λ r. let z : Kind.IllString ≡ Kind.Any = sym q ∙ r in cc) m
+    go (Kind.Leaf l) q = wrapped_read p c U v e f (λ r. let z : Kind.Leaf l ≡ Kind.Any = sym q ∙ r in cc) m
+
+read_wrapper : (p : Profile) (c : Component) (t : Tag) (ts : Trees) → c.presence ≡ Presence.Must → c.tagging ≡ untagged → AreRead p (opening p (wrapper c)) ts
+    → (tag : Tag) × (U : Tree) × (constructed t ts ≡ constructed tag (more U none)) × ((v : Content) × Means p v c.node untagged U)
+read_wrapper p c t ts e f h = go (kind_of c.node) refl h
+  where
+    go : (k : Kind) → kind_of c.node ≡ k → AreRead p (elim k as (λ _. Next) [ Kind.Any ↦ anything c | _ ↦ rows (c ∷ []) ]) ts
+        → (tag : Tag) × (U : Tree) × (constructed t ts ≡ constructed tag (more U none)) × ((v : Content) × Means p v c.node untagged U)
+    go Kind.Any q h = read_anything p c t ts q h
+    go Kind.Seq q h = read_wrapped p c t ts e f h
+    go Kind.SeqOf q h = read_wrapped p c t ts e f h
+    go Kind.Choice q h = read_wrapped p c t ts e f h
+    go Kind.IllString q h = read_wrapped p c t ts e f h
+    go (Kind.Leaf l) q h = read_wrapped p c t ts e f h
+
 -- a list of trees is read alike where the same is due
 read_alike : (p : Profile) (m n : Next) (T : Tree) (us : Trees) → due p (tag_of T) m ≡ due p (tag_of T) n → AreRead p m (more T us) → AreRead p n (more T us)
 read_alike p m n T us e h =
@@ -410,21 +496,23 @@ element_read p (leaf l) t ts ok h = (segments_read p ts h.0.1, h.0.0, h.2)
 element_read p (sequence node) t ts ok h = (sequence_read p node h.3.0 ts ok (subst (λ z. Matches p h.3.0 (rows_of node) z) (same_inside _ _ _ _ h.2) h.3.1), refl, refl)
 element_read p (list node) t ts ok h =
     (list_read p node (rows_of node) h.3.0 ts (items_carried node ok) (tables_proper p node) (tables_started p node) (subst (λ z. MatchItems p h.3.0 (rows_of node) z) (same_inside _ _ _ _ h.2) h.3.1), refl, refl)
-element_read p (wrapper c) t ts ok h = (subst (λ z. AreRead p (rows (c ∷ [])) z) (same_inside _ _ _ _ h.2) (wrapped_read p c h.1 h.3.0 ok.0 ok.1 ok.2 h.3.1), refl, refl)
+element_read p (wrapper c) t ts ok h = (subst (λ z. AreRead p (opening p (wrapper c)) z) (same_inside _ _ _ _ h.2) (wrapper_read p c h.1 h.3.0 ok.0 ok.1 h.3.1), refl, refl)
 element_read p (loose_wrapper c) t ts ok (inl h) = (subst (λ z. AreRead p (either c) z) (same_inside _ _ _ _ h.2) (loose_wrapped_read p c h.1 h.3.0 ok h.3.1), refl, refl)
 element_read p (loose_wrapper c) t ts ok (inr h) = (subst (λ z. AreRead p (either c) z) (same_inside _ _ _ _ h.2) (loose_bare_read p c h.3.0 h.1 ok h.3.1), refl, refl)
 element_read p segment t ts ok h = (segments_read p ts h, refl, refl)
+element_read p (foreign n) t ts ok h = (foreigns_read p n ts (and_parts _ _ h).1, refl, refl)
 element_read p (left_out x) t ts ok h = absurd h
 
 pub read_element : (p : Profile) (e : Element) (t : Tag) (ts : Trees) → IsProper p e → allows e true ≡ true → AreRead p (opening p e) ts → element_fault p e (text_all ts) ≡ None
-    → IsTrue (are_octets (text_all ts)) → IsElement p e (constructed t ts)
-read_element p (leaf l) t ts ok a h f o = ((a, read_segments p ts h.whole), o, f)
-read_element p (sequence node) t ts ok a h f o = (t, ts, refl, read_matches p node 0 (rows_of node) ts h)
-read_element p (list node) t ts ok a h f o = (t, ts, refl, read_list p node (rows_of node) ts h.whole)
-read_element p (wrapper c) t ts ok a h f o = read_wrapped p c t ts ok.0 ok.1 h
-read_element p (loose_wrapper c) t ts ok a h f o = read_loose p c t ts ok h
-read_element p segment t ts ok a h f o = read_segments p ts h.whole
-read_element p (left_out x) t ts ok a h f o = absurd cc
+    → IsTrue (are_octets (text_all ts)) → HasIdentifier t true → IsElement p e (constructed t ts)
+read_element p (leaf l) t ts ok a h f o i = ((a, read_segments p ts h.whole), o, f)
+read_element p (sequence node) t ts ok a h f o i = (t, ts, refl, read_matches p node 0 (rows_of node) ts h)
+read_element p (list node) t ts ok a h f o i = (t, ts, refl, read_list p node (rows_of node) ts h.whole)
+read_element p (wrapper c) t ts ok a h f o i = read_wrapper p c t ts ok.0 ok.1 h
+read_element p (loose_wrapper c) t ts ok a h f o i = read_loose p c t ts ok h
+read_element p segment t ts ok a h f o i = read_segments p ts h.whole
+read_element p (foreign n) t ts ok a h f o i = both _ _ (has_identified t true i) (read_foreigns p n ts h.whole)
+read_element p (left_out x) t ts ok a h f o i = absurd cc
 
 -- the same of primitive elements
 pub element_primitive : (p : Profile) (e : Element) (t : Tag) (os : List ℕ) → IsElement p e (primitive t os) → (allows e false ≡ true) × (element_fault p e os ≡ None)
@@ -435,13 +523,15 @@ element_primitive p (wrapper c) t os h = absurd (let q : primitive t os ≡ cons
 element_primitive p (loose_wrapper c) t os (inl h) = absurd (let q : primitive t os ≡ constructed h.0 (more h.1 none) = h.2 in cc)
 element_primitive p (loose_wrapper c) t os (inr h) = absurd (let q : primitive t os ≡ constructed h.0 h.1 = h.2 in cc)
 element_primitive p segment t os h = (refl, refl)
+element_primitive p (foreign n) t os h = (refl, refl)
 element_primitive p (left_out x) t os h = absurd h
 
-pub primitive_element : (p : Profile) (e : Element) (t : Tag) (os : List ℕ) → allows e false ≡ true → element_fault p e os ≡ None → IsTrue (are_octets os) → IsElement p e (primitive t os)
-primitive_element p (leaf l) t os a f o = (tt, o, f)
-primitive_element p (sequence node) t os a f o = absurd cc
-primitive_element p (list node) t os a f o = absurd cc
-primitive_element p (wrapper c) t os a f o = absurd cc
-primitive_element p (loose_wrapper c) t os a f o = absurd cc
-primitive_element p segment t os a f o = tt
-primitive_element p (left_out x) t os a f o = absurd cc
+pub primitive_element : (p : Profile) (e : Element) (t : Tag) (os : List ℕ) → allows e false ≡ true → element_fault p e os ≡ None → IsTrue (are_octets os) → HasIdentifier t false → IsElement p e (primitive t os)
+primitive_element p (leaf l) t os a f o i = (tt, o, f)
+primitive_element p (sequence node) t os a f o i = absurd cc
+primitive_element p (list node) t os a f o i = absurd cc
+primitive_element p (wrapper c) t os a f o i = absurd cc
+primitive_element p (loose_wrapper c) t os a f o i = absurd cc
+primitive_element p segment t os a f o i = tt
+primitive_element p (foreign n) t os a f o i = both _ _ (has_identified t false i) o
+primitive_element p (left_out x) t os a f o i = absurd cc

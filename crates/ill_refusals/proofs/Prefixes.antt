@@ -7,8 +7,8 @@ use Rattle.ber_core.specs.Identifier.{Tag}
 use Rattle.ill_schema.specs.declared.refusal.Cause.{Cause}
 use Rattle.ill_schema.specs.Apdu.{Apdu, Encodes, Accepts}
 use Rattle.ill_refusals.proofs.FirstFault.{has_fault, is_judged}
-use Rattle.ill_refusals.specs.Element.{Element, leaf, sequence, list, wrapper, loose_wrapper, segment, left_out}
-use Rattle.ill_refusals.specs.Fault.{Fault, fault, ends_at, is_indefinite, past_end, cut_fault, fault_at, Refuses}
+use Rattle.ill_refusals.specs.Element.{Element, leaf, sequence, list, wrapper, loose_wrapper, segment, foreign, left_out}
+use Rattle.ill_refusals.specs.Fault.{Fault, fault, ends_at, is_indefinite, past_end, cut_fault, fault_at, Refuses, is_deep}
 use Rattle.ill_refusals.specs.code.Judge.{Judgement, faulty, opens, judge_end, judge_content, judge_size, judge_length, judge_form, judge_tag, judge_element, judge_mark, judge_octets, judge}
 use Rattle.ber_core.specs.Octets.{are_octets}
 use Rattle.ill_refusals.specs.Next.{Due, element_of, due}
@@ -86,6 +86,7 @@ longer_form p path (list n) tag f k i at cut w y = longer_allowed at k _ _ (allo
 longer_form p path (wrapper c) tag f k i at cut w y = longer_allowed at k _ _ (allows (wrapper c) f) (longer_length p path (wrapper c) tag f k i at cut w y)
 longer_form p path (loose_wrapper c) tag f k i at cut w y = longer_allowed at k _ _ (allows (loose_wrapper c) f) (longer_length p path (loose_wrapper c) tag f k i at cut w y)
 longer_form p path segment tag f k i at cut w y = longer_length p path segment tag f k i at cut w y
+longer_form p path (foreign n) tag f k i at cut w y = longer_length p path (foreign n) tag f k i at cut w y
 longer_form p path (left_out x) tag f k i at cut w y = inr refl
 
 longer_tag : (p : Profile) (path : List Open) (tag : Tag) (f : Bool) (k i at : ℕ) (cut : Fault) (w y : List ℕ)
@@ -103,7 +104,7 @@ element_body p path k cut w x = elim x as (λ _. Judgement) [
   | part_identifier ↦ faulty cut
   | no_identifier ↦ faulty (fault Cause.BadTag k)
   | identified tag constructed rest ↦
-      if nat_le 32 (length path) then faulty (fault Cause.TooDeep k)
+      if is_deep p path then faulty (fault Cause.TooDeep k)
       else judge_tag p path tag constructed k (length w - length rest) cut rest
 ]
 
@@ -118,11 +119,11 @@ longer_element p path k at cut w y = go (read_identifier w) refl
     go part_identifier q = inl refl
     go no_identifier q = inr (ap (element_body p path k cut (w ++ y)) (no_identifier_longer w y q))
     go (identified tag f r) q =
-        let s : judge_element p path k cut (w ++ y) ≡ (if nat_le 32 (length path) then faulty (fault Cause.TooDeep k) else judge_tag p path tag f k (length w - length r) cut (r ++ y)) =
+        let s : judge_element p path k cut (w ++ y) ≡ (if is_deep p path then faulty (fault Cause.TooDeep k) else judge_tag p path tag f k (length w - length r) cut (r ++ y)) =
         ap (element_body p path k cut (w ++ y)) (identifier_longer w y tag f r q)
-        ∙ ap (λ (m : ℕ). if nat_le 32 (length path) then faulty (fault Cause.TooDeep k) else judge_tag p path tag f k m cut (r ++ y)) (same_size w r y) in
+        ∙ ap (λ (m : ℕ). if is_deep p path then faulty (fault Cause.TooDeep k) else judge_tag p path tag f k m cut (r ++ y)) (same_size w r y) in
         subst (Longer at (element_body p path k (truncated at) w (identified tag f r))) (sym s)
-        (longer_if at (faulty (fault Cause.TooDeep k)) _ _ (nat_le 32 (length path)) (longer_tag p path tag f k (length w - length r) at cut r y))
+        (longer_if at (faulty (fault Cause.TooDeep k)) _ _ (is_deep p path) (longer_tag p path tag f k (length w - length r) at cut r y))
 
 longer_mark : (p : Profile) (path : List Open) (k at : ℕ) (cut : Fault) (w y : List ℕ) → Longer at (judge_mark p path k (truncated at) w) (judge_mark p path k cut (w ++ y))
 longer_mark p path k at cut [] y = inl refl

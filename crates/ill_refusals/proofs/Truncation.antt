@@ -10,8 +10,8 @@ use Rattle.ber_leaf.specs.Profile.{Profile}
 use Rattle.ill_schema.specs.declared.refusal.Cause.{Cause}
 use Rattle.ill_schema.specs.declared.part.PartId.{PartId}
 use Rattle.ill_schema.specs.Causes.{cause_of}
-use Rattle.ill_refusals.specs.Element.{Element, leaf, sequence, list, wrapper, loose_wrapper, segment, left_out}
-use Rattle.ill_refusals.specs.Fault.{Fault, fault, ends_at, is_indefinite, past_end, cut_fault, element_fault}
+use Rattle.ill_refusals.specs.Element.{Element, leaf, sequence, list, wrapper, loose_wrapper, segment, foreign, left_out}
+use Rattle.ill_refusals.specs.Fault.{Fault, fault, ends_at, is_indefinite, past_end, cut_fault, element_fault, is_deep}
 use Rattle.ill_refusals.specs.code.Judge.{Judgement, faulty, closes, opens, reads, or_faulty, judge_end, judge_content, judge_size, judge_length, judge_form, judge_tag, judge_element, judge_mark, judge_octets, judge}
 use Rattle.ill_refusals.specs.Next.{Due, element_of, due, missing}
 use Rattle.ill_refusals.specs.Place.{Open, next_in, innermost_end, bound, allows}
@@ -117,6 +117,7 @@ form_cut cut p path (list n) tag f k i w = allowed_cut cut p path (list n) tag f
 form_cut cut p path (wrapper c) tag f k i w = allowed_cut cut p path (wrapper c) tag f k i w (allows (wrapper c) f)
 form_cut cut p path (loose_wrapper c) tag f k i w = allowed_cut cut p path (loose_wrapper c) tag f k i w (allows (loose_wrapper c) f)
 form_cut cut p path segment tag f k i w = length_cut cut p path segment tag f k i w
+form_cut cut p path (foreign n) tag f k i w = length_cut cut p path (foreign n) tag f k i w
 form_cut cut p path (left_out x) tag f k i w = inr (λ e. cc)
 
 tag_cut : (cut : Fault) (p : Profile) (path : List Open) (tag : Tag) (f : Bool) (k i : ℕ) (w : List ℕ)
@@ -139,12 +140,12 @@ element_cut cut p path k w = go (read_identifier w) refl
       | part_identifier ↦ faulty cut
       | no_identifier ↦ faulty (fault Cause.BadTag k)
       | identified tag constructed r ↦
-          if nat_le 32 (length path) then faulty (fault Cause.TooDeep k)
+          if is_deep p path then faulty (fault Cause.TooDeep k)
           else judge_tag p path tag constructed k (length w - length r) cut r
     ])
     go part_identifier q = inl (refl, in_identifier q)
     go no_identifier q = inr (λ e. cc)
-    go (identified tag f r) q = deep (nat_le 32 (length path)) tag f r q
+    go (identified tag f r) q = deep (is_deep p path) tag f r q
 
 mark_cut : (cut : Fault) (p : Profile) (path : List Open) (k : ℕ) (w : List ℕ) → IsCut (w ≡ []) cut (judge_mark p path k cut w)
 mark_cut cut p path k [] = inl (refl, refl)

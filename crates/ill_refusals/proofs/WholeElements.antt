@@ -1,6 +1,7 @@
 -- Which trees are whole elements, by the element that is due.
 use Rattle.std.proofs.Common.{◌≡◌, ◌⊎◌, ◌↔◌, ℕ, suc, ◌+◌, Bool, true, false, ◌||◌, List, [], ◌∷◌, ◌++◌, Some, None, IsTrue, refl, sym, ap, subst, ◌∙◌, inl, inr, slice_get}
 use Rattle.std.specs.Prelude.{flat_map, nat_eq}
+use Rattle.ber_core.specs.Foreign.{is_foreign}
 use Rattle.ber_core.specs.Identifier.{Tag}
 use Rattle.ber_core.specs.Tree.{Tree, Trees, constructed, none, more, tag_of, IsString, text}
 use Rattle.ill_schema.specs.declared.node.Kind.{Kind}
@@ -12,7 +13,7 @@ use Rattle.ill_schema.specs.declared.part.Row.{Row}
 use Rattle.ill_schema.specs.Content.{Content, simple, alternative, Entries, Items}
 use Rattle.ber_leaf.specs.Simple.{Simple}
 use Rattle.ill_schema.specs.Content as content
-use Rattle.ill_refusals.specs.Element.{Component, components, components_from, inner, Element, leaf, sequence, list, wrapper, loose_wrapper, segment, left_out, Start, starts, own_starts, retag, tagged_starts, leave_out, component_starts, start, leaf_start}
+use Rattle.ill_refusals.specs.Element.{Component, components, components_from, inner, Element, leaf, sequence, list, wrapper, loose_wrapper, segment, foreign, left_out, Start, starts, own_starts, retag, tagged_starts, leave_out, component_starts, start, leaf_start}
 use Rattle.ber_leaf.specs.Leaf.{Leaf, general_string, visible_string, value, content_fault}
 use Rattle.ber_core.specs.Octets.{are_octets}
 use Rattle.ill_schema.specs.Meaning.{Means, Matches, MatchItems, HoldsLeaf, IsLeaf}
@@ -21,8 +22,8 @@ use Rattle.ill_schema.specs.Tagging.{Tagging, untagged, implicit, explicit, expl
 use Rattle.ill_schema.specs.Presence.{IsCarried}
 use Rattle.ill_schema.specs.Table.{kind_of, rows_of}
 use Rattle.ill_schema.specs.TableFacts.{own_tags, alternative_tags, tagging_tags}
-use Rattle.ill_schema.proofs.Tags.{improper_any, is_proper, is_proper_row, is_tagged, Mem, same_place, at_row, tables_proper}
-use Rattle.ill_schema.proofs.Unique.{leaf_at, leaf_is, no_leaf, kind_says, means_begins, good_choice, same_tags}
+use Rattle.ill_schema.proofs.Tags.{is_proper, is_proper_row, is_tagged, Mem, same_place, at_row, tables_proper}
+use Rattle.ill_schema.proofs.Unique.{leaf_at, leaf_is, no_leaf, kind_says, any_proper, means_begins, good_choice, same_tags}
 use Rattle.ill_refusals.proofs.Rows.{same_tag-is, starting, two_cases}
 
 -- the tree is a whole element of this sort
@@ -35,13 +36,14 @@ IsElement p (loose_wrapper c) T =
     ((tag : Tag) × (U : Tree) × (T ≡ constructed tag (more U none)) × ((v : Content) × Means p v c.node untagged U))
     ⊎ ((tag : Tag) × (ts : Trees) × (T ≡ constructed tag ts) × ((es : Entries) × Matches p es (rows_of c.node) ts))
 IsElement p segment T = IsString T
+IsElement p (foreign n) T = IsTrue (is_foreign (suc n) T)
 IsElement p (left_out part) T = ⊥
 
 abbrev pub element_at : Kind → NodeId → ℕ → Element
 element_at Kind.Seq node n = sequence node
 element_at Kind.SeqOf node n = list node
 element_at Kind.Choice node n = segment
-element_at Kind.Any node n = segment
+element_at Kind.Any node n = foreign 19
 element_at kind node n = leaf (leaf_at kind n)
 
 pub one_start : (t u : Tag) (e : Element) (s : Start) → starting t (start u e ∷ []) ≡ Some s → (u ≡ t) × (s.element ≡ e)
@@ -104,15 +106,15 @@ leaf_element : (p : Profile) (v : Simple) (node : NodeId) (T : Tree) (k : Kind) 
 leaf_element p v node T k l u e a h = subst (λ x. IsElement p x T) (ap leaf a ∙ sym (is_leaf k v node l _ e)) (h.1, h.2.0, h.2.1)
 
 -- at a kind's own tag: what means a value is a whole element, and the other way round
-own_element : (p : Profile) (v : Content) (node : NodeId) (T : Tree) → (kind_of node ≡ Kind.Choice → ⊥) → (kind_of node ≡ Kind.Any → ⊥) → Means p v node untagged T → IsElement p (element_at (kind_of node) node (tag_of T).number) T
-own_element p (simple v) node T n o h =
+own_element : (p : Profile) (v : Content) (node : NodeId) (T : Tree) → (kind_of node ≡ Kind.Choice → ⊥) → Means p v node untagged T → IsElement p (element_at (kind_of node) node (tag_of T).number) T
+own_element p (simple v) node T n h =
     leaf_element p v node T (kind_of node) h.0 (leaf_tag h.0) h.1 (leaf_is (kind_of node) v h.0 h.1 ∙ ap (λ (x : Tag). leaf_at (kind_of node) x.number) (sym h.2.0)) h.2
-own_element p (content.sequence es) node T n o h =
+own_element p (content.sequence es) node T n h =
     subst (λ k. IsElement p (element_at k node (tag_of T).number) T) (sym h.0) (sequence_tag, h.1.0, h.1.1, (es, h.1.2))
-own_element p (content.list is) node T n o h =
+own_element p (content.list is) node T n h =
     subst (λ k. IsElement p (element_at k node (tag_of T).number) T) (sym h.0) (sequence_tag, h.1.0, h.1.1, (is, h.1.2))
-own_element p (alternative m w) node T n o h = absurd (n h.1.0)
-own_element p (content.foreign V) node T n o h = absurd (o h.0)
+own_element p (alternative m w) node T n h = absurd (n h.1.0)
+own_element p (content.foreign V) node T n h = subst (λ k. IsElement p (element_at k node (tag_of T).number) T) (sym h.0) h.1.1
 
 pub improper_choice : (t : Tag) (k : Kind) → IsTrue (is_proper (implicit t) k) → k ≡ Kind.Choice → ⊥
 improper_choice t k ok e = let x : IsTrue (is_proper (implicit t) Kind.Choice) = subst (λ z. IsTrue (is_proper (implicit t) z)) e ok in cc
@@ -127,7 +129,7 @@ implicit_element p (content.sequence es) node t T ok h =
 implicit_element p (content.list is) node t T ok h =
     subst (λ k. IsElement p (element_at k node (tag_of T).number) T) (sym h.0) (t, h.1.0, h.1.1, (is, h.1.2))
 implicit_element p (alternative m w) node t T ok h = absurd (improper_choice t (kind_of node) ok h.1.0)
-implicit_element p (content.foreign V) node t T ok h = absurd (improper_any (implicit t) (kind_of node) ok h.0)
+implicit_element p (content.foreign V) node t T ok h = absurd (let a = any_proper (implicit t) (kind_of node) h.0 ok in let q : implicit t ≡ explicit a.0 = a.1 in cc)
 
 -- the tag of an element of a kind where no other is in its place
 unfoldable pub own_of : Kind → ℕ → Tag
@@ -176,17 +178,17 @@ leaf_value (Kind.Leaf LeafKind.Printable) n octets h = refl
 leaf_value Kind.IllString n octets h = elim (two_cases (nat_eq n 27)) [ inl e ↦ rw e refl | inr e ↦ rw e refl ]
 
 -- a whole element of a kind means a value, under a tagging that it suits
-kind_value : (p : Profile) (node : NodeId) (g : Tagging) (T : Tree) (k : Kind) → kind_of node ≡ k → (k ≡ Kind.Choice → ⊥) → (k ≡ Kind.Any → ⊥)
+kind_value : (p : Profile) (node : NodeId) (g : Tagging) (T : Tree) (k : Kind) → kind_of node ≡ k → (k ≡ Kind.Choice → ⊥)
     → ((E : Tag → Tree → Type 0) → E (tag_of T) T → Tagged g (own_of k (tag_of T).number) E T)
     → IsElement p (element_at k node (tag_of T).number) T → (v : Content) × Means p v node g T
 unfolding own_of
-kind_value p node g T Kind.Seq e n o lift h =
+kind_value p node g T Kind.Seq e n lift h =
     (content.sequence h.3.0, (e, lift _ (h.1, h.2 ∙ ap (λ t. constructed t h.1) (sym (ap tag_of h.2)), h.3.1)))
-kind_value p node g T Kind.SeqOf e n o lift h =
+kind_value p node g T Kind.SeqOf e n lift h =
     (content.list h.3.0, (e, lift _ (h.1, h.2 ∙ ap (λ t. constructed t h.1) (sym (ap tag_of h.2)), h.3.1)))
-kind_value p node g T Kind.Choice e n o lift h = absurd (n refl)
-kind_value p node g T Kind.Any e n o lift h = absurd (o refl)
-kind_value p node g T Kind.IllString e n o lift h =
+kind_value p node g T Kind.Choice e n lift h = absurd (n refl)
+kind_value p node g T Kind.Any e n lift h = (content.foreign T, (e, lift _ (refl, h)))
+kind_value p node g T Kind.IllString e n lift h =
     let l = leaf_at Kind.IllString (tag_of T).number in
     (simple (value l (text T)), (l, ap (λ k. leaf_of k (value l (text T))) e ∙ leaf_value Kind.IllString (tag_of T).number (text T) (λ x. no_shape x), lift _ (refl, h.0, (h.1, h.2, refl))))
   where
@@ -195,7 +197,7 @@ kind_value p node g T Kind.IllString e n o lift h =
     no_shape (inr (inl x)) = cc
     no_shape (inr (inr (inl x))) = cc
     no_shape (inr (inr (inr x))) = cc
-kind_value p node g T (Kind.Leaf x) e n o lift h =
+kind_value p node g T (Kind.Leaf x) e n lift h =
     let l = leaf_at (Kind.Leaf x) (tag_of T).number in
     (simple (value l (text T)), (l, ap (λ k. leaf_of k (value l (text T))) e ∙ leaf_value (Kind.Leaf x) (tag_of T).number (text T) (λ y. no_shape x y), lift _ (refl, h.0, (h.1, h.2, refl))))
   where
@@ -205,21 +207,21 @@ kind_value p node g T (Kind.Leaf x) e n o lift h =
     no_shape x (inr (inr (inl y))) = cc
     no_shape x (inr (inr (inr y))) = cc
 
-own_value : (p : Profile) (node : NodeId) (T : Tree) → (kind_of node ≡ Kind.Choice → ⊥) → (kind_of node ≡ Kind.Any → ⊥) → Mem (tag_of T) (own_tags (kind_of node)) → IsElement p (element_at (kind_of node) node (tag_of T).number) T
+own_value : (p : Profile) (node : NodeId) (T : Tree) → (kind_of node ≡ Kind.Choice → ⊥) → Mem (tag_of T) (own_tags (kind_of node)) → IsElement p (element_at (kind_of node) node (tag_of T).number) T
     → (v : Content) × Means p v node untagged T
-own_value p node T n o m h = kind_value p node untagged T (kind_of node) refl n o (λ E x. subst (λ t. E t T) (own_is (kind_of node) (tag_of T) m) x) h
+own_value p node T n m h = kind_value p node untagged T (kind_of node) refl n (λ E x. subst (λ t. E t T) (own_is (kind_of node) (tag_of T) m) x) h
 
 implicit_value : (p : Profile) (node : NodeId) (t : Tag) (T : Tree) → IsTrue (is_proper (implicit t) (kind_of node)) → t ≡ tag_of T
     → IsElement p (element_at (kind_of node) node (tag_of T).number) T → (v : Content) × Means p v node (implicit t) T
-implicit_value p node t T ok e h = kind_value p node (implicit t) T (kind_of node) refl (λ k. improper_choice t (kind_of node) ok k) (λ k. improper_any (implicit t) (kind_of node) ok k) (λ E x. subst (λ u. E u T) (sym e) x) h
+implicit_value p node t T ok e h = kind_value p node (implicit t) T (kind_of node) refl (λ k. improper_choice t (kind_of node) ok k) (λ E x. subst (λ u. E u T) (sym e) x) h
 
 -- an explicit tag is round what means the value
 pub explicit_means : (p : Profile) (v : Content) (node : NodeId) (t : Tag) (T : Tree) → Means p v node (explicit t) T ↔ ((U : Tree) × (T ≡ constructed t (more U none)) × Means p v node untagged U)
+explicit_means p (content.foreign V) node t T = ((λ h. (h.1.0, h.1.1, (h.0, h.1.2))), (λ h. (h.2.0, (h.0, h.1, h.2.1))))
 explicit_means p (simple v) node t T = ((λ h. (h.2.0, h.2.1, (h.0, h.1, h.2.2))), (λ h. (h.2.0, h.2.1, (h.0, h.1, h.2.2))))
 explicit_means p (content.sequence es) node t T = ((λ h. (h.1.0, h.1.1, (h.0, h.1.2))), (λ h. (h.2.0, (h.0, h.1, h.2.1))))
 explicit_means p (content.list is) node t T = ((λ h. (h.1.0, h.1.1, (h.0, h.1.2))), (λ h. (h.2.0, (h.0, h.1, h.2.1))))
 explicit_means p (alternative m w) node t T = ((λ h. (h.2.0, h.2.1, (h.0, h.1, h.2.2))), (λ h. (h.2.0, h.2.1, (h.0, h.1, h.2.2))))
-explicit_means p (content.foreign V) node t T = ((λ h. (h.1.0, h.1.1, (h.0, h.1.2))), (λ h. (h.2.0, (h.0, h.1, h.2.1))))
 
 abbrev pub is_carried : Presence → Bool
 is_carried Presence.LeftOut = false
@@ -235,7 +237,8 @@ abbrev pub IsProper : Profile → Element → Type 0
 IsProper p (leaf l) = Unit {0}
 IsProper p (sequence node) = kind_of node ≡ Kind.Seq
 IsProper p (list node) = kind_of node ≡ Kind.SeqOf
-IsProper p (wrapper c) = (c.presence ≡ Presence.Must) × (c.tagging ≡ untagged) × (kind_of c.node ≡ Kind.Any → ⊥)
+IsProper p (wrapper c) = (c.presence ≡ Presence.Must) × (c.tagging ≡ untagged)
+IsProper p (foreign n) = Unit {0}
 IsProper p (loose_wrapper c) = (c.presence ≡ Presence.Must) × (c.tagging ≡ untagged) × (kind_of c.node ≡ Kind.Seq)
 IsProper p segment = Unit {0}
 IsProper p (left_out part) = Unit {0}
@@ -244,22 +247,22 @@ pub bare_kind : (t : Tag) (k : Kind) → IsTrue (is_proper (explicit_or_bare t) 
 bare_kind t Kind.Seq h = refl
 bare_kind t Kind.SeqOf h = absurd cc
 bare_kind t Kind.Choice h = absurd cc
-bare_kind t Kind.Any h = absurd cc
 bare_kind t Kind.IllString h = absurd cc
+bare_kind t Kind.Any h = absurd cc
 bare_kind t (Kind.Leaf x) h = absurd cc
 
 own_proper : (p : Profile) (node : NodeId) (k : Kind) (n : ℕ) → kind_of node ≡ k → IsProper p (element_at k node n)
 own_proper p node Kind.Seq n e = e
 own_proper p node Kind.SeqOf n e = e
 own_proper p node Kind.Choice n e = tt
-own_proper p node Kind.Any n e = tt
 own_proper p node Kind.IllString n e = tt
+own_proper p node Kind.Any n e = tt
 own_proper p node (Kind.Leaf x) n e = tt
 
 tagged_proper : (p : Profile) (g : Tagging) (c : Component) (t : Tag) (s : Start) → IsTrue (is_proper g (kind_of c.node)) → starting t (tagged_starts g c) ≡ Some s → IsProper p s.element
 tagged_proper p untagged c t s ok h = subst (λ x. IsProper p x) (sym ((own_start (kind_of c.node) c.node t s h).1)) (own_proper p c.node (kind_of c.node) _ refl)
 tagged_proper p (implicit u) c t s ok h = subst (λ x. IsProper p x) (sym ((implicit_start (kind_of c.node) c.node t u s ok h).2)) (own_proper p c.node (kind_of c.node) _ refl)
-tagged_proper p (explicit u) c t s ok h = subst (λ x. IsProper p x) (sym ((one_start t u (wrapper (inner c)) s h).1)) (refl, refl, improper_any (explicit u) (kind_of c.node) ok)
+tagged_proper p (explicit u) c t s ok h = subst (λ x. IsProper p x) (sym ((one_start t u (wrapper (inner c)) s h).1)) (refl, refl)
 tagged_proper p (explicit_or_bare u) c t s ok h = subst (λ x. IsProper p x) (sym ((one_start t u (loose_wrapper (inner c)) s h).1)) (refl, refl, bare_kind u (kind_of c.node) ok)
 
 pub choice_starts : (k : Kind) (node : NodeId) (t : Tag) (s : Start) → starting t (own_starts k node) ≡ Some s → k ≡ Kind.Choice → ⊥
@@ -268,7 +271,7 @@ choice_starts k node t s h e = let r : starting t (own_starts Kind.Choice node) 
 tagged_element : (p : Profile) (g : Tagging) (c : Component) (s : Start) (v : Content) (T : Tree) → IsTrue (is_proper g (kind_of c.node)) → starting (tag_of T) (tagged_starts g c) ≡ Some s
     → Means p v c.node g T → IsElement p s.element T
 tagged_element p untagged c s v T ok h m =
-    subst (λ x. IsElement p x T) (sym ((own_start (kind_of c.node) c.node (tag_of T) s h).1)) (own_element p v c.node T (λ e. choice_starts (kind_of c.node) c.node (tag_of T) s h e) (improper_any untagged (kind_of c.node) ok) m)
+    subst (λ x. IsElement p x T) (sym ((own_start (kind_of c.node) c.node (tag_of T) s h).1)) (own_element p v c.node T (λ e. choice_starts (kind_of c.node) c.node (tag_of T) s h e) m)
 tagged_element p (implicit u) c s v T ok h m =
     subst (λ x. IsElement p x T) (sym ((implicit_start (kind_of c.node) c.node (tag_of T) u s ok h).2)) (implicit_element p v c.node u T ok m)
 tagged_element p (explicit u) c s v T ok h m =
@@ -289,7 +292,7 @@ tagged_value : (p : Profile) (g : Tagging) (c : Component) (s : Start) (T : Tree
     → IsElement p s.element T → (v : Content) × Means p v c.node g T
 tagged_value p untagged c s T ok h m =
     let q = own_start (kind_of c.node) c.node (tag_of T) s h in
-    own_value p c.node T (λ e. choice_starts (kind_of c.node) c.node (tag_of T) s h e) (improper_any untagged (kind_of c.node) ok) q.0 (subst (λ x. IsElement p x T) q.1 m)
+    own_value p c.node T (λ e. choice_starts (kind_of c.node) c.node (tag_of T) s h e) q.0 (subst (λ x. IsElement p x T) q.1 m)
 tagged_value p (implicit u) c s T ok h m =
     let q = implicit_start (kind_of c.node) c.node (tag_of T) u s ok h in
     implicit_value p c.node u T ok q.0 (subst (λ x. IsElement p x T) q.2 m)

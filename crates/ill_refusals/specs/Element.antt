@@ -50,6 +50,8 @@ pub data Element : Type 0 where
   loose_wrapper : Component → Element
   -- an OCTET STRING in a string (8.7.3.2, 8.23.6)
   segment : Element
+  -- an element of a foreign tree, in which so many levels may stand (8.15)
+  foreign : ℕ → Element
   left_out : PartId → Element
 
 -- a tag, and what an element with this tag is

@@ -1,5 +1,5 @@
 -- The fault at a place: the conditions in their order, of which the first that holds counts.
-use Rattle.std.specs.Prelude.{◌≡◌, ◌⊎◌, ℕ, ◌+◌, ◌-◌, ◌<◌, ◌≤◌, Bool, true, false, ◌&&◌, nat_eq, nat_lt, nat_le, List, [], ◌∷◌, length, take, drop, Option, Some, None, is_some, if◌then◌else◌}
+use Rattle.std.specs.Prelude.{◌≡◌, ◌⊎◌, ℕ, ◌+◌, ◌-◌, ◌<◌, ◌≤◌, Bool, true, false, ◌&&◌, ◌||◌, nat_eq, nat_lt, nat_le, List, [], ◌∷◌, length, take, drop, Option, Some, None, is_some, if◌then◌else◌}
 use Rattle.ber_core.specs.Tree.{text_all}
 use Rattle.ill_schema.specs.declared.refusal.Cause.{Cause}
 use Rattle.ill_schema.specs.declared.refusal.Refusal.{Refusal}
@@ -9,7 +9,7 @@ use Rattle.ill_schema.specs.declared.part.PartId.{PartId}
 use Rattle.ill_schema.specs.Causes.{cause_of}
 use Rattle.ber_leaf.specs.Profile.{Profile}
 use Rattle.ill_refusals.specs.Element.{Element, leaf, left_out}
-use Rattle.ill_refusals.specs.Next.{Due, element_of, due, missing}
+use Rattle.ill_refusals.specs.Next.{Due, element_of, due, missing, is_last}
 use Rattle.ill_refusals.specs.Place.{Open, next_in, innermost_end, bound, allows, IsDue}
 use Rattle.ill_schema.specs.Apdu.{Apdu, Encodes, normal_form}
 use Rattle.ill_refusals.specs.Reading.{IdentifierRead, read_identifier, identified, part_identifier, no_identifier, LengthRead, read_length, definite, part_length, no_length}
@@ -101,9 +101,13 @@ bad_identifier k cut part_identifier = finds cut
 bad_identifier k cut no_identifier = finds (fault Cause.BadTag k)
 bad_identifier k cut (identified tag form w) = passes
 
--- 5. 32 elements are open
-abbrev pub too_deep : List Open → ℕ → Finding
-too_deep path k = if nat_le 32 (length path) then finds (fault Cause.TooDeep k) else passes
+-- 32 elements are open, or all the levels that a foreign tree may have
+abbrev pub is_deep : Profile → List Open → Bool
+is_deep p path = nat_le 32 (length path) || is_last (next_in p path)
+
+-- 5. no further element may open
+abbrev pub too_deep : Profile → List Open → ℕ → Finding
+too_deep p path k = if is_deep p path then finds (fault Cause.TooDeep k) else passes
 
 -- 6. the tag is that of a row that is left out, or is not due; or the element may not have the form
 abbrev pub bad_form : ℕ → Bool → Element → Finding
@@ -150,7 +154,7 @@ conditions p path k cut w =
     ∷ no_octet cut w
     ∷ end_mark p path k cut w
     ∷ bad_identifier k cut (read_identifier w)
-    ∷ too_deep path k
+    ∷ too_deep p path k
     ∷ of_element p path k cut (length w) (read_identifier w)
 
 -- the fault at offset k, where these elements are open and the rest of the input follows

@@ -1,6 +1,9 @@
--- What may come next in an open element (X.690, 8.7.3, 8.9 and 8.10).
-use Rattle.std.specs.Prelude.{◌≡◌, Bool, true, false, List, [], ◌∷◌, Option, Some, None, if◌then◌else◌, find}
+-- What may come next in an open element (X.690, 8.7.3, 8.9, 8.10 and 8.15).
+use Rattle.std.specs.Prelude.{◌≡◌, ℕ, zero, suc, Bool, true, false, IsTrue, List, [], ◌∷◌, Option, Some, None, if◌then◌else◌, find}
 use Rattle.ber_core.specs.Identifier.{Tag}
+use Rattle.ber_core.specs.Foreign.{is_foreign}
+use Rattle.ill_schema.specs.declared.node.Kind.{Kind}
+use Rattle.ill_schema.specs.Table.{kind_of}
 use Rattle.ber_core.specs.Tree.{Tree, Trees, none, more, tag_of, octet_string, IsString}
 use Rattle.ill_schema.specs.declared.part.PartId.{PartId}
 use Rattle.ill_schema.specs.declared.part.Presence.{Presence}
@@ -9,7 +12,7 @@ use Rattle.ber_leaf.specs.Profile.{Profile}
 use Rattle.ill_schema.specs.Tagging.{same_tag, sequence_tag}
 use Rattle.ill_schema.specs.Presence.{IsCarried}
 use Rattle.ill_schema.specs.Meaning.{Means}
-use Rattle.ill_refusals.specs.Element.{Component, node_components, Element, leaf, sequence, list, wrapper, loose_wrapper, segment, left_out, Start, starts_by}
+use Rattle.ill_refusals.specs.Element.{Component, node_components, Element, leaf, sequence, list, wrapper, loose_wrapper, segment, foreign, left_out, Start, starts_by}
 
 -- what may come next
 pub data Next : Type 0 where
@@ -21,19 +24,27 @@ pub data Next : Type 0 where
   either : Component → Next
   -- OCTET STRINGs
   segments : Next
+  -- the root of a foreign tree, in an explicit tag
+  anything : Component → Next
+  -- elements of a foreign tree, of which so many levels may follow
+  foreigns : ℕ → Next
 
 -- an element that is due: of which component, and what may come after it
 pub data Due : Type 0 where
   part : Component → Element → Next → Due
   octets : Due
+  -- an element of a foreign tree, in which so many levels may stand
+  any : ℕ → Next → Due
 
 abbrev pub element_of : Due → Element
 element_of (part c e n) = e
 element_of octets = segment
+element_of (any n next) = foreign n
 
 abbrev pub next_of : Due → Next
 next_of (part c e n) = n
 next_of octets = segments
+next_of (any n next) = next
 
 -- the start of a component that has the tag
 abbrev pub start_by : Bool → Tag → Component → Option Start
@@ -53,12 +64,16 @@ due_by bare tag (c ∷ cs) = elim (start_by bare tag c) as (λ _. Option Due) [
 abbrev pub due_in : Profile → Tag → List Component → Option Due
 due_in p tag cs = due_by p.bare tag cs
 
--- the element that is due with this tag: of a profile it depends on whether tags may be bare, and on nothing else
+-- the element that is due with this tag: of a profile it depends on whether tags may be bare, and on nothing else. In an open type,
+-- and in an element there, it is any element; 20 levels are a foreign tree's at most, the root's among them
 abbrev pub next_due : Bool → Tag → Next → Option Due
 next_due bare tag (rows cs) = due_by bare tag cs
 next_due bare tag (items c) = elim (start_by bare tag c) as (λ _. Option Due) [ Some s ↦ Some (part c s.element (items c)) | None ↦ None ]
 next_due bare tag (either c) = elim (same_tag tag sequence_tag) as (λ _. Option Due) [ true ↦ due_by bare tag (c ∷ []) | false ↦ due_by bare tag (node_components bare c.node) ]
 next_due bare tag segments = if same_tag tag octet_string then Some octets else None
+next_due bare tag (anything c) = Some (any 19 (rows []))
+next_due bare tag (foreigns zero) = None
+next_due bare tag (foreigns (suc n)) = Some (any n (foreigns (suc n)))
 
 abbrev pub due : Profile → Tag → Next → Option Due
 due p tag n = next_due p.bare tag n
@@ -74,6 +89,8 @@ next_missing bare (rows cs) = first_mandatory cs
 next_missing bare (items c) = None
 next_missing bare (either c) = first_mandatory (node_components bare c.node)
 next_missing bare segments = None
+next_missing bare (anything c) = Some c.part
+next_missing bare (foreigns n) = None
 
 abbrev pub missing : Profile → Next → Option PartId
 missing p n = next_missing p.bare n
@@ -83,13 +100,19 @@ abbrev pub opening_by : Bool → Element → Next
 opening_by bare (leaf l) = segments
 opening_by bare (sequence node) = rows (node_components bare node)
 opening_by bare (list node) = elim (node_components bare node) as (λ _. Next) [ [] ↦ rows [] | c ∷ _ ↦ items c ]
-opening_by bare (wrapper c) = rows (c ∷ [])
+opening_by bare (wrapper c) = elim (kind_of c.node) as (λ _. Next) [ Kind.Any ↦ anything c | _ ↦ rows (c ∷ []) ]
 opening_by bare (loose_wrapper c) = either c
 opening_by bare segment = segments
+opening_by bare (foreign n) = foreigns n
 opening_by bare (left_out _) = rows []
 
 abbrev pub opening : Profile → Element → Next
 opening p e = opening_by p.bare e
+
+-- no further level may open
+abbrev pub is_last : Next → Bool
+is_last (foreigns zero) = true
+is_last _ = false
 
 -- what may come after the trees
 abbrev pub after_by : Bool → Next → Trees → Next
@@ -103,6 +126,7 @@ next_after p n ts = after_by p.bare n ts
 abbrev pub IsWhole : Profile → Due → Tree → Type 0
 IsWhole p (part c e n) T = IsCarried c.presence × ((v : Content) × Means p v c.node c.tagging T)
 IsWhole p octets T = IsString T
+IsWhole p (any n next) T = IsTrue (is_foreign (suc n) T)
 
 -- the trees may be there, one after another
 abbrev pub AreWhole : Profile → Next → Trees → Type 0

@@ -8,7 +8,7 @@ use Rattle.ill_schema.specs.declared.part.Presence.{Presence}
 use Rattle.ber_leaf.specs.Leaf.{is_string}
 use Rattle.ber_leaf.specs.Profile.{Profile}
 use Rattle.ill_schema.specs.Tagging.{untagged}
-use Rattle.ill_refusals.specs.Element.{Element, leaf, segment, left_out}
+use Rattle.ill_refusals.specs.Element.{Element, leaf, segment, foreign, left_out}
 use Rattle.ill_refusals.specs.Next.{Next, rows, Due, element_of, due, opening, next_after, AreWhole}
 
 -- an open element: where it begins, where it ends if its length is definite, and the whole trees in it so far
@@ -33,11 +33,12 @@ innermost_end (o ∷ path) = elim o.end as (λ _. Option ℕ) [ Some e ↦ Some 
 abbrev pub bound : Profile → List Open → ℕ
 bound p path = unwrap_or (innermost_end path) p.limit
 
--- whether the element may have the form: a string both (8.7.1, 8.23), another leaf only primitive (8.2.1, 8.3.1, 8.4), all else only constructed (8.9.1, 8.10.1, 8.14.2)
+-- whether the element may have the form: an element of a foreign tree and a string both (8.7.1, 8.23), another leaf only primitive (8.2.1, 8.3.1, 8.4), all else only constructed (8.9.1, 8.10.1, 8.14.2)
 abbrev pub allows : Element → Bool → Bool
 allows (leaf l) true = is_string l
 allows (leaf l) false = true
 allows segment constructed = true
+allows (foreign n) constructed = true
 allows (left_out part) constructed = false
 allows _ constructed = constructed
 

@@ -13,11 +13,10 @@ use Rattle.ill_schema.specs.Tagging.{Tagging, untagged, implicit, explicit, expl
 use Rattle.ill_schema.specs.Table.{kind_of, rows_of}
 use Rattle.ill_schema.specs.TableFacts.{alternative_tags, row_tags, are_distinct, has_different_tags, names_below}
 
--- a tagging suits a kind; no row is of an open type
+-- a tagging suits a kind: an open type is under an explicit tag
 abbrev pub is_proper : Tagging → Kind → Bool
 is_proper untagged Kind.Any = false
 is_proper untagged kind = true
-is_proper (explicit tag) Kind.Any = false
 is_proper (explicit tag) kind = true
 is_proper (explicit_or_bare tag) Kind.Seq = true
 is_proper (explicit_or_bare tag) _ = false
@@ -131,14 +130,12 @@ at_row test [] n row h e = absurd cc
 at_row test (r ∷ rows) zero row h e = let g : r ≡ row = cc in subst (λ y. IsTrue (test y)) g ((and_parts (test r) (list_all test rows) h).0)
 at_row test (r ∷ rows) (suc n) row h e = at_row test rows n row ((and_parts (test r) (list_all test rows) h).1) e
 
-pub improper_any : (g : Tagging) (k : Kind) → IsTrue (is_proper g k) → k ≡ Kind.Any → ⊥
-improper_any g k ok e = none_proper g (subst (λ z. IsTrue (is_proper g z)) e ok)
-  where
-    none_proper : (g : Tagging) → IsTrue (is_proper g Kind.Any) → ⊥
-    none_proper untagged h = absurd cc
-    none_proper (implicit t) h = absurd cc
-    none_proper (explicit t) h = absurd cc
-    none_proper (explicit_or_bare t) h = absurd cc
+-- an untagged row, and one under an implicit tag, is of no open type
+pub untagged_any : (k : Kind) → IsTrue (is_proper untagged k) → k ≡ Kind.Any → ⊥
+untagged_any k ok e = let q : IsTrue (is_proper untagged Kind.Any) = subst (λ z. IsTrue (is_proper untagged z)) e ok in cc
+
+pub implicit_any : (t : Tag) (k : Kind) → IsTrue (is_proper (implicit t) k) → k ≡ Kind.Any → ⊥
+implicit_any t k ok e = let q : IsTrue (is_proper (implicit t) Kind.Any) = subst (λ z. IsTrue (is_proper (implicit t) z)) e ok in cc
 
 -- no row is of an open type
 abbrev pub is_closed : Row → Bool

@@ -33,6 +33,7 @@ is_empty _ _ = false
 
 abbrev pub is_other : Kind → Bool
 is_other Kind.Seq = false
+is_other Kind.Any = false
 is_other _ = true
 
 -- the element opens where a node of this kind is open

@@ -1,6 +1,6 @@
 -- What the decoder's functions return of the place that the path is at, in the words of the definitions.
 use Rattle.std.specs.Option.{ForSome}
-use Rattle.std.specs.Prelude.{◌≡◌, ℕ, ◌+◌, ◌-◌, ◌<◌, ◌≤◌, Bool, true, false, not, nat_eq, nat_le, List, [], ◌∷◌, length, Option, Some, None, Result, Ok, Err, if◌then◌else◌}
+use Rattle.std.specs.Prelude.{◌≡◌, ℕ, ◌+◌, ◌-◌, ◌<◌, ◌≤◌, Bool, true, false, not, nat_eq, List, [], ◌∷◌, length, Option, Some, None, Result, Ok, Err, if◌then◌else◌}
 use Rattle.ber_core.specs.Id.{tag_of_id, form_of_id}
 use Rattle.ber_core.specs.Identifier.{Tag}
 use Rattle.ber_core.specs.declared.id.Id.{Id}
@@ -8,7 +8,7 @@ use Rattle.ber_leaf.specs.Profile.{Profile, profile_two}
 use Rattle.ill_schema.specs.declared.refusal.Cause.{Cause}
 use Rattle.ill_schema.specs.declared.refusal.Refusal.{Refusal}
 use Rattle.ill_elements.specs.Elements.{element_is, found_is}
-use Rattle.ill_refusals.specs.Fault.{Fault, element_fault, fault, fault_of}
+use Rattle.ill_refusals.specs.Fault.{Fault, element_fault, fault, fault_of, is_deep}
 use Rattle.ill_refusals.specs.code.Judge.{Judgement, faulty, opens, or_faulty, reads, judge_end, judge_form, judge_tag}
 use Rattle.ill_cells.specs.declared.at.Found.{Found}
 use Rattle.ill_cells.specs.declared.cell.What.{What}
@@ -68,7 +68,7 @@ IsFormed f constructed (Some cause) =
 -- what is judged after an identifier of i octets
 abbrev pub judge_identified : List Open → Tag → Bool → ℕ → ℕ → Fault → List ℕ → Judgement
 judge_identified place tag constructed at i cut w =
-    if nat_le 32 (length place) then faulty (fault Cause.TooDeep at) else judge_tag profile_two place tag constructed at i cut w
+    if is_deep profile_two place then faulty (fault Cause.TooDeep at) else judge_tag profile_two place tag constructed at i cut w
 
 -- an element with the identifier may begin there, or is at fault
 abbrev pub IsIdentified : Frames → List Open → ℕ → Id → Result Found Refusal → Type 0

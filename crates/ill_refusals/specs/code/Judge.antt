@@ -1,5 +1,5 @@
 -- What is done at a place: a machine that the decoder follows, and that proofs run through.
-use Rattle.std.specs.Prelude.{ℕ, ◌+◌, ◌-◌, Bool, true, false, ◌&&◌, nat_eq, nat_lt, nat_le, List, [], ◌∷◌, length, take, Option, Some, None, if◌then◌else◌}
+use Rattle.std.specs.Prelude.{ℕ, ◌+◌, ◌-◌, Bool, true, false, ◌&&◌, nat_eq, nat_lt, List, [], ◌∷◌, length, take, Option, Some, None, if◌then◌else◌}
 use Rattle.ber_core.specs.Identifier.{Tag}
 use Rattle.ber_core.specs.Tree.{text_all}
 use Rattle.ill_schema.specs.declared.refusal.Cause.{Cause}
@@ -9,7 +9,7 @@ use Rattle.ber_leaf.specs.Profile.{Profile}
 use Rattle.ill_refusals.specs.Element.{Element, left_out}
 use Rattle.ill_refusals.specs.Next.{element_of, due, missing}
 use Rattle.ill_refusals.specs.Place.{Open, next_in, bound, allows}
-use Rattle.ill_refusals.specs.Fault.{Fault, fault, ends_at, is_indefinite, past_end, cut_fault, element_fault}
+use Rattle.ill_refusals.specs.Fault.{Fault, fault, ends_at, is_indefinite, past_end, cut_fault, element_fault, is_deep}
 use Rattle.ill_refusals.specs.Reading.{read_identifier, identified, part_identifier, no_identifier, read_length, definite, indefinite, part_length, no_length}
 
 -- what is done at a place
@@ -72,7 +72,7 @@ judge_element p path k cut w = elim (read_identifier w) as (λ _. Judgement) [
   | part_identifier ↦ faulty cut
   | no_identifier ↦ faulty (fault Cause.BadTag k)
   | identified tag constructed rest ↦
-      if nat_le 32 (length path) then faulty (fault Cause.TooDeep k)
+      if is_deep p path then faulty (fault Cause.TooDeep k)
       else judge_tag p path tag constructed k (length w - length rest) cut rest
 ]
 
