@@ -8,3 +8,7 @@ pub mod NormalLeaves
 pub mod Defaults
 pub mod NormalElements
 pub mod NormalEntries
+pub mod HeadersRead
+pub mod OpenFrames
+pub mod Judgements
+pub mod PlaceNeeds

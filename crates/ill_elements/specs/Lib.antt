@@ -4,3 +4,7 @@ pub mod Elements
 pub mod Due
 pub mod Contents
 pub mod Written
+pub mod HeaderCode
+pub mod Standing
+pub mod Judging
+pub mod Need

@@ -13,8 +13,19 @@
 
 mod due;
 mod element;
+mod form;
+mod frame;
+mod frames;
+mod header;
+mod judge;
 mod leaf_type;
+mod need;
 
 pub use due::{Next, Slot};
 pub use element::{Element, Wrapped};
+pub use frame::Frame;
+pub use frames::{Frames, MAX_DEPTH};
+pub use header::{HeaderRead, LengthRead, first_identifier, length_after, read_any};
+pub use judge::{Extent, Opening, Reading};
 pub use leaf_type::LeafType;
+pub use need::need_at;

@@ -16,7 +16,7 @@ use Rattle.ill_elements.specs.Elements.{component_of, component_at, element_is, 
 use Rattle.ill_elements.specs.Due.{IsBegun, IsDueIn, IsDueInRows, IsRowDue, IsInnerDue, IsItemDue, behind}
 use Rattle.ill_read.specs.code.Drafts.{rows_before}
 use Rattle.ill_elements.specs.Due.{due_with}
-use Rattle.ill_read.specs.Standing.{HoldsPart, IsHeld}
+use Rattle.ill_elements.specs.Standing.{HoldsPart, IsHeld}
 use Rattle.ill_elements.specs.Contents.{with_alternative, absent_content, IsValueOf}
 use Rattle.ill_refusals.specs.code.Step.{snoc}
 use Rattle.ill_elements.specs.Due.{Due}

@@ -18,20 +18,22 @@ use Rattle.ill_cells.specs.Places.{alternative_of, where_of}
 use Rattle.ill_elements.specs.Elements.{element_is}
 use Rattle.ill_read.specs.code.Drafts.{ChecksText, HasClosed, IsRightText, with_entry}
 use Rattle.ill_elements.specs.Due.{due_with}
-use Rattle.ill_read.specs.code.Judged.{IsEnd, IsStep}
+use Rattle.ill_elements.specs.Judging.{IsEnd}
+use Rattle.ill_read.specs.code.Judged.{IsStep}
 use Rattle.ill_read.specs.code.Stepping.{GoesOn}
-use Rattle.ill_read.specs.Standing.{Level, level_of, pushed, next_at, text_so_far, IsHeld, IsFrame, AreFrames, HoldsAt}
+use Rattle.ill_elements.specs.Standing.{Level, level_of, pushed, next_at, IsHeld, IsFrame, AreFrames}
+use Rattle.ill_read.specs.Paths.{text_so_far, HoldsAt}
 use Rattle.ill_elements.specs.Contents.{with_alternative}
 use Rattle.ill_elements.specs.declared.due.Next.{Next}
 use Rattle.ill_elements.specs.declared.due.Next.TheVariants.{Segments}
 use Rattle.ill_elements.specs.declared.element.Element.{Element as CodeElement}
 use Rattle.ill_elements.specs.declared.element.Element.TheVariants.{Leaf, Segment}
 use Rattle.ill_read.specs.declared.failure.Failure.{Failure}
-use Rattle.ill_read.specs.declared.frame.Frame.{Frame}
+use Rattle.ill_elements.specs.declared.frame.Frame.{Frame}
 use Rattle.ill_read.specs.declared.path.Path.{Path}
 use Rattle.ill_read.proofs.EndedElements.{frame_ended}
 use Rattle.ill_read.proofs.DeliveredEntries.{entry_added, pushed_apart, pushed_segment}
-use Rattle.ill_read.proofs.OpenFrames.{last_open}
+use Rattle.ill_elements.proofs.OpenFrames.{last_open}
 use Rattle.ill_read.proofs.OpenedElements.{only_segment}
 use Rattle.ill_elements.proofs.DueTags.{segment_due}
 use Rattle.ill_read.proofs.Segments.{text_with}

@@ -13,7 +13,8 @@ use Rattle.ill_read.specs.code.Drafts.{IsDueAt, with_entry}
 use Rattle.ill_elements.specs.Due.{due_with}
 use Rattle.ill_read.specs.code.Judged.{IsStep}
 use Rattle.ill_read.specs.code.Stepping.{GoesOn}
-use Rattle.ill_read.specs.Standing.{Level, level_of, pushed, top_level, top_part, next_at, text_so_far, top, IsHeld, IsFrame, AreFrames}
+use Rattle.ill_elements.specs.Standing.{Level, level_of, pushed, top_level, top_part, next_at, top, IsHeld, IsFrame, AreFrames}
+use Rattle.ill_read.specs.Paths.{text_so_far}
 use Rattle.ill_elements.specs.Contents.{with_alternative, IsValueOf}
 use Rattle.ill_elements.specs.declared.due.Next.{Next}
 use Rattle.ill_elements.specs.declared.due.Next.TheVariants.{Segments}
@@ -21,10 +22,10 @@ use Rattle.ill_elements.specs.declared.due.Slot.{Slot}
 use Rattle.ill_elements.specs.declared.element.Element.{Element as CodeElement}
 use Rattle.ill_elements.specs.declared.element.Element.TheVariants.{Segment}
 use Rattle.ill_elements.specs.Found.{Found}
-use Rattle.ill_read.specs.declared.frame.Frame.{Frame}
+use Rattle.ill_elements.specs.declared.frame.Frame.{Frame}
 use Rattle.ill_read.specs.declared.path.Path.{Path}
 use Rattle.ill_read.proofs.AddedEntries.{held_added}
-use Rattle.ill_read.proofs.OpenFrames.{next_behind}
+use Rattle.ill_elements.proofs.OpenFrames.{next_behind}
 use Rattle.ill_read.proofs.MoreTrees.{with_one, frame_added}
 use Rattle.ill_elements.proofs.Meanings.{begun_means}
 use Rattle.ill_refusals.proofs.OpenElements.{inner_proper}

@@ -16,14 +16,15 @@ use Rattle.ill_elements.specs.Due.{next_is, shape, read_as}
 use Rattle.ill_elements.specs.Elements.{element_is}
 use Rattle.ill_elements.specs.LeafTypes.{leaf_is}
 use Rattle.ill_read.specs.code.Drafts.{IsContentOf, IsRightText, rows_left}
-use Rattle.ill_read.specs.Standing.{text_so_far, IsHeld, IsFrame}
+use Rattle.ill_read.specs.Paths.{text_so_far}
+use Rattle.ill_elements.specs.Standing.{IsHeld, IsFrame}
 use Rattle.ill_elements.specs.Contents.{absent_content, IsValueOf}
 use Rattle.ill_elements.specs.declared.due.Next.{Next}
 use Rattle.ill_elements.specs.declared.due.Next.TheVariants.{Rows, Inner, Items, Either, Segments, Nothing}
 use Rattle.ill_elements.specs.declared.element.Element.{Element as CodeElement}
 use Rattle.ill_elements.specs.declared.element.Element.TheVariants.{Leaf, Sequence, List as ListOf, Wrapper, LooseWrapper, Segment}
 use Rattle.ill_elements.specs.declared.element.Wrapped.{Wrapped}
-use Rattle.ill_read.specs.declared.frame.Frame.{Frame}
+use Rattle.ill_elements.specs.declared.frame.Frame.{Frame}
 use Rattle.ill_elements.proofs.Entries.{rows_ended}
 use Rattle.ill_read.proofs.Segments.{text_with}
 

@@ -1,5 +1,3 @@
-pub mod HeadersRead
-pub mod OpenFrames
 pub mod HeldEntries
 pub mod Segments
 pub mod AddedEntries
@@ -13,7 +11,6 @@ pub mod PrimitiveElements
 pub mod MovedOctets
 pub mod Bodies
 pub mod MessageEnds
-pub mod Judgements
 pub mod DecoderSteps
 pub mod NeededOctets
 pub mod FedPieces

@@ -3,7 +3,7 @@ use Rattle.std.proofs.Common.{◌≡◌, ◌≢◌, ℕ, ◌+◌, ◌<◌, ◌�
 use Rattle.std.proofs.lemmas.Bool.{cases_lt}
 use Rattle.std.proofs.lemmas.List.{nil_from_length, take-append-le, take_all}
 use Rattle.ber_core.specs.Octets.{are_octets}
-use Rattle.ber_leaf.specs.Profile.{Profile, profile_two}
+use Rattle.ber_leaf.specs.Profile.{profile_two}
 use Rattle.ill_schema.specs.declared.message.Message.{Message}
 use Rattle.ill_schema.specs.declared.refusal.Cause.{Cause}
 use Rattle.ill_schema.specs.declared.refusal.Refusal.{Refusal}
@@ -12,12 +12,14 @@ use Rattle.ill_schema.specs.Message.{apdu_of}
 use Rattle.ill_refusals.proofs.FirstFault.{has_fault, is_judged}
 use Rattle.ill_refusals.specs.Fault.{Fault, fault, Refuses, fault_of}
 use Rattle.ill_refusals.specs.code.Judge.{faulty, judge}
+use Rattle.ill_elements.proofs.PlaceNeeds.{bound_small}
 use Rattle.ill_read.specs.Answers.{IsRead, IsPart, IsRefused, DecodeAnswers, NormalAnswers}
-use Rattle.ill_read.specs.Standing.{AreMessage, AreValues, HoldsAt, Level, StandsBefore, StandsLast}
+use Rattle.ill_read.specs.Paths.{AreMessage, AreValues, HoldsAt}
+use Rattle.ill_elements.specs.Standing.{Level, StandsBefore, StandsLast}
 use Rattle.ill_read.specs.code.ReaderCode.{EndsAs, HasClosed, HasRead, HasStopped, InState, IsFed, IsRunning, ended}
 use Rattle.ill_read.specs.Feeding.{IsOpenAt, StatesAreApart, ended as message_ended}
 use Rattle.ill_refusals.specs.Outcome.{OnlyAccepts, OnlyRefuses}
-use Rattle.ill_refusals.specs.Place.{Open, IsPlace, bound}
+use Rattle.ill_refusals.specs.Place.{Open}
 use Rattle.ill_read.specs.declared.failure.Failure.{Failure}
 use Rattle.ill_read.specs.declared.decoder.Decoder.{Decoder}
 use Rattle.ill_read.specs.declared.values.Values.{Values}
@@ -114,11 +116,6 @@ stops_open Stands at s rest r b e c =
     let q = truncated_at profile_two b.place at rest (fault_of r) e c in
     let n : at + length rest ≡ length s = omega (arith, b.offset, ap length b.joined, length-append b.before rest) in
     (b, has_fault profile_two b.place at rest _ (e ∙ ap faulty (q.1 ∙ ap (fault Cause.Truncated) n)))
-
--- no place reaches past the limit
-pub bound_small : (p : Profile) (place : List Open) (u : List ℕ) → IsPlace p u place → bound p place ≤ p.limit
-bound_small p [] u h = omega arith
-bound_small p (o ∷ path) u h = let i = h.4.inside in let r = bound_small p path h.0 h.3 in omega arith
 
 -- the octets that lead to a place and those that wait there
 pub last_size : (Stands : List Open → Type 0) (at : ℕ) (s rest : List ℕ) → StandsLast Stands at s rest → (at + length rest ≡ length s) × (length s < 1_048_576)

@@ -1,7 +1,5 @@
 -- An open element with one more tree in it.
-use Rattle.std.proofs.Common.{◌≡◌, ◌≤◌, ℕ, ◌+◌, ◌-◌, List, [], ◌∷◌, ◌++◌, length, length-append, Option, Some, sym, ap, subst, ◌∙◌, arith, get_or, set}
-use Rattle.std.proofs.Math.Bridge.{le_prop}
-use Rattle.std.proofs.lemmas.List.{set_at, get_or_at}
+use Rattle.std.proofs.Common.{◌≡◌, ◌-◌, List, Option, Some, sym, ap, subst, ◌∙◌}
 use Rattle.ber_core.specs.Tree.{Tree, Trees, none, more, tag_of}
 use Rattle.ber_leaf.specs.Profile.{profile_two}
 use Rattle.ill_schema.specs.Content.{Content}
@@ -10,10 +8,10 @@ use Rattle.ill_cells.specs.declared.at.At.{At}
 use Rattle.ill_refusals.specs.Next.{due, next_of, next_after, opening}
 use Rattle.ill_refusals.specs.Next as following
 use Rattle.ill_refusals.specs.Place.{Open}
-use Rattle.ill_read.specs.Standing.{AreDue, IsHeld, IsFrame}
+use Rattle.ill_elements.specs.Standing.{AreDue, IsHeld, IsFrame}
 use Rattle.ill_refusals.specs.code.Step.{snoc}
 use Rattle.ill_elements.specs.Due.{Due}
-use Rattle.ill_read.specs.declared.frame.Frame.{Frame}
+use Rattle.ill_elements.specs.declared.frame.Frame.{Frame}
 use Rattle.ill_elements.proofs.DueElements.{due_element_is}
 use Rattle.ill_refusals.proofs.Rows.{next_after-more}
 
@@ -47,18 +45,3 @@ frame_added f o path outer entries new T d h is after goes held =
       held = subst (λ n. IsHeld (read_as f.found) n new (snoc o.trees T)) (sym goes) held;
       were_due = more.1;
     }
-
--- the last frame with another next
-pub advanced : (outer : List Frame) (f x : Frame) (frames : List Frame) (i : ℕ) (n : At) (p : x.bound ≤ 1048576) → frames ≡ outer ++ f ∷ [] → i ≡ length frames - 1
-    → x ≡ get_or frames i x → set frames i (record x { place = n; within = p }) ≡ outer ++ record f { place = n } ∷ []
-advanced outer f x frames i n p e last is =
-    let len : length frames ≡ length outer + length (f ∷ []) = ap length e ∙ length-append outer (f ∷ []) in
-    let at : length outer ≡ i = omega (arith, len, last) in
-    let same : x ≡ f = is ∙ ap (λ fs. get_or fs i x) e ∙ get_or_at outer f [] x i at in
-    ap (λ fs. set fs i (record x { place = n; within = p })) e ∙ set_at outer f [] (record x { place = n; within = p }) i at
-    ∙ ap (λ g. outer ++ g ∷ []) (alike x same p)
-  where
-    alike : (y : Frame) → y ≡ f → (q : y.bound ≤ 1048576) → record y { place = n; within = q } ≡ record f { place = n }
-    alike y s q =
-        let P : Frame → Type 0 = λ z. (r : z.bound ≤ 1048576) → record z { place = n; within = r } ≡ record f { place = n } in
-        subst P (sym s) (λ r. ap (λ w. let g : Frame = record f { place = n; within = w } in g) (le_prop r f.within)) q

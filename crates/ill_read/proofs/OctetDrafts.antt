@@ -15,7 +15,7 @@ use Rattle.ill_cells.specs.Places.{alternative_of}
 use Rattle.ill_elements.specs.Due.{IsDueIn, shape, first_of, read_as, slot_in}
 use Rattle.ill_elements.specs.Elements.{element_is}
 use Rattle.ill_elements.specs.LeafTypes.{leaf_is}
-use Rattle.ill_read.specs.Standing.{Level, level_of, IsHeld}
+use Rattle.ill_elements.specs.Standing.{Level, level_of, IsHeld}
 use Rattle.ill_elements.specs.Contents.{with_alternative, IsValueOf}
 use Rattle.ill_read.specs.code.Drafts.{HasOpened, IsContentOf, IsDueAt, IsRightText, with_entry}
 use Rattle.ill_elements.specs.Due.{due_with}
@@ -26,9 +26,9 @@ use Rattle.ill_elements.specs.declared.due.Next.TheVariants.{Segments}
 use Rattle.ill_elements.specs.declared.due.Slot.{Slot}
 use Rattle.ill_elements.specs.declared.element.Element.{Element as CodeElement}
 use Rattle.ill_elements.specs.declared.element.Element.TheVariants.{Leaf as LeafElement, Sequence, List as ListOf, Wrapper, LooseWrapper, Segment}
-use Rattle.ill_read.specs.declared.frame.Frame.{Frame}
-use Rattle.ill_read.specs.declared.judge.Opening.{Opening}
-use Rattle.ill_read.specs.declared.judge.Reading.{Reading}
+use Rattle.ill_elements.specs.declared.frame.Frame.{Frame}
+use Rattle.ill_elements.specs.declared.judge.Opening.{Opening}
+use Rattle.ill_elements.specs.declared.judge.Reading.{Reading}
 use Rattle.ill_elements.specs.declared.leaf_type.LeafType.{LeafType}
 use Rattle.ill_read.specs.declared.octets.Octets.{Octets}
 use Rattle.ill_read.proofs.DeliveredEntries.{pushed_apart}

@@ -10,7 +10,8 @@ use Rattle.ill_elements.specs.Due.{IsDueIn, behind, first_of, next_is, shape, sh
 use Rattle.ill_refusals.specs.Element.{segment}
 use Rattle.ill_refusals.specs.Next.{opening}
 use Rattle.ill_refusals.specs.Place.{Open, allows, bound}
-use Rattle.ill_read.specs.Standing.{Level, level_of, pushed, next_at, text_so_far, IsHeld, IsFrame, HoldsAt}
+use Rattle.ill_elements.specs.Standing.{Level, level_of, pushed, next_at, IsHeld, IsFrame}
+use Rattle.ill_read.specs.Paths.{text_so_far, HoldsAt}
 use Rattle.ill_refusals.specs.code.Step.{opened}
 use Rattle.ill_read.specs.code.Drafts.{HasOpened, IsOpeningIn}
 use Rattle.ill_elements.specs.Due.{due_with}
@@ -18,8 +19,8 @@ use Rattle.ill_elements.specs.declared.due.Next.{Next}
 use Rattle.ill_elements.specs.declared.due.Next.TheVariants.{Segments}
 use Rattle.ill_elements.specs.declared.element.Element.{Element as CodeElement}
 use Rattle.ill_elements.specs.declared.element.Element.TheVariants.{Leaf, Sequence, List as ListOf, Wrapper, LooseWrapper, Segment}
-use Rattle.ill_read.specs.declared.frame.Frame.{Frame}
-use Rattle.ill_read.specs.declared.judge.Opening.{Opening}
+use Rattle.ill_elements.specs.declared.frame.Frame.{Frame}
+use Rattle.ill_elements.specs.declared.judge.Opening.{Opening}
 use Rattle.ill_read.specs.declared.path.Path.{Path}
 use Rattle.ill_read.proofs.DeliveredEntries.{innermost_level}
 use Rattle.ill_elements.proofs.DueCells.{opens-by}

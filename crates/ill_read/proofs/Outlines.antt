@@ -21,7 +21,7 @@ use Rattle.ill_cells.specs.Places.{alternative_of}
 use Rattle.ill_elements.specs.Due.{IsDueIn, behind, shape, first_of, read_as, slot_in}
 use Rattle.ill_elements.specs.LeafTypes.{leaf_is}
 use Rattle.ill_read.specs.Outline.{AreEntries, AreItems, IsMarked, leaf_marks}
-use Rattle.ill_read.specs.Standing.{Level, IsHeld}
+use Rattle.ill_elements.specs.Standing.{Level, IsHeld}
 use Rattle.ill_elements.specs.Contents.{with_alternative, absent_content}
 use Rattle.ill_read.specs.code.Drafts.{HasOpened, HasClosed, HasLeaf, HoldsApdu, HasEnded, IsContentOf, IsDueAt, IsOpeningIn, IsRightText, rows_before, rows_left, with_entry}
 use Rattle.ill_elements.specs.Due.{due_with}
@@ -34,9 +34,9 @@ use Rattle.ill_elements.specs.declared.due.Slot.TheVariants.{Row as AtRow}
 use Rattle.ill_elements.specs.declared.element.Element.{Element as CodeElement}
 use Rattle.ill_elements.specs.declared.element.Element.TheVariants.{Leaf, Sequence, List as ListOf, Wrapper, LooseWrapper, Segment}
 use Rattle.ill_elements.specs.declared.element.Wrapped.{Wrapped}
-use Rattle.ill_read.specs.declared.frame.Frame.{Frame}
-use Rattle.ill_read.specs.declared.judge.Opening.{Opening}
-use Rattle.ill_read.specs.declared.judge.Reading.{Reading}
+use Rattle.ill_elements.specs.declared.frame.Frame.{Frame}
+use Rattle.ill_elements.specs.declared.judge.Opening.{Opening}
+use Rattle.ill_elements.specs.declared.judge.Reading.{Reading}
 use Rattle.ill_elements.specs.declared.leaf_type.LeafType.{LeafType}
 use Rattle.ill_read.specs.declared.mark.Mark.{Mark}
 use Rattle.ill_read.specs.declared.mark.Mark.TheVariants as mark

@@ -19,15 +19,17 @@ use Rattle.ill_elements.specs.Due.{IsDueIn, read_as, shape_at, slot_in, next_pla
 use Rattle.ill_elements.specs.LeafTypes.{leaf_is}
 use Rattle.ill_read.specs.code.Drafts.{HasLeaf, HasText}
 use Rattle.ill_elements.specs.Due.{due_with}
-use Rattle.ill_read.specs.code.Judged.{IsBegin, IsJudgement, IsStep, content_in}
+use Rattle.ill_elements.specs.Judging.{IsBegin, content_in}
+use Rattle.ill_read.specs.code.Judged.{IsJudgement, IsStep}
 use Rattle.ill_read.specs.code.Stepping.{GoesOn, ReadsExactly}
-use Rattle.ill_read.specs.Standing.{Level, next_at, text_so_far, AreFrames, HoldsAt}
+use Rattle.ill_elements.specs.Standing.{Level, next_at, AreFrames}
+use Rattle.ill_read.specs.Paths.{text_so_far, HoldsAt}
 use Rattle.ill_elements.specs.declared.due.Next.TheVariants.{Segments}
 use Rattle.ill_elements.specs.declared.element.Element.{Element as CodeElement}
 use Rattle.ill_elements.specs.declared.element.Element.TheVariants.{Leaf, Segment}
 use Rattle.ill_read.specs.declared.failure.Failure.{Failure}
 use Rattle.ill_read.specs.code.Progress.{Reads}
-use Rattle.ill_read.specs.declared.judge.Reading.{Reading}
+use Rattle.ill_elements.specs.declared.judge.Reading.{Reading}
 use Rattle.ill_elements.specs.declared.leaf_type.LeafType.{LeafType}
 use Rattle.ill_read.specs.declared.path.Path.{Path}
 use Rattle.ill_read.proofs.DeliveredEntries.{entry_added}

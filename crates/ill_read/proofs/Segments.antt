@@ -6,13 +6,14 @@ use Rattle.ill_elements.specs.Elements.{element_is}
 use Rattle.ill_elements.specs.Due.{shape, read_as}
 use Rattle.ill_refusals.specs.Element.{Element, leaf, segment}
 use Rattle.ill_refusals.specs.Place.{Open}
-use Rattle.ill_read.specs.Standing.{Level, next_at, text_so_far, IsHeld, IsFrame, AreFrames}
+use Rattle.ill_elements.specs.Standing.{Level, next_at, IsHeld, IsFrame, AreFrames}
+use Rattle.ill_read.specs.Paths.{text_so_far}
 use Rattle.ill_elements.specs.declared.due.Next.{Next}
 use Rattle.ill_elements.specs.declared.due.Next.TheVariants.{Segments}
 use Rattle.ill_elements.specs.declared.element.Element.{Element as CodeElement}
 use Rattle.ill_elements.specs.declared.element.Element.TheVariants.{Leaf, Segment}
-use Rattle.ill_read.specs.declared.frame.Frame.{Frame}
-use Rattle.ill_read.proofs.OpenFrames.{next_behind}
+use Rattle.ill_elements.specs.declared.frame.Frame.{Frame}
+use Rattle.ill_elements.proofs.OpenFrames.{next_behind}
 
 -- the text that an open element adds
 abbrev pub text_with : Element → List ℕ → Trees → List ℕ

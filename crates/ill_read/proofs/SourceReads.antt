@@ -9,7 +9,8 @@ use Rattle.ber_leaf.specs.Profile.{profile_two}
 use Rattle.ill_schema.specs.Apdu.{Apdu, Accepts, SpellsApdu}
 use Rattle.ill_read.specs.Answers.{IsUnfinished, IfReadFault, IfReadRefused, ReadsNext, TakesFront, TakesNoMessage}
 use Rattle.ill_read.specs.Feeding.{IsOpenAt}
-use Rattle.ill_read.specs.Standing.{HoldsAt, Level, StandsLast}
+use Rattle.ill_read.specs.Paths.{HoldsAt}
+use Rattle.ill_elements.specs.Standing.{Level, StandsLast}
 use Rattle.ill_read.specs.code.ReaderCode.{EndsAs, HasRead, IsFed, IsReadOf, ended, read_result}
 use Rattle.ill_read.specs.code.Filling.{NoneEndsWithin, HasFilled, HasKept}
 use Rattle.ill_refusals.specs.Outcome.{OnlyRefuses}

@@ -9,17 +9,18 @@ use Rattle.ill_elements.specs.Due.{IsDueIn, next_is, behind, shape, read_as}
 use Rattle.ill_read.specs.code.Judged.{IsStep}
 use Rattle.ill_refusals.specs.Next.{due, next_after, opening}
 use Rattle.ill_refusals.specs.Place.{Open}
-use Rattle.ill_read.specs.Standing.{Level, next_at, top, text_so_far, IsHeld, IsFrame, AreFrames}
+use Rattle.ill_elements.specs.Standing.{Level, next_at, top, IsHeld, IsFrame, AreFrames}
+use Rattle.ill_read.specs.Paths.{text_so_far}
 use Rattle.ill_refusals.specs.code.Step.{snoc, with_tree}
 use Rattle.ill_elements.specs.Due.{Due}
 use Rattle.ill_elements.specs.declared.due.Next.{Next}
 use Rattle.ill_elements.specs.declared.due.Next.TheVariants.{Segments}
 use Rattle.ill_elements.specs.declared.element.Element.{Element as CodeElement}
 use Rattle.ill_elements.specs.declared.element.Element.TheVariants.{Leaf, Segment}
-use Rattle.ill_read.specs.declared.frame.Frame.{Frame}
+use Rattle.ill_elements.specs.declared.frame.Frame.{Frame}
 use Rattle.ill_read.specs.declared.path.Path.{Path}
 use Rattle.ill_elements.proofs.DueElements.{due_element_is}
-use Rattle.ill_read.proofs.OpenFrames.{next_behind}
+use Rattle.ill_elements.proofs.OpenFrames.{next_behind}
 use Rattle.ill_read.proofs.MoreTrees.{next-added, with_one}
 use Rattle.ill_read.proofs.Segments.{text_with}
 use Rattle.ill_refusals.proofs.Rows.{same_tag-is}

@@ -15,7 +15,8 @@ use Rattle.ill_schema.specs.declared.value.Value.{Value}
 use Rattle.ill_elements.specs.LeafTypes.{leaf_is}
 use Rattle.ill_read.specs.code.Drafts.{HasOpened, IsContentOf, IsRightText, rows_before, with_entry}
 use Rattle.ill_read.specs.code.Held.{EndsExactly, HasAdded, IsFound, IsLast, IsList}
-use Rattle.ill_read.specs.Standing.{Level, level_of, whole_level, AreHeld, AreValues, IsHeld}
+use Rattle.ill_elements.specs.Standing.{Level, level_of, whole_level, IsHeld}
+use Rattle.ill_read.specs.Paths.{AreHeld, AreValues}
 use Rattle.ill_elements.specs.Contents.{absent_content}
 use Rattle.ill_elements.specs.declared.due.Next.{Next}
 use Rattle.ill_elements.specs.declared.due.Next.TheVariants.{Segments, Nothing}
@@ -23,8 +24,8 @@ use Rattle.ill_elements.specs.declared.due.Slot.{Slot}
 use Rattle.ill_elements.specs.declared.element.Element.{Element as CodeElement}
 use Rattle.ill_elements.specs.declared.element.Element.TheVariants.{Leaf, List as ListOf, Wrapper, LooseWrapper, Segment}
 use Rattle.ill_elements.specs.declared.element.Wrapped.{Wrapped}
-use Rattle.ill_read.specs.declared.frame.Frame.{Frame}
-use Rattle.ill_read.specs.declared.judge.Opening.{Opening}
+use Rattle.ill_elements.specs.declared.frame.Frame.{Frame}
+use Rattle.ill_elements.specs.declared.judge.Opening.{Opening}
 use Rattle.ill_elements.specs.declared.leaf_type.LeafType.{LeafType}
 use Rattle.ill_read.specs.declared.values.Values.{Values}
 use Rattle.ill_elements.specs.Due.{shape, first_of, read_as}

@@ -17,7 +17,7 @@ use Rattle.ill_schema.specs.declared.node.NodeId.{NodeId}
 use Rattle.ill_schema.specs.declared.part.Row.{Row}
 use Rattle.ill_elements.specs.Elements.{element_is}
 use Rattle.ill_elements.specs.Due.{IsDueIn, IsRowDue, IsInnerDue, IsItemDue, behind}
-use Rattle.ill_read.specs.Standing.{IsHeld}
+use Rattle.ill_elements.specs.Standing.{IsHeld}
 use Rattle.ill_elements.specs.Contents.{with_alternative, absent_content, IsValueOf}
 use Rattle.ill_read.specs.code.Drafts.{IsContentOf, rows_before, rows_left}
 use Rattle.ill_elements.specs.Due.{due_with}

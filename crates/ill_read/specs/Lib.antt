@@ -1,9 +1,7 @@
 pub mod Failures
-pub mod HeaderCode
-pub mod Standing
+pub mod Paths
 pub mod OpenElements
 pub mod Feeding
-pub mod Need
 pub mod Answers
 pub mod Outline
 pub mod Outlined

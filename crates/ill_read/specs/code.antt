@@ -4,7 +4,6 @@ pub mod Held
 pub mod Judged
 pub mod Stepping
 pub mod ReaderCode
-pub mod JudgeCode
 pub mod Filling
 pub mod OctetDrafts
 pub mod Outlines

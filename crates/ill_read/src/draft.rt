@@ -4,14 +4,12 @@ ghost use Rattle.ber_leaf.specs.Content.{IsContent};
 ghost use Rattle.ill_schema.specs.Apdu.{Apdu};
 ghost use Rattle.ill_elements.specs.Due.{shape};
 ghost use Rattle.ill_elements.specs.LeafTypes.{leaf_is};
-ghost use Rattle.ill_read.specs.Standing.{Level};
+ghost use Rattle.ill_elements.specs.Standing.{Level};
 ghost use Rattle.ill_read.specs.code.Drafts.{HasOpened, HasText, HasLeaf, ChecksText, HasClosed, HoldsApdu, HasEnded};
 
 use crate::failure::Failure;
-use crate::frame::Frame;
-use crate::judge::{Opening, Reading};
 use ill_cells::At;
-use ill_elements::LeafType;
+use ill_elements::{Frame, LeafType, Opening, Reading};
 use std::alloc::AllocError;
 
 /// What is made of a message while its elements are read.

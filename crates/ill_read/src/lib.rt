@@ -12,16 +12,10 @@
 mod decoder;
 mod draft;
 mod failure;
-mod form;
-mod frame;
-mod frames;
-mod header;
 mod held;
-mod judge;
 mod keep;
 mod laws;
 mod mark;
-mod need;
 mod normal;
 mod octets;
 mod outline;

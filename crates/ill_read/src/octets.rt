@@ -12,19 +12,17 @@ ghost use Rattle.ill_elements.specs.Due.{IsDueIn, behind, next_place, shape_at, 
 ghost use Rattle.ill_elements.specs.Due.{due_with};
 ghost use Rattle.ill_elements.specs.declared.element.Element.TheVariants.{Leaf as LeafElement};
 ghost use Rattle.ber_core.specs.Identifier.{Tag};
-ghost use Rattle.ill_read.specs.Standing.{top_level};
+ghost use Rattle.ill_elements.specs.Standing.{top_level};
 ghost use Rattle.ill_elements.specs.Contents.{with_alternative};
 ghost use Rattle.ill_read.specs.code.OctetDrafts.{AreNormal, AreOctets, enclosed};
 ghost use Rattle.ill_elements.specs.Written.{left_away};
 
 use crate::draft::Draft;
 use crate::failure::Failure;
-use crate::frame::Frame;
-use crate::judge::{Opening, Reading};
 use ber_buffer::DerBuffer;
 use ber_core::{Class, Id, universal};
 use ill_cells::{At, Slot};
-use ill_elements::{Element, LeafType, Next};
+use ill_elements::{Element, Frame, LeafType, Next, Opening, Reading};
 use ill_schema::{Cause, LIMIT};
 use std::alloc::AllocError;
 

@@ -3,19 +3,17 @@ ghost use Rattle.std.specs.Prelude.{◌≡◌, ◌++◌, [], ◌∷◌, map, tak
 ghost use Rattle.ill_cells.specs.Places.{alternative_of};
 ghost use Rattle.ill_schema.specs.Table.{rows_of};
 ghost use Rattle.ill_elements.specs.Due.{first_of, shape, slot_in};
-ghost use Rattle.ill_read.specs.Standing.{top_level};
+ghost use Rattle.ill_elements.specs.Standing.{top_level};
 ghost use Rattle.ill_read.specs.code.Drafts.{rows_before, rows_left};
 ghost use Rattle.ill_read.specs.declared.mark.Mark.{Mark};
 ghost use Rattle.ill_read.specs.code.Outlines.{AreOutlined, HasLed, HasOutline, HasPassed, HasRear, alternative_marks, first_marks, late_marks, start_marks};
 
 use crate::draft::Draft;
 use crate::failure::Failure;
-use crate::frame::Frame;
-use crate::judge::{Opening, Reading};
 use crate::mark::Mark;
 use crate::octets::Octets;
 use ill_cells::{At, Found};
-use ill_elements::{Element, LeafType, Next, Slot};
+use ill_elements::{Element, Frame, LeafType, Next, Opening, Reading, Slot};
 use ill_schema::{NodeId, PartId, rows};
 use std::alloc::{AllocError, Global};
 

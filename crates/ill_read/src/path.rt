@@ -1,14 +1,12 @@
 //! The path of open elements, with the draft of what has been read.
 ghost use Rattle.std.specs.Prelude.{◌≡◌, ◌+◌, ◌<◌, ◌≤◌, [], ◌∷◌, IfOk};
-ghost use Rattle.ill_read.specs.Standing.{HoldsAt, top_level};
+ghost use Rattle.ill_read.specs.Paths.{HoldsAt};
+ghost use Rattle.ill_elements.specs.Standing.{top_level};
 
 use crate::draft::Draft;
 use crate::failure::Failure;
-use crate::frame::Frame;
-use crate::frames::Frames;
-use crate::judge::{Opening, Reading};
 use ill_cells::At;
-use ill_elements::Element;
+use ill_elements::{Element, Frame, Frames, Opening, Reading};
 use ill_schema::Cause;
 use std::alloc::AllocError;
 
@@ -20,7 +18,7 @@ pub struct Path<D: Drop> {
 }
 
 impl<D: Draft> Path<D> {
-    ghost use Rattle.ill_read.specs.code.Progress.{depth_of};
+    ghost use Rattle.ill_elements.specs.Standing.{depth_of};
     ghost use Rattle.ill_read.specs.code.Stepping.{ClosesExactly, OpensExactly, ReadsExactly, GoesOn};
 
     /// No open element, and a draft of nothing.

@@ -3,11 +3,12 @@ ghost use Rattle.std.specs.Prelude.{◌≤◌};
 
 use crate::draft::Draft;
 use crate::failure::Failure;
-use crate::header::{HeaderRead, LengthRead, first_identifier, length_after, read_any};
-use crate::judge::{Extent, Opening, Reading};
-use crate::need::need_at;
 use crate::path::Path;
 use ber_core::Id;
+use ill_elements::{
+    Extent, HeaderRead, LengthRead, Opening, Reading, first_identifier, length_after, need_at,
+    read_any,
+};
 use ill_schema::{Cause, LIMIT, Refusal};
 use std::alloc::Global;
 use std::mem;
@@ -39,18 +40,20 @@ impl<D: Draft> Reader<D> {
     ghost use Rattle.ber_core.specs.Octets.{are_octets};
     ghost use Rattle.ber_leaf.specs.Profile.{profile_two};
     ghost use Rattle.ill_schema.specs.Apdu.{Apdu, Accepts};
-    ghost use Rattle.ill_read.specs.Need.{NeedsAfter};
+    ghost use Rattle.ill_elements.specs.Need.{NeedsAfter};
     ghost use Rattle.ill_read.specs.Feeding.{IsOpenAt};
-    ghost use Rattle.ill_read.specs.Standing.{HoldsAt, StandsBefore, top_level};
+    ghost use Rattle.ill_read.specs.Paths.{HoldsAt};
+    ghost use Rattle.ill_elements.specs.Standing.{StandsBefore, top_level};
     ghost use Rattle.ill_read.specs.Answers.{IsRefused};
-    ghost use Rattle.ill_read.specs.HeaderCode.{IsHeaderRead};
+    ghost use Rattle.ill_elements.specs.HeaderCode.{IsHeaderRead};
     ghost use Rattle.ill_refusals.specs.code.Judge.{faulty, judge, judge_element, judge_end, judge_mark, judge_octets};
     ghost use Rattle.ill_refusals.specs.code.Step.{moved};
     ghost use Rattle.ill_read.specs.code.Drafts.{HoldsApdu};
     ghost use Rattle.ill_read.specs.code.Filling.{HasLooked, NoneEndsWithin};
     ghost use Rattle.ill_read.specs.code.Judged.{IsJudgement, IsStep};
-    ghost use Rattle.ill_read.specs.code.JudgeCode.{IsRoom};
-    ghost use Rattle.ill_read.specs.code.Progress.{Judgement, Closes, Opens, Reads, depth_of, size_of, IsProgress};
+    ghost use Rattle.ill_elements.specs.Judging.{IsRoom};
+    ghost use Rattle.ill_read.specs.code.Progress.{Judgement, Closes, Opens, Reads, size_of, IsProgress};
+    ghost use Rattle.ill_elements.specs.Standing.{depth_of};
     ghost use Rattle.ill_read.specs.code.ReaderCode.{CanRefuse, CanStep, HasAdvanced, HasClosed, HasOutcome, HasStopped, IsFed, IsRunning, LeadsOn, Progresses, Steps, ended};
 
     /// Begins with nothing.

@@ -6,6 +6,7 @@ mod going;
 mod lines;
 mod lists;
 mod names;
+mod orders;
 mod outputs;
 mod progress;
 mod reports;

@@ -1,2 +1,3 @@
 pub mod Bounds
 pub mod Outputs
+pub mod Dumped

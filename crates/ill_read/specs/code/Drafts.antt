@@ -19,7 +19,7 @@ use Rattle.ill_cells.specs.Places.{alternative_of}
 use Rattle.ill_elements.specs.Due.{IsDueIn, behind, first_of, next_place, shape, shape_at, read_as, slot_in, due_with}
 use Rattle.ill_elements.specs.Elements.{element_is}
 use Rattle.ill_elements.specs.LeafTypes.{leaf_is}
-use Rattle.ill_read.specs.Standing.{Level, IsHeld, level_of, pushed, whole_level}
+use Rattle.ill_elements.specs.Standing.{Level, IsHeld, level_of, pushed, whole_level}
 use Rattle.ill_elements.specs.Contents.{IsValueOf, absent_content, with_alternative}
 use Rattle.ill_elements.specs.declared.due.Next.{Next}
 use Rattle.ill_elements.specs.declared.due.Next.TheVariants.{Rows, Either, Nothing}
@@ -28,9 +28,9 @@ use Rattle.ill_elements.specs.declared.due.Slot.TheVariants.{Row as AtRow}
 use Rattle.ill_elements.specs.declared.element.Element.{Element as CodeElement}
 use Rattle.ill_elements.specs.declared.element.Element.TheVariants.{Leaf, Sequence, List as ListOf, Wrapper, LooseWrapper, Segment}
 use Rattle.ill_read.specs.declared.failure.Failure.{Failure}
-use Rattle.ill_read.specs.declared.frame.Frame.{Frame}
-use Rattle.ill_read.specs.declared.judge.Opening.{Opening}
-use Rattle.ill_read.specs.declared.judge.Reading.{Reading}
+use Rattle.ill_elements.specs.declared.frame.Frame.{Frame}
+use Rattle.ill_elements.specs.declared.judge.Opening.{Opening}
+use Rattle.ill_elements.specs.declared.judge.Reading.{Reading}
 use Rattle.ill_elements.specs.declared.leaf_type.LeafType.{LeafType}
 
 -- the rows between a position and the row of an element

@@ -7,11 +7,12 @@ use Rattle.ill_schema.specs.Content as content
 use Rattle.ill_schema.specs.Value.{content_of, entries_content, items_content}
 use Rattle.ill_schema.specs.declared.part.Row.{Row}
 use Rattle.ill_schema.specs.declared.value.Value.{Value}
-use Rattle.ill_read.specs.Standing.{Level, level_of, AreValues, IsHeld}
+use Rattle.ill_elements.specs.Standing.{Level, level_of, IsHeld}
+use Rattle.ill_read.specs.Paths.{AreValues}
 use Rattle.ill_elements.specs.Contents.{absent_content}
 use Rattle.ill_read.specs.code.Drafts.{IsContentOf, IsRightText, IsTextFault}
 use Rattle.ill_read.specs.declared.failure.Failure.{Failure}
-use Rattle.ill_read.specs.declared.frame.Frame.{Frame}
+use Rattle.ill_elements.specs.declared.frame.Frame.{Frame}
 use Rattle.ill_read.specs.declared.values.Body.{Body}
 use Rattle.ill_read.specs.declared.values.Values.{Values}
 use Rattle.ill_elements.specs.Due.{shape, read_as}

@@ -1,49 +1,26 @@
 -- What the decoder judges at a place, and where a step leads, in the words of the definitions.
-use Rattle.std.specs.Prelude.{◌≡◌, ℕ, ◌<◌, Bool, true, false, List, [], ◌∷◌, length, take, drop, None, Result, Ok, Err}
+use Rattle.std.specs.Prelude.{◌≡◌, ℕ, Bool, true, false, List, [], ◌∷◌, Result, Ok, Err}
 use Rattle.ber_core.specs.Id.{tag_of_id}
-use Rattle.ber_core.specs.Identifier.{Tag}
-use Rattle.ber_core.specs.Tree.{Tree, text_all}
+use Rattle.ber_core.specs.Tree.{Tree}
 use Rattle.ber_leaf.specs.Profile.{profile_two}
 use Rattle.ill_schema.specs.declared.node.NodeId.TheVariants.{IllApdu}
 use Rattle.ill_schema.specs.Content.{Content}
 use Rattle.ill_schema.specs.Meaning.{Means}
 use Rattle.ill_schema.specs.Tagging.{untagged}
-use Rattle.ill_refusals.specs.Next.{missing}
-use Rattle.ill_refusals.specs.Place.{Open, next_in, allows}
+use Rattle.ill_refusals.specs.Place.{Open}
 use Rattle.ill_refusals.specs.Fault.{fault_of, element_fault}
-use Rattle.ill_refusals.specs.code.Judge.{Judgement, closes, opens, reads, or_faulty}
-use Rattle.ill_cells.specs.Places.{first_place}
-use Rattle.ill_cells.specs.declared.at.Found.{Found as CellFound}
+use Rattle.ill_refusals.specs.code.Judge.{Judgement, opens, reads, or_faulty}
 use Rattle.ill_elements.specs.Elements.{element_is}
-use Rattle.ill_elements.specs.Due.{IsDueIn, behind, first_of, shape_at, read_as, read_due, slot_in, next_place}
-use Rattle.ill_read.specs.Standing.{Level, whole_level, next_at, HoldsAt}
-use Rattle.ill_read.specs.code.Progress.{size_of}
+use Rattle.ill_elements.specs.Due.{read_as}
+use Rattle.ill_elements.specs.Standing.{Level, whole_level}
+use Rattle.ill_read.specs.Paths.{HoldsAt}
 use Rattle.ill_refusals.specs.code.Step.{Step, refused, goes, whole}
 use Rattle.ill_read.specs.declared.failure.Failure.{Failure}
 use Rattle.ill_read.specs.code.Progress.{Judgement as CodeJudgement}
 use Rattle.ill_read.specs.code.Progress as code
-use Rattle.ill_read.specs.declared.frames.Frames.{Frames}
+use Rattle.ill_elements.specs.declared.frames.Frames.{Frames}
 use Rattle.ill_read.specs.declared.path.Path.{Path}
-
--- the innermost element ends, and no part of it is missing
-pub record IsEnd (place : List Open) (marks : ℕ) (j : Judgement) : Type 0 where
-  pub innermost : Open
-  pub outer : List Open
-  pub is_path : place ≡ innermost ∷ outer
-  pub complete : missing profile_two (next_in profile_two place) ≡ None
-  pub is : j ≡ or_faulty (element_fault profile_two innermost.element (text_all innermost.trees)) innermost.start (closes marks)
-
--- an element is due there and may have the form
-pub record IsBegin (frames : Frames) (place : List Open) (tag : Tag) (f : CellFound) (constructed : Bool) : Type 0 where
-  pub is_due : IsDueIn tag (next_at frames.open.items) (read_due f)
-  pub begins : shape_at (first_place f) ≡ first_of (read_as f)
-  pub goes_on : shape_at (next_place f) ≡ behind (next_at frames.open.items) (slot_in f)
-  pub allowed : allows (element_is (read_as f)) constructed ≡ true
-  pub shallow : length place < 32
-
--- the octets after a header
-abbrev pub content_in : ℕ → ℕ → List ℕ → List ℕ
-content_in header size rest = take size (drop header rest)
+use Rattle.ill_elements.specs.Judging.{IsBegin, IsEnd, content_in}
 
 -- the decoder's judgement is the one of the definitions, but for the fault of a text or a content
 abbrev pub IsJudgement : Frames → List Open → ℕ → List ℕ → CodeJudgement → Judgement → Type 0

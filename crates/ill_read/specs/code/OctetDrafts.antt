@@ -12,7 +12,7 @@ use Rattle.ill_schema.specs.Table.{rows_of}
 use Rattle.ill_schema.specs.Tagging.{untagged, sequence_tag}
 use Rattle.ill_schema.specs.Value.{entries_of, items_of}
 use Rattle.ill_elements.specs.Due.{read_as}
-use Rattle.ill_read.specs.Standing.{Level}
+use Rattle.ill_elements.specs.Standing.{Level}
 use Rattle.ill_elements.specs.Written.{left_away}
 use Rattle.ill_elements.specs.declared.due.Next.{Next}
 use Rattle.ill_elements.specs.declared.due.Next.TheVariants.{Rows, Nothing}
@@ -20,7 +20,7 @@ use Rattle.ill_elements.specs.declared.due.Slot.{Slot}
 use Rattle.ill_elements.specs.declared.element.Element.{Element as CodeElement}
 use Rattle.ill_elements.specs.declared.element.Element.TheVariants.{Leaf, Sequence, List as ListOf, Wrapper, LooseWrapper}
 use Rattle.ill_elements.specs.declared.element.Wrapped.{Wrapped}
-use Rattle.ill_read.specs.declared.judge.Opening.{Opening}
+use Rattle.ill_elements.specs.declared.judge.Opening.{Opening}
 use Rattle.ill_read.specs.declared.octets.Octets.{Octets}
 
 -- the items that are there

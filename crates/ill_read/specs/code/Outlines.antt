@@ -7,7 +7,7 @@ use Rattle.ill_schema.specs.Apdu.{Apdu, choice_of}
 use Rattle.ill_schema.specs.Table.{rows_of}
 use Rattle.ill_schema.specs.Value.{entries_of}
 use Rattle.ill_read.specs.Outline.{AreEntries, IsMarked}
-use Rattle.ill_read.specs.Standing.{Level}
+use Rattle.ill_elements.specs.Standing.{Level}
 use Rattle.ill_elements.specs.Due.{IsDueIn}
 use Rattle.ill_read.specs.code.Drafts.{rows_before, rows_left}
 use Rattle.ill_elements.specs.Due.{due_with}

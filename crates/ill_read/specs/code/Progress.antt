@@ -1,10 +1,7 @@
 -- How the path of open elements grows and shrinks.
-use Rattle.std.specs.Prelude.{◌+◌, ◌<◌, ◌≤◌, ℕ, length}
-use Rattle.ill_read.specs.declared.header.LengthRead.{LengthRead}
-use Rattle.ill_read.specs.declared.header.LengthRead.TheVariants.{Whole}
-use Rattle.ill_read.specs.declared.judge.Opening.{Opening}
-use Rattle.ill_read.specs.declared.judge.Reading.{Reading}
-use Rattle.ill_read.specs.declared.frames.Frames.{Frames}
+use Rattle.std.specs.Prelude.{◌+◌, ◌<◌, ◌≤◌, ℕ}
+use Rattle.ill_elements.specs.declared.judge.Opening.{Opening}
+use Rattle.ill_elements.specs.declared.judge.Reading.{Reading}
 
 -- what is done at a place where nothing is at fault but, perhaps, the text or content of a leaf
 pub data Judgement : Type 0 where
@@ -12,9 +9,6 @@ pub data Judgement : Type 0 where
   Closes : ℕ → Judgement
   Opens : Opening → Judgement
   Reads : Reading → Judgement
-
-abbrev pub depth_of : Frames → ℕ
-depth_of frames = length frames.open.items
 
 -- what was judged takes octets, or closes an element
 abbrev pub IsProgress : ℕ → ℕ → Judgement → Type 0
@@ -26,8 +20,3 @@ abbrev pub size_of : Judgement → ℕ
 size_of (Closes marks) = marks
 size_of (Opens opening) = opening.header
 size_of (Reads reading) = reading.header + reading.size
-
--- a header that was read whole lies within `room` octets
-abbrev pub HeaderIsIn : LengthRead → ℕ → Type 0
-HeaderIsIn (Whole len header) room = (0 < header) × (header ≤ room)
-HeaderIsIn _ room = Unit {0}

@@ -12,13 +12,15 @@ use Rattle.ill_refusals.specs.Outcome.{OnlyAccepts, OnlyRefuses}
 use Rattle.ill_refusals.specs.Place.{Open, bound}
 use Rattle.ill_refusals.specs.code.Judge.{Judgement as Judged, faulty, judge}
 use Rattle.ill_read.specs.Answers.{IsPart, IsRead, IsRefused}
-use Rattle.ill_read.specs.Standing.{HoldsAt, Level, StandsBefore, StandsLast}
+use Rattle.ill_read.specs.Paths.{HoldsAt}
+use Rattle.ill_elements.specs.Standing.{Level, StandsBefore, StandsLast}
 use Rattle.ill_read.specs.code.Judged.{IsJudgement}
 use Rattle.ill_read.specs.Failures.{read_failure}
 use Rattle.ill_read.specs.declared.failure.Failure.{Failure}
 use Rattle.ill_read.specs.declared.failure.ReadFailure.{ReadFailure}
-use Rattle.ill_read.specs.code.Progress.{Judgement, IsProgress, depth_of}
-use Rattle.ill_read.specs.declared.frames.Frames.{Frames}
+use Rattle.ill_read.specs.code.Progress.{Judgement, IsProgress}
+use Rattle.ill_elements.specs.Standing.{depth_of}
+use Rattle.ill_elements.specs.declared.frames.Frames.{Frames}
 use Rattle.ill_read.specs.declared.reader.Reader.{Reader}
 use Rattle.ill_read.specs.declared.reader.State.{State}
 use Rattle.ill_read.specs.declared.reader.State.TheVariants as state

@@ -9,12 +9,14 @@ use Rattle.ill_refusals.specs.code.Step.{moved, opened}
 use Rattle.ill_elements.specs.Due.{read_as}
 use Rattle.ill_elements.specs.Elements.{element_is}
 use Rattle.ill_cells.specs.declared.at.At.{At}
-use Rattle.ill_read.specs.code.Judged.{IsEnd, IsBegin, IsStep}
-use Rattle.ill_read.specs.Standing.{Level, HoldsAt}
+use Rattle.ill_elements.specs.Judging.{IsEnd, IsBegin}
+use Rattle.ill_read.specs.code.Judged.{IsStep}
+use Rattle.ill_elements.specs.Standing.{Level}
+use Rattle.ill_read.specs.Paths.{HoldsAt}
 use Rattle.ill_read.specs.declared.failure.Failure.{Failure}
-use Rattle.ill_read.specs.declared.frame.Frame.{Frame}
-use Rattle.ill_read.specs.declared.judge.Opening.{Opening}
-use Rattle.ill_read.specs.declared.judge.Reading.{Reading}
+use Rattle.ill_elements.specs.declared.frame.Frame.{Frame}
+use Rattle.ill_elements.specs.declared.judge.Opening.{Opening}
+use Rattle.ill_elements.specs.declared.judge.Reading.{Reading}
 use Rattle.ill_read.specs.declared.path.Path.{Path}
 
 -- the innermost element goes on at this place, or the message is whole

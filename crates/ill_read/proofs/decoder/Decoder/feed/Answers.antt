@@ -1,5 +1,5 @@
 use Rattle.std.proofs.Common.{◌∙◌, ◌++◌, Ok, Err, sym}
-use Rattle.ill_read.specs.Standing.{AreMessage, AreValues, HoldsAt}
+use Rattle.ill_read.specs.Paths.{AreMessage, AreValues, HoldsAt}
 use Rattle.ill_read.specs.declared.decoder.Decoder.{Decoder}
 use Rattle.ill_read.specs.declared.decoder.Progress.{Progress}
 use Rattle.ill_read.proofs.MessageEnds.{is_failed, is_fed, is_whole, message_is, open_stands, stands_part}

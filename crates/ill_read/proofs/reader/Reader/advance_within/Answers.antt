@@ -1,7 +1,7 @@
 use Rattle.std.proofs.Common.{◌≡◌, ◌⊎◌, false, nat_eq, Some, slice_get, sym, ap, inl, inr, ◌∙◌}
 use Rattle.ber_leaf.specs.Profile.{profile_two}
 use Rattle.ill_refusals.specs.Fault.{is_indefinite, cut_fault}
-use Rattle.ill_read.proofs.Judgements.{empty_judged, mark_judged, not_zero, other_judged}
+use Rattle.ill_elements.proofs.Judgements.{empty_judged, mark_judged, not_zero, other_judged}
 use Rattle.ill_read.proofs.reader.Reader.advance_within.Goals as goal
 use Rattle.ill_read.proofs.reader.Reader.advance_within.Goals.{else-first-eq0-via-then-first-eq0+else-awaits_end_mark, else-first-eq0-via-else-first-eq0}
 

@@ -2,7 +2,8 @@ use Rattle.std.proofs.Common.{◌≡◌, ℕ, [], true, Vec, Global, sym, subst,
 use Rattle.std.specs.Bool.{◌==◌}
 use Rattle.std.specs.Vec.{vec_len}
 use Rattle.std.proofs.lemmas.List.{nil_from_length}
-use Rattle.ill_read.specs.Standing.{HoldsAt, StandsLast}
+use Rattle.ill_read.specs.Paths.{HoldsAt}
+use Rattle.ill_elements.specs.Standing.{StandsLast}
 use Rattle.ill_read.proofs.MessageEnds.{is_open}
 use Rattle.ill_read.proofs.NeededOctets.{two_at_least}
 use Rattle.ill_read.proofs.reader.Reader.ask.Goals as goal

@@ -1,7 +1,7 @@
 use Rattle.std.proofs.Common.{◌∙◌, arith}
 use Rattle.ber_leaf.specs.Profile.{profile_two}
 use Rattle.ill_refusals.specs.Fault.{cut_fault}
-use Rattle.ill_read.proofs.Judgements.{mark_ends, mark_part, mark_wrong, not_zero}
+use Rattle.ill_elements.proofs.Judgements.{mark_ends, mark_part, mark_wrong, not_zero}
 use Rattle.ill_read.proofs.reader.Reader.end_mark.Goals as goal
 
 pub returns-in_default-clause-goes : goal.returns-in_default-clause-goes

@@ -1,5 +1,5 @@
 use Rattle.std.proofs.Common.{◌≡◌, length, Err, sym, ap, ◌∙◌, arith}
-use Rattle.ill_read.specs.Standing.{HoldsAt}
+use Rattle.ill_read.specs.Paths.{HoldsAt}
 use Rattle.ill_read.proofs.MessageEnds.{last_size, ended_some}
 use Rattle.ill_read.proofs.reader.Reader.ended.Goals as goal
 

@@ -4,7 +4,8 @@ use Rattle.ill_schema.specs.Apdu.{Apdu}
 use Rattle.ill_refusals.specs.Outcome.{OnlyAccepts}
 use Rattle.ill_refusals.specs.code.Judge.{judge}
 use Rattle.ill_refusals.specs.code.Step.{moved}
-use Rattle.ill_read.specs.Standing.{HoldsAt, StandsBefore}
+use Rattle.ill_read.specs.Paths.{HoldsAt}
+use Rattle.ill_elements.specs.Standing.{StandsBefore}
 use Rattle.ill_read.specs.code.Drafts.{HoldsApdu}
 use Rattle.ill_read.specs.code.ReaderCode.{HasAdvanced, InState}
 use Rattle.ill_read.specs.declared.reader.Reader.{Reader}

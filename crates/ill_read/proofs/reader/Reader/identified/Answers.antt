@@ -6,13 +6,13 @@ use Rattle.ber_leaf.proofs.Leaves.{octets_fit}
 use Rattle.ber_leaf.specs.Profile.{profile_two}
 use Rattle.ill_refusals.specs.Fault.{cut_fault}
 use Rattle.ill_refusals.proofs.Headers.{read_is_identifier}
-use Rattle.ill_read.specs.Standing.{StandsAt}
+use Rattle.ill_elements.specs.Standing.{StandsAt}
 use Rattle.ill_refusals.specs.code.Judge.{judge_length}
 use Rattle.ill_elements.specs.Due.{read_as}
 use Rattle.ill_elements.specs.Elements.{element_is}
-use Rattle.ill_read.specs.code.Judged.{IsBegin}
-use Rattle.ill_read.specs.code.JudgeCode.{Fits, IsExtent}
-use Rattle.ill_read.proofs.Judgements.{behind_identifier, headed_judged}
+use Rattle.ill_elements.specs.Judging.{IsBegin}
+use Rattle.ill_elements.specs.Judging.{Fits, IsExtent}
+use Rattle.ill_elements.proofs.Judgements.{behind_identifier, headed_judged}
 use Rattle.ill_read.proofs.reader.Reader.identified.Goals as goal
 
 pub returns-in-Err-clause-goes : goal.returns-in-Err-clause-goes

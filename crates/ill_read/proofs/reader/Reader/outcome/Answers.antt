@@ -1,4 +1,4 @@
-use Rattle.ill_read.specs.Standing.{HoldsAt}
+use Rattle.ill_read.specs.Paths.{HoldsAt}
 use Rattle.ill_read.proofs.MessageEnds.{stands_part, last_size, open_stands}
 use Rattle.ill_read.proofs.reader.Reader.outcome.Goals as goal
 

@@ -1,7 +1,7 @@
 use Rattle.std.proofs.Common.{◌∙◌, ap}
 use Rattle.ber_leaf.specs.Profile.{profile_two}
 use Rattle.ill_refusals.specs.Fault.{cut_fault}
-use Rattle.ill_read.proofs.Judgements.{element_body}
+use Rattle.ill_elements.proofs.Judgements.{element_body}
 use Rattle.ill_read.proofs.reader.Reader.rare_element.Goals as goal
 
 pub returns-in-PartIdentifier-clause-goes : goal.returns-in-PartIdentifier-clause-goes

@@ -6,11 +6,12 @@ use Rattle.ill_refusals.specs.code.Judge.{judge, or_faulty, reads}
 use Rattle.ill_elements.specs.Due.{read_as}
 use Rattle.ill_elements.specs.Elements.{element_is}
 use Rattle.ill_refusals.specs.code.Step.{moved}
-use Rattle.ill_read.specs.code.Judged.{IsJudgement, IsStep, content_in}
+use Rattle.ill_read.specs.code.Judged.{IsJudgement, IsStep}
+use Rattle.ill_elements.specs.Judging.{content_in}
 use Rattle.ill_read.specs.code.Progress.{Reads}
 use Rattle.ill_read.specs.code.Stepping.{ReadsExactly}
 use Rattle.ill_read.proofs.DecoderSteps.{is_refused}
-use Rattle.ill_read.proofs.Judgements.{content_further}
+use Rattle.ill_elements.proofs.Judgements.{content_further}
 use Rattle.ill_read.proofs.PrimitiveElements.{reads_judged}
 use Rattle.ill_read.proofs.reader.Reader.read.Goals as goal
 

@@ -1,6 +1,6 @@
 use Rattle.std.proofs.Common.{◌≡◌, ℕ, ◌+◌, ◌-◌, ◌*◌, ◌≤◌, List, length, drop}
 use Rattle.ill_read.specs.code.ReaderCode.{IsRunning}
-use Rattle.ill_read.specs.code.Progress.{depth_of}
+use Rattle.ill_elements.specs.Standing.{depth_of}
 use Rattle.ill_read.proofs.reader.Reader.run.Given as goal
 
 abbrev pub invariant-loop-size : goal.invariant-loop-size

@@ -1,0 +1,215 @@
+-- What the decoder judges at a place, part by part.
+use Rattle.std.proofs.Common.{◌≡◌, ◌⊎◌, inl, inr, nat_eq, get_or, slice_get, ◌&&◌, ◌||◌, ℕ, ◌+◌, ◌-◌, ◌<◌, ◌≤◌, Bool, true, false, List, [], ◌∷◌, ◌++◌, length, take, drop, Option, Some, None, IsTrue, refl, sym, ap, ap₂, subst, ◌∙◌, arith, if◌then◌else◌, length-append, length-drop}
+use Rattle.std.specs.Prelude.{nat_le}
+use Rattle.std.proofs.lemmas.List.{take-append-le, drop-append-le}
+use Rattle.ber_core.specs.Id.{tag_of_id, form_of_id}
+use Rattle.ber_core.specs.Identifier.{Tag}
+use Rattle.ber_core.specs.Octets.{are_octets}
+use Rattle.ber_core.specs.Tree.{text_all}
+use Rattle.ber_core.specs.declared.id.Id.{Id}
+use Rattle.ber_leaf.specs.Profile.{profile_two}
+use Rattle.ill_schema.specs.declared.part.PartId.{PartId}
+use Rattle.ill_schema.specs.declared.refusal.Cause.{Cause}
+use Rattle.ill_elements.specs.Elements.{element_is, found_is}
+use Rattle.ill_cells.specs.Places.{alternative_of, first_place, node_of, part_of, what_of}
+use Rattle.ill_cells.specs.declared.at.At.{At}
+use Rattle.ill_cells.specs.declared.at.Found.{Found as CellFound}
+use Rattle.ill_elements.specs.Due.{BeginsAt, IsComing, IsDueIn, behind, due_as, next_is, read_as, read_due, shape, slot_in}
+use Rattle.ill_refusals.specs.Element.{Element}
+use Rattle.ill_refusals.specs.Fault.{Fault, fault, element_fault, ends_at, is_indefinite, cut_fault}
+use Rattle.ill_refusals.specs.code.Judge.{Judgement, faulty, closes, or_faulty, judge_end, judge_size, judge_length, judge_form, judge_tag, judge_element, judge_mark, judge_octets, judge}
+use Rattle.ill_elements.specs.Judging.{IsFormed, judge_identified}
+use Rattle.ill_elements.specs.Judging.{IsBegin, IsEnd, content_in}
+use Rattle.ill_refusals.specs.Next.{Due, due, element_of, is_last, missing}
+use Rattle.ill_refusals.specs.Place.{Open, next_in, bound}
+use Rattle.ill_refusals.specs.Reading.{IdentifierRead, identified, part_identifier, no_identifier, read_identifier, definite, read_length}
+use Rattle.ill_elements.specs.Standing.{StandsAt, next_at}
+use Rattle.ill_elements.specs.Due.{Due as CodeDue}
+use Rattle.ill_elements.specs.Found.{Found}
+use Rattle.ill_elements.specs.declared.frames.Frames.{Frames}
+use Rattle.ill_elements.proofs.DueCells.{begins-at}
+use Rattle.ill_elements.proofs.DueElements.{due_element_is, none_last}
+use Rattle.ill_elements.proofs.OpenFrames.{next_open}
+use Rattle.ill_refusals.proofs.Judgements.{form_judged, length_body}
+use Rattle.ill_refusals.proofs.Headers.{read_is_length}
+
+abbrev end_body : Open → List Open → ℕ → ℕ → Option PartId → Judgement
+end_body o path at marks x = elim x as (λ _. Judgement) [
+  | Some part ↦ faulty (fault (Cause.Missing part) at)
+  | None ↦ or_faulty (element_fault profile_two o.element (text_all o.trees)) o.start (closes marks)
+]
+
+-- the innermost element ends, and a part is missing
+pub end_missing : (place : List Open) (at marks : ℕ) (part : PartId) → 0 < length place → missing profile_two (next_in profile_two place) ≡ Some part
+    → judge_end profile_two place at marks ≡ faulty (fault (Cause.Missing part) at)
+end_missing [] at marks part h e = absurd (omega (arith, h))
+end_missing (o ∷ path) at marks part h e = ap (end_body o path at marks) e
+
+-- none is
+pub end_complete : (place : List Open) (at marks : ℕ) → 0 < length place → missing profile_two (next_in profile_two place) ≡ None → IsEnd place marks (judge_end profile_two place at marks)
+end_complete [] at marks h e = absurd (omega (arith, h))
+end_complete (o ∷ path) at marks h e = record { innermost = o; outer = path; is_path = refl; complete = e; is = ap (end_body o path at marks) e }
+
+abbrev tag_body : List Open → Tag → Bool → ℕ → ℕ → Fault → List ℕ → Option Due → Judgement
+tag_body place tag f at i cut w x = elim x as (λ _. Judgement) [
+  | None ↦ faulty (fault Cause.UnexpectedTag at)
+  | Some d ↦ judge_form profile_two place (element_of d) tag f at i cut w
+]
+
+abbrev depth_body : List Open → Tag → Bool → ℕ → ℕ → Fault → List ℕ → Bool → Judgement
+depth_body place tag f at i cut w b = if b then faulty (fault Cause.TooDeep at) else judge_tag profile_two place tag f at i cut w
+
+-- too deep
+pub deep_judged : (place : List Open) (tag : Tag) (f : Bool) (at i : ℕ) (cut : Fault) (w : List ℕ) → 32 ≤ length place
+    → judge_identified place tag f at i cut w ≡ faulty (fault Cause.TooDeep at)
+deep_judged place tag f at i cut w h = let q : nat_le 32 (length place) ≡ true = grind (arith, h) in ap (λ b. depth_body place tag f at i cut w (b || is_last (next_in profile_two place))) q
+
+-- not too deep
+shallow_judged : (frames : Frames) (place : List Open) (tag : Tag) (f : Bool) (at i : ℕ) (cut : Fault) (w : List ℕ) → StandsAt frames place → length place < 32
+    → judge_identified place tag f at i cut w ≡ judge_tag profile_two place tag f at i cut w
+shallow_judged frames place tag f at i cut w s h =
+    let few : nat_le 32 (length place) ≡ false = grind (arith, h) in
+    let more : is_last (next_in profile_two place) ≡ false = ap is_last (sym (next_open place _ _ s.1)) ∙ none_last (next_at frames.open.items) in
+    ap (depth_body place tag f at i cut w) (ap₂ (λ a b. a || b) few more)
+
+-- nothing is due with the tag
+pub unexpected_judged : (frames : Frames) (place : List Open) (tag : Tag) (f : Bool) (at i : ℕ) (cut : Fault) (w : List ℕ) → StandsAt frames place → length place < 32
+    → due profile_two tag (next_is (next_at frames.open.items)) ≡ None → judge_identified place tag f at i cut w ≡ faulty (fault Cause.UnexpectedTag at)
+unexpected_judged frames place tag f at i cut w h s e =
+    shallow_judged frames place tag f at i cut w h s ∙ ap (tag_body place tag f at i cut w) (ap (due profile_two tag) (sym (next_open place _ _ h.1)) ∙ e)
+
+-- what is due with the tag is judged by its form
+due_judged : (frames : Frames) (place : List Open) (tag : Tag) (f : Bool) (d : CodeDue) (at i : ℕ) (cut : Fault) (w : List ℕ) → StandsAt frames place → length place < 32
+    → IsDueIn tag (next_at frames.open.items) d → judge_identified place tag f at i cut w ≡ judge_form profile_two place (found_is d.found) tag f at i cut w
+due_judged frames place tag f d at i cut w h s k =
+    let e = due_element_is tag (next_at frames.open.items) d k in
+    shallow_judged frames place tag f at i cut w h s
+    ∙ ap (tag_body place tag f at i cut w) (ap (due profile_two tag) (sym (next_open place _ _ h.1)) ∙ e.1)
+    ∙ ap (λ x. judge_form profile_two place x tag f at i cut w) e.2
+
+-- what is found is due there, and may have the form or not
+pub formed_judged : (frames : Frames) (place : List Open) (at : At) (id : Id) (f : CellFound) → StandsAt frames place → length place < 32 → shape at ≡ next_at frames.open.items → IsComing (tag_of_id id) at f
+    → IsFormed f (form_of_id id) None → IsBegin frames place (tag_of_id id) f (form_of_id id)
+formed_judged frames place at id f h s e k g = record {
+  is_due = subst (λ n. IsDueIn (tag_of_id id) n (read_due f)) e (subst (λ x. IsDueIn (tag_of_id id) (shape at) (due_found f x)) g.0 k.is_due);
+  begins = subst (λ x. BeginsAt x (first_place f)) g.0 (begins-at (what_of f) (part_of f) (node_of f) f.opens);
+  goes_on = k.after ∙ ap (λ n. behind n (slot_in f)) e;
+  allowed = g.1;
+  shallow = s;
+}
+  where
+    due_found : CellFound → Found → CodeDue
+    due_found f x = record { slot = slot_in f; alternative = alternative_of f; found = x }
+
+pub misformed_judged : (frames : Frames) (place : List Open) (at : At) (k : ℕ) (id : Id) (f : CellFound) (cause : Cause) → StandsAt frames place → length place < 32 → shape at ≡ next_at frames.open.items
+    → IsComing (tag_of_id id) at f → IsFormed f (form_of_id id) (Some cause) → (i : ℕ) (cut : Fault) (w : List ℕ) → judge_identified place (tag_of_id id) (form_of_id id) k i cut w ≡ faulty (fault cause k)
+misformed_judged frames place at k id f cause h s e c g i cut w =
+    due_judged frames place (tag_of_id id) (form_of_id id) (due_as f) k i cut w h s (subst (λ n. IsDueIn (tag_of_id id) n (due_as f)) e c.is_due) ∙ g profile_two place (tag_of_id id) k i cut w
+
+abbrev pub element_body : List Open → ℕ → Fault → List ℕ → IdentifierRead → Judgement
+element_body place at cut w x = elim x as (λ _. Judgement) [
+  | part_identifier ↦ faulty cut
+  | no_identifier ↦ faulty (fault Cause.BadTag at)
+  | identified tag f rest ↦ judge_identified place tag f at (length w - length rest) cut rest
+]
+
+-- no octet is there
+pub empty_judged : (place : List Open) (at : ℕ) (cut : Fault) (w : List ℕ) → slice_get w 0 ≡ None → judge_octets profile_two place at cut w ≡ faulty cut
+empty_judged place at cut [] e = refl
+empty_judged place at cut (x ∷ w) e = absurd cc
+
+-- an end mark begins
+pub mark_judged : (place : List Open) (at : ℕ) (cut : Fault) (w : List ℕ) → slice_get w 0 ≡ Some 0 → is_indefinite place ≡ true → judge_octets profile_two place at cut w ≡ judge_mark profile_two place at cut (drop 1 w)
+mark_judged place at cut [] e i = absurd cc
+mark_judged place at cut (x ∷ w) e i =
+    let is : x ≡ 0 = cc in
+    ap (λ b. elim b as (λ _. Judgement) [ true ↦ judge_mark profile_two place at cut w | false ↦ judge_element profile_two place at cut (x ∷ w) ]) (ap₂ (λ a b. a && b) i (ap (λ y. nat_eq y 0) is))
+
+-- the octet after the first
+second_octet : (w : List ℕ) (y : ℕ) → 1 < length w → ((d : ℕ) → y ≡ get_or w 1 d) → (rest : List ℕ) × (drop 1 w ≡ y ∷ rest)
+second_octet (x ∷ (z ∷ w)) y h e = (w, ap (λ t. t ∷ w) (sym (e 0)))
+second_octet _ y h e = absurd (omega (arith, h))
+
+-- the end mark is whole
+pub mark_ends : (place : List Open) (at : ℕ) (cut : Fault) (w : List ℕ) (y : ℕ) → 1 < length w → ((d : ℕ) → y ≡ get_or w 1 d) → y ≡ 0
+    → judge_mark profile_two place at cut (drop 1 w) ≡ judge_end profile_two place at 2
+mark_ends place at cut w y h e z = let s = second_octet w y h e in ap (judge_mark profile_two place at cut) (s.1 ∙ ap (λ x. x ∷ s.0) z)
+
+-- the second octet isn't there
+pub mark_part : (place : List Open) (at : ℕ) (cut : Fault) (w : List ℕ) → length w ≤ 1 → judge_mark profile_two place at cut (drop 1 w) ≡ faulty cut
+mark_part place at cut (x ∷ (z ∷ w)) h = absurd (omega (arith, h))
+mark_part place at cut _ h = refl
+
+pub not_zero : (n : ℕ) → (n ≡ 0 → ⊥) → nat_eq n 0 ≡ false
+not_zero n h = grind (arith, h)
+
+-- the second octet is another
+pub mark_wrong : (place : List Open) (at : ℕ) (cut : Fault) (w : List ℕ) (y : ℕ) → 1 < length w → ((d : ℕ) → y ≡ get_or w 1 d) → nat_eq y 0 ≡ false
+    → judge_mark profile_two place at cut (drop 1 w) ≡ faulty (fault Cause.BadEnd at)
+mark_wrong place at cut w y h e n =
+    ap (judge_mark profile_two place at cut) (second_octet w y h e).1
+    ∙ ap (λ b. elim b as (λ _. Judgement) [ true ↦ judge_end profile_two place at 2 | false ↦ faulty (fault Cause.BadEnd at) ]) n
+
+-- where it is no end mark, an element is judged
+pub other_judged : (place : List Open) (at : ℕ) (cut : Fault) (w : List ℕ) (first : ℕ) → slice_get w 0 ≡ Some first → (is_indefinite place ≡ false) ⊎ (nat_eq first 0 ≡ false)
+    → judge_octets profile_two place at cut w ≡ judge_element profile_two place at cut w
+other_judged place at cut [] first e other = absurd cc
+other_judged place at cut (x ∷ w) first e other =
+    let is : x ≡ first = cc in
+    let m : (b : Bool) → b ≡ false → (elim b as (λ _. Judgement) [ true ↦ judge_mark profile_two place at cut w | false ↦ judge_element profile_two place at cut (x ∷ w) ]) ≡ judge_element profile_two place at cut (x ∷ w) =
+    λ b h. ap (λ y. elim y as (λ _. Judgement) [ true ↦ judge_mark profile_two place at cut w | false ↦ judge_element profile_two place at cut (x ∷ w) ]) h in
+    m (is_indefinite place && nat_eq x 0) (elim other [ inl a ↦ ap (λ y. y && nat_eq x 0) a | inr b ↦ and-false (is_indefinite place) (nat_eq x 0) (ap (λ y. nat_eq y 0) is ∙ b) ])
+  where
+    and-false : (a b : Bool) → b ≡ false → a && b ≡ false
+    and-false true b h = h
+    and-false false b h = refl
+
+-- an element is judged after its identifier
+pub behind_identifier : (place : List Open) (at : ℕ) (cut : Fault) (w front behind : List ℕ) (tag : Tag) (f : Bool) → w ≡ front ++ behind → read_identifier w ≡ identified tag f behind
+    → judge_element profile_two place at cut w ≡ judge_identified place tag f at (length front) cut behind
+behind_identifier place at cut w front behind tag f e r =
+    let n : length w - length behind ≡ length front = omega (arith, ap length e, length-append front behind) in
+    ap (element_body place at cut w) r ∙ ap (λ i. judge_identified place tag f at i cut behind) n
+
+-- an element that may begin there is judged by its length
+pub begun_judged : (frames : Frames) (place : List Open) (tag : Tag) (found : CellFound) (f : Bool) (at i : ℕ) (cut : Fault) (w : List ℕ) → StandsAt frames place → IsBegin frames place tag found f
+    → judge_identified place tag f at i cut w ≡ judge_length profile_two place (element_is (read_as found)) tag f at i cut w
+begun_judged frames place tag found f at i cut w h b =
+    due_judged frames place tag f (read_due found) at i cut w h b.shallow b.is_due ∙ form_judged profile_two place (element_is (read_as found)) tag f at i cut w b.allowed
+
+-- an element of definite length, by the number of octets of its header
+pub definite_judged : (place : List Open) (e : Element) (tag : Tag) (f : Bool) (at : ℕ) (cut : Fault) (w front behind : List ℕ) (header n : ℕ) → IsTrue (are_octets behind)
+    → w ≡ front ++ behind → header ≤ length w → read_length f behind ≡ definite n (drop header w)
+    → judge_length profile_two place e tag f at (length front) cut behind ≡ judge_size profile_two place e tag f at header cut n (drop header w)
+definite_judged place e tag f at cut w front behind header n ok s h r =
+    let l = read_is_length f behind n (drop header w) ok r in
+    let i : length front + (length behind - length (drop header w)) ≡ header =
+    omega (arith, h, ap length s, length-append front behind, length-drop header w, ap length l.2, length-append l.0 (drop header w)) in
+    ap (length_body profile_two place e tag f at (length front) cut behind) r ∙ ap (λ x. judge_size profile_two place e tag f at x cut n (drop header w)) i
+
+-- an element that may begin there, with this identifier, is judged by its length
+pub headed_judged : (frames : Frames) (place : List Open) (tag : Tag) (found : CellFound) (f : Bool) (at : ℕ) (cut : Fault) (w front behind : List ℕ) → StandsAt frames place
+    → IsBegin frames place tag found f → w ≡ front ++ behind → read_identifier w ≡ identified tag f behind
+    → judge_element profile_two place at cut w ≡ judge_length profile_two place (element_is (read_as found)) tag f at (length front) cut behind
+headed_judged frames place tag found f at cut w front behind h b e r =
+    behind_identifier place at cut w front behind tag f e r ∙ begun_judged frames place tag found f at (length front) cut behind h b
+
+-- a content in the octets before the bound is the same in all of them
+pub content_further : (header size : ℕ) (w y : List ℕ) → header + size ≤ length w → content_in header size w ≡ content_in header size (w ++ y)
+content_further header size w y h =
+    sym (ap (take size) (drop-append-le header w y (omega (arith, h))) ∙ take-append-le size (drop header w) y (omega (arith, h, length-drop header w)))
+
+abbrev place_body : List Open → ℕ → List ℕ → Bool → Judgement
+place_body place at rest b = elim b as (λ _. Judgement) [
+  | true ↦ judge_end profile_two place at 0
+  | false ↦ judge_octets profile_two place at (cut_fault profile_two place at rest) (take (bound profile_two place - at) rest)
+]
+
+-- a definite element ends there
+pub ended_judged : (place : List Open) (at : ℕ) (rest : List ℕ) → ends_at place at ≡ true → judge profile_two place at rest ≡ judge_end profile_two place at 0
+ended_judged place at rest e = ap (place_body place at rest) e
+
+-- none does
+pub within_judged : (place : List Open) (at : ℕ) (rest window : List ℕ) → ends_at place at ≡ false → window ≡ take (bound profile_two place - at) rest
+    → judge profile_two place at rest ≡ judge_octets profile_two place at (cut_fault profile_two place at rest) window
+within_judged place at rest window e s = ap (place_body place at rest) e ∙ ap (judge_octets profile_two place at (cut_fault profile_two place at rest)) (sym s)

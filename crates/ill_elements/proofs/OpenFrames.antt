@@ -1,0 +1,109 @@
+-- The last of the frames, and how many there are.
+use Rattle.std.proofs.Common.{◌≡◌, ℕ, suc, ◌-◌, List, [], ◌∷◌, ◌++◌, length, length-append, Option, Some, None, is_some, refl, sym, ap, ◌∙◌, arith, slice_get, ◌≤◌, ◌+◌, subst, get_or, set}
+use Rattle.ber_leaf.specs.Profile.{profile_two}
+use Rattle.ill_elements.specs.Due.{next_is, shape}
+use Rattle.ill_elements.specs.Judging.{outermost_end}
+use Rattle.ill_elements.specs.Need.{outermost}
+use Rattle.ill_refusals.specs.Place.{Open, next_in, innermost_end, bound}
+use Rattle.ill_elements.specs.Standing.{Level, next_at, AreFrames}
+use Rattle.ill_elements.specs.declared.frame.Frame.{Frame}
+use Rattle.std.proofs.Math.Bridge.{le_prop}
+use Rattle.std.proofs.lemmas.List.{set_at, get_or_at}
+use Rattle.ill_cells.specs.declared.at.At.{At}
+
+pub next_last : (frames : List Frame) (f : Frame) → slice_get frames (length frames - 1) ≡ Some f → next_at frames ≡ (shape f.place)
+next_last [] f e = absurd cc
+next_last (g ∷ []) f e = let q : Some g ≡ Some f = e in let r : g ≡ f = cc in ap (λ (x : Frame). shape x.place) r
+next_last (g ∷ h ∷ fs) f e = next_last (h ∷ fs) f (let n : length (g ∷ h ∷ fs) - 1 ≡ suc (length (h ∷ fs) - 1) = omega arith in sym (ap (slice_get (g ∷ h ∷ fs)) n) ∙ e)
+
+-- the frame after others
+pub next_behind : (outer : List Frame) (f : Frame) → next_at (outer ++ f ∷ []) ≡ (shape f.place)
+next_behind (g ∷ h ∷ fs) f = next_behind (h ∷ fs) f
+next_behind _ f = refl
+
+pub last_behind : (outer : List Frame) (f : Frame) → slice_get (outer ++ f ∷ []) (length (outer ++ f ∷ []) - 1) ≡ Some f
+last_behind [] f = refl
+last_behind (g ∷ fs) f =
+    let n : length (g ∷ (fs ++ f ∷ [])) - 1 ≡ suc (length (fs ++ f ∷ []) - 1) = omega (arith, length-append fs (f ∷ [])) in
+    ap (slice_get (g ∷ (fs ++ f ∷ []))) n ∙ last_behind fs f
+
+-- as many as the open elements
+pub frames_open : (place : List Open) (frames : List Frame) (levels : List Level) → AreFrames place frames levels → length frames ≡ length place
+frames_open [] frames levels h = ap length h.0
+frames_open (o ∷ path) frames levels h =
+    let r = frames_open path h.0 h.2 h.7 in
+    omega (arith, ap length h.4, length-append h.0 (h.1 ∷ []), r)
+
+-- the last frame is the innermost open element
+pub last_open : (o : Open) (path : List Open) (frames : List Frame) (levels : List Level) (h : AreFrames (o ∷ path) frames levels) (f : Frame)
+    → slice_get frames (length frames - 1) ≡ Some f → h.1 ≡ f
+last_open o path frames levels h f e =
+    let q : Some h.1 ≡ Some f = sym (last_behind h.0 h.1) ∙ ap (λ (x : List Frame). slice_get x (length x - 1)) (sym h.4) ∙ e in
+    cc
+
+pub no_last : (frames : List Frame) (f : Frame) → frames ≡ [] → slice_get frames (length frames - 1) ≡ Some f → ⊥
+no_last frames f h e = let q : None ≡ Some f = ap (λ (x : List Frame). slice_get x (length x - 1)) (sym h) ∙ e in cc
+
+pub bound_last : (place : List Open) (frames : List Frame) (levels : List Level) (f : Frame) → AreFrames place frames levels
+    → slice_get frames (length frames - 1) ≡ Some f → f.bound ≡ bound profile_two place
+bound_last [] frames levels f h e = absurd (no_last frames f h.0 e)
+bound_last (o ∷ path) frames levels f h e = ap (λ (x : Frame). x.bound) (sym (last_open o path frames levels h f e)) ∙ h.6.bound
+
+-- no frame, no open element
+pub none_open : (place : List Open) (frames : List Frame) (levels : List Level) → AreFrames place frames levels → length frames ≡ 0 → place ≡ []
+none_open [] frames levels h e = refl
+none_open (o ∷ path) frames levels h e = absurd (omega (arith, e, frames_open (o ∷ path) frames levels h))
+
+-- what may come next
+pub next_open : (place : List Open) (frames : List Frame) (levels : List Level) → AreFrames place frames levels → next_is (next_at frames) ≡ next_in profile_two place
+next_open [] frames levels h = ap (λ (x : List Frame). next_is (next_at x)) h.0
+next_open (o ∷ path) frames levels h = ap (λ (x : List Frame). next_is (next_at x)) h.4 ∙ ap next_is (next_behind h.0 h.1) ∙ h.6.next
+
+abbrev or_end : Option ℕ → Option ℕ → Option ℕ
+or_end x y = elim x as (λ _. Option ℕ) [ Some e ↦ Some e | None ↦ y ]
+
+outermost_behind : (outer : List Frame) (f : Frame) → outermost_end (outer ++ f ∷ []) ≡ or_end (outermost_end outer) f.end
+outermost_behind [] f = go f.end
+  where
+    go : (x : Option ℕ) → (elim x as (λ _. Option ℕ) [ Some e ↦ Some e | None ↦ None ]) ≡ x
+    go (Some e) = refl
+    go None = refl
+outermost_behind (g ∷ fs) f = ap (or_end g.end) (outermost_behind fs f) ∙ go g.end (outermost_end fs)
+  where
+    go : (x y : Option ℕ) → or_end x (or_end y f.end) ≡ or_end (or_end x y) f.end
+    go (Some e) y = refl
+    go None y = refl
+
+pub outermost_open : (place : List Open) (frames : List Frame) (levels : List Level) → AreFrames place frames levels → outermost_end frames ≡ outermost place
+outermost_open [] frames levels h = ap outermost_end h.0
+outermost_open (o ∷ path) frames levels h =
+    ap outermost_end h.4 ∙ outermost_behind h.0 h.1 ∙ ap (or_end (outermost_end h.0)) h.6.end ∙ ap (λ x. or_end x o.end) (outermost_open path h.0 h.2 h.7)
+
+-- an end is found outermost where one is found innermost
+pub ends_found : (place : List Open) (frames : List Frame) (levels : List Level) → AreFrames place frames levels
+    → is_some (outermost_end frames) ≡ is_some (innermost_end place)
+ends_found [] frames levels h = ap (λ x. is_some (outermost_end x)) h.0
+ends_found (o ∷ path) frames levels h =
+    ap (λ x. is_some (outermost_end x)) h.4 ∙ ap is_some (outermost_behind h.0 h.1 ∙ ap (or_end (outermost_end h.0)) h.6.end)
+    ∙ go (outermost_end h.0) (innermost_end path) o.end (ends_found path h.0 h.2 h.7)
+  where
+    go : (x y e : Option ℕ) → is_some x ≡ is_some y → is_some (or_end x e) ≡ is_some (or_end e y)
+    go (Some a) y (Some e) q = refl
+    go (Some a) y None q = q
+    go None y (Some e) q = refl
+    go None y None q = q
+
+-- the last frame with another next
+pub advanced : (outer : List Frame) (f x : Frame) (frames : List Frame) (i : ℕ) (n : At) (p : x.bound ≤ 1048576) → frames ≡ outer ++ f ∷ [] → i ≡ length frames - 1
+    → x ≡ get_or frames i x → set frames i (record x { place = n; within = p }) ≡ outer ++ record f { place = n } ∷ []
+advanced outer f x frames i n p e last is =
+    let len : length frames ≡ length outer + length (f ∷ []) = ap length e ∙ length-append outer (f ∷ []) in
+    let at : length outer ≡ i = omega (arith, len, last) in
+    let same : x ≡ f = is ∙ ap (λ fs. get_or fs i x) e ∙ get_or_at outer f [] x i at in
+    ap (λ fs. set fs i (record x { place = n; within = p })) e ∙ set_at outer f [] (record x { place = n; within = p }) i at
+    ∙ ap (λ g. outer ++ g ∷ []) (alike x same p)
+  where
+    alike : (y : Frame) → y ≡ f → (q : y.bound ≤ 1048576) → record y { place = n; within = q } ≡ record f { place = n }
+    alike y s q =
+        let P : Frame → Type 0 = λ z. (r : z.bound ≤ 1048576) → record z { place = n; within = r } ≡ record f { place = n } in
+        subst P (sym s) (λ r. ap (λ w. let g : Frame = record f { place = n; within = w } in g) (le_prop r f.within)) q

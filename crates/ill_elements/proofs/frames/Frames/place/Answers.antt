@@ -1,0 +1,6 @@
+use Rattle.std.proofs.Common.{sym, ◌∙◌}
+use Rattle.ill_elements.proofs.OpenFrames.{next_last}
+use Rattle.ill_elements.proofs.frames.Frames.place.Goals as goal
+
+pub returns-in-Some : goal.returns-in-Some
+returns-in-Some c = sym (next_last c.args.self.now.open.items c.in-Some.frame (sym c.innermost.ensures.last ∙ c.in-Some.is))

@@ -1,0 +1,123 @@
+-- What is judged of an element at a place where elements are open, in the words of the definitions.
+use Rattle.std.specs.Option.{ForSome}
+use Rattle.std.specs.Prelude.{◌≡◌, ℕ, ◌+◌, ◌-◌, ◌<◌, ◌≤◌, Bool, true, false, not, nat_eq, List, [], ◌∷◌, length, Option, Some, None, Result, Ok, Err, if◌then◌else◌, take, drop}
+use Rattle.ber_core.specs.Id.{tag_of_id, form_of_id}
+use Rattle.ber_core.specs.Identifier.{Tag}
+use Rattle.ber_core.specs.Tree.{text_all}
+use Rattle.ber_core.specs.declared.id.Id.{Id}
+use Rattle.ber_leaf.specs.Profile.{Profile, profile_two}
+use Rattle.ill_schema.specs.declared.refusal.Cause.{Cause}
+use Rattle.ill_schema.specs.declared.refusal.Refusal.{Refusal}
+use Rattle.ill_elements.specs.Elements.{element_is, found_is}
+use Rattle.ill_refusals.specs.Fault.{Fault, element_fault, fault, fault_of, is_deep}
+use Rattle.ill_refusals.specs.code.Judge.{Judgement, faulty, opens, or_faulty, reads, judge_end, judge_form, judge_tag, closes}
+use Rattle.ill_cells.specs.declared.at.Found.{Found}
+use Rattle.ill_cells.specs.declared.cell.What.{What}
+use Rattle.ill_cells.specs.declared.cell.What.TheVariants as what
+use Rattle.ill_elements.specs.Due.{found_in, read_as, IsDueIn, behind, first_of, shape_at, read_due, slot_in, next_place}
+use Rattle.ill_refusals.specs.Place.{Open, bound, allows, next_in}
+use Rattle.ill_elements.specs.Standing.{StandsAt, next_at}
+use Rattle.ill_elements.specs.Found as found
+use Rattle.ill_elements.specs.declared.frame.Frame.{Frame}
+use Rattle.ill_elements.specs.declared.judge.Extent.{Extent}
+use Rattle.ill_elements.specs.declared.judge.Extent.TheVariants.{Opens, Reads}
+use Rattle.ill_elements.specs.declared.frames.Frames.{Frames}
+use Rattle.ill_refusals.specs.Next.{missing}
+use Rattle.ill_cells.specs.Places.{first_place}
+use Rattle.ill_elements.specs.declared.header.LengthRead.{LengthRead}
+use Rattle.ill_elements.specs.declared.header.LengthRead.TheVariants.{Whole}
+
+-- the innermost element ends, and no part of it is missing
+pub record IsEnd (place : List Open) (marks : ℕ) (j : Judgement) : Type 0 where
+  pub innermost : Open
+  pub outer : List Open
+  pub is_path : place ≡ innermost ∷ outer
+  pub complete : missing profile_two (next_in profile_two place) ≡ None
+  pub is : j ≡ or_faulty (element_fault profile_two innermost.element (text_all innermost.trees)) innermost.start (closes marks)
+
+-- an element is due there and may have the form
+pub record IsBegin (frames : Frames) (place : List Open) (tag : Tag) (f : Found) (constructed : Bool) : Type 0 where
+  pub is_due : IsDueIn tag (next_at frames.open.items) (read_due f)
+  pub begins : shape_at (first_place f) ≡ first_of (read_as f)
+  pub goes_on : shape_at (next_place f) ≡ behind (next_at frames.open.items) (slot_in f)
+  pub allowed : allows (element_is (read_as f)) constructed ≡ true
+  pub shallow : length place < 32
+
+-- the octets after a header
+abbrev pub content_in : ℕ → ℕ → List ℕ → List ℕ
+content_in header size rest = take size (drop header rest)
+
+-- a fact of the place that the path is at
+abbrev pub WhereItStands : Frames → (List Open → Type 0) → Type 0
+WhereItStands frames P = (place : List Open) → StandsAt frames place → P place
+
+-- the end of the outermost element of definite length
+abbrev pub outermost_end : List Frame → Option ℕ
+outermost_end [] = None
+outermost_end (f ∷ fs) = elim f.end as (λ _. Option ℕ) [ Some e ↦ Some e | None ↦ outermost_end fs ]
+
+-- whether an end is there
+abbrev pub end_at : Option ℕ → ℕ → Bool
+end_at end at = elim end as (λ _. Bool) [ Some e ↦ nat_eq e at | None ↦ false ]
+
+-- the innermost element ends there, or a part of it is missing
+abbrev pub EndsAs : List Open → ℕ → Option Refusal → Type 0
+EndsAs place at None = (marks : ℕ) → IsEnd place marks (judge_end profile_two place at marks)
+EndsAs place at (Some refusal) = (marks : ℕ) → judge_end profile_two place at marks ≡ faulty (fault_of refusal)
+
+-- the octets lie before the bound, up to which there is this room
+abbrev pub IsRoom : ℕ → ℕ → List ℕ → Type 0
+IsRoom at room octets = (at + room ≤ 1_048_576) × (length octets ≤ room)
+
+-- what is read so may have the form; what is left out has none
+abbrev pub has_form : What → Bool → Bool
+has_form what.Boolean constructed = not constructed
+has_form what.Integer constructed = not constructed
+has_form what.Enumerated constructed = not constructed
+has_form what.General constructed = true
+has_form what.Visible constructed = true
+has_form what.Printable constructed = true
+has_form what.Date constructed = true
+has_form what.Time constructed = true
+has_form what.Segment constructed = true
+has_form what.LeftOut constructed = false
+has_form _ constructed = constructed
+
+-- what is found may have the form, or is at fault
+abbrev pub IsFormed : Found → Bool → Option Cause → Type 0
+IsFormed f constructed None = (found_in f ≡ found.Element (read_as f)) × (allows (element_is (read_as f)) constructed ≡ true)
+IsFormed f constructed (Some cause) =
+    (p : Profile) (place : List Open) (tag : Tag) (at i : ℕ) (cut : Fault) (w : List ℕ) → judge_form p place (found_is (found_in f)) tag constructed at i cut w ≡ faulty (fault cause at)
+
+-- what is judged after an identifier of i octets
+abbrev pub judge_identified : List Open → Tag → Bool → ℕ → ℕ → Fault → List ℕ → Judgement
+judge_identified place tag constructed at i cut w =
+    if is_deep profile_two place then faulty (fault Cause.TooDeep at) else judge_tag profile_two place tag constructed at i cut w
+
+-- an element with the identifier may begin there, or is at fault
+abbrev pub IsIdentified : Frames → List Open → ℕ → Id → Result Found Refusal → Type 0
+IsIdentified frames place at id (Ok f) = IsBegin frames place (tag_of_id id) f (form_of_id id)
+IsIdentified frames place at id (Err refusal) =
+    (i : ℕ) (cut : Fault) (w : List ℕ) → judge_identified place (tag_of_id id) (form_of_id id) at i cut w ≡ faulty (fault_of refusal)
+
+-- what is judged of an element of this extent, in these octets
+abbrev pub IsExtent : Found → Id → ℕ → List ℕ → Result Extent Refusal → Judgement → Type 0
+IsExtent f id at octets (Ok (Opens header end)) j = j ≡ opens (tag_of_id id) (element_is (read_as f)) header end
+IsExtent f id at octets (Ok (Reads header size)) j =
+    j ≡ or_faulty (element_fault profile_two (element_is (read_as f)) (content_in header size octets)) at (reads (tag_of_id id) header (content_in header size octets))
+IsExtent f id at octets (Err refusal) j = j ≡ faulty (fault_of refusal)
+
+-- the judgement is the definitions', of whatever element begins there, where there is this room before the bound
+abbrev pub Reaches : Frames → Id → ℕ → ℕ → List ℕ → Result Extent Refusal → (Found → List Open → Judgement) → Type 0
+Reaches frames id at room octets result judged =
+    (f : Found) (place : List Open) → StandsAt frames place → room ≡ bound profile_two place - at → IsExtent f id at octets result (judged f place)
+
+-- the extent opens exactly where the identifier is a constructed element's, and what it takes lies within `size` octets
+abbrev pub Fits : Id → ℕ → Extent → Type 0
+Fits id size (Opens header end) = (form_of_id id ≡ true) × (0 < header) × (header ≤ size) × ForSome end (λ e. e ≤ 1_048_576)
+Fits id size (Reads header content) = (form_of_id id ≡ false) × (0 < header) × (header + content ≤ size)
+
+-- a header that was read whole lies within `room` octets
+abbrev pub HeaderIsIn : LengthRead → ℕ → Type 0
+HeaderIsIn (Whole len header) room = (0 < header) × (header ≤ room)
+HeaderIsIn _ room = Unit {0}

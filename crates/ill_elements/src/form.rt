@@ -1,0 +1,38 @@
+//! The forms of elements.
+ghost use Rattle.std.specs.Prelude.{◌≡◌};
+ghost use Rattle.ill_elements.specs.Judging.{IsFormed, has_form};
+
+use ill_cells::{Found, What};
+use ill_schema::Cause;
+
+/// Why what was found can't have the form, None where it may.
+#[inline(always)]
+pub fn form_fault(found: Found, constructed: bool) -> Option<Cause>
+    ensures { IsFormed found constructed result }
+{
+    if has_form(found.what(), constructed) {
+        return None;
+    }
+    match found.what() {
+        What::LeftOut => Some(Cause::LeftOut(found.part())),
+        _ => Some(Cause::WrongForm),
+    }
+}
+
+/// Whether what is read so may have the form (X.690, 8.2 to 8.10, 8.14 and 8.23). What is left out has none.
+#[inline(always)]
+fn has_form(what: What, constructed: bool) -> bool
+    ensures { result ≡ has_form what constructed }
+{
+    if constructed {
+        !matches!(
+            what,
+            What::Boolean | What::Integer | What::Enumerated | What::LeftOut
+        )
+    } else {
+        !matches!(
+            what,
+            What::Sequence | What::List | What::Wrapper | What::LooseWrapper | What::LeftOut
+        )
+    }
+}

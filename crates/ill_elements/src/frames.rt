@@ -1,0 +1,165 @@
+//! The open elements of a message, innermost last.
+ghost use Rattle.std.specs.Prelude.{◌≤◌, length};
+
+use crate::due::Next;
+use crate::frame::Frame;
+use arrayvec::ArrayVec;
+use ill_cells::At;
+use ill_schema::{Cause, LIMIT};
+
+/// How many elements may be open at once.
+pub const MAX_DEPTH: usize = 32;
+
+/// The open elements, innermost last. They take no memory.
+#[derive(Drop)]
+pub struct Frames {
+    pub open: ArrayVec<Frame, MAX_DEPTH>,
+    ghost few: { length open.items ≤ 32 },
+}
+
+impl Frames {
+    ghost use Rattle.std.specs.Prelude.{◌≡◌, ◌+◌, ◌-◌, ◌<◌, ◌↔◌, ◌++◌, List, [], ◌∷◌, IsNone, IsTrue, Some, slice_get, take};
+    ghost use Rattle.ill_elements.specs.Due.{shape};
+    ghost use Rattle.ill_elements.specs.Standing.{next_at};
+    ghost use Rattle.ill_elements.specs.declared.frame.Frame.{Frame};
+    ghost use Rattle.ber_leaf.specs.Profile.{profile_two};
+    ghost use Rattle.ill_refusals.specs.Fault.{ends_at, is_indefinite, past_end};
+    ghost use Rattle.ill_refusals.specs.Place.{bound};
+    ghost use Rattle.ill_elements.specs.Judging.{WhereItStands, outermost_end};
+    ghost use Rattle.ill_elements.specs.Standing.{depth_of};
+
+    /// No open element.
+    #[inline(always)]
+    pub fn new() -> Frames
+        ensures { result.open.items ≡ [] }
+    {
+        Frames {
+            open: ArrayVec::new(),
+        }
+    }
+
+    /// Forgets all open elements.
+    #[inline(always)]
+    pub fn clear(&mut self)
+        ensures { self.new.open.items ≡ [] }
+    {
+        self.open.clear();
+    }
+
+    /// Opens an element in the innermost one.
+    #[inline(always)]
+    pub fn push(&mut self, frame: Frame)
+        requires { depth_of self.old < 32 }
+        ensures items { self.new.open.items ≡ self.old.open.items ++ frame ∷ [] }
+        ensures depth { depth_of self.new ≡ depth_of self.old + 1 }
+    {
+        self.open.push(frame);
+    }
+
+    /// Closes the innermost element.
+    #[inline(always)]
+    pub fn pop(&mut self) -> Frame
+        requires { 0 < depth_of self.old }
+        ensures rest { self.new.open.items ≡ take (depth_of self.old - 1) self.old.open.items }
+        ensures last { slice_get self.old.open.items (depth_of self.old - 1) ≡ Some result }
+        ensures depth { depth_of self.new + 1 ≡ depth_of self.old }
+    {
+        self.open.pop().unwrap()
+    }
+
+    pub fn innermost(&self) -> Option<Frame>
+        ensures none { IsNone result ↔ (depth_of self.now ≡ 0) }
+        ensures last { result ≡ slice_get self.now.open.items (depth_of self.now - 1) }
+    {
+        self.open.as_slice().last().copied()
+    }
+
+    pub fn depth(&self) -> usize
+        ensures { result ≡ depth_of self.now }
+    {
+        self.open.len()
+    }
+
+    /// The place that has been reached in the innermost element, or that of a message.
+    pub fn place(&self) -> At
+        ensures { shape result ≡ next_at self.now.open.items }
+    {
+        match self.innermost() {
+            Some(frame) => frame.place,
+            None => At::top(),
+        }
+    }
+
+    /// What may come next.
+    pub fn next(&self) -> Next
+        ensures { result ≡ next_at self.now.open.items }
+    {
+        Next::at(self.place())
+    }
+
+    /// The offset that no octet may reach.
+    pub fn bound(&self) -> u32
+        ensures small { result ≤ 1_048_576 }
+        ensures exact { WhereItStands self.now (λ place. result ≡ bound profile_two place) }
+    {
+        match self.innermost() {
+            Some(frame) => frame.bound,
+            None => LIMIT,
+        }
+    }
+
+    /// The end of the outermost element of definite length.
+    pub fn outermost_end(&self) -> Option<u32>
+        ensures { result ≡ outermost_end self.now.open.items }
+    {
+        for frame in self.open.as_slice() {
+            if let Some(end) = frame.end {
+                return Some(end);
+            }
+        }
+        None
+    }
+
+    /// Why an octet at the bound can't be read.
+    pub fn past_end(&self) -> Cause
+        ensures { WhereItStands self.now (λ place. result ≡ past_end place) }
+    {
+        match self.outermost_end() {
+            Some(_) => Cause::Overrun,
+            None => Cause::TooLong,
+        }
+    }
+
+    /// Whether the innermost element is indefinite.
+    pub fn awaits_end_mark(&self) -> bool
+        ensures open { IsTrue result → 0 < depth_of self.now }
+        ensures exact { WhereItStands self.now (λ place. result ≡ is_indefinite place) }
+    {
+        match self.innermost() {
+            Some(frame) => frame.end.is_none(),
+            None => false,
+        }
+    }
+
+    /// Whether the innermost element is definite and ends there.
+    pub fn ends_at(&self, at: u32) -> bool
+        ensures open { IsTrue result → 0 < depth_of self.now }
+        ensures exact { WhereItStands self.now (λ place. result ≡ ends_at place at) }
+    {
+        match self.innermost() {
+            Some(frame) => frame.ends_at(at),
+            None => false,
+        }
+    }
+
+    /// Goes to a place in the innermost element.
+    pub fn advance(&mut self, place: At)
+        ensures frame { (outer : List Frame) (f : Frame) → self.old.open.items ≡ outer ++ f ∷ [] → self.new.open.items ≡ outer ++ record f { place = place } ∷ [] }
+        ensures depth { depth_of self.new ≡ depth_of self.old }
+    {
+        let last = self.depth().saturating_sub(1);
+        if let Some(frame) = self.open.get_mut(last) {
+            frame.place = place;
+        }
+    }
+}

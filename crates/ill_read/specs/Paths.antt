@@ -1,0 +1,40 @@
+-- What a path holds of the elements that are open at a place.
+use Rattle.std.specs.Prelude.{◌≡◌, ℕ, List, [], ◌∷◌, ◌++◌, length, map, Option, Some, option_map}
+use Rattle.ber_core.specs.Tree.{text_all}
+use Rattle.ill_schema.specs.Apdu.{Apdu}
+use Rattle.ill_schema.specs.Message.{apdu_of, octets_of}
+use Rattle.ill_schema.specs.declared.message.Message.{Message}
+use Rattle.ill_schema.specs.declared.value.Value.{Value}
+use Rattle.ill_schema.specs.Value.{content_of}
+use Rattle.ill_refusals.specs.Element.{leaf, segment}
+use Rattle.ill_refusals.specs.Place.{Open}
+use Rattle.ill_elements.specs.Standing.{Level, AreFrames}
+use Rattle.ill_read.specs.declared.path.Path.{Path}
+use Rattle.ill_read.specs.declared.values.Values.{Values}
+
+-- the text of the string that is open, as far as it has been read
+abbrev pub text_so_far : List Open → List ℕ
+text_so_far [] = []
+text_so_far (o ∷ path) = elim o.element as (λ _. List ℕ) [
+  | leaf l ↦ text_all o.trees
+  | segment ↦ text_so_far path ++ text_all o.trees
+  | _ ↦ []
+]
+
+-- the frames of a path are the open elements, and its draft holds what is in them
+abbrev pub HoldsAt : {D : Type 0} → (D → List Level → List ℕ → Type 0) → Path D → List Open → Type 0
+HoldsAt holds path opens = (levels : List Level) × AreFrames opens path.frames.open.items levels × holds path.draft levels (text_so_far opens)
+
+-- the values of the levels, outermost first
+abbrev pub AreHeld : List Level → List (Option Value) → Type 0
+AreHeld [] held = held ≡ []
+AreHeld (l ∷ levels) held = (below : List (Option Value)) × (entries : List (Option Value))
+    × (held ≡ below ++ entries) × (l.base ≡ length below) × (map (option_map content_of) entries ≡ l.entries) × AreHeld levels below
+
+pub record AreValues (values : Values) (levels : List Level) (joined : List ℕ) : Type 0 where
+  pub held : AreHeld levels values.held.entries.items
+  pub text : values.text.items ≡ joined
+
+-- a draft that is a message has this APDU, read of as many octets
+abbrev pub AreMessage : Values → Apdu → ℕ → Type 0
+AreMessage values a n = (m : Message) × (values.message ≡ Some m) × (apdu_of m ≡ a) × (octets_of m ≡ n)
