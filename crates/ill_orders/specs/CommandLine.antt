@@ -26,14 +26,20 @@ output_rule = record (new_rule (codes "output")) { long = Some (codes "output");
 
 -- a command on any number of files, one that goes on after a message that is refused, counts messages and writes JSON, and one that has lines, too
 
+abbrev pub with_hex : Text → App
+with_hex name = with_rule (new_app name) (flag_rule (codes "hex"))
+
 abbrev pub each_file : Text → App
-each_file name = with_rule (with_rule (with_rule (new_app name) (flag_rule (codes "hex"))) list_rule) files_rule
+each_file name = with_rule (with_rule (with_hex name) list_rule) files_rule
+
+abbrev pub each_counted : Text → App
+each_counted name = with_rule (with_rule (each_file name) (flag_rule (codes "keep-going"))) (flag_rule (codes "summary"))
 
 abbrev pub each_going : Text → App
-each_going name = with_rule (with_rule (with_rule (each_file name) (flag_rule (codes "keep-going"))) (flag_rule (codes "summary"))) (flag_rule (codes "json"))
+each_going name = with_rule (each_counted name) (flag_rule (codes "json"))
 
 abbrev pub with_going : Text → App
-with_going name = with_rule (with_rule (with_rule (new_app name) (flag_rule (codes "hex"))) (flag_rule (codes "keep-going"))) (flag_rule (codes "summary"))
+with_going name = with_rule (with_rule (with_hex name) (flag_rule (codes "keep-going"))) (flag_rule (codes "summary"))
 
 abbrev pub with_lines : Text → App
 with_lines name = with_rule (with_going name) (flag_rule (codes "lines"))
@@ -43,14 +49,17 @@ each_line name = with_rule (with_rule (with_lines name) list_rule) files_rule
 
 -- a command on two files
 abbrev pub two_files : Text → App
-two_files name = with_rule (with_rule (with_rule (new_app name) (flag_rule (codes "hex"))) (file_rule (codes "first"))) (file_rule (codes "second"))
+two_files name = with_rule (with_rule (with_hex name) (file_rule (codes "first"))) (file_rule (codes "second"))
 
 -- a command that writes what it makes of any number of files into one, or of one file into another
 abbrev pub with_whole : Text → App
 with_whole name = with_rule (with_lines name) (flag_rule (codes "whole"))
 
+abbrev pub with_output : Text → App
+with_output name = with_rule (with_whole name) output_rule
+
 abbrev pub into_one : Text → App
-into_one name = with_rule (with_rule (with_rule (with_whole name) output_rule) list_rule) files_rule
+into_one name = with_rule (with_rule (with_output name) list_rule) files_rule
 
 abbrev pub top : App
 top = let a = new_app (codes "illcanon") in

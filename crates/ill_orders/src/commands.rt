@@ -2,7 +2,7 @@
 ghost use Rattle.std.specs.Prelude.{◌≡◌, codes, false, IfOk};
 ghost use Rattle.clap.specs.Words.{app_of, rule_of};
 ghost use Rattle.clap.specs.declared.builder.command.Command.TheViews.{out-Command as fields_of};
-ghost use Rattle.ill_orders.specs.CommandLine.{each_file, each_going, each_line, file_rule, files_rule, flag_rule, into_one, list_rule, output_rule, program, topic, two_files, with_going, with_lines, with_whole};
+ghost use Rattle.ill_orders.specs.CommandLine.{each_counted, each_file, each_going, each_line, file_rule, files_rule, flag_rule, into_one, list_rule, output_rule, program, topic, two_files, with_going, with_hex, with_lines, with_output, with_whole};
 
 use crate::{help, topics};
 use clap::{Arg, ArgAction, Command};
@@ -78,6 +78,23 @@ fn files<'a>(alloc: Global, help: &'a str) -> Arg<'a>
         .help(help)
 }
 
+// Each of these functions adds one or two arguments: what is proved of a chain of calls that may fail grows faster than the chain.
+
+/// A command that reads hexadecimal text, too.
+fn by_hex<'a>(
+    alloc: Global,
+    name: &'a str,
+    about: &'a str,
+    after: &'a str,
+) -> Result<Command<'a>, AllocError>
+    ensures { IfOk result (λ c. (app_of c ≡ with_hex name.entry.now) × ((fields_of c).has_globals ≡ false)) }
+{
+    Command::new(alloc, name)
+        .about(about)
+        .after_help(after)
+        .arg(flag(alloc, "hex", HEX))
+}
+
 fn on_each<'a>(
     alloc: Global,
     name: &'a str,
@@ -86,10 +103,7 @@ fn on_each<'a>(
 ) -> Result<Command<'a>, AllocError>
     ensures { IfOk result (λ c. (app_of c ≡ each_file name.entry.now) × ((fields_of c).has_globals ≡ false)) }
 {
-    Command::new(alloc, name)
-        .about(about)
-        .after_help(after)
-        .arg(flag(alloc, "hex", HEX))?
+    by_hex(alloc, name, about, after)?
         .arg(list(alloc))?
         .arg(files(alloc, MESSAGES))
 }
@@ -103,10 +117,7 @@ fn by_messages<'a>(
 ) -> Result<Command<'a>, AllocError>
     ensures { IfOk result (λ c. (app_of c ≡ with_going name.entry.now) × ((fields_of c).has_globals ≡ false)) }
 {
-    Command::new(alloc, name)
-        .about(about)
-        .after_help(after)
-        .arg(flag(alloc, "hex", HEX))?
+    by_hex(alloc, name, about, after)?
         .arg(flag(alloc, "keep-going", KEEP_GOING))?
         .arg(flag(alloc, "summary", SUMMARY))
 }
@@ -148,13 +159,19 @@ fn on_each_or_lines<'a>(
         .arg(files(alloc, MESSAGES))
 }
 
-pub fn show<'a>(alloc: Global) -> Result<Command<'a>, AllocError>
-    ensures { IfOk result (λ c. (app_of c ≡ each_going (codes "show")) × ((fields_of c).has_globals ≡ false)) }
+/// `show` without `--json`.
+fn show_text<'a>(alloc: Global) -> Result<Command<'a>, AllocError>
+    ensures { IfOk result (λ c. (app_of c ≡ each_counted (codes "show")) × ((fields_of c).has_globals ≡ false)) }
 {
     on_each(alloc, "show", "Writes the messages as text", help::SHOW)?
         .arg(flag(alloc, "keep-going", KEEP_GOING))?
-        .arg(flag(alloc, "summary", SUMMARY))?
-        .arg(flag(alloc, "json", JSON))
+        .arg(flag(alloc, "summary", SUMMARY))
+}
+
+pub fn show<'a>(alloc: Global) -> Result<Command<'a>, AllocError>
+    ensures { IfOk result (λ c. (app_of c ≡ each_going (codes "show")) × ((fields_of c).has_globals ≡ false)) }
+{
+    show_text(alloc)?.arg(flag(alloc, "json", JSON))
 }
 
 pub fn check<'a>(alloc: Global) -> Result<Command<'a>, AllocError>
@@ -181,22 +198,27 @@ pub fn dump<'a>(alloc: Global) -> Result<Command<'a>, AllocError>
 fn same<'a>(alloc: Global) -> Result<Command<'a>, AllocError>
     ensures { IfOk result (λ c. (app_of c ≡ two_files (codes "same")) × ((fields_of c).has_globals ≡ false)) }
 {
-    Command::new(alloc, "same")
-        .about("Reports whether two files hold the same message, however it is spelled")
-        .after_help(help::SAME)
-        .arg(flag(alloc, "hex", HEX))?
+    let about = "Reports whether two files hold the same message, however it is spelled";
+    by_hex(alloc, "same", about, help::SAME)?
         .arg(file(alloc, "first", "FILE", "A message; `-` is standard input"))?
         .arg(file(alloc, "second", "OTHER", "Another; `-` is standard input"))
+}
+
+/// `canonicalise` without its files.
+fn canonicalise_with_output<'a>(alloc: Global) -> Result<Command<'a>, AllocError>
+    ensures { IfOk result (λ c. (app_of c ≡ with_output (codes "canonicalise")) × ((fields_of c).has_globals ≡ false)) }
+{
+    let about = "Writes the normal form (DER) of each message in IN, or in each FILE, to OUT";
+    replacing(alloc, "canonicalise", about, help::CANONICALISE)?
+        .override_usage(help::CANONICALISE_USAGE)
+        .arg(output(alloc))
 }
 
 pub fn canonicalise<'a>(alloc: Global) -> Result<Command<'a>, AllocError>
     ensures { IfOk result (λ c. (app_of c ≡ into_one (codes "canonicalise")) × ((fields_of c).has_globals ≡ false)) }
 {
-    let about = "Writes the normal form (DER) of each message in IN, or in each FILE, to OUT";
     let words = "IN and OUT; or with `-o OUT` the messages; `-` is standard input or output";
-    replacing(alloc, "canonicalise", about, help::CANONICALISE)?
-        .override_usage(help::CANONICALISE_USAGE)
-        .arg(output(alloc))?
+    canonicalise_with_output(alloc)?
         .arg(list(alloc))?
         .arg(files(alloc, words))
 }
