@@ -24,13 +24,17 @@ files_rule = record (new_rule (codes "file")) { value_names = 1; action = Some A
 abbrev pub output_rule : Rule
 output_rule = record (new_rule (codes "output")) { long = Some (codes "output"); short = Some 111; value_names = 1 }
 
+-- a command and its files
+abbrev pub with_files : App → App
+with_files a = with_rule (with_rule a list_rule) files_rule
+
 -- a command on any number of files, one that goes on after a message that is refused, counts messages and writes JSON, and one that has lines, too
 
 abbrev pub with_hex : Text → App
 with_hex name = with_rule (new_app name) (flag_rule (codes "hex"))
 
 abbrev pub each_file : Text → App
-each_file name = with_rule (with_rule (with_hex name) list_rule) files_rule
+each_file name = with_files (with_hex name)
 
 abbrev pub each_counted : Text → App
 each_counted name = with_rule (with_rule (each_file name) (flag_rule (codes "keep-going"))) (flag_rule (codes "summary"))
@@ -45,7 +49,7 @@ abbrev pub with_lines : Text → App
 with_lines name = with_rule (with_going name) (flag_rule (codes "lines"))
 
 abbrev pub each_line : Text → App
-each_line name = with_rule (with_rule (with_lines name) list_rule) files_rule
+each_line name = with_files (with_lines name)
 
 -- a command on two files
 abbrev pub two_files : Text → App
@@ -59,7 +63,7 @@ abbrev pub with_output : Text → App
 with_output name = with_rule (with_whole name) output_rule
 
 abbrev pub into_one : Text → App
-into_one name = with_rule (with_rule (with_output name) list_rule) files_rule
+into_one name = with_files (with_output name)
 
 abbrev pub top : App
 top = let a = new_app (codes "illcanon") in

@@ -2,7 +2,7 @@
 ghost use Rattle.std.specs.Prelude.{◌≡◌, codes, false, IfOk};
 ghost use Rattle.clap.specs.Words.{app_of, rule_of};
 ghost use Rattle.clap.specs.declared.builder.command.Command.TheViews.{out-Command as fields_of};
-ghost use Rattle.ill_orders.specs.CommandLine.{each_counted, each_file, each_going, each_line, file_rule, files_rule, flag_rule, into_one, list_rule, output_rule, program, topic, two_files, with_going, with_hex, with_lines, with_output, with_whole};
+ghost use Rattle.ill_orders.specs.CommandLine.{each_counted, each_file, each_going, each_line, file_rule, files_rule, flag_rule, into_one, list_rule, output_rule, program, topic, two_files, with_files, with_going, with_hex, with_lines, with_output, with_whole};
 
 use crate::{help, topics};
 use clap::{Arg, ArgAction, Command};
@@ -95,6 +95,18 @@ fn by_hex<'a>(
         .arg(flag(alloc, "hex", HEX))
 }
 
+/// A command, and its files.
+fn with_files<'a>(
+    alloc: Global,
+    command: Command<'a>,
+    help: &'a str,
+) -> Result<Command<'a>, AllocError>
+    requires { (fields_of command).has_globals ≡ false }
+    ensures { IfOk result (λ c. (app_of c ≡ with_files (app_of command.entry)) × ((fields_of c).has_globals ≡ false)) }
+{
+    command.arg(list(alloc))?.arg(files(alloc, help))
+}
+
 fn on_each<'a>(
     alloc: Global,
     name: &'a str,
@@ -103,9 +115,7 @@ fn on_each<'a>(
 ) -> Result<Command<'a>, AllocError>
     ensures { IfOk result (λ c. (app_of c ≡ each_file name.entry.now) × ((fields_of c).has_globals ≡ false)) }
 {
-    by_hex(alloc, name, about, after)?
-        .arg(list(alloc))?
-        .arg(files(alloc, MESSAGES))
+    with_files(alloc, by_hex(alloc, name, about, after)?, MESSAGES)
 }
 
 /// A command that goes on after a message that is refused, and counts messages.
@@ -154,9 +164,7 @@ fn on_each_or_lines<'a>(
 ) -> Result<Command<'a>, AllocError>
     ensures { IfOk result (λ c. (app_of c ≡ each_line name.entry.now) × ((fields_of c).has_globals ≡ false)) }
 {
-    by_lines(alloc, name, about, after)?
-        .arg(list(alloc))?
-        .arg(files(alloc, MESSAGES))
+    with_files(alloc, by_lines(alloc, name, about, after)?, MESSAGES)
 }
 
 /// `show` without `--json`.
@@ -218,9 +226,7 @@ pub fn canonicalise<'a>(alloc: Global) -> Result<Command<'a>, AllocError>
     ensures { IfOk result (λ c. (app_of c ≡ into_one (codes "canonicalise")) × ((fields_of c).has_globals ≡ false)) }
 {
     let words = "IN and OUT; or with `-o OUT` the messages; `-` is standard input or output";
-    canonicalise_with_output(alloc)?
-        .arg(list(alloc))?
-        .arg(files(alloc, words))
+    with_files(alloc, canonicalise_with_output(alloc)?, words)
 }
 
 /// A topic of `help`: a command that only has a help text.
