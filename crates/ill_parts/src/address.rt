@@ -130,9 +130,13 @@ impl Part for SystemAddress {
 
     fn read(alloc: Global, value: &Value) -> Result<Self, AllocError> {
         let entries = entries::<Self>(value);
+        let (telecom_service_identifier, telecom_service_address) = both(
+            optional(alloc, entries, 0),
+            optional(alloc, entries, 1),
+        )?;
         Ok(SystemAddress {
-            telecom_service_identifier: optional(alloc, entries, 0)?,
-            telecom_service_address: optional(alloc, entries, 1)?,
+            telecom_service_identifier,
+            telecom_service_address,
         })
     }
 }
@@ -187,9 +191,13 @@ impl Part for DeliveryAddress {
 
     fn read(alloc: Global, value: &Value) -> Result<Self, AllocError> {
         let entries = entries::<Self>(value);
+        let (postal_address, electronic_address) = both(
+            optional(alloc, entries, 0),
+            optional(alloc, entries, 1),
+        )?;
         Ok(DeliveryAddress {
-            electronic_address: optional(alloc, entries, 1)?,
-            postal_address: optional(alloc, entries, 0)?,
+            postal_address,
+            electronic_address,
         })
     }
 }

@@ -1,7 +1,7 @@
 //! Clients of the requester.
 use ber_leaf::IllString;
 use ill_schema::{NodeId, Value};
-use ill_typed::{Node, Part, Typed, entries, optional, optional_value, sequence};
+use ill_typed::{Node, Part, Typed, both, entries, optional, optional_value, sequence};
 use std::alloc::{AllocError, Global};
 
 /// The person for whom the requester wants the item (Client-Id).
@@ -47,10 +47,12 @@ impl Part for ClientId {
 
     fn read(alloc: Global, value: &Value) -> Result<Self, AllocError> {
         let entries = entries::<Self>(value);
+        let rest = both(optional(alloc, entries, 1), optional(alloc, entries, 2));
+        let (client_name, rest) = both(optional(alloc, entries, 0), rest)?;
         Ok(ClientId {
-            client_name: optional(alloc, entries, 0)?,
-            client_status: optional(alloc, entries, 1)?,
-            client_identifier: optional(alloc, entries, 2)?,
+            client_name,
+            client_status: rest.0,
+            client_identifier: rest.1,
         })
     }
 }

@@ -2,7 +2,7 @@
 use ber_leaf::{IllString, PrintableText};
 use ill_schema::{NodeId, Value};
 use ill_typed::{
-    Node, Part, Typed, entries, optional, optional_value, required, required_value, sequence,
+    Node, Part, Typed, both, entries, optional, optional_value, required, required_value, sequence,
 };
 use std::alloc::{AllocError, Global};
 
@@ -46,9 +46,13 @@ impl Part for Amount {
 
     fn read(alloc: Global, value: &Value) -> Result<Self, AllocError> {
         let entries = entries::<Self>(value);
+        let (currency_code, monetary_value) = both(
+            optional(alloc, entries, 0),
+            required(alloc, entries, 1),
+        )?;
         Ok(Amount {
-            currency_code: optional(alloc, entries, 0)?,
-            monetary_value: required(alloc, entries, 1)?,
+            currency_code,
+            monetary_value,
         })
     }
 }
@@ -111,12 +115,19 @@ impl Part for CostInfo {
 
     fn read(alloc: Global, value: &Value) -> Result<Self, AllocError> {
         let entries = entries::<Self>(value);
+        let reciprocal_agreement = required(alloc, entries, 2)?;
+        let will_pay_fee = required(alloc, entries, 3)?;
+        let payment_provided = required(alloc, entries, 4)?;
+        let (account_number, maximum_cost) = both(
+            optional(alloc, entries, 0),
+            optional(alloc, entries, 1),
+        )?;
         Ok(CostInfo {
-            reciprocal_agreement: required(alloc, entries, 2)?,
-            will_pay_fee: required(alloc, entries, 3)?,
-            payment_provided: required(alloc, entries, 4)?,
-            account_number: optional(alloc, entries, 0)?,
-            maximum_cost: optional(alloc, entries, 1)?,
+            account_number,
+            maximum_cost,
+            reciprocal_agreement,
+            will_pay_fee,
+            payment_provided,
         })
     }
 }

@@ -30,7 +30,7 @@ pub struct Head {
 
 /// What the first entries of an APDU hold.
 ///
-/// Best called after the other reads: an error after it has all its fields to drop, in code and in proofs.
+/// Best called after the other reads, or in `both` with one of them: an error after it has all its fields to drop, in code and in proofs.
 pub fn read_head(alloc: Global, entries: &[Option<Value>]) -> Result<Head, AllocError>
     requires version { Must (Is Integer) (entry_at entries.now 0) }
     requires transaction { Must (Is TransactionNode) (entry_at entries.now 1) }

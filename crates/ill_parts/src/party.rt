@@ -2,7 +2,7 @@
 use ber_leaf::IllString;
 use ill_schema::{NodeId, Value};
 use ill_typed::{
-    Node, Part, Typed, alternative, chosen, entries, optional, optional_value, sequence,
+    Node, Part, Typed, alternative, both, chosen, entries, optional, optional_value, sequence,
 };
 use std::alloc::{AllocError, Global};
 
@@ -153,9 +153,13 @@ impl Part for SystemId {
 
     fn read(alloc: Global, value: &Value) -> Result<Self, AllocError> {
         let entries = entries::<Self>(value);
+        let (person_or_institution_symbol, name_of_person_or_institution) = both(
+            optional(alloc, entries, 0),
+            optional(alloc, entries, 1),
+        )?;
         Ok(SystemId {
-            person_or_institution_symbol: optional(alloc, entries, 0)?,
-            name_of_person_or_institution: optional(alloc, entries, 1)?,
+            person_or_institution_symbol,
+            name_of_person_or_institution,
         })
     }
 }

@@ -2,7 +2,7 @@
 use ber_leaf::{DateText, IllString};
 use ill_schema::{NodeId, Value};
 use ill_typed::{
-    Node, Part, Typed, entries, optional, optional_value, required, required_value, sequence,
+    Node, Part, Typed, both, entries, optional, optional_value, required, required_value, sequence,
 };
 use std::alloc::{AllocError, Global};
 
@@ -53,11 +53,14 @@ impl Part for SearchType {
 
     fn read(alloc: Global, value: &Value) -> Result<Self, AllocError> {
         let entries = entries::<Self>(value);
+        let expiry_flag = required(alloc, entries, 2)?;
+        let dates = both(optional(alloc, entries, 1), optional(alloc, entries, 3));
+        let (level_of_service, dates) = both(optional(alloc, entries, 0), dates)?;
         Ok(SearchType {
-            level_of_service: optional(alloc, entries, 0)?,
-            need_before_date: optional(alloc, entries, 1)?,
-            expiry_flag: required(alloc, entries, 2)?,
-            expiry_date: optional(alloc, entries, 3)?,
+            level_of_service,
+            need_before_date: dates.0,
+            expiry_flag,
+            expiry_date: dates.1,
         })
     }
 }

@@ -3,7 +3,7 @@ use crate::party::SystemId;
 use ber_leaf::{DateText, IllString, TimeText};
 use ill_schema::{NodeId, Value};
 use ill_typed::{
-    Node, Part, Typed, entries, optional, optional_value, required, required_value, sequence,
+    Node, Part, Typed, both, entries, optional, optional_value, required, required_value, sequence,
 };
 use std::alloc::{AllocError, Global};
 
@@ -53,11 +53,14 @@ impl Part for TransactionId {
 
     fn read(alloc: Global, value: &Value) -> Result<Self, AllocError> {
         let entries = entries::<Self>(value);
+        let group = both(optional(alloc, entries, 0), required(alloc, entries, 1));
+        let qualifiers = both(required(alloc, entries, 2), optional(alloc, entries, 3));
+        let (group, qualifiers) = both(group, qualifiers)?;
         Ok(TransactionId {
-            transaction_group_qualifier: required(alloc, entries, 1)?,
-            transaction_qualifier: required(alloc, entries, 2)?,
-            sub_transaction_qualifier: optional(alloc, entries, 3)?,
-            initial_requester_id: optional(alloc, entries, 0)?,
+            initial_requester_id: group.0,
+            transaction_group_qualifier: group.1,
+            transaction_qualifier: qualifiers.0,
+            sub_transaction_qualifier: qualifiers.1,
         })
     }
 }
@@ -111,10 +114,8 @@ impl Part for DateTime {
 
     fn read(alloc: Global, value: &Value) -> Result<Self, AllocError> {
         let entries = entries::<Self>(value);
-        Ok(DateTime {
-            date: required(alloc, entries, 0)?,
-            time: optional(alloc, entries, 1)?,
-        })
+        let (date, time) = both(required(alloc, entries, 0), optional(alloc, entries, 1))?;
+        Ok(DateTime { date, time })
     }
 }
 
@@ -167,9 +168,13 @@ impl Part for ServiceDateTime {
 
     fn read(alloc: Global, value: &Value) -> Result<Self, AllocError> {
         let entries = entries::<Self>(value);
+        let (date_time_of_this_service, date_time_of_original_service) = both(
+            required(alloc, entries, 0),
+            optional(alloc, entries, 1),
+        )?;
         Ok(ServiceDateTime {
-            date_time_of_this_service: required(alloc, entries, 0)?,
-            date_time_of_original_service: optional(alloc, entries, 1)?,
+            date_time_of_this_service,
+            date_time_of_original_service,
         })
     }
 }
