@@ -1,5 +1,5 @@
 -- Which node an APDU's body has, and when two APDUs are one.
-use Rattle.std.proofs.Common.{◌≡◌, ◌≢◌, ℕ, zero, suc, ◌+◌, ◌-◌, ◌<◌, ◌≤◌, Bool, true, false, nat_eq, List, [], ◌∷◌, Some, None, refl, ap, subst, ◌∙◌, length, slice_get, arith}
+use Rattle.std.proofs.Common.{◌≡◌, ◌≢◌, ℕ, zero, suc, ◌+◌, ◌-◌, ◌<◌, ◌≤◌, Bool, true, false, nat_eq, List, [], ◌∷◌, Some, None, refl, sym, ap, ap₂, subst, ◌∙◌, length, slice_get, arith}
 use Rattle.std.specs.Prelude.{if◌then◌else◌}
 use Rattle.std.proofs.Math.Dec.{eqb-suc-zero}
 use Rattle.ber_leaf.specs.Profile.{profile_two}
@@ -76,6 +76,10 @@ body_fits b node fits e =
 pub body_is : (b : NumberedBody) (node : NodeId) (v : Content) → v ≡ b.body → FitsApdu profile_two b → apdu_node_of b.number ≡ Some node → Is node v
 unfolding Is
 body_is b node v same fits e = rw same (body_fits b node fits e)
+
+-- an APDU's view is its number and what its body is read as
+pub view_is : (b : NumberedBody) (n k : ℕ) (c v : Content) → n ≡ b.number → n ≡ k → c ≡ v → v ≡ b.body → record { number = k; body = c } ≡ b
+view_is b n k c v number is same body = ap₂ (λ (x : ℕ) (y : Content). record { number = x; body = y }) (sym is ∙ number) (same ∙ body)
 
 -- no carried row, numbered from k on, has the number n
 abbrev pub NotIn : List Row → ℕ → ℕ → Type 0

@@ -1,7 +1,7 @@
 //! CANCEL and CANCEL-REPLY.
 use ber_leaf::IllString;
 use ill_parts::{
-    Head, Node, Part, Typed, entries, headed, optional, optional_value, read_head, required,
+    Head, Node, Part, Typed, both, entries, headed, optional, optional_value, read_head, required,
     required_value,
 };
 use ill_schema::{NodeId, Value};
@@ -46,9 +46,10 @@ impl Part for Cancel {
 
     fn read(alloc: Global, value: &Value) -> Result<Self, AllocError> {
         let entries = entries::<Self>(value);
+        let (head, requester_note) = both(read_head(alloc, entries), optional(alloc, entries, 5))?;
         Ok(Cancel {
-            requester_note: optional(alloc, entries, 5)?,
-            head: read_head(alloc, entries)?,
+            head,
+            requester_note,
         })
     }
 }
@@ -107,10 +108,12 @@ impl Part for CancelReply {
 
     fn read(alloc: Global, value: &Value) -> Result<Self, AllocError> {
         let entries = entries::<Self>(value);
+        let answer = required(alloc, entries, 5)?;
+        let (head, responder_note) = both(read_head(alloc, entries), optional(alloc, entries, 6))?;
         Ok(CancelReply {
-            answer: required(alloc, entries, 5)?,
-            responder_note: optional(alloc, entries, 6)?,
-            head: read_head(alloc, entries)?,
+            head,
+            answer,
+            responder_note,
         })
     }
 }

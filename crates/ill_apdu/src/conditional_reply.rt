@@ -1,7 +1,7 @@
 //! CONDITIONAL-REPLY.
 use ber_leaf::IllString;
 use ill_parts::{
-    Head, Node, Part, Typed, entries, headed, optional, optional_value, read_head, required,
+    Head, Node, Part, Typed, both, entries, headed, optional, optional_value, read_head, required,
     required_value,
 };
 use ill_schema::{NodeId, Value};
@@ -52,10 +52,12 @@ impl Part for ConditionalReply {
 
     fn read(alloc: Global, value: &Value) -> Result<Self, AllocError> {
         let entries = entries::<Self>(value);
+        let answer = required(alloc, entries, 5)?;
+        let (head, requester_note) = both(read_head(alloc, entries), optional(alloc, entries, 6))?;
         Ok(ConditionalReply {
-            answer: required(alloc, entries, 5)?,
-            requester_note: optional(alloc, entries, 6)?,
-            head: read_head(alloc, entries)?,
+            head,
+            answer,
+            requester_note,
         })
     }
 }

@@ -1,7 +1,7 @@
 //! Places where an item may be had.
 use ber_leaf::IllString;
 use ill_parts::{
-    Node, Part, SystemAddress, SystemId, Typed, entries, optional, optional_value, required,
+    Node, Part, SystemAddress, SystemId, Typed, both, entries, optional, optional_value, required,
     required_value, sequence,
 };
 use ill_schema::{NodeId, Value};
@@ -50,10 +50,12 @@ impl Part for LocationInfo {
 
     fn read(alloc: Global, value: &Value) -> Result<Self, AllocError> {
         let entries = entries::<Self>(value);
+        let rest = both(optional(alloc, entries, 1), optional(alloc, entries, 2));
+        let (location_id, rest) = both(required(alloc, entries, 0), rest)?;
         Ok(LocationInfo {
-            location_id: required(alloc, entries, 0)?,
-            location_address: optional(alloc, entries, 1)?,
-            location_note: optional(alloc, entries, 2)?,
+            location_id,
+            location_address: rest.0,
+            location_note: rest.1,
         })
     }
 }

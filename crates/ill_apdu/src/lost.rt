@@ -1,6 +1,8 @@
 //! LOST and DAMAGED.
 use ber_leaf::IllString;
-use ill_parts::{Head, Node, Part, Typed, entries, headed, optional, optional_value, read_head};
+use ill_parts::{
+    Head, Node, Part, Typed, both, entries, headed, optional, optional_value, read_head,
+};
 use ill_schema::{NodeId, Value};
 use std::alloc::{AllocError, Global};
 
@@ -43,10 +45,8 @@ impl Part for Lost {
 
     fn read(alloc: Global, value: &Value) -> Result<Self, AllocError> {
         let entries = entries::<Self>(value);
-        Ok(Lost {
-            note: optional(alloc, entries, 5)?,
-            head: read_head(alloc, entries)?,
-        })
+        let (head, note) = both(read_head(alloc, entries), optional(alloc, entries, 5))?;
+        Ok(Lost { head, note })
     }
 }
 
@@ -98,10 +98,8 @@ impl Part for Damaged {
 
     fn read(alloc: Global, value: &Value) -> Result<Self, AllocError> {
         let entries = entries::<Self>(value);
-        Ok(Damaged {
-            note: optional(alloc, entries, 6)?,
-            head: read_head(alloc, entries)?,
-        })
+        let (head, note) = both(read_head(alloc, entries), optional(alloc, entries, 6))?;
+        Ok(Damaged { head, note })
     }
 }
 

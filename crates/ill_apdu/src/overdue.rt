@@ -1,7 +1,7 @@
 //! OVERDUE.
 use ber_leaf::IllString;
 use ill_parts::{
-    DateDue, Head, Node, Part, Typed, entries, headed, optional, optional_value, read_head,
+    DateDue, Head, Node, Part, Typed, both, entries, headed, optional, optional_value, read_head,
     required, required_value,
 };
 use ill_schema::{NodeId, Value};
@@ -52,10 +52,12 @@ impl Part for Overdue {
 
     fn read(alloc: Global, value: &Value) -> Result<Self, AllocError> {
         let entries = entries::<Self>(value);
+        let rest = both(required(alloc, entries, 5), optional(alloc, entries, 6));
+        let (head, rest) = both(read_head(alloc, entries), rest)?;
         Ok(Overdue {
-            date_due: required(alloc, entries, 5)?,
-            responder_note: optional(alloc, entries, 6)?,
-            head: read_head(alloc, entries)?,
+            head,
+            date_due: rest.0,
+            responder_note: rest.1,
         })
     }
 }

@@ -1,6 +1,8 @@
 //! RECALL.
 use ber_leaf::IllString;
-use ill_parts::{Head, Node, Part, Typed, entries, headed, optional, optional_value, read_head};
+use ill_parts::{
+    Head, Node, Part, Typed, both, entries, headed, optional, optional_value, read_head,
+};
 use ill_schema::{NodeId, Value};
 use std::alloc::{AllocError, Global};
 
@@ -43,9 +45,10 @@ impl Part for Recall {
 
     fn read(alloc: Global, value: &Value) -> Result<Self, AllocError> {
         let entries = entries::<Self>(value);
+        let (head, responder_note) = both(read_head(alloc, entries), optional(alloc, entries, 5))?;
         Ok(Recall {
-            responder_note: optional(alloc, entries, 5)?,
-            head: read_head(alloc, entries)?,
+            head,
+            responder_note,
         })
     }
 }

@@ -2,7 +2,7 @@
 use crate::location::{LocationInfo, Locations};
 use ber_leaf::{DateText, IllString};
 use ill_parts::{
-    Node, Part, PostalAddress, Typed, alternative, chosen, entries, optional, optional_value,
+    Node, Part, PostalAddress, Typed, alternative, both, chosen, entries, optional, optional_value,
     required, required_value, sequence,
 };
 use ill_schema::{NodeId, Value};
@@ -51,10 +51,15 @@ impl Part for Conditional {
 
     fn read(alloc: Global, value: &Value) -> Result<Self, AllocError> {
         let entries = entries::<Self>(value);
+        let conditions = required(alloc, entries, 0)?;
+        let (date_for_reply, location_list) = both(
+            optional(alloc, entries, 1),
+            optional(alloc, entries, 2),
+        )?;
         Ok(Conditional {
-            conditions: required(alloc, entries, 0)?,
-            date_for_reply: optional(alloc, entries, 1)?,
-            location_list: optional(alloc, entries, 2)?,
+            conditions,
+            date_for_reply,
+            location_list,
         })
     }
 }
@@ -111,10 +116,15 @@ impl Part for Retry {
 
     fn read(alloc: Global, value: &Value) -> Result<Self, AllocError> {
         let entries = entries::<Self>(value);
+        let reason_not_available = optional(alloc, entries, 0)?;
+        let (retry_date, location_list) = both(
+            optional(alloc, entries, 1),
+            optional(alloc, entries, 2),
+        )?;
         Ok(Retry {
-            reason_not_available: optional(alloc, entries, 0)?,
-            retry_date: optional(alloc, entries, 1)?,
-            location_list: optional(alloc, entries, 2)?,
+            reason_not_available,
+            retry_date,
+            location_list,
         })
     }
 }
@@ -233,11 +243,14 @@ impl Part for WillSupply {
 
     fn read(alloc: Global, value: &Value) -> Result<Self, AllocError> {
         let entries = entries::<Self>(value);
+        let reason_will_supply = required(alloc, entries, 0)?;
+        let rest = both(optional(alloc, entries, 2), optional(alloc, entries, 3));
+        let (supply_date, rest) = both(optional(alloc, entries, 1), rest)?;
         Ok(WillSupply {
-            reason_will_supply: required(alloc, entries, 0)?,
-            supply_date: optional(alloc, entries, 1)?,
-            return_to_address: optional(alloc, entries, 2)?,
-            location_list: optional(alloc, entries, 3)?,
+            reason_will_supply,
+            supply_date,
+            return_to_address: rest.0,
+            location_list: rest.1,
         })
     }
 }
@@ -295,10 +308,15 @@ impl Part for HoldPlaced {
 
     fn read(alloc: Global, value: &Value) -> Result<Self, AllocError> {
         let entries = entries::<Self>(value);
+        let hold_placed_medium_type = optional(alloc, entries, 1)?;
+        let (estimated_date_available, location_list) = both(
+            required(alloc, entries, 0),
+            optional(alloc, entries, 2),
+        )?;
         Ok(HoldPlaced {
-            estimated_date_available: required(alloc, entries, 0)?,
-            hold_placed_medium_type: optional(alloc, entries, 1)?,
-            location_list: optional(alloc, entries, 2)?,
+            estimated_date_available,
+            hold_placed_medium_type,
+            location_list,
         })
     }
 }
@@ -352,9 +370,13 @@ impl Part for Estimate {
 
     fn read(alloc: Global, value: &Value) -> Result<Self, AllocError> {
         let entries = entries::<Self>(value);
+        let (cost_estimate, location_list) = both(
+            required(alloc, entries, 0),
+            optional(alloc, entries, 1),
+        )?;
         Ok(Estimate {
-            cost_estimate: required(alloc, entries, 0)?,
-            location_list: optional(alloc, entries, 1)?,
+            cost_estimate,
+            location_list,
         })
     }
 }
@@ -407,15 +429,15 @@ impl Part for Results {
 
     fn to_value(&self, alloc: Global) -> Result<Value, AllocError> {
         let (row, value) = match self {
-            Results::ConditionalResults(part) => (0, part.to_value(alloc)?),
-            Results::RetryResults(part) => (1, part.to_value(alloc)?),
-            Results::UnfilledResults(part) => (2, part.to_value(alloc)?),
-            Results::LocationsResults(part) => (3, part.to_value(alloc)?),
-            Results::WillSupplyResults(part) => (4, part.to_value(alloc)?),
-            Results::HoldPlacedResults(part) => (5, part.to_value(alloc)?),
-            Results::EstimateResults(part) => (6, part.to_value(alloc)?),
+            Results::ConditionalResults(part) => (0, part.to_value(alloc)),
+            Results::RetryResults(part) => (1, part.to_value(alloc)),
+            Results::UnfilledResults(part) => (2, part.to_value(alloc)),
+            Results::LocationsResults(part) => (3, part.to_value(alloc)),
+            Results::WillSupplyResults(part) => (4, part.to_value(alloc)),
+            Results::HoldPlacedResults(part) => (5, part.to_value(alloc)),
+            Results::EstimateResults(part) => (6, part.to_value(alloc)),
         };
-        alternative::<Self>(alloc, row, value)
+        alternative::<Self>(alloc, row, value?)
     }
 
     fn read(alloc: Global, value: &Value) -> Result<Self, AllocError> {

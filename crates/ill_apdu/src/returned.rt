@@ -129,10 +129,12 @@ impl Part for CheckedIn {
 
     fn read(alloc: Global, value: &Value) -> Result<Self, AllocError> {
         let entries = entries::<Self>(value);
+        let rest = both(required(alloc, entries, 5), optional(alloc, entries, 6));
+        let (head, rest) = both(read_head(alloc, entries), rest)?;
         Ok(CheckedIn {
-            date_checked_in: required(alloc, entries, 5)?,
-            responder_note: optional(alloc, entries, 6)?,
-            head: read_head(alloc, entries)?,
+            head,
+            date_checked_in: rest.0,
+            responder_note: rest.1,
         })
     }
 }

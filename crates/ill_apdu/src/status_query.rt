@@ -1,6 +1,8 @@
 //! STATUS-QUERY.
 use ber_leaf::IllString;
-use ill_parts::{Head, Node, Part, Typed, entries, headed, optional, optional_value, read_head};
+use ill_parts::{
+    Head, Node, Part, Typed, both, entries, headed, optional, optional_value, read_head,
+};
 use ill_schema::{NodeId, Value};
 use std::alloc::{AllocError, Global};
 
@@ -43,10 +45,8 @@ impl Part for StatusQuery {
 
     fn read(alloc: Global, value: &Value) -> Result<Self, AllocError> {
         let entries = entries::<Self>(value);
-        Ok(StatusQuery {
-            note: optional(alloc, entries, 5)?,
-            head: read_head(alloc, entries)?,
-        })
+        let (head, note) = both(read_head(alloc, entries), optional(alloc, entries, 5))?;
+        Ok(StatusQuery { head, note })
     }
 }
 

@@ -1,6 +1,8 @@
 //! MESSAGE.
 use ber_leaf::IllString;
-use ill_parts::{Head, Node, Part, Typed, entries, headed, read_head, required, required_value};
+use ill_parts::{
+    Head, Node, Part, Typed, both, entries, headed, read_head, required, required_value,
+};
 use ill_schema::{NodeId, Value};
 use std::alloc::{AllocError, Global};
 
@@ -43,10 +45,8 @@ impl Part for MessageApdu {
 
     fn read(alloc: Global, value: &Value) -> Result<Self, AllocError> {
         let entries = entries::<Self>(value);
-        Ok(MessageApdu {
-            note: required(alloc, entries, 5)?,
-            head: read_head(alloc, entries)?,
-        })
+        let (head, note) = both(read_head(alloc, entries), required(alloc, entries, 5))?;
+        Ok(MessageApdu { head, note })
     }
 }
 

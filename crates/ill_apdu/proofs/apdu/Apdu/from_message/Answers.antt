@@ -2,7 +2,7 @@ use Rattle.std.proofs.Common.{◌≢◌, ℕ, rules, sym, ap, ◌∙◌}
 use Rattle.ill_schema.specs.Message.{apdu_of}
 use Rattle.ill_schema.specs.Names.{apdu_node_of}
 use Rattle.ill_schema.specs.declared.node.NodeId.{NodeId}
-use Rattle.ill_apdu.proofs.Apdus.{body_is, is_in}
+use Rattle.ill_apdu.proofs.Apdus.{body_is, is_in, view_is}
 use Rattle.ill_apdu.proofs.apdu.Apdu.from_message.Goals as goal
 
 pub read-requires : goal.read-requires
@@ -177,3 +177,58 @@ unreachable-requires c =
         ),
       ),
     )
+
+-- The returns, one by one: the tactics that are tried of themselves take seconds at each.
+pub returns-in_ok-read-in-1 : goal.returns-in_ok-read-in-1
+returns-in_ok-read-in-1 c = view_is (apdu_of c.args.message.now) _ 1 _ _ c.apdu.ensures c.in-1.is c.in_ok-read-in-1.ensures c.body-body.ensures.content
+
+pub returns-in_ok-read-in-3 : goal.returns-in_ok-read-in-3
+returns-in_ok-read-in-3 c = view_is (apdu_of c.args.message.now) _ 3 _ _ c.apdu.ensures c.in-3.is c.in_ok-read-in-3.ensures c.body-body.ensures.content
+
+pub returns-in_ok-read-in-4 : goal.returns-in_ok-read-in-4
+returns-in_ok-read-in-4 c = view_is (apdu_of c.args.message.now) _ 4 _ _ c.apdu.ensures c.in-4.is c.in_ok-read-in-4.ensures c.body-body.ensures.content
+
+pub returns-in_ok-read-in-5 : goal.returns-in_ok-read-in-5
+returns-in_ok-read-in-5 c = view_is (apdu_of c.args.message.now) _ 5 _ _ c.apdu.ensures c.in-5.is c.in_ok-read-in-5.ensures c.body-body.ensures.content
+
+pub returns-in_ok-read-in-6 : goal.returns-in_ok-read-in-6
+returns-in_ok-read-in-6 c = view_is (apdu_of c.args.message.now) _ 6 _ _ c.apdu.ensures c.in-6.is c.in_ok-read-in-6.ensures c.body-body.ensures.content
+
+pub returns-in_ok-read-in-7 : goal.returns-in_ok-read-in-7
+returns-in_ok-read-in-7 c = view_is (apdu_of c.args.message.now) _ 7 _ _ c.apdu.ensures c.in-7.is c.in_ok-read-in-7.ensures c.body-body.ensures.content
+
+pub returns-in_ok-read-in-8 : goal.returns-in_ok-read-in-8
+returns-in_ok-read-in-8 c = view_is (apdu_of c.args.message.now) _ 8 _ _ c.apdu.ensures c.in-8.is c.in_ok-read-in-8.ensures c.body-body.ensures.content
+
+pub returns-in_ok-read-in-9 : goal.returns-in_ok-read-in-9
+returns-in_ok-read-in-9 c = view_is (apdu_of c.args.message.now) _ 9 _ _ c.apdu.ensures c.in-9.is c.in_ok-read-in-9.ensures c.body-body.ensures.content
+
+pub returns-in_ok-read-in-10 : goal.returns-in_ok-read-in-10
+returns-in_ok-read-in-10 c = view_is (apdu_of c.args.message.now) _ 10 _ _ c.apdu.ensures c.in-10.is c.in_ok-read-in-10.ensures c.body-body.ensures.content
+
+pub returns-in_ok-read-in-11 : goal.returns-in_ok-read-in-11
+returns-in_ok-read-in-11 c = view_is (apdu_of c.args.message.now) _ 11 _ _ c.apdu.ensures c.in-11.is c.in_ok-read-in-11.ensures c.body-body.ensures.content
+
+pub returns-in_ok-read-in-12 : goal.returns-in_ok-read-in-12
+returns-in_ok-read-in-12 c = view_is (apdu_of c.args.message.now) _ 12 _ _ c.apdu.ensures c.in-12.is c.in_ok-read-in-12.ensures c.body-body.ensures.content
+
+pub returns-in_ok-read-in-13 : goal.returns-in_ok-read-in-13
+returns-in_ok-read-in-13 c = view_is (apdu_of c.args.message.now) _ 13 _ _ c.apdu.ensures c.in-13.is c.in_ok-read-in-13.ensures c.body-body.ensures.content
+
+pub returns-in_ok-read-in-14 : goal.returns-in_ok-read-in-14
+returns-in_ok-read-in-14 c = view_is (apdu_of c.args.message.now) _ 14 _ _ c.apdu.ensures c.in-14.is c.in_ok-read-in-14.ensures c.body-body.ensures.content
+
+pub returns-in_ok-read-in-15 : goal.returns-in_ok-read-in-15
+returns-in_ok-read-in-15 c = view_is (apdu_of c.args.message.now) _ 15 _ _ c.apdu.ensures c.in-15.is c.in_ok-read-in-15.ensures c.body-body.ensures.content
+
+pub returns-in_ok-read-in-16 : goal.returns-in_ok-read-in-16
+returns-in_ok-read-in-16 c = view_is (apdu_of c.args.message.now) _ 16 _ _ c.apdu.ensures c.in-16.is c.in_ok-read-in-16.ensures c.body-body.ensures.content
+
+pub returns-in_ok-read-in-17 : goal.returns-in_ok-read-in-17
+returns-in_ok-read-in-17 c = view_is (apdu_of c.args.message.now) _ 17 _ _ c.apdu.ensures c.in-17.is c.in_ok-read-in-17.ensures c.body-body.ensures.content
+
+pub returns-in_ok-read-in-18 : goal.returns-in_ok-read-in-18
+returns-in_ok-read-in-18 c = view_is (apdu_of c.args.message.now) _ 18 _ _ c.apdu.ensures c.in-18.is c.in_ok-read-in-18.ensures c.body-body.ensures.content
+
+pub returns-in_ok-read-in-20 : goal.returns-in_ok-read-in-20
+returns-in_ok-read-in-20 c = view_is (apdu_of c.args.message.now) _ 20 _ _ c.apdu.ensures c.in-20.is c.in_ok-read-in-20.ensures c.body-body.ensures.content
