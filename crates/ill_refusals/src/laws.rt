@@ -47,8 +47,8 @@ pub fn headers_are_read()
     ensures lengths { LengthsAreRead }
 {}
 
-/// What is due where depends on a profile by whether tags may be bare, and by nothing else; so the profiles that a program can name
-/// have the same due.
+/// Two profiles in which tags may be bare, or in which none may, have the same due at each place; so do all those that a program can
+/// name.
 pub fn due_by_bare_tags()
     ensures tags { (p q : Profile) → p.bare ≡ q.bare
         → (row : Row) → tagging p row ≡ tagging q row }

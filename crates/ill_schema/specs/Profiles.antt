@@ -1,4 +1,4 @@
--- What the profiles mean that a program can name.
+-- The meanings of the profiles that a program can name.
 use Rattle.std.specs.Prelude.{ℕ, Bool, true, false}
 use Rattle.ber_leaf.specs.Profile.{Profile, is_no_shift}
 use Rattle.ill_schema.specs.declared.profile.Profile.{Profile as Named}
