@@ -20,7 +20,7 @@ pub and_parts : (a b : Bool) → IsTrue (a && b) → IsTrue a × IsTrue b
 and_parts true b h = (refl, h)
 and_parts false b h = absurd (cc)
 
-small : (a : ℕ) (r : List ℕ) → IsTrue (are_octets (a ∷ r)) → (a < 256) × IsTrue (are_octets r)
+pub small : (a : ℕ) (r : List ℕ) → IsTrue (are_octets (a ∷ r)) → (a < 256) × IsTrue (are_octets r)
 small a r h = let p = and_parts _ _ h in (ltb-true _ _ p.0, p.1)
 
 all_small : (ds : List ℕ) → IsTrue (are_octets ds) → AllBelowBase 256 ds

@@ -1,22 +1,27 @@
--- The contents of leaves: which octets hold which value, and which of them are its normal content (X.690, 8.2 to 8.4, 8.23 and 11.1).
+-- The contents of leaves: which octets hold which value, and which of them are its normal content (X.690, 8.2 to 8.4, 8.6 to 8.8, 8.19, 8.23, 8.25, 11.1 and 11.2).
 use Rattle.std.specs.Prelude.{◌≡◌, ℕ, ◌+◌, ◌-◌, ◌*◌, ◌/◌, ◌%◌, ◌^◌, suc, zero, ℤ, pos, negsuc, Bool, true, false, IsTrue, not, ◌&&◌, ◌||◌, nat_eq, nat_lt, nat_le, List, [], ◌∷◌, ◌++◌, length, codes, Option, Some, None, if◌then◌else◌}
 use Rattle.std.specs.List.{list_all, list_any}
 use Rattle.jiff.specs.Words.{days_in_month}
 use Rattle.std.specs.Int.Digits.{number_from_digits}
 use Rattle.ber_core.specs.Octets.{are_octets}
 use Rattle.ber_leaf.specs.declared.fault.LeafFault.{LeafFault}
-use Rattle.ber_leaf.specs.Simple.{Simple, flag, whole, date, time, printable, general, visible}
+use Rattle.ber_leaf.specs.Simple.{Simple, flag, whole, date, time, printable, general, visible, null, oid, binary, bits, descriptor}
 use Rattle.ber_leaf.specs.Profile.{Profile, is_graphic}
 
--- the kinds of leaves; the last five are strings, of which ISO-Date and ISO-Time have a form of their own
+-- the kinds of leaves; five are strings of characters, of which ISO-Date and ISO-Time have a form of their own
 pub data Leaf : Type 0 where
   boolean integer enumerated general_string visible_string printable_string iso_date iso_time : Leaf
+  null_type object_identifier octet_string bit_string object_descriptor : Leaf
 
--- strings may be in segments (8.23)
+-- strings of characters and of octets may be in segments (8.7, 8.23, 8.25). A string of bits may be, too (8.6.4), but its segments
+-- are not defined yet.
 abbrev pub is_string : Leaf → Bool
 is_string boolean = false
 is_string integer = false
 is_string enumerated = false
+is_string null_type = false
+is_string object_identifier = false
+is_string bit_string = false
 is_string _ = true
 
 -- the characters of PrintableString (X.680, 41.4)
@@ -59,6 +64,22 @@ is_padded [] = true
 is_padded (a ∷ []) = false
 is_padded (a ∷ b ∷ _) = (nat_eq a 0 && nat_lt b 128) || (nat_eq a 255 && nat_le 128 b)
 
+-- octets after this one are subidentifiers, or the rest of one and then others: an octet below 80 is the last of its subidentifier,
+-- and 80 is the first of none (8.19.2)
+abbrev pub goes_on : ℕ → List ℕ → Bool
+goes_on before [] = nat_lt before 0x80
+goes_on before (a ∷ octets) = not (nat_lt before 0x80 && nat_eq a 0x80) && goes_on a octets
+
+-- one subidentifier or more (8.19.2): the first begins as if another had ended before it, with 0
+abbrev pub is_oid : List ℕ → Bool
+is_oid octets = not (nat_eq (length octets) 0) && goes_on 0 octets
+
+-- an octet from 0 to 7, the number of unused bits, which is 0 where no octet follows, and then the bits (8.6.2)
+abbrev pub is_bits : List ℕ → Bool
+is_bits [] = false
+is_bits (u ∷ []) = nat_eq u 0
+is_bits (u ∷ _ ∷ _) = nat_le u 7
+
 -- no fault, or this one
 abbrev unless : Bool → LeafFault → Option LeafFault
 unless b fault = if b then None else Some fault
@@ -69,7 +90,7 @@ integer_fault octets =
     if is_padded octets then Some LeafFault.BadInteger
     else unless (nat_le (length octets) 8) LeafFault.IntegerTooLong
 
--- why octets are no content of a leaf (8.2.1, 8.3, 8.4, 8.23)
+-- why octets are no content of a leaf (8.2.1, 8.3, 8.4, 8.6.2, 8.8, 8.19, 8.23)
 abbrev pub content_fault : Profile → Leaf → List ℕ → Option LeafFault
 content_fault p boolean octets = unless (nat_eq (length octets) 1) LeafFault.BadBoolean
 content_fault p integer octets = integer_fault octets
@@ -79,6 +100,11 @@ content_fault p visible_string octets = unless (list_all is_graphic octets) Leaf
 content_fault p printable_string octets = unless (list_all is_printable octets) LeafFault.BadText
 content_fault p iso_date octets = unless (is_day octets) LeafFault.BadDate
 content_fault p iso_time octets = unless (is_time octets) LeafFault.BadTime
+content_fault p null_type octets = unless (nat_eq (length octets) 0) LeafFault.BadNull
+content_fault p object_identifier octets = unless (is_oid octets) LeafFault.BadOid
+content_fault p octet_string octets = None
+content_fault p bit_string octets = unless (is_bits octets) LeafFault.BadBits
+content_fault p object_descriptor octets = None
 
 -- two's complement, most significant octet first (8.3.3)
 abbrev pub integer_of : List ℕ → ℤ
@@ -86,6 +112,26 @@ integer_of [] = pos 0
 integer_of (a ∷ octets) =
     if nat_lt a 128 then pos (number_from_digits 256 (a ∷ octets))
     else negsuc (256 ^ suc (length octets) - 1 - number_from_digits 256 (a ∷ octets))
+
+-- the octet with its last u bits 0
+abbrev pub cleared : ℕ → ℕ → ℕ
+cleared u octet = octet / 2 ^ u * 2 ^ u
+
+-- the octets with the last u bits of the last one 0
+abbrev pub cleared_last : ℕ → List ℕ → List ℕ
+cleared_last u [] = []
+cleared_last u (a ∷ []) = cleared u a ∷ []
+cleared_last u (a ∷ b ∷ octets) = a ∷ cleared_last u (b ∷ octets)
+
+-- how many bits a content has: those of the octets after the first, but for the unused ones (8.6.2.2)
+abbrev pub bit_count : List ℕ → ℕ
+bit_count [] = 0
+bit_count (u ∷ octets) = 8 * length octets - u
+
+-- the octets that the bits of a content fill, the unused bits 0
+abbrev pub bit_octets : List ℕ → List ℕ
+bit_octets [] = []
+bit_octets (u ∷ octets) = cleared_last u octets
 
 -- the value that a content holds; a boolean is false where each octet, of which it has one, is 0 (8.2.2)
 abbrev pub value : Leaf → List ℕ → Simple
@@ -97,6 +143,11 @@ value visible_string octets = visible octets
 value printable_string octets = printable octets
 value iso_date octets = date octets
 value iso_time octets = time octets
+value null_type octets = null
+value object_identifier octets = oid octets
+value octet_string octets = binary octets
+value bit_string octets = bits (bit_count octets) (bit_octets octets)
+value object_descriptor octets = descriptor octets
 
 -- the octets are a content of the value
 abbrev pub Holds : Profile → Leaf → Simple → List ℕ → Type 0
@@ -124,7 +175,7 @@ abbrev integer_octets : ℤ → List ℕ
 integer_octets (pos n) = big_endian (octet_count n) n
 integer_octets (negsuc n) = big_endian (octet_count n) (256 ^ octet_count n - 1 - n)
 
--- DER's content of a value: a true boolean is FF (11.1), and every other value has but one content
+-- DER's content of a value: a true boolean is FF (11.1), unused bits are 0 (11.2.1), and every other value has but one content
 abbrev pub normal_content : Simple → List ℕ
 normal_content (flag false) = 0 ∷ []
 normal_content (flag true) = 0xFF ∷ []
@@ -134,3 +185,8 @@ normal_content (time octets) = octets
 normal_content (printable octets) = octets
 normal_content (general octets) = octets
 normal_content (visible octets) = octets
+normal_content null = []
+normal_content (oid octets) = octets
+normal_content (binary octets) = octets
+normal_content (bits n octets) = (8 * length octets - n) ∷ octets
+normal_content (descriptor octets) = octets

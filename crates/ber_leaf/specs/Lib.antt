@@ -2,5 +2,6 @@ pub mod Profile
 pub mod Simple
 pub mod Leaf
 pub mod Content
+pub mod Bits
 pub mod Strings
 pub mod code

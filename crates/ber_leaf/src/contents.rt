@@ -8,7 +8,8 @@ ghost use Rattle.ber_leaf.specs.Simple.{Simple};
 
 use crate::LeafFault;
 
-/// A kind of leaf: which octets are a content of which value (X.690, 8.2 to 8.4 and 8.23), and which of them DER takes (11.1).
+/// A kind of leaf: which octets are a content of which value (X.690, 8.2 to 8.4, 8.6 to 8.8, 8.19, 8.23 and 8.25), and which of them DER
+/// takes (11.1 and 11.2).
 ///
 /// No call takes memory.
 pub trait Leaf {

@@ -13,4 +13,10 @@ pub enum LeafFault {
     BadDate,
     /// Not six digits of a time of day.
     BadTime,
+    /// A NULL's content isn't empty (X.690, 8.8.2).
+    BadNull,
+    /// An OBJECT IDENTIFIER's content is empty, ends inside a subidentifier, or has one that begins with `80` (X.690, 8.19.2).
+    BadOid,
+    /// A BIT STRING's content doesn't begin with the number of unused bits, 0 to 7, or 0 where no octet follows (X.690, 8.6.2).
+    BadBits,
 }

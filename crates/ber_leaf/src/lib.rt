@@ -7,14 +7,20 @@
 //! ```
 #![tactic(auto)]
 
+mod bit_string;
 mod boolean;
 mod contents;
 mod fault;
 mod integer;
 mod laws;
+mod null;
+mod object_descriptor;
+mod object_identifier;
+mod octet_string;
 mod segments;
 mod text;
 
+pub use bit_string::BitString;
 pub use boolean::Flag;
 pub use contents::Leaf;
 pub use fault::LeafFault;
@@ -24,5 +30,9 @@ pub use laws::{
     normal_contents_tell_values_apart, octets_hold_one_out, octets_hold_one_value,
     profile_two_holds_what_one_does, whole_numbers_have_bounds,
 };
+pub use null::Null;
+pub use object_descriptor::ObjectDescriptor;
+pub use object_identifier::ObjectIdentifier;
+pub use octet_string::OctetString;
 pub use segments::Segments;
 pub use text::{DateText, GeneralText, IllString, PrintableText, TimeText, VisibleText};

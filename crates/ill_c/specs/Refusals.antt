@@ -26,6 +26,9 @@ cause_number Cause.BadDate = 16
 cause_number Cause.BadTime = 17
 cause_number Cause.TrailingBytes = 18
 cause_number Cause.NormalTooLong = 19
+cause_number Cause.BadNull = 20
+cause_number Cause.BadOid = 21
+cause_number Cause.BadBits = 22
 
 -- the name of a node, and that of its row
 abbrev pub dotted : Option (List ℕ × List ℕ) → List ℕ

@@ -69,6 +69,9 @@ fn cause_number(cause: Cause) -> u32
         Cause::BadTime => 17,
         Cause::TrailingBytes => 18,
         Cause::NormalTooLong => 19,
+        Cause::BadNull => 20,
+        Cause::BadOid => 21,
+        Cause::BadBits => 22,
     }
 }
 

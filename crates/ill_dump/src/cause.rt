@@ -47,6 +47,9 @@ fn cause_name(cause: Cause) -> &'static str {
         Cause::BadTime => "BadTime",
         Cause::TrailingBytes => "TrailingBytes",
         Cause::NormalTooLong => "NormalTooLong",
+        Cause::BadNull => "BadNull",
+        Cause::BadOid => "BadOid",
+        Cause::BadBits => "BadBits",
     }
 }
 
@@ -72,5 +75,8 @@ pub fn cause_text(cause: Cause) -> &'static str {
         Cause::BadTime => "it is not six digits of a time of day",
         Cause::TrailingBytes => "octets follow the message",
         Cause::NormalTooLong => "the normal form would have more than 1,048,576 octets",
+        Cause::BadNull => "a NULL has no octets",
+        Cause::BadOid => "the identifier has no octet, one more than it needs, or no end",
+        Cause::BadBits => "the first octet is not the number of unused bits",
     }
 }

@@ -1,24 +1,43 @@
 -- The normal content of a leaf that was read.
-use Rattle.std.proofs.Common.{◌≡◌, ℕ, zero, suc, Bool, false, List, [], ◌∷◌, Option, Some, None, IsTrue, refl, arith}
+use Rattle.std.proofs.Common.{◌≡◌, ℕ, zero, suc, Bool, false, List, [], ◌∷◌, Option, Some, None, IsTrue, refl, arith, length, eqb-true}
 use Rattle.std.specs.Prelude.{nat_eq, if◌then◌else◌}
 use Rattle.ber_core.specs.Octets.{are_octets}
-use Rattle.ber_leaf.specs.Leaf.{Leaf, boolean, integer, enumerated, value, normal_content, content_fault}
+use Rattle.ber_leaf.specs.Leaf.{Leaf, boolean, integer, enumerated, null_type, bit_string, value, normal_content, content_fault}
 use Rattle.ber_leaf.specs.Profile.{Profile}
 use Rattle.ill_schema.specs.Content.{Content, alternative}
 use Rattle.ill_schema.specs.Presence.{is_default, is_default_of}
 use Rattle.ill_schema.specs.Table.{kind_of}
 use Rattle.ill_schema.specs.declared.{node.Kind.Kind, part.Presence.Presence, part.Row.Row}
+use Rattle.ill_elements.specs.LeafTypes.{leaf_is}
+use Rattle.ill_elements.specs.declared.leaf_type.LeafType.{LeafType}
+use Rattle.ill_elements.specs.declared.leaf_type.LeafType.TheVariants as code
 use Rattle.ill_elements.specs.Written.{left_away, row_slot}
 use Rattle.ill_elements.specs.declared.due.Next.{Next}
 use Rattle.ill_elements.specs.declared.due.Slot.{Slot}
 use Rattle.ber_leaf.proofs.Integers.{integer_same}
+use Rattle.ber_leaf.proofs.Leaves.{tested}
+use Rattle.ber_leaf.specs.declared.fault.LeafFault.{LeafFault}
 
--- any content but that of a boolean is normal
-pub normal_as_read : (p : Profile) (l : Leaf) (o : List ℕ) → (l ≡ boolean → ⊥) → IsTrue (are_octets o) → content_fault p l o ≡ None → normal_content (value l o) ≡ o
-normal_as_read p boolean o n h e = absurd (n refl)
-normal_as_read p integer o n h e = integer_same o h p e
-normal_as_read p enumerated o n h e = integer_same o h p e
-normal_as_read p _ o n h e = refl
+-- any content but that of a boolean, or of bits, is normal
+pub normal_as_read : (p : Profile) (l : Leaf) (o : List ℕ) → (l ≡ boolean → ⊥) → (l ≡ bit_string → ⊥) → IsTrue (are_octets o) → content_fault p l o ≡ None → normal_content (value l o) ≡ o
+normal_as_read p boolean o n m h e = absurd (n refl)
+normal_as_read p bit_string o n m h e = absurd (m refl)
+normal_as_read p integer o n m h e = integer_same o h p e
+normal_as_read p enumerated o n m h e = integer_same o h p e
+normal_as_read p null_type [] n m h e = refl
+normal_as_read p null_type (a ∷ o) n m h e = absurd (omega (arith, eqb-true (length (a ∷ o)) 0 (tested (nat_eq (length (a ∷ o)) 0) LeafFault.BadNull e)))
+normal_as_read p _ o n m h e = refl
+
+-- the code names no bits
+pub no_bits : (l : LeafType) → leaf_is l ≡ bit_string → ⊥
+no_bits code.Boolean e = cc
+no_bits code.Integer e = cc
+no_bits code.Enumerated e = cc
+no_bits code.General e = cc
+no_bits code.Visible e = cc
+no_bits code.Printable e = cc
+no_bits code.Date e = cc
+no_bits code.Time e = cc
 
 -- a boolean's content is one octet, and its normal content is 00 or FF as that is 0 or not
 pub normal_boolean : (p : Profile) (o : List ℕ) → content_fault p boolean o ≡ None

@@ -26,8 +26,9 @@ use Rattle.json.proofs.Printed.Trees.{ArePrintable-json_tokens, value-json_token
 use Rattle.ber_core.specs.Octets.{are_octets}
 use Rattle.ber_leaf.specs.Leaf.{Leaf, Holds, enumerated, integer, normal_content}
 use Rattle.ber_leaf.specs.Profile.{Profile}
-use Rattle.ber_leaf.specs.Simple.{Simple, flag, whole, date, time, printable, general, visible}
+use Rattle.ber_leaf.specs.Simple.{Simple, flag, whole, date, time, printable, general, visible, null, oid, binary, bits, descriptor}
 use Rattle.ber_leaf.proofs.Integers.{whole_bounds}
+use Rattle.ill_schema.proofs.KnownLeaves.{is_known, known_leaf}
 use Rattle.ill_schema.proofs.Tags.{row_closed}
 use Rattle.ill_schema.specs.declared.node.Kind.{Kind}
 use Rattle.ill_schema.specs.declared.node.LeafKind.{LeafKind}
@@ -135,6 +136,11 @@ leaf_sort (time o) = 3
 leaf_sort (printable o) = 4
 leaf_sort (general o) = 5
 leaf_sort (visible o) = 5
+leaf_sort null = 6
+leaf_sort (oid o) = 7
+leaf_sort (binary o) = 8
+leaf_sort (bits n o) = 9
+leaf_sort (descriptor o) = 10
 
 abbrev kind_sort : Kind → ℕ
 kind_sort (Kind.Leaf LeafKind.Boolean) = 0
@@ -144,10 +150,15 @@ kind_sort (Kind.Leaf LeafKind.Date) = 2
 kind_sort (Kind.Leaf LeafKind.Time) = 3
 kind_sort (Kind.Leaf LeafKind.Printable) = 4
 kind_sort Kind.IllString = 5
-kind_sort Kind.Seq = 6
-kind_sort Kind.SeqOf = 7
-kind_sort Kind.Choice = 8
-kind_sort Kind.Any = 9
+kind_sort (Kind.Leaf LeafKind.Null) = 6
+kind_sort (Kind.Leaf LeafKind.ObjectIdentifier) = 7
+kind_sort (Kind.Leaf LeafKind.OctetString) = 8
+kind_sort (Kind.Leaf LeafKind.BitString) = 9
+kind_sort (Kind.Leaf LeafKind.ObjectDescriptor) = 10
+kind_sort Kind.Seq = 11
+kind_sort Kind.SeqOf = 12
+kind_sort Kind.Choice = 13
+kind_sort Kind.Any = 14
 
 sort_of : (k : Kind) (v : Simple) (l : Leaf) → leaf_of k v ≡ Some l → kind_sort k ≡ leaf_sort v
 sort_of (Kind.Leaf LeafKind.Boolean) (flag b) l e = refl
@@ -156,6 +167,11 @@ sort_of (Kind.Leaf LeafKind.Enumerated) (whole z) l e = refl
 sort_of (Kind.Leaf LeafKind.Date) (date o) l e = refl
 sort_of (Kind.Leaf LeafKind.Time) (time o) l e = refl
 sort_of (Kind.Leaf LeafKind.Printable) (printable o) l e = refl
+sort_of (Kind.Leaf LeafKind.Null) null l e = refl
+sort_of (Kind.Leaf LeafKind.ObjectIdentifier) (oid o) l e = refl
+sort_of (Kind.Leaf LeafKind.OctetString) (binary o) l e = refl
+sort_of (Kind.Leaf LeafKind.BitString) (bits n o) l e = refl
+sort_of (Kind.Leaf LeafKind.ObjectDescriptor) (descriptor o) l e = refl
 sort_of Kind.IllString (general o) l e = refl
 sort_of Kind.IllString (visible o) l e = refl
 sort_of _ _ l e = absurd cc
@@ -165,19 +181,24 @@ abbrev first_letter : Json → ℕ
 first_letter (json.object (json.member (letter ∷ letters) j ms)) = letter
 first_letter _ = 0
 
-leaf_once : (p : Profile) (row : List ℕ) (k : Kind) (v w : Simple) (l m : Leaf) → leaf_of k v ≡ Some l → leaf_of k w ≡ Some m → Holds p l v (normal_content v) → Holds p m w (normal_content w)
+leaf_once : (p : Profile) (row : List ℕ) (k : Kind) (v w : Simple) (l m : Leaf) → IsTrue (is_known v) → leaf_of k v ≡ Some l → leaf_of k w ≡ Some m → Holds p l v (normal_content v) → Holds p m w (normal_content w)
     → leaf_json row v ≡ leaf_json row w → v ≡ w
-leaf_once p row k (flag a) (flag b) l m f g h i e = let q : a ≡ b = cc in ap flag q
-leaf_once p row k (whole y) (whole z) l m f g h i e =
+leaf_once p row k (flag a) (flag b) l m known f g h i e = let q : a ≡ b = cc in ap flag q
+leaf_once p row k (whole y) (whole z) l m known f g h i e =
     ap whole (signed_decimal_injective y z (whole_size p k l y f h) (whole_size p k m z g i) (sym (digits y (number_name row y)) ∙ ap digits_of e ∙ digits z (number_name row z)))
-leaf_once p row k (date o) (date q) l m f g h i e = let same : characters o ≡ characters q = cc in ap date (characters_once o q h.0 i.0 same)
-leaf_once p row k (time o) (time q) l m f g h i e = let same : characters o ≡ characters q = cc in ap time (characters_once o q h.0 i.0 same)
-leaf_once p row k (printable o) (printable q) l m f g h i e = let same : characters o ≡ characters q = cc in ap printable (characters_once o q h.0 i.0 same)
-leaf_once p row k (general o) (general q) l m f g h i e = let same : characters o ≡ characters q = cc in ap general (characters_once o q h.0 i.0 same)
-leaf_once p row k (visible o) (visible q) l m f g h i e = let same : characters o ≡ characters q = cc in ap visible (characters_once o q h.0 i.0 same)
-leaf_once p row k (general o) (visible q) l m f g h i e = absurd (let letter : 103 ≡ 118 = ap first_letter e in omega (arith, letter))
-leaf_once p row k (visible o) (general q) l m f g h i e = absurd (let letter : 118 ≡ 103 = ap first_letter e in omega (arith, letter))
-leaf_once p row k v w l m f g h i e = absurd (let q : leaf_sort v ≡ leaf_sort w = sym (sort_of k v l f) ∙ sort_of k w m g in cc)
+leaf_once p row k (date o) (date q) l m known f g h i e = let same : characters o ≡ characters q = cc in ap date (characters_once o q h.0 i.0 same)
+leaf_once p row k (time o) (time q) l m known f g h i e = let same : characters o ≡ characters q = cc in ap time (characters_once o q h.0 i.0 same)
+leaf_once p row k (printable o) (printable q) l m known f g h i e = let same : characters o ≡ characters q = cc in ap printable (characters_once o q h.0 i.0 same)
+leaf_once p row k (general o) (general q) l m known f g h i e = let same : characters o ≡ characters q = cc in ap general (characters_once o q h.0 i.0 same)
+leaf_once p row k (visible o) (visible q) l m known f g h i e = let same : characters o ≡ characters q = cc in ap visible (characters_once o q h.0 i.0 same)
+leaf_once p row k (general o) (visible q) l m known f g h i e = absurd (let letter : 103 ≡ 118 = ap first_letter e in omega (arith, letter))
+leaf_once p row k (visible o) (general q) l m known f g h i e = absurd (let letter : 118 ≡ 103 = ap first_letter e in omega (arith, letter))
+leaf_once p row k null w l m known f g h i e = absurd cc
+leaf_once p row k (oid o) w l m known f g h i e = absurd cc
+leaf_once p row k (binary o) w l m known f g h i e = absurd cc
+leaf_once p row k (bits n o) w l m known f g h i e = absurd cc
+leaf_once p row k (descriptor o) w l m known f g h i e = absurd cc
+leaf_once p row k v w l m known f g h i e = absurd (let q : leaf_sort v ≡ leaf_sort w = sym (sort_of k v l f) ∙ sort_of k w m g in cc)
 
 -- ---- the names of a node's rows
 
@@ -265,10 +286,10 @@ no_later p node i j (row ∷ rows) (present c es) r v ms at lt from fit e =
 
 abbrev content_sort : Content → ℕ
 content_sort (simple v) = leaf_sort v
-content_sort (sequence es) = 6
-content_sort (list is) = 7
-content_sort (alternative n c) = 8
-content_sort (foreign T) = 9
+content_sort (sequence es) = 11
+content_sort (list is) = 12
+content_sort (alternative n c) = 13
+content_sort (foreign T) = 14
 
 fit_sort : (p : Profile) (c : Content) (node : NodeId) → Fits p c node → kind_sort (kind_of node) ≡ content_sort c
 fit_sort p (simple v) node h = sort_of (kind_of node) v h.0 h.1
@@ -277,7 +298,7 @@ fit_sort p (list is) node h = ap kind_sort h.0
 fit_sort p (alternative n c) node h = ap kind_sort h.1.0
 fit_sort p (foreign T) node h = ap kind_sort h.0
 
-small_sort : (v : Simple) → leaf_sort v < 6
+small_sort : (v : Simple) → leaf_sort v < 11
 small_sort (flag b) = omega arith
 small_sort (whole z) = omega arith
 small_sort (date o) = omega arith
@@ -285,6 +306,11 @@ small_sort (time o) = omega arith
 small_sort (printable o) = omega arith
 small_sort (general o) = omega arith
 small_sort (visible o) = omega arith
+small_sort null = omega arith
+small_sort (oid o) = omega arith
+small_sort (binary o) = omega arith
+small_sort (bits n o) = omega arith
+small_sort (descriptor o) = omega arith
 
 other : (p : Profile) (c d : Content) (node : NodeId) → Fits p c node → Fits p d node → content_sort c ≡ content_sort d
 other p c d node h k = sym (fit_sort p c node h) ∙ fit_sort p d node k
@@ -298,7 +324,7 @@ closed_at node i row e k = row_closed node i row e (subst (λ n. kind_of n ≡ K
 
 mutual
   pub value_once : (p : Profile) (row : List ℕ) (node : NodeId) (c d : Content) → (kind_of node ≡ Kind.Any → ⊥) → Fits p c node → Fits p d node → value_json row node c ≡ value_json row node d → c ≡ d
-  value_once p row node (simple v) (simple w) closed h k e = ap simple (leaf_once p row (kind_of node) v w h.0 k.0 h.1 k.1 h.2 k.2 e)
+  value_once p row node (simple v) (simple w) closed h k e = ap simple (leaf_once p row (kind_of node) v w h.0 k.0 (known_leaf node v h.0 h.1) h.1 k.1 h.2 k.2 e)
   value_once p row node (sequence es) (sequence fs) closed h k e = ap sequence (entries_once p node 0 (rows_of node) es fs (from_all (rows_of node)) h.1 k.1 (object_same _ _ e))
   value_once p row node (list is) (list js) closed h k e = ap list (items_once p row node is js h.1 k.1 (let q : item_values row (row_node node 0) is ≡ item_values row (row_node node 0) js = cc in q))
   value_once p row node (alternative n c) (alternative m d) closed h k e =
@@ -426,18 +452,23 @@ number_written : (z : ℤ) (name : Option (List ℕ)) → mag z < 2 ^ 63 → IsU
 number_written z None h u = (IsNumber-signed_decimal z h, tt)
 number_written z (Some name) h u = ((IsNumber-signed_decimal z h, (tt, tt)), (IsUtf8-are_low _ refl, tt, (IsUtf8-are_low _ refl, u, tt)))
 
-leaf_written : (p : Profile) (row : List ℕ) (k : Kind) (v : Simple) (l : Leaf) → leaf_of k v ≡ Some l → Holds p l v (normal_content v) → IsWritten (leaf_json row v)
-leaf_written p row k (flag b) l e h = (tt, tt)
-leaf_written p row k (whole z) l e h = number_written z (number_name row z) (whole_size p k l z e h) (IsUtf8-number_name row z)
-leaf_written p row k (date o) l e h = (tt, IsUtf8-characters o h.0)
-leaf_written p row k (time o) l e h = (tt, IsUtf8-characters o h.0)
-leaf_written p row k (printable o) l e h = (tt, IsUtf8-characters o h.0)
-leaf_written p row k (general o) l e h = ((tt, tt), (IsUtf8-are_low _ refl, IsUtf8-characters o h.0, tt))
-leaf_written p row k (visible o) l e h = ((tt, tt), (IsUtf8-are_low _ refl, IsUtf8-characters o h.0, tt))
+leaf_written : (p : Profile) (row : List ℕ) (k : Kind) (v : Simple) (l : Leaf) → IsTrue (is_known v) → leaf_of k v ≡ Some l → Holds p l v (normal_content v) → IsWritten (leaf_json row v)
+leaf_written p row k (flag b) l known e h = (tt, tt)
+leaf_written p row k (whole z) l known e h = number_written z (number_name row z) (whole_size p k l z e h) (IsUtf8-number_name row z)
+leaf_written p row k (date o) l known e h = (tt, IsUtf8-characters o h.0)
+leaf_written p row k (time o) l known e h = (tt, IsUtf8-characters o h.0)
+leaf_written p row k (printable o) l known e h = (tt, IsUtf8-characters o h.0)
+leaf_written p row k (general o) l known e h = ((tt, tt), (IsUtf8-are_low _ refl, IsUtf8-characters o h.0, tt))
+leaf_written p row k (visible o) l known e h = ((tt, tt), (IsUtf8-are_low _ refl, IsUtf8-characters o h.0, tt))
+leaf_written p row k null l known e h = absurd cc
+leaf_written p row k (oid o) l known e h = absurd cc
+leaf_written p row k (binary o) l known e h = absurd cc
+leaf_written p row k (bits n o) l known e h = absurd cc
+leaf_written p row k (descriptor o) l known e h = absurd cc
 
 mutual
   value_written : (p : Profile) (row : List ℕ) (node : NodeId) (c : Content) → (kind_of node ≡ Kind.Any → ⊥) → Fits p c node → IsWritten (value_json row node c)
-  value_written p row node (simple v) closed h = leaf_written p row (kind_of node) v h.0 h.1 h.2
+  value_written p row node (simple v) closed h = leaf_written p row (kind_of node) v h.0 (known_leaf node v h.0 h.1) h.1 h.2
   value_written p row node (sequence es) closed h = entries_written p node 0 (rows_of node) es (from_all (rows_of node)) h.1
   value_written p row node (list is) closed h = items_written p row node is h.1
   value_written p row node (alternative n c) closed h =

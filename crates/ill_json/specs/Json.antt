@@ -9,13 +9,13 @@ use Rattle.json.specs.Json as json
 use Rattle.json.specs.Print.{print}
 use Rattle.json.specs.Tree.{json_tokens}
 use Rattle.ber_core.specs.Der.{encoding}
-use Rattle.ber_leaf.specs.Simple.{Simple, flag, whole, date, time, printable, general, visible}
+use Rattle.ber_leaf.specs.Simple.{Simple, flag, whole, date, time, printable, general, visible, null, oid, binary, bits, descriptor}
 use Rattle.ill_schema.specs.declared.node.NodeId.{NodeId}
 use Rattle.ill_schema.specs.declared.node.NodeId.TheVariants.{IllApdu}
 use Rattle.ill_schema.specs.Apdu.{Apdu}
 use Rattle.ill_schema.specs.Content.{Content, simple, sequence, list, alternative, foreign, Entries, no_entries, absent, present, Items, no_items, item}
 use Rattle.ill_text.specs.Numbers.{number_name}
-use Rattle.ill_text.specs.Shown.{hexadecimal, row_name, row_node}
+use Rattle.ill_text.specs.Shown.{hexadecimal, oid_text, row_name, row_node}
 use Rattle.ill_json.specs.declared.line.Head.{Head}
 
 -- each octet is the character of its number, in UTF-8
@@ -40,6 +40,11 @@ leaf_json row (time octets) = string (characters octets)
 leaf_json row (printable octets) = string (characters octets)
 leaf_json row (general octets) = text_json (codes "general") octets
 leaf_json row (visible octets) = text_json (codes "visible") octets
+leaf_json row null = json.null
+leaf_json row (oid octets) = string (oid_text octets)
+leaf_json row (binary octets) = object (member (codes "octets") (string (hexadecimal octets)) no_members)
+leaf_json row (bits n octets) = object (member (codes "bits") (number (decimal n)) (member (codes "octets") (string (hexadecimal octets)) no_members))
+leaf_json row (descriptor octets) = string (characters octets)
 
 abbrev mutual
   -- a value of this type, in a row of this name; a foreign tree by its octets in DER, in hexadecimal

@@ -26,6 +26,9 @@ cause_name Cause.BadDate = codes "BadDate"
 cause_name Cause.BadTime = codes "BadTime"
 cause_name Cause.TrailingBytes = codes "TrailingBytes"
 cause_name Cause.NormalTooLong = codes "NormalTooLong"
+cause_name Cause.BadNull = codes "BadNull"
+cause_name Cause.BadOid = codes "BadOid"
+cause_name Cause.BadBits = codes "BadBits"
 
 -- the name of a node, and that of its row
 abbrev pub part_words : Option (List ℕ × List ℕ) → List ℕ

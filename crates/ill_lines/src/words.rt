@@ -67,6 +67,9 @@ fn cause_name(cause: Cause) -> &'static str
         Cause::BadTime => "BadTime",
         Cause::TrailingBytes => "TrailingBytes",
         Cause::NormalTooLong => "NormalTooLong",
+        Cause::BadNull => "BadNull",
+        Cause::BadOid => "BadOid",
+        Cause::BadBits => "BadBits",
     }
 }
 

@@ -33,7 +33,7 @@ use Rattle.ill_elements.specs.declared.leaf_type.LeafType.{LeafType}
 use Rattle.ill_read.specs.declared.octets.Octets.{Octets}
 use Rattle.ill_read.proofs.DeliveredEntries.{pushed_apart}
 use Rattle.ill_elements.proofs.DueTags.{MayOpen, due_apart, kept}
-use Rattle.ill_elements.proofs.NormalLeaves.{normal_as_read}
+use Rattle.ill_elements.proofs.NormalLeaves.{no_bits, normal_as_read}
 use Rattle.ill_read.proofs.OpenedElements.{only_segment}
 use Rattle.ill_read.proofs.WrittenElements.{entry_written, ended_written}
 
@@ -119,7 +119,7 @@ ended_octets : (e : CodeElement) (n : Next) (entries : List (Option Content)) (t
     encoding (normal_element (element_is e) tag c) ≡ identifier tag (form_of e) ++ (shortest_length (length contents) ++ contents)
 ended_octets (LeafElement l) n entries ts text c tag h right k =
     ap (λ x. encoding (normal_element (element_is (LeafElement l)) tag x)) k
-    ∙ ap (λ x. encoding (primitive tag x)) (normal_as_read profile_two (leaf_is l) text (no_boolean n h) right.0 right.1)
+    ∙ ap (λ x. encoding (primitive tag x)) (normal_as_read profile_two (leaf_is l) text (no_boolean n h) (no_bits l) right.0 right.1)
   where
     no_boolean : (n : Next) → IsHeld (LeafElement l) n entries ts → leaf_is l ≡ boolean → ⊥
     no_boolean Segments h e = let q : is_string boolean ≡ true = subst (λ x. is_string x ≡ true) e h.0 in cc

@@ -3,9 +3,10 @@ use Rattle.std.proofs.Common.{◌≡◌, ℕ, ℤ, ◌+◌, ◌*◌, ◌≤◌, 
 use Rattle.ber_core.specs.Foreign.{is_foreign, foreign_levels}
 use Rattle.ber_core.specs.Identifier.{Tag, identifier}
 use Rattle.ber_core.specs.Tree.{Tree, Trees, primitive, constructed, none, more, text, text_all, Spells, SpellsAll}
-use Rattle.ber_leaf.specs.Leaf.{Leaf, boolean, integer, enumerated, general_string, visible_string, printable_string, iso_date, iso_time, value}
+use Rattle.ber_leaf.specs.Leaf.{Leaf, boolean, integer, enumerated, general_string, visible_string, printable_string, iso_date, iso_time, null_type, object_identifier, octet_string, bit_string, object_descriptor, value}
 use Rattle.ber_leaf.specs.Profile.{Profile}
-use Rattle.ber_leaf.specs.Simple.{Simple, flag, whole, date, time, printable, general, visible}
+use Rattle.ber_leaf.proofs.Bits.{length-cleared}
+use Rattle.ber_leaf.specs.Simple.{Simple, flag, whole, date, time, printable, general, visible, null, oid, binary, bits, descriptor}
 use Rattle.ill_schema.specs.declared.node.Kind.{Kind}
 use Rattle.ill_schema.specs.declared.node.NodeId.{NodeId}
 use Rattle.ill_schema.specs.declared.node.NodeId.TheVariants.{IllApdu}
@@ -80,6 +81,12 @@ leaf_text visible_string octets = omega arith
 leaf_text printable_string octets = omega arith
 leaf_text iso_date octets = omega arith
 leaf_text iso_time octets = omega arith
+leaf_text null_type octets = omega arith
+leaf_text object_identifier octets = omega arith
+leaf_text octet_string octets = omega arith
+leaf_text bit_string [] = omega arith
+leaf_text bit_string (u ∷ octets) = omega (arith, length-cleared u octets)
+leaf_text object_descriptor octets = omega arith
 
 wrapped : (c : Content) (t : Tag) (U T : Tree) → T ≡ constructed t (more U none) → IsWithin c U → IsWithin c T
 wrapped c t U T e h =
@@ -101,6 +108,11 @@ same_text k d (time o) h = absurd cc
 same_text k d (printable o) h = absurd cc
 same_text k d (general o) h = absurd cc
 same_text k d (visible o) h = absurd cc
+same_text k d null h = absurd cc
+same_text k d (oid o) h = absurd cc
+same_text k d (binary o) h = absurd cc
+same_text k d (bits n o) h = absurd cc
+same_text k d (descriptor o) h = absurd cc
 
 default_text : (pr : Presence) (k : Kind) (c : Content) → IsTrue (is_default_of pr k c) → (text_octets c ≡ 0) × (list_items c ≡ 0)
 default_text (Presence.Default d) k (simple v) h = (same_text k d v h, refl)

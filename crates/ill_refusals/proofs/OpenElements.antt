@@ -1,10 +1,10 @@
 -- What may be in an open element, one tree after another, and what it is when it ends.
-use Rattle.std.proofs.Common.{◌≡◌, ℕ, zero, suc, ℤ, pos, ◌+◌, Bool, true, false, ◌||◌, List, [], ◌∷◌, Option, Some, None, IsTrue, refl, sym, ap, ap₂, subst, ◌∙◌, inl, inr, map, slice_get}
+use Rattle.std.proofs.Common.{◌≡◌, ℕ, zero, suc, ℤ, pos, ◌+◌, ◌-◌, Bool, true, false, ◌||◌, List, [], ◌∷◌, Option, Some, None, IsTrue, refl, sym, ap, ap₂, subst, ◌∙◌, inl, inr, map, slice_get}
 use Rattle.std.specs.Prelude.{flat_map, if◌then◌else◌}
 use Rattle.std.specs.List.{list_all}
 use Rattle.std.specs.Ordering.{int_eq}
 use Rattle.std.specs.Cmp.{signed_Decides}
-use Rattle.ber_core.specs.Foreign.{is_foreign, are_foreign}
+use Rattle.ber_core.specs.Foreign.{is_foreign, are_foreign, foreign_levels}
 use Rattle.ber_core.proofs.Foreign.{both, has_identified}
 use Rattle.ber_core.specs.Identifier.{Tag, HasIdentifier}
 use Rattle.ber_core.specs.Tree.{Tree, Trees, primitive, constructed, none, more, tag_of, AreSegments, text_all, octet_string}
@@ -123,7 +123,7 @@ due_found p t (either c) d ok h = elim (two_cases (same_tag t sequence_tag)) [
   | inl e ↦ found_in p t (c ∷ []) d (inner_proper p c ok.0 ok.1 (λ q. let z : Kind.Seq ≡ Kind.Any = sym ok.2 ∙ q in cc), tt) (sym (ap (λ b. elim b as (λ _. Option Due) [ true ↦ due_in p t (c ∷ []) | false ↦ due_in p t (components p c.node) ]) e) ∙ h)
   | inr e ↦ found_in p t (components p c.node) d (components_proper p c.node) (sym (ap (λ b. elim b as (λ _. Option Due) [ true ↦ due_in p t (c ∷ []) | false ↦ due_in p t (components p c.node) ]) e) ∙ h)
 ]
-due_found p t (anything c) d ok h = let q : Some (any 19 (rows [])) ≡ Some d = h in let r : any 19 (rows []) ≡ d = cc in subst (λ x. IsFound p t x) r tt
+due_found p t (anything c) d ok h = let q : Some (any (foreign_levels - 1) (rows [])) ≡ Some d = h in let r : any (foreign_levels - 1) (rows []) ≡ d = cc in subst (λ x. IsFound p t x) r tt
 due_found p t (foreigns zero) d ok h = absurd (let q : None ≡ Some d = h in cc)
 due_found p t (foreigns (suc n)) d ok h = let q : Some (any n (foreigns (suc n))) ≡ Some d = h in let r : any n (foreigns (suc n)) ≡ d = cc in subst (λ x. IsFound p t x) r tt
 due_found p t segments d ok h = elim (two_cases (same_tag t octet_string)) [
@@ -198,6 +198,11 @@ same_simple (Kind.Leaf LeafKind.Enumerated) x = (signed_Decides x x).1 refl
 same_simple (Kind.Leaf LeafKind.Date) x = (signed_Decides x x).1 refl
 same_simple (Kind.Leaf LeafKind.Time) x = (signed_Decides x x).1 refl
 same_simple (Kind.Leaf LeafKind.Printable) x = (signed_Decides x x).1 refl
+same_simple (Kind.Leaf LeafKind.Null) x = (signed_Decides x x).1 refl
+same_simple (Kind.Leaf LeafKind.ObjectIdentifier) x = (signed_Decides x x).1 refl
+same_simple (Kind.Leaf LeafKind.OctetString) x = (signed_Decides x x).1 refl
+same_simple (Kind.Leaf LeafKind.BitString) x = (signed_Decides x x).1 refl
+same_simple (Kind.Leaf LeafKind.ObjectDescriptor) x = (signed_Decides x x).1 refl
 same_simple Kind.Seq x = (signed_Decides x x).1 refl
 same_simple Kind.SeqOf x = (signed_Decides x x).1 refl
 same_simple Kind.Choice x = (signed_Decides x x).1 refl
@@ -399,15 +404,15 @@ read_foreigns p (suc n) (more T ts) h =
     both _ _ (subst (λ d. IsWhole p d T) r h.2) (read_foreigns p (suc n) ts (subst (λ d. AreWhole p (next_of d) ts) r h.3))
 
 anything_read : (p : Profile) (c : Component) (U : Tree) → IsTrue (is_foreign 20 U) → AreRead p (anything c) (more U none)
-anything_read p c U h = record { whole = (any 19 (rows []), refl, h, tt); complete = refl }
+anything_read p c U h = record { whole = (any (foreign_levels - 1) (rows []), refl, h, tt); complete = refl }
 
 read_anything : (p : Profile) (c : Component) (t : Tag) (ts : Trees) → kind_of c.node ≡ Kind.Any → AreRead p (anything c) ts
     → (tag : Tag) × (U : Tree) × (constructed t ts ≡ constructed tag (more U none)) × ((v : Content) × Means p v c.node untagged U)
 read_anything p c t none e h = absurd (let q : Some c.part ≡ None = h.complete in cc)
 read_anything p c t (more U us) e h =
     let w = h.whole in
-    let q : Some (any 19 (rows [])) ≡ Some w.0 = w.1 in
-    let r : w.0 ≡ any 19 (rows []) = cc in
+    let q : Some (any (foreign_levels - 1) (rows [])) ≡ Some w.0 = w.1 in
+    let r : w.0 ≡ any (foreign_levels - 1) (rows []) = cc in
     let i : IsTrue (is_foreign 20 U) = subst (λ d. IsWhole p d U) r w.2 in
     (t, U, ap (λ z. constructed t (more U z)) (no_more us (subst (λ d. AreWhole p (next_of d) us) r w.3)), (content.foreign U, (e, (refl, i))))
   where

@@ -1,9 +1,7 @@
 -- What is read of headers is what identifiers and lengths are.
-use Rattle.std.proofs.Common.{◌≡◌, ℕ, Bool, true, List, [], ◌∷◌, ◌++◌, IsTrue, refl, sym, ap, subst, ◌∙◌, append-nil, append_assoc}
-use Rattle.ber_core.specs.Identifier.{Tag, HasIdentifier, identifier}
-use Rattle.ber_core.specs.Length.{IsLength}
+use Rattle.std.proofs.Common.{◌≡◌, ℕ, Bool, true, List, [], ◌∷◌, IsTrue, refl, sym, ap, ◌∙◌, append-nil}
 use Rattle.ber_core.specs.Octets.{are_octets}
-use Rattle.ill_refusals.specs.Headers.{BeginsIndefinite, BeginsWithIdentifier, BeginsWithLength, IdentifiersAreRead, MatchesIdentifier, MatchesLength, LengthsAreRead, MayBecomeIdentifier, MayBecomeLength}
+use Rattle.ill_refusals.specs.Headers.{IdentifiersAreRead, MatchesIdentifier, MatchesLength, LengthsAreRead}
 use Rattle.ill_refusals.specs.Reading.{IdentifierRead, identified, part_identifier, no_identifier, read_identifier, LengthRead, definite, indefinite, part_length, no_length, read_length}
 use Rattle.ill_refusals.proofs.Headers.{indefinite_read, read_is_identifier, read_is_indefinite, read_is_length}
 use Rattle.ill_refusals.proofs.PartHeaders.{completing, none_begins, no_length_begins, part_begins, part_begins_length, part_begins_no_length, part_begins_none}

@@ -48,6 +48,9 @@ leaf_cause LeafFault.IntegerTooLong e = cc
 leaf_cause LeafFault.BadText e = cc
 leaf_cause LeafFault.BadDate e = cc
 leaf_cause LeafFault.BadTime e = cc
+leaf_cause LeafFault.BadNull e = cc
+leaf_cause LeafFault.BadOid e = cc
+leaf_cause LeafFault.BadBits e = cc
 
 or_cut : (W : Type 0) (cut : Fault) (c : Option LeafFault) (at : ℕ) (j : Judgement) → IsCut W cut j → IsCut W cut (or_faulty c at j)
 or_cut W cut None at j h = h

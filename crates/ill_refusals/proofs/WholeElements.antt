@@ -1,7 +1,7 @@
 -- Which trees are whole elements, by the element that is due.
-use Rattle.std.proofs.Common.{◌≡◌, ◌⊎◌, ◌↔◌, ℕ, suc, ◌+◌, Bool, true, false, ◌||◌, List, [], ◌∷◌, ◌++◌, Some, None, IsTrue, refl, sym, ap, subst, ◌∙◌, inl, inr, slice_get}
+use Rattle.std.proofs.Common.{◌≡◌, ◌⊎◌, ◌↔◌, ℕ, suc, ◌+◌, ◌-◌, Bool, true, false, ◌||◌, List, [], ◌∷◌, ◌++◌, Some, None, IsTrue, refl, sym, ap, subst, ◌∙◌, inl, inr, slice_get}
 use Rattle.std.specs.Prelude.{flat_map, nat_eq}
-use Rattle.ber_core.specs.Foreign.{is_foreign}
+use Rattle.ber_core.specs.Foreign.{is_foreign, foreign_levels}
 use Rattle.ber_core.specs.Identifier.{Tag}
 use Rattle.ber_core.specs.Tree.{Tree, Trees, constructed, none, more, tag_of, IsString, text}
 use Rattle.ill_schema.specs.declared.node.Kind.{Kind}
@@ -43,7 +43,7 @@ abbrev pub element_at : Kind → NodeId → ℕ → Element
 element_at Kind.Seq node n = sequence node
 element_at Kind.SeqOf node n = list node
 element_at Kind.Choice node n = segment
-element_at Kind.Any node n = foreign 19
+element_at Kind.Any node n = foreign (foreign_levels - 1)
 element_at kind node n = leaf (leaf_at kind n)
 
 pub one_start : (t u : Tag) (e : Element) (s : Start) → starting t (start u e ∷ []) ≡ Some s → (u ≡ t) × (s.element ≡ e)
@@ -73,6 +73,11 @@ own_start (Kind.Leaf LeafKind.Enumerated) node t s h = let q = one_start t _ _ s
 own_start (Kind.Leaf LeafKind.Date) node t s h = let q = one_start t _ _ s h in (inl (sym q.0), q.1)
 own_start (Kind.Leaf LeafKind.Time) node t s h = let q = one_start t _ _ s h in (inl (sym q.0), q.1)
 own_start (Kind.Leaf LeafKind.Printable) node t s h = let q = one_start t _ _ s h in (inl (sym q.0), q.1)
+own_start (Kind.Leaf LeafKind.Null) node t s h = let q = one_start t _ _ s h in (inl (sym q.0), q.1)
+own_start (Kind.Leaf LeafKind.ObjectIdentifier) node t s h = let q = one_start t _ _ s h in (inl (sym q.0), q.1)
+own_start (Kind.Leaf LeafKind.OctetString) node t s h = let q = one_start t _ _ s h in (inl (sym q.0), q.1)
+own_start (Kind.Leaf LeafKind.BitString) node t s h = let q = one_start t _ _ s h in (inl (sym q.0), q.1)
+own_start (Kind.Leaf LeafKind.ObjectDescriptor) node t s h = let q = one_start t _ _ s h in (inl (sym q.0), q.1)
 own_start Kind.IllString node t s h = elim (found_first t (leaf_start general_string) (leaf_start visible_string ∷ []) s h) [
   | inl q ↦ (inl (sym q.0), ap (λ (x : Start). x.element) q.1 ∙ ap (λ (x : Tag). leaf (leaf_at Kind.IllString x.number)) q.0)
   | inr r ↦ let q = one_start t _ _ s r in (inr (inl (sym q.0)), q.1 ∙ ap (λ (x : Tag). leaf (leaf_at Kind.IllString x.number)) q.0)
@@ -91,6 +96,11 @@ implicit_start (Kind.Leaf LeafKind.Enumerated) node t u s ok h = let q = one_sta
 implicit_start (Kind.Leaf LeafKind.Date) node t u s ok h = let q = one_start t _ _ s h in (q.0, λ e. cc, q.1)
 implicit_start (Kind.Leaf LeafKind.Time) node t u s ok h = let q = one_start t _ _ s h in (q.0, λ e. cc, q.1)
 implicit_start (Kind.Leaf LeafKind.Printable) node t u s ok h = let q = one_start t _ _ s h in (q.0, λ e. cc, q.1)
+implicit_start (Kind.Leaf LeafKind.Null) node t u s ok h = let q = one_start t _ _ s h in (q.0, λ e. cc, q.1)
+implicit_start (Kind.Leaf LeafKind.ObjectIdentifier) node t u s ok h = let q = one_start t _ _ s h in (q.0, λ e. cc, q.1)
+implicit_start (Kind.Leaf LeafKind.OctetString) node t u s ok h = let q = one_start t _ _ s h in (q.0, λ e. cc, q.1)
+implicit_start (Kind.Leaf LeafKind.BitString) node t u s ok h = let q = one_start t _ _ s h in (q.0, λ e. cc, q.1)
+implicit_start (Kind.Leaf LeafKind.ObjectDescriptor) node t u s ok h = let q = one_start t _ _ s h in (q.0, λ e. cc, q.1)
 implicit_start Kind.IllString node t u s ok h = absurd cc
 
 is_leaf : (k : Kind) (v : Simple) (node : NodeId) (l : Leaf) (e : ℕ) → leaf_of k v ≡ Some l → element_at k node e ≡ leaf (leaf_at k e)
@@ -149,6 +159,11 @@ own_is (Kind.Leaf LeafKind.Enumerated) t (inl e) = e
 own_is (Kind.Leaf LeafKind.Date) t (inl e) = e
 own_is (Kind.Leaf LeafKind.Time) t (inl e) = e
 own_is (Kind.Leaf LeafKind.Printable) t (inl e) = e
+own_is (Kind.Leaf LeafKind.Null) t (inl e) = e
+own_is (Kind.Leaf LeafKind.ObjectIdentifier) t (inl e) = e
+own_is (Kind.Leaf LeafKind.OctetString) t (inl e) = e
+own_is (Kind.Leaf LeafKind.BitString) t (inl e) = e
+own_is (Kind.Leaf LeafKind.ObjectDescriptor) t (inl e) = e
 own_is Kind.IllString t (inl e) = subst (λ (x : Tag). x ≡ leaf_tag (leaf_at Kind.IllString x.number)) (sym e) refl
 own_is Kind.IllString t (inr (inl e)) = subst (λ (x : Tag). x ≡ leaf_tag (leaf_at Kind.IllString x.number)) (sym e) refl
 own_is Kind.Seq t (inr m) = absurd m
@@ -159,6 +174,11 @@ own_is (Kind.Leaf LeafKind.Enumerated) t (inr m) = absurd m
 own_is (Kind.Leaf LeafKind.Date) t (inr m) = absurd m
 own_is (Kind.Leaf LeafKind.Time) t (inr m) = absurd m
 own_is (Kind.Leaf LeafKind.Printable) t (inr m) = absurd m
+own_is (Kind.Leaf LeafKind.Null) t (inr m) = absurd m
+own_is (Kind.Leaf LeafKind.ObjectIdentifier) t (inr m) = absurd m
+own_is (Kind.Leaf LeafKind.OctetString) t (inr m) = absurd m
+own_is (Kind.Leaf LeafKind.BitString) t (inr m) = absurd m
+own_is (Kind.Leaf LeafKind.ObjectDescriptor) t (inr m) = absurd m
 own_is Kind.IllString t (inr (inr m)) = absurd m
 own_is Kind.Choice t m = absurd m
 own_is Kind.Any t m = absurd m
@@ -175,6 +195,11 @@ leaf_value (Kind.Leaf LeafKind.Enumerated) n octets h = refl
 leaf_value (Kind.Leaf LeafKind.Date) n octets h = refl
 leaf_value (Kind.Leaf LeafKind.Time) n octets h = refl
 leaf_value (Kind.Leaf LeafKind.Printable) n octets h = refl
+leaf_value (Kind.Leaf LeafKind.Null) n octets h = refl
+leaf_value (Kind.Leaf LeafKind.ObjectIdentifier) n octets h = refl
+leaf_value (Kind.Leaf LeafKind.OctetString) n octets h = refl
+leaf_value (Kind.Leaf LeafKind.BitString) n octets h = refl
+leaf_value (Kind.Leaf LeafKind.ObjectDescriptor) n octets h = refl
 leaf_value Kind.IllString n octets h = elim (two_cases (nat_eq n 27)) [ inl e ↦ rw e refl | inr e ↦ rw e refl ]
 
 -- a whole element of a kind means a value, under a tagging that it suits

@@ -2,7 +2,7 @@
 use Rattle.std.specs.Prelude.{ℕ, ◌+◌, ◌*◌, ◌≤◌, List, length}
 use Rattle.ber_core.specs.Tree.{text}
 use Rattle.ber_leaf.specs.Profile.{Profile}
-use Rattle.ber_leaf.specs.Simple.{Simple, flag, whole, date, time, printable, general, visible}
+use Rattle.ber_leaf.specs.Simple.{Simple, flag, whole, date, time, printable, general, visible, null, oid, binary, bits, descriptor}
 use Rattle.ill_schema.specs.Apdu.{Apdu, Encodes}
 use Rattle.ill_schema.specs.Content.{Content, simple, sequence, list, alternative, foreign, Entries, no_entries, absent, present, Items, no_items, item}
 
@@ -14,9 +14,14 @@ text_size (time octets) = length octets
 text_size (printable octets) = length octets
 text_size (general octets) = length octets
 text_size (visible octets) = length octets
+text_size null = 0
+text_size (oid octets) = length octets
+text_size (binary octets) = length octets
+text_size (bits n octets) = length octets
+text_size (descriptor octets) = length octets
 
 abbrev mutual
-  -- the octets of all texts, and of all primitive elements of foreign trees
+  -- the octets of all texts and other strings, of all object identifiers, and of all primitive elements of foreign trees
   pub text_octets : Content → ℕ
   text_octets (simple v) = text_size v
   text_octets (sequence es) = entries_text es

@@ -7,7 +7,7 @@ use Rattle.ill_schema.specs.declared.node.NodeId.{NodeId}
 use Rattle.ill_schema.specs.declared.part.PartId.{PartId}
 use Rattle.ill_schema.specs.declared.part.Presence.{Presence}
 use Rattle.ill_schema.specs.declared.part.Row.{Row}
-use Rattle.ber_leaf.specs.Leaf.{Leaf, boolean, integer, enumerated, general_string, visible_string, printable_string, iso_date, iso_time}
+use Rattle.ber_leaf.specs.Leaf.{Leaf, boolean, integer, enumerated, general_string, visible_string, printable_string, iso_date, iso_time, null_type, object_identifier, octet_string, bit_string, object_descriptor}
 use Rattle.ber_leaf.specs.Profile.{Profile}
 use Rattle.ill_schema.specs.Tagging.{Tagging, untagged, implicit, explicit, explicit_or_bare, row_tagging, sequence_tag, leaf_tag}
 use Rattle.ill_schema.specs.Table.{kind_of, rows_of}
@@ -77,6 +77,11 @@ own_starts (Kind.Leaf LeafKind.Enumerated) node = leaf_start enumerated ∷ []
 own_starts (Kind.Leaf LeafKind.Date) node = leaf_start iso_date ∷ []
 own_starts (Kind.Leaf LeafKind.Time) node = leaf_start iso_time ∷ []
 own_starts (Kind.Leaf LeafKind.Printable) node = leaf_start printable_string ∷ []
+own_starts (Kind.Leaf LeafKind.Null) node = leaf_start null_type ∷ []
+own_starts (Kind.Leaf LeafKind.ObjectIdentifier) node = leaf_start object_identifier ∷ []
+own_starts (Kind.Leaf LeafKind.OctetString) node = leaf_start octet_string ∷ []
+own_starts (Kind.Leaf LeafKind.BitString) node = leaf_start bit_string ∷ []
+own_starts (Kind.Leaf LeafKind.ObjectDescriptor) node = leaf_start object_descriptor ∷ []
 own_starts Kind.IllString node = leaf_start general_string ∷ leaf_start visible_string ∷ []
 
 -- with an implicit tag in place of their own (8.14.3)

@@ -1,7 +1,7 @@
 -- What may come next in an open element (X.690, 8.7.3, 8.9, 8.10 and 8.15).
-use Rattle.std.specs.Prelude.{◌≡◌, ℕ, zero, suc, Bool, true, false, IsTrue, List, [], ◌∷◌, Option, Some, None, if◌then◌else◌, find}
+use Rattle.std.specs.Prelude.{◌≡◌, ℕ, zero, suc, ◌-◌, Bool, true, false, IsTrue, List, [], ◌∷◌, Option, Some, None, if◌then◌else◌, find}
 use Rattle.ber_core.specs.Identifier.{Tag}
-use Rattle.ber_core.specs.Foreign.{is_foreign}
+use Rattle.ber_core.specs.Foreign.{is_foreign, foreign_levels}
 use Rattle.ill_schema.specs.declared.node.Kind.{Kind}
 use Rattle.ill_schema.specs.Table.{kind_of}
 use Rattle.ber_core.specs.Tree.{Tree, Trees, none, more, tag_of, octet_string, IsString}
@@ -64,14 +64,14 @@ due_by bare tag (c ∷ cs) = elim (start_by bare tag c) as (λ _. Option Due) [
 abbrev pub due_in : Profile → Tag → List Component → Option Due
 due_in p tag cs = due_by p.bare tag cs
 
--- the element that is due with this tag: of a profile it depends on whether tags may be bare, and on nothing else. In an open type,
--- and in an element there, it is any element; 20 levels are a foreign tree's at most, the root's among them
+-- the element that is due with this tag. Of the profile only this counts: whether tags may be bare. Where the type is open, any
+-- element is due, and so it is in that element, down to the last of the levels that a foreign tree may have; its root is the first.
 abbrev pub next_due : Bool → Tag → Next → Option Due
 next_due bare tag (rows cs) = due_by bare tag cs
 next_due bare tag (items c) = elim (start_by bare tag c) as (λ _. Option Due) [ Some s ↦ Some (part c s.element (items c)) | None ↦ None ]
 next_due bare tag (either c) = elim (same_tag tag sequence_tag) as (λ _. Option Due) [ true ↦ due_by bare tag (c ∷ []) | false ↦ due_by bare tag (node_components bare c.node) ]
 next_due bare tag segments = if same_tag tag octet_string then Some octets else None
-next_due bare tag (anything c) = Some (any 19 (rows []))
+next_due bare tag (anything c) = Some (any (foreign_levels - 1) (rows []))
 next_due bare tag (foreigns zero) = None
 next_due bare tag (foreigns (suc n)) = Some (any n (foreigns (suc n)))
 

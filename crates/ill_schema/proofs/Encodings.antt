@@ -17,7 +17,7 @@ use Rattle.ill_schema.specs.declared.part.Row.{Row}
 use Rattle.ill_schema.specs.Apdu.{Apdu, choice_of, normal_form, MeansApdu, SpellsApdu}
 use Rattle.ill_schema.specs.Content.{Content, simple, sequence, list, alternative, foreign, Entries, no_entries, absent, present, Items, no_items, item}
 use Rattle.ill_schema.specs.Fits.{Fits, FitRows, FitItems, FitsApdu}
-use Rattle.ber_leaf.specs.Leaf.{Leaf, boolean, integer, enumerated, general_string, visible_string, printable_string, iso_date, iso_time, normal_content}
+use Rattle.ber_leaf.specs.Leaf.{Leaf, boolean, integer, enumerated, general_string, visible_string, printable_string, iso_date, iso_time, null_type, object_identifier, octet_string, bit_string, object_descriptor, normal_content}
 use Rattle.ber_leaf.specs.Profile.{Profile, profile_two}
 use Rattle.ill_schema.specs.Tagging.{Tagging, untagged, implicit, explicit, explicit_or_bare, tagging, tag_tree, sequence_tag, leaf_tag}
 use Rattle.ill_schema.specs.Presence.{is_default}
@@ -49,6 +49,11 @@ leaf_id visible_string f = universal_id 26 f (lit≤ tt) (λ e. cc)
 leaf_id printable_string f = universal_id 19 f (lit≤ tt) (λ e. cc)
 leaf_id iso_date f = universal_id 26 f (lit≤ tt) (λ e. cc)
 leaf_id iso_time f = universal_id 26 f (lit≤ tt) (λ e. cc)
+leaf_id null_type f = universal_id 5 f (lit≤ tt) (λ e. cc)
+leaf_id object_identifier f = universal_id 6 f (lit≤ tt) (λ e. cc)
+leaf_id octet_string f = universal_id 4 f (lit≤ tt) (λ e. cc)
+leaf_id bit_string f = universal_id 3 f (lit≤ tt) (λ e. cc)
+leaf_id object_descriptor f = universal_id 7 f (lit≤ tt) (λ e. cc)
 
 sequence_id : (f : Bool) → HasIdentifier sequence_tag f
 sequence_id f = universal_id 16 f (lit≤ tt) (λ e. cc)

@@ -17,3 +17,4 @@ pub mod Sizes
 pub mod Carried
 pub mod RowNames
 pub mod FitsProps
+pub mod KnownLeaves

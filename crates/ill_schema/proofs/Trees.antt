@@ -4,7 +4,7 @@ use Rattle.ber_core.specs.declared.id.Class.{Class}
 use Rattle.ber_core.specs.Identifier.{Tag}
 use Rattle.ber_core.specs.Der.{sizes}
 use Rattle.ber_core.specs.Tree.{Tree, Trees, primitive, constructed, none, more}
-use Rattle.ber_leaf.specs.Leaf.{Leaf, boolean, integer, enumerated, general_string, visible_string, printable_string, iso_date, iso_time, normal_content}
+use Rattle.ber_leaf.specs.Leaf.{Leaf, boolean, integer, enumerated, general_string, visible_string, printable_string, iso_date, iso_time, null_type, object_identifier, octet_string, bit_string, object_descriptor, normal_content}
 use Rattle.ber_leaf.specs.Profile.{profile_two}
 use Rattle.ber_leaf.specs.Simple.{Simple}
 use Rattle.ill_schema.specs.declared.node.NodeId.{NodeId}
@@ -66,6 +66,11 @@ leaf_own (Some visible_string) = refl
 leaf_own (Some printable_string) = refl
 leaf_own (Some iso_date) = refl
 leaf_own (Some iso_time) = refl
+leaf_own (Some null_type) = refl
+leaf_own (Some object_identifier) = refl
+leaf_own (Some octet_string) = refl
+leaf_own (Some bit_string) = refl
+leaf_own (Some object_descriptor) = refl
 
 pub simple_tree : (r : Option (Class × ℕ)) (node : NodeId) (v : Simple) → element_tree r node (simple v) ≡ primitive (element_tag r (kind_of node) (simple v)) (normal_content v)
 simple_tree None node v = ap (λ t. primitive t (normal_content v)) (leaf_own (leaf_of (kind_of node) v))

@@ -12,8 +12,8 @@ use Rattle.ill_schema.specs.declared.node.NodeId.{NodeId}
 use Rattle.ill_schema.specs.declared.part.Presence.{Presence}
 use Rattle.ill_schema.specs.declared.part.Row.{Row}
 use Rattle.ill_schema.specs.Content.{Content, simple, sequence, list, alternative, foreign, Entries, no_entries, absent, present, Items, no_items, item}
-use Rattle.ber_leaf.specs.Simple.{Simple, flag, whole, date, time, printable, general, visible}
-use Rattle.ber_leaf.specs.Leaf.{Leaf, boolean, integer, enumerated, general_string, visible_string, printable_string, iso_date, iso_time, value}
+use Rattle.ber_leaf.specs.Simple.{Simple, flag, whole, date, time, printable, general, visible, null, oid, binary, bits, descriptor}
+use Rattle.ber_leaf.specs.Leaf.{Leaf, boolean, integer, enumerated, general_string, visible_string, printable_string, iso_date, iso_time, null_type, object_identifier, octet_string, bit_string, object_descriptor, value}
 use Rattle.ber_leaf.specs.Profile.{Profile}
 use Rattle.ill_schema.specs.Tagging.{Tagging, untagged, implicit, explicit, explicit_or_bare, tagging, Tagged, sequence_tag, leaf_tag, leaf_of}
 use Rattle.ill_schema.specs.Presence.{is_default_of, same_value, MayLack}
@@ -32,6 +32,11 @@ leaf_at (Kind.Leaf LeafKind.Enumerated) n = enumerated
 leaf_at (Kind.Leaf LeafKind.Date) n = iso_date
 leaf_at (Kind.Leaf LeafKind.Time) n = iso_time
 leaf_at (Kind.Leaf LeafKind.Printable) n = printable_string
+leaf_at (Kind.Leaf LeafKind.Null) n = null_type
+leaf_at (Kind.Leaf LeafKind.ObjectIdentifier) n = object_identifier
+leaf_at (Kind.Leaf LeafKind.OctetString) n = octet_string
+leaf_at (Kind.Leaf LeafKind.BitString) n = bit_string
+leaf_at (Kind.Leaf LeafKind.ObjectDescriptor) n = object_descriptor
 leaf_at _ n = if nat_eq n 27 then general_string else visible_string
 
 pub leaf_is : (k : Kind) (v : Simple) (l : Leaf) → leaf_of k v ≡ Some l → l ≡ leaf_at k (leaf_tag l).number
@@ -42,6 +47,11 @@ leaf_is (Kind.Leaf LeafKind.Enumerated) (whole _) l e = let h : enumerated ≡ l
 leaf_is (Kind.Leaf LeafKind.Date) (date _) l e = let h : iso_date ≡ l = cc in subst (λ x. x ≡ leaf_at (Kind.Leaf LeafKind.Date) (leaf_tag x).number) h refl
 leaf_is (Kind.Leaf LeafKind.Time) (time _) l e = let h : iso_time ≡ l = cc in subst (λ x. x ≡ leaf_at (Kind.Leaf LeafKind.Time) (leaf_tag x).number) h refl
 leaf_is (Kind.Leaf LeafKind.Printable) (printable _) l e = let h : printable_string ≡ l = cc in subst (λ x. x ≡ leaf_at (Kind.Leaf LeafKind.Printable) (leaf_tag x).number) h refl
+leaf_is (Kind.Leaf LeafKind.Null) null l e = let h : null_type ≡ l = cc in subst (λ x. x ≡ leaf_at (Kind.Leaf LeafKind.Null) (leaf_tag x).number) h refl
+leaf_is (Kind.Leaf LeafKind.ObjectIdentifier) (oid _) l e = let h : object_identifier ≡ l = cc in subst (λ x. x ≡ leaf_at (Kind.Leaf LeafKind.ObjectIdentifier) (leaf_tag x).number) h refl
+leaf_is (Kind.Leaf LeafKind.OctetString) (binary _) l e = let h : octet_string ≡ l = cc in subst (λ x. x ≡ leaf_at (Kind.Leaf LeafKind.OctetString) (leaf_tag x).number) h refl
+leaf_is (Kind.Leaf LeafKind.BitString) (bits _ _) l e = let h : bit_string ≡ l = cc in subst (λ x. x ≡ leaf_at (Kind.Leaf LeafKind.BitString) (leaf_tag x).number) h refl
+leaf_is (Kind.Leaf LeafKind.ObjectDescriptor) (descriptor _) l e = let h : object_descriptor ≡ l = cc in subst (λ x. x ≡ leaf_at (Kind.Leaf LeafKind.ObjectDescriptor) (leaf_tag x).number) h refl
 leaf_is Kind.IllString (general _) l e = let h : general_string ≡ l = cc in subst (λ x. x ≡ leaf_at Kind.IllString (leaf_tag x).number) h refl
 leaf_is Kind.IllString (visible _) l e = let h : visible_string ≡ l = cc in subst (λ x. x ≡ leaf_at Kind.IllString (leaf_tag x).number) h refl
 leaf_is k v l e = absurd cc
@@ -55,6 +65,11 @@ kind_says t (Kind.Leaf LeafKind.Enumerated) m n h v l e = refl
 kind_says t (Kind.Leaf LeafKind.Date) m n h v l e = refl
 kind_says t (Kind.Leaf LeafKind.Time) m n h v l e = refl
 kind_says t (Kind.Leaf LeafKind.Printable) m n h v l e = refl
+kind_says t (Kind.Leaf LeafKind.Null) m n h v l e = refl
+kind_says t (Kind.Leaf LeafKind.ObjectIdentifier) m n h v l e = refl
+kind_says t (Kind.Leaf LeafKind.OctetString) m n h v l e = refl
+kind_says t (Kind.Leaf LeafKind.BitString) m n h v l e = refl
+kind_says t (Kind.Leaf LeafKind.ObjectDescriptor) m n h v l e = refl
 kind_says t Kind.IllString m n h v l e = absurd cc
 kind_says t Kind.Choice m n h v l e = absurd cc
 kind_says t Kind.Seq m n h v l e = absurd cc
@@ -68,6 +83,11 @@ leaf_own (Kind.Leaf LeafKind.Enumerated) (whole _) l e = let h : enumerated ≡ 
 leaf_own (Kind.Leaf LeafKind.Date) (date _) l e = let h : iso_date ≡ l = cc in subst (λ x. Mem (leaf_tag x) (own_tags (Kind.Leaf LeafKind.Date))) h (inl refl)
 leaf_own (Kind.Leaf LeafKind.Time) (time _) l e = let h : iso_time ≡ l = cc in subst (λ x. Mem (leaf_tag x) (own_tags (Kind.Leaf LeafKind.Time))) h (inl refl)
 leaf_own (Kind.Leaf LeafKind.Printable) (printable _) l e = let h : printable_string ≡ l = cc in subst (λ x. Mem (leaf_tag x) (own_tags (Kind.Leaf LeafKind.Printable))) h (inl refl)
+leaf_own (Kind.Leaf LeafKind.Null) null l e = let h : null_type ≡ l = cc in subst (λ x. Mem (leaf_tag x) (own_tags (Kind.Leaf LeafKind.Null))) h (inl refl)
+leaf_own (Kind.Leaf LeafKind.ObjectIdentifier) (oid _) l e = let h : object_identifier ≡ l = cc in subst (λ x. Mem (leaf_tag x) (own_tags (Kind.Leaf LeafKind.ObjectIdentifier))) h (inl refl)
+leaf_own (Kind.Leaf LeafKind.OctetString) (binary _) l e = let h : octet_string ≡ l = cc in subst (λ x. Mem (leaf_tag x) (own_tags (Kind.Leaf LeafKind.OctetString))) h (inl refl)
+leaf_own (Kind.Leaf LeafKind.BitString) (bits _ _) l e = let h : bit_string ≡ l = cc in subst (λ x. Mem (leaf_tag x) (own_tags (Kind.Leaf LeafKind.BitString))) h (inl refl)
+leaf_own (Kind.Leaf LeafKind.ObjectDescriptor) (descriptor _) l e = let h : object_descriptor ≡ l = cc in subst (λ x. Mem (leaf_tag x) (own_tags (Kind.Leaf LeafKind.ObjectDescriptor))) h (inl refl)
 leaf_own Kind.IllString (general _) l e = let h : general_string ≡ l = cc in subst (λ x. Mem (leaf_tag x) (own_tags Kind.IllString)) h (inl refl)
 leaf_own Kind.IllString (visible _) l e = let h : visible_string ≡ l = cc in subst (λ x. Mem (leaf_tag x) (own_tags Kind.IllString)) h (inr (inl refl))
 leaf_own k v l e = absurd cc

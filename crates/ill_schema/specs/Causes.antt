@@ -10,3 +10,6 @@ cause_of leaf.IntegerTooLong = Cause.IntegerTooLong
 cause_of leaf.BadText = Cause.BadText
 cause_of leaf.BadDate = Cause.BadDate
 cause_of leaf.BadTime = Cause.BadTime
+cause_of leaf.BadNull = Cause.BadNull
+cause_of leaf.BadOid = Cause.BadOid
+cause_of leaf.BadBits = Cause.BadBits

@@ -18,6 +18,11 @@ own_tags (Kind.Leaf LeafKind.Boolean) = universal 1 ∷ []
 own_tags (Kind.Leaf LeafKind.Integer) = universal 2 ∷ []
 own_tags (Kind.Leaf LeafKind.Enumerated) = universal 10 ∷ []
 own_tags (Kind.Leaf LeafKind.Printable) = universal 19 ∷ []
+own_tags (Kind.Leaf LeafKind.Null) = universal 5 ∷ []
+own_tags (Kind.Leaf LeafKind.ObjectIdentifier) = universal 6 ∷ []
+own_tags (Kind.Leaf LeafKind.OctetString) = universal 4 ∷ []
+own_tags (Kind.Leaf LeafKind.BitString) = universal 3 ∷ []
+own_tags (Kind.Leaf LeafKind.ObjectDescriptor) = universal 7 ∷ []
 own_tags (Kind.Leaf _) = universal 26 ∷ []
 
 -- the tags by which elements under a tagging begin

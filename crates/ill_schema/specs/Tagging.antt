@@ -3,9 +3,9 @@ use Rattle.std.specs.Prelude.{◌≡◌, ◌⊎◌, ℕ, Bool, ◌&&◌, nat_eq,
 use Rattle.ber_core.specs.declared.id.Class.{Class}
 use Rattle.ber_core.specs.Identifier.{Tag, class_bits}
 use Rattle.ber_core.specs.Tree.{Tree, constructed, more, none}
-use Rattle.ber_leaf.specs.Leaf.{Leaf, boolean, integer, enumerated, general_string, visible_string, printable_string, iso_date, iso_time}
+use Rattle.ber_leaf.specs.Leaf.{Leaf, boolean, integer, enumerated, general_string, visible_string, printable_string, iso_date, iso_time, null_type, object_identifier, octet_string, bit_string, object_descriptor}
 use Rattle.ber_leaf.specs.Profile.{Profile}
-use Rattle.ber_leaf.specs.Simple.{Simple, flag, whole, date, time, printable, general, visible}
+use Rattle.ber_leaf.specs.Simple.{Simple, flag, whole, date, time, printable, general, visible, null, oid, binary, bits, descriptor}
 use Rattle.ill_schema.specs.declared.{node.Kind.Kind, node.LeafKind.LeafKind, part.Mode.Mode, part.Row.Row}
 
 -- a tag of class universal (X.680, 8.4)
@@ -19,7 +19,7 @@ same_tag s t = nat_eq (class_bits s.class) (class_bits t.class) && nat_eq s.numb
 abbrev pub sequence_tag : Tag
 sequence_tag = universal 16
 
--- the tag of a leaf where no other is in its place (X.680, 18 to 20 and 41); ISO-Date and ISO-Time of ISO 10161-1 are VisibleStrings
+-- the tag of a leaf where no other is in its place (X.680, 18 to 20, 22 to 24, 32, 41 and 48); ISO-Date and ISO-Time of ISO 10161-1 are VisibleStrings
 abbrev pub leaf_tag : Leaf → Tag
 leaf_tag boolean = universal 1
 leaf_tag integer = universal 2
@@ -29,6 +29,11 @@ leaf_tag printable_string = universal 19
 leaf_tag visible_string = universal 26
 leaf_tag iso_date = universal 26
 leaf_tag iso_time = universal 26
+leaf_tag null_type = universal 5
+leaf_tag object_identifier = universal 6
+leaf_tag octet_string = universal 4
+leaf_tag bit_string = universal 3
+leaf_tag object_descriptor = universal 7
 
 -- the leaf as which a node of this kind holds the value
 abbrev pub leaf_of : Kind → Simple → Option Leaf
@@ -38,6 +43,11 @@ leaf_of (Kind.Leaf LeafKind.Enumerated) (whole _) = Some enumerated
 leaf_of (Kind.Leaf LeafKind.Date) (date _) = Some iso_date
 leaf_of (Kind.Leaf LeafKind.Time) (time _) = Some iso_time
 leaf_of (Kind.Leaf LeafKind.Printable) (printable _) = Some printable_string
+leaf_of (Kind.Leaf LeafKind.Null) null = Some null_type
+leaf_of (Kind.Leaf LeafKind.ObjectIdentifier) (oid _) = Some object_identifier
+leaf_of (Kind.Leaf LeafKind.OctetString) (binary _) = Some octet_string
+leaf_of (Kind.Leaf LeafKind.BitString) (bits _ _) = Some bit_string
+leaf_of (Kind.Leaf LeafKind.ObjectDescriptor) (descriptor _) = Some object_descriptor
 leaf_of Kind.IllString (general _) = Some general_string
 leaf_of Kind.IllString (visible _) = Some visible_string
 leaf_of _ _ = None

@@ -7,6 +7,12 @@ pub enum LeafKind {
     Date,
     Time,
     Printable,
+    /// NULL. No row has this kind, nor one of the four below.
+    Null,
+    ObjectIdentifier,
+    OctetString,
+    BitString,
+    ObjectDescriptor,
 }
 
 /// The kind of a node.
@@ -31,6 +37,8 @@ pub enum NodeId {
     IsoTime,
     PrintableString,
     IllString,
+    /// The open type; no row has it.
+    Any,
     LeftOut,
     Symbol,
     Name,
@@ -90,8 +98,6 @@ pub enum NodeId {
     StatusQuery,
     Expired,
     IllApdu,
-    /// The open type; no row has it.
-    Any,
 }
 
 impl NodeId {

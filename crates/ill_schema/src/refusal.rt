@@ -42,6 +42,12 @@ pub enum Cause {
     TrailingBytes,
     /// The message's normal form would pass the limit.
     NormalTooLong,
+    /// A NULL's content isn't empty (X.690, 8.8.2). No message of today's tables is refused so, nor for the two causes below.
+    BadNull,
+    /// An OBJECT IDENTIFIER's content is no subidentifiers (X.690, 8.19.2).
+    BadOid,
+    /// A BIT STRING's content is no number of unused bits and octets that have these (X.690, 8.6.2).
+    BadBits,
 }
 
 impl From<LeafFault> for Cause {
@@ -58,6 +64,9 @@ impl From<LeafFault> for Cause {
             LeafFault::BadText => Cause::BadText,
             LeafFault::BadDate => Cause::BadDate,
             LeafFault::BadTime => Cause::BadTime,
+            LeafFault::BadNull => Cause::BadNull,
+            LeafFault::BadOid => Cause::BadOid,
+            LeafFault::BadBits => Cause::BadBits,
         }
     }
 }

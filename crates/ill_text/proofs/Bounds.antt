@@ -15,7 +15,7 @@ use Rattle.ber_core.specs.Tree.{Tree, Trees, primitive, constructed, none, more}
 use Rattle.ber_core.proofs.Encodings.{length-encoding}
 use Rattle.ber_leaf.specs.Leaf.{Leaf, integer, enumerated, Holds, normal_content}
 use Rattle.ber_leaf.specs.Profile.{profile_two}
-use Rattle.ber_leaf.specs.Simple.{Simple, flag, whole, date, time, printable, general, visible}
+use Rattle.ber_leaf.specs.Simple.{Simple, flag, whole, date, time, printable, general, visible, null, oid, binary, bits, descriptor}
 use Rattle.ber_leaf.proofs.Integers.{whole_bounds}
 use Rattle.ill_schema.specs.declared.node.NodeId.{NodeId}
 use Rattle.ill_schema.specs.declared.node.NodeId.TheVariants.{Boolean, IllApdu}
@@ -30,6 +30,7 @@ use Rattle.ill_schema.specs.Normal.{normal_tree, normal_trees, normal_items}
 use Rattle.ill_schema.specs.Presence.{default_value, is_default, is_default_of, same_value}
 use Rattle.ill_schema.specs.Table.{kind_of, rows_of}
 use Rattle.ill_schema.specs.Tagging.{Tagging, untagged, implicit, explicit, explicit_or_bare, sequence_tag, tag_tree, tagging}
+use Rattle.ill_schema.proofs.KnownLeaves.{is_known, known_leaf}
 use Rattle.ill_schema.proofs.MeansFits.{means_apdu_fits}
 use Rattle.std.proofs.lemmas.Bool.{and_parts}
 use Rattle.ill_schema.proofs.Tags.{at_row, closed, is_closed, row_closed, rows_closed}
@@ -139,6 +140,11 @@ leaf_size row (time o) node h = omega arith
 leaf_size row (printable o) node h = omega (arith, quoted_size o)
 leaf_size row (general o) node h = omega (arith, quoted_size o, length-append (codes "general ") (quoted o))
 leaf_size row (visible o) node h = omega (arith, quoted_size o, length-append (codes "visible ") (quoted o))
+leaf_size row null node h = absurd (let known : IsTrue (is_known null) = known_leaf node null h.0 h.1 in cc)
+leaf_size row (oid o) node h = absurd (let known : IsTrue (is_known (oid o)) = known_leaf node (oid o) h.0 h.1 in cc)
+leaf_size row (binary o) node h = absurd (let known : IsTrue (is_known (binary o)) = known_leaf node (binary o) h.0 h.1 in cc)
+leaf_size row (bits n o) node h = absurd (let known : IsTrue (is_known (bits n o)) = known_leaf node (bits n o) h.0 h.1 in cc)
+leaf_size row (descriptor o) node h = absurd (let known : IsTrue (is_known (descriptor o)) = known_leaf node (descriptor o) h.0 h.1 in cc)
 
 -- a default is no text
 same_size : (row : List ℕ) (v w : Simple) (node : NodeId) → FitsSimple profile_two v node → IsTrue (same_value v w) → length (leaf_text row v) ≤ 85
@@ -149,6 +155,11 @@ same_size row (time o) w node h e = absurd cc
 same_size row (printable o) w node h e = absurd cc
 same_size row (general o) w node h e = absurd cc
 same_size row (visible o) w node h e = absurd cc
+same_size row null w node h e = absurd cc
+same_size row (oid o) w node h e = absurd cc
+same_size row (binary o) w node h e = absurd cc
+same_size row (bits n o) w node h e = absurd cc
+same_size row (descriptor o) w node h e = absurd cc
 
 default_lines : (p : Place) (pr : Presence) (k : Kind) (c : Content) (node : NodeId) → Fits profile_two c node → IsTrue (is_default_of pr k c) → length (lines_of p c) ≤ length p.path + 89
 default_lines p (Presence.Default d) k (simple v) node h e =

@@ -1,10 +1,10 @@
 -- The text that is shown of a message: a head line, and a line for each leaf.
-use Rattle.std.specs.Prelude.{ℕ, suc, ◌-◌, ◌/◌, ◌%◌, Bool, true, false, ◌&&◌, ◌||◌, nat_le, nat_eq, List, [], ◌∷◌, ◌++◌, codes, decimal, Option, Some, None, slice_get, slice_index, flat_map, if◌then◌else◌}
+use Rattle.std.specs.Prelude.{ℕ, suc, ◌+◌, ◌-◌, ◌*◌, ◌/◌, ◌%◌, min, Bool, true, false, ◌&&◌, ◌||◌, nat_le, nat_lt, nat_eq, List, [], ◌∷◌, ◌++◌, codes, decimal, Option, Some, None, slice_get, slice_index, flat_map, if◌then◌else◌}
 use Rattle.std.specs.Fmt.{signed_decimal}
 use Rattle.std.specs.List.{list_all}
 use Rattle.ber_core.specs.Identifier.{identifier}
 use Rattle.ber_core.specs.Tree.{Tree, Trees, primitive, constructed, none, more}
-use Rattle.ber_leaf.specs.Simple.{Simple, flag, whole, date, time, printable, general, visible}
+use Rattle.ber_leaf.specs.Simple.{Simple, flag, whole, date, time, printable, general, visible, null, oid, binary, bits, descriptor}
 use Rattle.ill_schema.specs.declared.node.NodeId.{NodeId}
 use Rattle.ill_schema.specs.declared.node.NodeId.TheVariants.{LeftOut, IllApdu}
 use Rattle.ill_schema.specs.declared.part.Row.{Row}
@@ -28,6 +28,37 @@ abbrev pub in_brackets : Option (List ℕ) → List ℕ
 in_brackets None = []
 in_brackets (Some name) = codes " (" ++ name ++ codes ")"
 
+-- each octet as two hexadecimal digits
+abbrev pub hexadecimal : List ℕ → List ℕ
+hexadecimal octets = flat_map (λ octet. slice_index (codes "0123456789abcdef") (octet / 16) ∷ slice_index (codes "0123456789abcdef") (octet % 16) ∷ []) octets
+
+-- octets of no known meaning: in quotes where all octets are printable ASCII, else in hexadecimal
+abbrev pub content_text : List ℕ → List ℕ
+content_text octets = if list_all (λ octet. nat_le 0x20 octet && nat_le octet 0x7E) octets then quoted octets else hexadecimal octets
+
+-- the numbers of the subidentifiers: seven bits of each octet, most significant first, where an octet below 80 is the last (X.690, 8.19.2)
+abbrev pub numbers_after : ℕ → List ℕ → List ℕ
+numbers_after n [] = []
+numbers_after n (a ∷ octets) =
+    if nat_lt a 0x80 then (128 * n + a) ∷ numbers_after 0 octets
+    else numbers_after (128 * n + (a - 0x80)) octets
+
+-- the first number stands for two components, of which the first is 0, 1 or 2 (X.690, 8.19.4)
+abbrev pub components : List ℕ → List ℕ
+components [] = []
+components (n ∷ numbers) = min 2 (n / 40) ∷ (n - 40 * min 2 (n / 40)) ∷ numbers
+
+abbrev pub with_dots : List ℕ → List ℕ
+with_dots [] = []
+with_dots (n ∷ []) = decimal n
+with_dots (n ∷ m ∷ numbers) = decimal n ++ codes "." ++ with_dots (m ∷ numbers)
+
+-- an OBJECT IDENTIFIER in decimals, unless one of its numbers takes more than 63 bits
+abbrev pub oid_text : List ℕ → List ℕ
+oid_text octets =
+    if list_all (λ n. nat_lt n 9_223_372_036_854_775_808) (numbers_after 0 octets) then with_dots (components (numbers_after 0 octets))
+    else codes "oid " ++ hexadecimal octets
+
 -- a leaf in a row of this name
 abbrev pub leaf_text : List ℕ → Simple → List ℕ
 leaf_text row (flag true) = codes "TRUE"
@@ -38,14 +69,11 @@ leaf_text row (time text) = text
 leaf_text row (printable text) = quoted text
 leaf_text row (general text) = codes "general " ++ quoted text
 leaf_text row (visible text) = codes "visible " ++ quoted text
-
--- each octet as two hexadecimal digits
-abbrev pub hexadecimal : List ℕ → List ℕ
-hexadecimal octets = flat_map (λ octet. slice_index (codes "0123456789abcdef") (octet / 16) ∷ slice_index (codes "0123456789abcdef") (octet % 16) ∷ []) octets
-
--- contents of no known type: in quotes where all octets are printable ASCII, else in hexadecimal
-abbrev pub content_text : List ℕ → List ℕ
-content_text octets = if list_all (λ octet. nat_le 0x20 octet && nat_le octet 0x7E) octets then quoted octets else hexadecimal octets
+leaf_text row null = codes "NULL"
+leaf_text row (oid octets) = oid_text octets
+leaf_text row (binary octets) = codes "octets " ++ content_text octets
+leaf_text row (bits n octets) = codes "bits " ++ decimal n ++ (if nat_eq n 0 then [] else codes " " ++ hexadecimal octets)
+leaf_text row (descriptor octets) = codes "descriptor " ++ quoted octets
 
 abbrev mutual
   -- a foreign tree: of each element the identifier octets, and its contents or the elements in it

@@ -5,7 +5,7 @@ use Rattle.std.specs.List.{list_all}
 use Rattle.std.proofs.lemmas.Bool.{and_parts}
 use Rattle.ber_core.specs.declared.id.Class.{Class}
 use Rattle.ber_core.specs.Identifier.{HasIdentifier}
-use Rattle.ber_leaf.specs.Leaf.{Leaf, boolean, integer, enumerated, general_string, visible_string, printable_string, iso_date, iso_time}
+use Rattle.ber_leaf.specs.Leaf.{Leaf, boolean, integer, enumerated, general_string, visible_string, printable_string, iso_date, iso_time, null_type, object_identifier, octet_string, bit_string, object_descriptor}
 use Rattle.ill_schema.specs.declared.node.Kind.{Kind}
 use Rattle.ill_schema.specs.declared.node.NodeId.{NodeId}
 use Rattle.ill_schema.specs.declared.node.NodeId.TheVariants.{Boolean}
@@ -29,6 +29,11 @@ leaf_number_id (Some visible_string) f = universal_id 26 f (lit≤ tt) (λ e. cc
 leaf_number_id (Some printable_string) f = universal_id 19 f (lit≤ tt) (λ e. cc)
 leaf_number_id (Some iso_date) f = universal_id 26 f (lit≤ tt) (λ e. cc)
 leaf_number_id (Some iso_time) f = universal_id 26 f (lit≤ tt) (λ e. cc)
+leaf_number_id (Some null_type) f = universal_id 5 f (lit≤ tt) (λ e. cc)
+leaf_number_id (Some object_identifier) f = universal_id 6 f (lit≤ tt) (λ e. cc)
+leaf_number_id (Some octet_string) f = universal_id 4 f (lit≤ tt) (λ e. cc)
+leaf_number_id (Some bit_string) f = universal_id 3 f (lit≤ tt) (λ e. cc)
+leaf_number_id (Some object_descriptor) f = universal_id 7 f (lit≤ tt) (λ e. cc)
 
 own_id : (c : Content) (k : Kind) (f : Bool) → HasIdentifier (universal (own_number k c)) f
 own_id (simple v) k f = leaf_number_id (leaf_of k v) f

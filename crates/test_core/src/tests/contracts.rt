@@ -12,7 +12,8 @@ use ber_core::{
     HeaderState, Id, Look, Pieces, Room, Sink, Source, ToWrite, Unseen, header_size, put_header,
 };
 use ber_leaf::{
-    DateText, GeneralText, IllString, Leaf, PrintableText, Segments, TimeText, VisibleText,
+    BitString, DateText, GeneralText, IllString, Leaf, ObjectDescriptor, ObjectIdentifier,
+    OctetString, PrintableText, Segments, TimeText, VisibleText,
 };
 use std::alloc::{AllocError, Global};
 use std::io::{Read, Write};
@@ -401,6 +402,39 @@ fn printable_texts_keep_their_octets(octets: &[u8], alloc: Global) -> Result<(),
         prove!(text.octets() == octets);
         let copy = text.copy(alloc)?;
         prove!(copy.octets() == octets);
+    }
+    Ok(())
+}
+
+/// An object identifier shows the octets that it is made of.
+fn identifiers_keep_their_octets(octets: &[u8], alloc: Global) -> Result<(), AllocError> {
+    if let Ok(identifier) = ObjectIdentifier::new(Vec::from_slice(alloc, octets)?) {
+        prove!(identifier.octets() == octets);
+    }
+    Ok(())
+}
+
+/// An octet string shows the octets that it is made of.
+fn octet_strings_keep_their_octets(octets: &[u8], alloc: Global) -> Result<(), AllocError> {
+    let string = OctetString::new(Vec::from_slice(alloc, octets)?);
+    prove!(string.octets() == octets);
+    Ok(())
+}
+
+/// An object descriptor shows the octets that it is made of.
+fn descriptors_keep_their_octets(octets: &[u8], alloc: Global) -> Result<(), AllocError> {
+    let descriptor = ObjectDescriptor::new(Vec::from_slice(alloc, octets)?);
+    prove!(descriptor.octets() == octets);
+    Ok(())
+}
+
+/// Bit strings of one content have one number of bits, and one list of octets.
+fn bit_strings_have_their_bits(octets: &[u8], alloc: Global) -> Result<(), AllocError> {
+    if let Ok(one) = BitString::new(Vec::from_slice(alloc, octets)?) {
+        if let Ok(other) = BitString::new(Vec::from_slice(alloc, octets)?) {
+            prove!(one.bit_len() == other.bit_len());
+            prove!(one.octets() == other.octets());
+        }
     }
     Ok(())
 }

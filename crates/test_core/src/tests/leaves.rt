@@ -1,7 +1,8 @@
 //! Worked contents, with their values from outside.
 use ber_leaf::{
-    DateText, Flag, GeneralText, IllString, Leaf, LeafFault, PrintableText, TimeText, VisibleText,
-    Whole, enumerated_is_held_as_integer, normal_content_holds_its_value, normal_content_is_least,
+    BitString, DateText, Flag, GeneralText, IllString, Leaf, LeafFault, Null, ObjectDescriptor,
+    ObjectIdentifier, OctetString, PrintableText, TimeText, VisibleText, Whole,
+    enumerated_is_held_as_integer, normal_content_holds_its_value, normal_content_is_least,
     normal_contents_tell_values_apart, octets_hold_one_out, octets_hold_one_value,
     profile_two_holds_what_one_does, whole_numbers_have_bounds,
 };
@@ -9,9 +10,10 @@ use std::alloc::{AllocError, Global};
 use std::test::Fail;
 use test_support::{general_string, octets_of};
 
-/// Contents: a name, the kind (B BOOLEAN, I INTEGER, G GeneralString, P PrintableString, V VisibleString, D ISO-Date, T ISO-Time), the octets,
-/// and the normal content of the value that they hold. DER writes a text as it is.
-static CONTENTS: [(&str, &str, &str, &str); 23] = [
+/// Contents: a name, the kind (B BOOLEAN, I INTEGER, G GeneralString, P PrintableString, V VisibleString, D ISO-Date, T ISO-Time, N NULL,
+/// O OBJECT IDENTIFIER, C OCTET STRING, K BIT STRING, R ObjectDescriptor), the octets, and the normal content of the value that they hold.
+/// DER writes a text as it is. The last two are the examples of X.690, 8.6.4.2 and 8.19.5.
+static CONTENTS: [(&str, &str, &str, &str); 38] = [
     ("boolean-false", "B", "00", "00"),
     ("boolean-true-as-07", "B", "07", "ff"),
     ("integer-zero", "I", "00", "00"),
@@ -60,10 +62,35 @@ static CONTENTS: [(&str, &str, &str, &str); 23] = [
         "313230303630",
     ),
     ("time-of-start-of-day", "T", "303030303030", "303030303030"),
+    ("damaged-whole", "N", "", ""),
+    ("damaged-units", "O", "2a", "2a"),
+    ("external-octets", "O", "2a8648ce13050a", "2a8648ce13050a"),
+    (
+        "external-large-arc",
+        "O",
+        "69ffffffffffffffffff7f",
+        "69ffffffffffffffffff7f",
+    ),
+    ("external-octets", "C", "583132333435", "583132333435"),
+    ("joined-external-octets", "C", "5831", "5831"),
+    ("specific-results", "C", "", ""),
+    ("external-bits", "K", "03f8", "03f8"),
+    ("external-unused-bits-set", "K", "03ff", "03f8"),
+    ("item-external", "K", "00", "00"),
+    ("joined-external-bits", "K", "04a5f7", "04a5f0"),
+    ("external-descriptor", "R", "1b0eff", "1b0eff"),
+    ("joined-external-descriptor", "R", "4100", "4100"),
+    (
+        "bits-of-an-example",
+        "K",
+        "040a3b5f291cd0",
+        "040a3b5f291cd0",
+    ),
+    ("identifier-of-an-example", "O", "813403", "813403"),
 ];
 
 /// What is no content: a name, the kind, the octets, and the fault.
-static FAULTS: [(&str, &str, &str, LeafFault); 21] = [
+static FAULTS: [(&str, &str, &str, LeafFault); 31] = [
     ("boolean-empty", "B", "", LeafFault::BadBoolean),
     ("boolean-two-octets", "B", "0000", LeafFault::BadBoolean),
     (
@@ -135,6 +162,26 @@ static FAULTS: [(&str, &str, &str, LeafFault); 21] = [
         "323430313030",
         LeafFault::BadTime,
     ),
+    ("damaged-null-with-content", "N", "00", LeafFault::BadNull),
+    ("external-oid-empty", "O", "", LeafFault::BadOid),
+    ("external-oid-not-ended", "O", "80", LeafFault::BadOid),
+    ("external-oid-padded-first", "O", "8001", LeafFault::BadOid),
+    (
+        "external-oid-padded-later",
+        "O",
+        "2a8001",
+        LeafFault::BadOid,
+    ),
+    ("oid-not-ended-later", "O", "2a86", LeafFault::BadOid),
+    ("external-bits-without-count", "K", "", LeafFault::BadBits),
+    ("external-bits-count-8", "K", "0800", LeafFault::BadBits),
+    (
+        "external-bits-count-of-nothing",
+        "K",
+        "01",
+        LeafFault::BadBits,
+    ),
+    ("bits-count-past-an-octet", "K", "ff00", LeafFault::BadBits),
 ];
 
 /// The integers at powers of 256 and at the ends of each size, and one off: their octets and their numbers.
@@ -247,6 +294,11 @@ fn normal_at(
         "T" => normal_of::<TimeText>(alloc, octets),
         "P" => normal_of::<PrintableText>(alloc, octets),
         "G" => normal_of::<GeneralText>(alloc, octets),
+        "N" => normal_of::<Null>(alloc, octets),
+        "O" => normal_of::<ObjectIdentifier>(alloc, octets),
+        "C" => normal_of::<OctetString>(alloc, octets),
+        "K" => normal_of::<BitString>(alloc, octets),
+        "R" => normal_of::<ObjectDescriptor>(alloc, octets),
         _ => normal_of::<VisibleText>(alloc, octets),
     }
 }
@@ -345,6 +397,31 @@ fn the_end_of_a_day_is_not_its_start(rt: HostRuntime) -> Result<(), Fail> {
     Ok(())
 }
 
+fn bits(alloc: Global, content: &[u8]) -> Result<BitString, Fail> {
+    match BitString::new(content.to_vec(alloc)?) {
+        Ok(string) => Ok(string),
+        Err(_) => Err("no BIT STRING")?,
+    }
+}
+
+/// The example of X.690, 8.6.4.2, has 44 bits.
+#[test]
+fn bits_are_counted(rt: HostRuntime) -> Result<(), Fail> {
+    let example = bits(rt.alloc(), b"\x04\x0A\x3B\x5F\x29\x1C\xD0")?;
+    assert!(rt; example.bit_len() == 44);
+    assert!(rt; example.octets() == b"\x0A\x3B\x5F\x29\x1C\xD0".as_slice());
+    Ok(())
+}
+
+#[test]
+fn unused_bits_do_not_count(rt: HostRuntime) -> Result<(), Fail> {
+    let five = bits(rt.alloc(), b"\x03\xF8")?;
+    assert!(rt; bits(rt.alloc(), b"\x03\xFF")? == five);
+    assert!(rt; bits(rt.alloc(), b"\x02\xF8")? != five);
+    assert!(rt; bits(rt.alloc(), b"\x03\xF0")? != five);
+    Ok(())
+}
+
 fn visible(alloc: Global, letters: &[u8]) -> Result<IllString, Fail> {
     match VisibleText::new(letters.to_vec(alloc)?) {
         Ok(text) => Ok(IllString::Visible(text)),
@@ -370,6 +447,11 @@ fn laws() {
     octets_hold_one_out::<PrintableText>();
     octets_hold_one_out::<DateText>();
     octets_hold_one_out::<TimeText>();
+    octets_hold_one_out::<Null>();
+    octets_hold_one_out::<ObjectIdentifier>();
+    octets_hold_one_out::<OctetString>();
+    octets_hold_one_out::<BitString>();
+    octets_hold_one_out::<ObjectDescriptor>();
     normal_content_holds_its_value();
     normal_content_is_least();
     normal_contents_tell_values_apart();

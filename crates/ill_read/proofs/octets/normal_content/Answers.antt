@@ -5,7 +5,7 @@ use Rattle.ber_leaf.proofs.Leaves.{content_holds}
 use Rattle.ill_elements.specs.LeafTypes.{leaf_is}
 use Rattle.ill_elements.specs.declared.leaf_type.LeafType.{LeafType}
 use Rattle.ill_elements.specs.declared.leaf_type.LeafType.TheVariants as code
-use Rattle.ill_elements.proofs.NormalLeaves.{normal_as_read, normal_boolean}
+use Rattle.ill_elements.proofs.NormalLeaves.{no_bits, normal_as_read, normal_boolean}
 use Rattle.ill_read.proofs.octets.normal_content.Goals as goal
 
 only_boolean : (l : LeafType) → leaf_is l ≡ boolean → l ≡ code.Boolean
@@ -21,7 +21,7 @@ not_zero a h = elim (nat_eq a 0) as (λ b. nat_eq a 0 ≡ b → b ≡ false) [ t
 pub returns-in_default : goal.returns-in_default
 returns-in_default c =
     let right = content_holds (leaf_is c.args.leaf) c.args.content.now c.requires in
-    sym (normal_as_read profile_two (leaf_is c.args.leaf) c.args.content.now (λ e. c.in_default.not-Boolean (only_boolean c.args.leaf e)) right.0 right.1)
+    sym (normal_as_read profile_two (leaf_is c.args.leaf) c.args.content.now (λ e. c.in_default.not-Boolean (only_boolean c.args.leaf e)) (no_bits c.args.leaf) right.0 right.1)
 
 pub returns-then-ne : goal.returns-then-ne
 returns-then-ne c =

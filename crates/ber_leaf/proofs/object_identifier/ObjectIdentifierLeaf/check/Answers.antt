@@ -1,0 +1,10 @@
+use Rattle.std.proofs.Common.{◌≡◌, ◌<◌, get_or, arith, rules}
+use Rattle.ber_leaf.specs.Leaf.{object_identifier, content_fault}
+use Rattle.ber_leaf.specs.Profile.{profile_two}
+use Rattle.ber_leaf.proofs.Leaves.{exact, octets_fit}
+use Rattle.ber_leaf.proofs.object_identifier.ObjectIdentifierLeaf.check.Goals as goal
+
+pub returns-clause-none : goal.returns-clause-none
+returns-clause-none c =
+    let fault : c.then_some.result ≡ content_fault profile_two object_identifier c.args.octets.now = search rules in
+    exact object_identifier c.args.octets.now c.then_some.result (octets_fit _ (λ i. let h : get_or c.args.octets.now i 0 < 256 = omega (arith, c.type_inv.octets i) in h)) fault

@@ -1,0 +1,47 @@
+-- The leaves that stand in the tables: NULL, OBJECT IDENTIFIER, OCTET STRING, BIT STRING and ObjectDescriptor are in no row yet.
+use Rattle.std.proofs.Common.{◌≡◌, Bool, true, false, Some, IsTrue, refl}
+use Rattle.ber_leaf.specs.Leaf.{Leaf}
+use Rattle.ber_leaf.specs.Simple.{Simple, null, oid, binary, bits, descriptor}
+use Rattle.ill_schema.specs.declared.node.Kind.{Kind}
+use Rattle.ill_schema.specs.declared.node.LeafKind.{LeafKind}
+use Rattle.ill_schema.specs.declared.node.NodeId.{NodeId}
+use Rattle.ill_schema.specs.declared.node.NodeId.TheVariants.{Boolean}
+use Rattle.ill_schema.specs.Table.{kind_of}
+use Rattle.ill_schema.specs.Tagging.{leaf_of}
+
+-- a value of a leaf that the tables have
+abbrev pub is_known : Simple → Bool
+is_known null = false
+is_known (oid _) = false
+is_known (binary _) = false
+is_known (bits _ _) = false
+is_known (descriptor _) = false
+is_known _ = true
+
+abbrev is_known_kind : Kind → Bool
+is_known_kind (Kind.Leaf LeafKind.Null) = false
+is_known_kind (Kind.Leaf LeafKind.ObjectIdentifier) = false
+is_known_kind (Kind.Leaf LeafKind.OctetString) = false
+is_known_kind (Kind.Leaf LeafKind.BitString) = false
+is_known_kind (Kind.Leaf LeafKind.ObjectDescriptor) = false
+is_known_kind _ = true
+
+all_known : (node : NodeId) → IsTrue (is_known_kind (kind_of node))
+all_known Boolean = refl
+all_known _ = refl
+
+known_by : (k : Kind) (v : Simple) (l : Leaf) → IsTrue (is_known_kind k) → leaf_of k v ≡ Some l → IsTrue (is_known v)
+known_by (Kind.Leaf LeafKind.Null) v l h e = absurd cc
+known_by (Kind.Leaf LeafKind.ObjectIdentifier) v l h e = absurd cc
+known_by (Kind.Leaf LeafKind.OctetString) v l h e = absurd cc
+known_by (Kind.Leaf LeafKind.BitString) v l h e = absurd cc
+known_by (Kind.Leaf LeafKind.ObjectDescriptor) v l h e = absurd cc
+known_by k null l h e = absurd cc
+known_by k (oid _) l h e = absurd cc
+known_by k (binary _) l h e = absurd cc
+known_by k (bits _ _) l h e = absurd cc
+known_by k (descriptor _) l h e = absurd cc
+known_by _ _ l h e = refl
+
+pub known_leaf : (node : NodeId) (v : Simple) (l : Leaf) → leaf_of (kind_of node) v ≡ Some l → IsTrue (is_known v)
+known_leaf node v l e = known_by (kind_of node) v l (all_known node) e
