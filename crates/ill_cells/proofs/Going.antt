@@ -1,5 +1,6 @@
 -- Where an element begins inside, and what comes after it.
 use Rattle.std.proofs.Common.{◌≡◌, ℕ, zero, suc, ◌+◌, true, IsTrue, List, [], ◌∷◌, drop, None, refl, sym, ap, ◌∙◌, arith}
+use Rattle.std.proofs.lemmas.Bool.{and_parts}
 use Rattle.ber_leaf.specs.Profile.{profile_two}
 use Rattle.ill_schema.specs.declared.node.Kind.{Kind}
 use Rattle.ill_schema.specs.declared.node.NodeId.{NodeId}
@@ -150,7 +151,7 @@ first-kind what.LeftOut p node k cs q e h = empty-first p node k cs e h
 
 -- where an element that may be in its node begins inside
 pub first-opens : (w : What) (p : PartId) (node : NodeId) → IsTrue (opens_in w node) → next_from p node (first_position w) ≡ opening profile_two (element_in p node w)
-first-opens w p node h = first-kind w p node (kind_of node) (components profile_two node) refl refl h
+first-opens w p node h = first-kind w p node (kind_of node) (components profile_two node) refl refl (and_parts _ _ h).1
 
 drop-more : {A : Type 0} (xs : List A) (n : ℕ) → drop n xs ≡ [] → drop (suc n) xs ≡ []
 drop-more [] zero e = refl

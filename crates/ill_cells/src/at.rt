@@ -4,9 +4,10 @@ ghost use Rattle.std.proofs.Props.{props};
 ghost use Rattle.ber_core.specs.Id.{tag_of_id};
 ghost use Rattle.ber_leaf.specs.Profile.{profile_two};
 ghost use Rattle.ill_schema.specs.Table.{kind_of};
+ghost use Rattle.ill_schema.specs.TableFacts.{is_of_two};
 ghost use Rattle.ill_schema.specs.Tagging.{same_tag};
 ghost use Rattle.ill_cells.specs.Cells.{alternative_in, element_with, first_position, is_placed, node_choice, part_at};
-ghost use Rattle.ill_cells.specs.code.Meant.{cell_choice, cell_opens, cell_starts, default_at, is_nested, node_starts, opens_in, row_there};
+ghost use Rattle.ill_cells.specs.code.Meant.{cell_choice, cell_opens, cell_starts, default_at, node_starts, opens_in, opens_nested, row_there};
 ghost use Rattle.ill_refusals.specs.Element.{components};
 ghost use Rattle.ill_cells.specs.code.Starts.{IsBegunBy};
 
@@ -15,13 +16,15 @@ use crate::runs::{MESSAGE, NOWHERE, alternatives_of, cells_of};
 use ber_core::Id;
 use ill_schema::{NodeId, PartId};
 
-/// A place where an element may begin: a position in the cells of a node, at 0 in a wrapper round the node, from 1 on in the node itself.
+/// A place where an element may begin: a position in the cells of a node of profile 2, at 0 in a wrapper round the node, from 1 on
+/// in the node itself.
 #[derive(Clone, Copy)]
 pub struct At {
     /// The cell of the node, or of the wrapper round it.
     round: &'static Cell,
     // As wide as the reference: so nothing is left unused in what holds a place, and it is copied by whole words.
     position: usize,
+    ghost of_two: { IsTrue (is_of_two round.now.node) },
     ghost few: { position < 28 },
 }
 
@@ -53,7 +56,7 @@ fn has_tag(cell: &Cell, id: Id) -> bool
 /// The cell of what a node with alternatives, or of two types, is by the tag.
 #[inline(always)]
 fn nested_start(node: NodeId, id: Id) -> Option<&'static Cell>
-    requires { is_nested (kind_of node) ≡ true }
+    requires { opens_nested node ≡ true }
     ensures { MatchOption result (element_with (tag_of_id id) (node_starts node) ≡ None)
         (λ begun. IsBegunBy (tag_of_id id) (node_starts node) (node_choice node) (option_map (λ _. begun.now.part.row) (node_choice node)) begun.now) }
 {
@@ -67,14 +70,14 @@ fn nested_start(node: NodeId, id: Id) -> Option<&'static Cell>
     None
 }
 
-/// The number as that of an alternative, None where the node has two types instead, or is of the open type.
+/// The number as that of an alternative, None where the node has two types instead.
 #[inline(always)]
 fn alternative_number(node: NodeId, number: u8) -> Option<u8>
-    requires { is_nested (kind_of node) ≡ true }
+    requires { opens_nested node ≡ true }
     ensures { result ≡ option_map (λ _. number) (node_choice node) }
 {
     match node {
-        NodeId::IllString | NodeId::Any => None,
+        NodeId::IllString => None,
         _ => Some(number),
     }
 }

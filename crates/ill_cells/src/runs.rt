@@ -1,6 +1,7 @@
-//! The cells of each node: by what it may begin in a wrapper, and then what it may contain.
-ghost use Rattle.std.specs.Prelude.{◌≡◌, ◌≤◌, length, true};
+//! The cells of each node of profile 2: by what it may begin in a wrapper, and then what it may contain.
+ghost use Rattle.std.specs.Prelude.{◌≡◌, ◌≤◌, length, IsTrue};
 ghost use Rattle.ill_schema.specs.Table.{kind_of};
+ghost use Rattle.ill_schema.specs.TableFacts.{is_of_two};
 ghost use Rattle.ill_cells.specs.code.Meant.{all_open, cells_meant, nested_starts, node_meant, starts_of_cells};
 
 use crate::cell::{Cell, Slot, What};
@@ -142,7 +143,7 @@ macro_rules! alternatives {
     };
 }
 
-/// The cell of a node that begins by its alternatives; the open type has none.
+/// The cell of a node that begins by its alternatives.
 macro_rules! nested {
     ($node:ident) => {
         Cell {
@@ -323,8 +324,6 @@ const EXPIRED: [Cell; 7] = table!(Expired, sequence);
 
 const ILL_APDU: [Cell; 1] = [nested!(IllApdu)];
 
-const ANY: [Cell; 1] = [nested!(Any)];
-
 const SYMBOL_ALTERNATIVES: [Cell; 2] = table!(Symbol, alternatives);
 
 const NAME_ALTERNATIVES: [Cell; 2] = table!(Name, alternatives);
@@ -373,6 +372,7 @@ const STRINGS: [Cell; 2] = [
 /// The cells of a node: those by which it begins, and those of what it may contain.
 #[inline(always)]
 pub fn cells_of(node: NodeId) -> &'static [Cell]
+    requires { IsTrue (is_of_two node) }
     ensures meant { cells_meant result.now ≡ node_meant node }
     ensures few { length result.now ≤ 27 }
 {
@@ -443,15 +443,16 @@ pub fn cells_of(node: NodeId) -> &'static [Cell]
         NodeId::StatusQuery => &STATUS_QUERY,
         NodeId::Expired => &EXPIRED,
         NodeId::IllApdu => &ILL_APDU,
-        NodeId::Any => &ANY,
+        _ => &[],
     }
 }
 
 /// The cells by which a node begins that has alternatives, or two types.
 #[inline(always)]
 pub fn alternatives_of(node: NodeId) -> &'static [Cell]
+    requires { IsTrue (is_of_two node) }
     ensures meant { starts_of_cells result.now ≡ nested_starts (kind_of node) node }
-    ensures open { all_open 0 result.now ≡ true }
+    ensures open { IsTrue (all_open 0 result.now) }
     ensures few { length result.now ≤ 20 }
 {
     match node {

@@ -1,6 +1,7 @@
 -- What the cells find is due by the decoder's words.
 use Rattle.std.proofs.Common.{◌≡◌, ◌⊎◌, ℕ, zero, suc, ◌+◌, ◌-◌, ◌≤◌, Bool, true, false, List, [], ◌∷◌, drop, IsTrue, Option, Some, None, option_map, refl, sym, ap, subst, ◌∙◌, inl, inr, arith, slice_get}
 use Rattle.std.specs.Prelude.{if◌then◌else◌, nat_eq}
+use Rattle.std.proofs.lemmas.Bool.{and_parts}
 use Rattle.ber_core.specs.Identifier.{Tag}
 use Rattle.ber_core.specs.Tree.{octet_string}
 use Rattle.ber_leaf.specs.Profile.{profile_two}
@@ -363,16 +364,16 @@ wrapper-shape p node _ h = refl
 
 -- where what is found begins inside
 pub begins-at : (w : What) (p : PartId) (node : NodeId) → IsTrue (opens_in w node) → BeginsAt (found_as p node w) (record { part = p; node = node; position = cells.first_position w })
-begins-at what.Sequence p node h = (sequence-shape p node (kind_of node) h).0
-begins-at what.LooseWrapper p node h = (sequence-shape p node (kind_of node) h).1
-begins-at what.List p node h = list-shape p node (kind_of node) h
-begins-at what.Wrapper p node h = wrapper-shape p node (kind_of node) h
+begins-at what.Sequence p node h = (sequence-shape p node (kind_of node) (and_parts _ _ h).1).0
+begins-at what.LooseWrapper p node h = (sequence-shape p node (kind_of node) (and_parts _ _ h).1).1
+begins-at what.List p node h = list-shape p node (kind_of node) (and_parts _ _ h).1
+begins-at what.Wrapper p node h = wrapper-shape p node (kind_of node) (and_parts _ _ h).1
 begins-at what.LeftOut p node h = tt
-begins-at _ p node h = leaf-shape p node (kind_of node) h
+begins-at _ p node h = leaf-shape p node (kind_of node) (and_parts _ _ h).1
 
 -- what comes in what is found when it opens: an explicit tag that the cells know is round no open type
 pub opens-by : (w : What) (p : PartId) (node : NodeId) → IsTrue (opens_in w node) → next_is (first_of (element_as p node w)) ≡ next.opening profile_two (element_is (element_as p node w))
-opens-by what.Wrapper p node h = opened (kind_of node) refl h
+opens-by what.Wrapper p node h = opened (kind_of node) refl (and_parts _ _ h).1
   where
     round : Kind → next.Next
     round k = elim k as (λ _. next.Next) [ Kind.Any ↦ next.anything (wrapped p node) | _ ↦ rows (wrapped p node ∷ []) ]

@@ -1,5 +1,5 @@
 -- What is due outside strings is no segment, and its tag no end mark's; rows with a default hold leaves that are no strings.
-use Rattle.std.proofs.Common.{◌≡◌, ◌⊎◌, ℕ, Bool, true, false, List, [], ◌∷◌, Option, Some, None, IsTrue, refl, sym, ap, subst, ◌∙◌, inl, inr, slice_get}
+use Rattle.std.proofs.Common.{◌≡◌, ◌⊎◌, ℕ, Bool, true, false, List, [], ◌∷◌, Option, Some, None, IsTrue, refl, sym, ap, subst, ◌∙◌, inl, inr, slice_get, not, ◌||◌, nat_lt}
 use Rattle.std.specs.List.{list_all}
 use Rattle.ber_core.specs.Identifier.{Tag}
 use Rattle.ber_core.specs.declared.id.Class.{Class}
@@ -89,7 +89,7 @@ abbrev is_universal : Class → Bool
 is_universal Class.Universal = true
 is_universal _ = false
 
--- no row's tag is universal, and a row with a default has an implicit tag on what is no string
+-- no row's tag is that of the end mark, and a row with a default has an implicit tag on what is no string
 abbrev is_plain_kind : Kind → Bool
 is_plain_kind (Kind.Leaf LeafKind.Boolean) = true
 is_plain_kind (Kind.Leaf LeafKind.Integer) = true
@@ -102,7 +102,7 @@ is_plain (Presence.Default d) _ k = false
 is_plain _ _ _ = true
 
 abbrev is_apart : Row → Bool
-is_apart row = elim row.tag as (λ _. Bool) [ None ↦ true | Some t ↦ elim (is_universal t.0) as (λ _. Bool) [ true ↦ false | false ↦ true ] ]
+is_apart row = elim row.tag as (λ _. Bool) [ None ↦ true | Some t ↦ not (is_universal t.0) || nat_lt 0 t.1 ]
 
 abbrev has_plain_default : Row → Bool
 has_plain_default row = elim row.tag as (λ _. Bool) [ None ↦ elim row.presence as (λ _. Bool) [ Presence.Default d ↦ false | _ ↦ true ] | Some t ↦ is_plain row.presence row.mode (kind_of row.node) ]
@@ -115,14 +115,14 @@ all_plain : (node : NodeId) → IsTrue (list_all has_plain_default (rows_of node
 all_plain Boolean = refl
 all_plain _ = refl
 
-apart : (c : Class) → (elim (is_universal c) as (λ _. Bool) [ true ↦ false | false ↦ true ]) ≡ true → c ≡ Universal → ⊥
-apart c h e = let q : (elim (is_universal Universal) as (λ _. Bool) [ true ↦ false | false ↦ true ]) ≡ true = subst (λ x. (elim (is_universal x) as (λ _. Bool) [ true ↦ false | false ↦ true ]) ≡ true) e h in cc
+apart : (c : Class) (n : ℕ) → IsTrue (not (is_universal c) || nat_lt 0 n) → c ≡ Universal → n ≡ 0 → ⊥
+apart c n h e z = let q : IsTrue (not (is_universal Universal) || nat_lt 0 0) = subst (λ (m : ℕ). IsTrue (not (is_universal Universal) || nat_lt 0 m)) z (subst (λ x. IsTrue (not (is_universal x) || nat_lt 0 n)) e h) in cc
 
 row_apart : (tag : Option (Class × ℕ)) (m : Mode) (pr : Presence) (node : NodeId) → IsTrue (is_apart (record { tag = tag; mode = m; presence = pr; node = node }))
     → TaggingApart (tagging profile_two (record { tag = tag; mode = m; presence = pr; node = node }))
 row_apart None m pr node h = tt
 row_apart (Some t) Mode.Untagged pr node h = tt
-row_apart (Some t) _ pr node h = λ c n. (let q : (elim (is_universal t.0) as (λ _. Bool) [ true ↦ false | false ↦ true ]) ≡ true = h in apart t.0 q c)
+row_apart (Some t) _ pr node h = λ c n. apart t.0 t.1 h c n
 
 at_apart : (node : NodeId) (n : ℕ) (row : Row) → slice_get (rows_of node) n ≡ Some row → TaggingApart (tagging profile_two row)
 at_apart node n row e = row_apart row.tag row.mode row.presence row.node (at_row is_apart (rows_of node) n row (all_apart node) e)

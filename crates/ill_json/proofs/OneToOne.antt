@@ -25,11 +25,11 @@ use Rattle.json.proofs.Printed.Decimals.{IsNumber-decimal, IsNumber-signed_decim
 use Rattle.json.proofs.Printed.Trees.{ArePrintable-json_tokens, value-json_tokens}
 use Rattle.ber_core.specs.Octets.{are_octets}
 use Rattle.ber_leaf.specs.Leaf.{Leaf, Holds, enumerated, integer, normal_content}
-use Rattle.ber_leaf.specs.Profile.{Profile}
+use Rattle.ber_leaf.specs.Profile.{Profile, profile_two}
 use Rattle.ber_leaf.specs.Simple.{Simple, flag, whole, date, time, printable, general, visible, null, oid, binary, bits, descriptor}
 use Rattle.ber_leaf.proofs.Integers.{whole_bounds}
 use Rattle.ill_schema.proofs.KnownLeaves.{is_known, known_leaf}
-use Rattle.ill_schema.proofs.Tags.{row_closed}
+use Rattle.ill_schema.proofs.Tags.{row_of_two, two_not_any}
 use Rattle.ill_schema.specs.declared.node.Kind.{Kind}
 use Rattle.ill_schema.specs.declared.node.LeafKind.{LeafKind}
 use Rattle.ill_schema.specs.declared.node.NodeId.{NodeId}
@@ -40,6 +40,7 @@ use Rattle.ill_schema.specs.Content.{Content, simple, sequence, list, alternativ
 use Rattle.ill_schema.specs.Fits.{Fits, FitItems, FitRows, FitsApdu}
 use Rattle.ill_schema.specs.Names.{names_of}
 use Rattle.ill_schema.specs.Table.{kind_of, rows_of}
+use Rattle.ill_schema.specs.TableFacts.{is_of_two}
 use Rattle.ill_schema.specs.Tagging.{leaf_of}
 use Rattle.ill_text.specs.Numbers.{number_name, number_names}
 use Rattle.ill_text.specs.Shown.{name_or_none, node_or_left_out, row_name, row_node}
@@ -318,67 +319,67 @@ other p c d node h k = sym (fit_sort p c node h) ∙ fit_sort p d node k
 row_fits : (p : Profile) (node : NodeId) (i : ℕ) (c : Content) (row : Row) → slice_get (rows_of node) i ≡ Some row → Fits p c row.node → Fits p c (row_node node i)
 row_fits p node i c row e h = subst (λ n. Fits p c n) (sym (ap node_or_left_out e)) h
 
--- no row is of an open type
-closed_at : (node : NodeId) (i : ℕ) (row : Row) → slice_get (rows_of node) i ≡ Some row → kind_of (row_node node i) ≡ Kind.Any → ⊥
-closed_at node i row e k = row_closed node i row e (subst (λ n. kind_of n ≡ Kind.Any) (ap node_or_left_out e) k)
+-- the rows of profile 2's nodes are of such nodes
+two_at : (node : NodeId) (i : ℕ) (row : Row) → IsTrue (is_of_two node) → slice_get (rows_of node) i ≡ Some row → IsTrue (is_of_two (row_node node i))
+two_at node i row two e = subst (λ n. IsTrue (is_of_two n)) (sym (ap node_or_left_out e)) (row_of_two node i row two e)
 
 mutual
-  pub value_once : (p : Profile) (row : List ℕ) (node : NodeId) (c d : Content) → (kind_of node ≡ Kind.Any → ⊥) → Fits p c node → Fits p d node → value_json row node c ≡ value_json row node d → c ≡ d
-  value_once p row node (simple v) (simple w) closed h k e = ap simple (leaf_once p row (kind_of node) v w h.0 k.0 (known_leaf node v h.0 h.1) h.1 k.1 h.2 k.2 e)
-  value_once p row node (sequence es) (sequence fs) closed h k e = ap sequence (entries_once p node 0 (rows_of node) es fs (from_all (rows_of node)) h.1 k.1 (object_same _ _ e))
-  value_once p row node (list is) (list js) closed h k e = ap list (items_once p row node is js h.1 k.1 (let q : item_values row (row_node node 0) is ≡ item_values row (row_node node 0) js = cc in q))
-  value_once p row node (alternative n c) (alternative m d) closed h k e =
+  pub value_once : (p : Profile) (row : List ℕ) (node : NodeId) (c d : Content) → IsTrue (is_of_two node) → Fits p c node → Fits p d node → value_json row node c ≡ value_json row node d → c ≡ d
+  value_once p row node (simple v) (simple w) two h k e = ap simple (leaf_once p row (kind_of node) v w h.0 k.0 (known_leaf node v h.0 two h.1) h.1 k.1 h.2 k.2 e)
+  value_once p row node (sequence es) (sequence fs) two h k e = ap sequence (entries_once p node 0 (rows_of node) es fs two (from_all (rows_of node)) h.1 k.1 (object_same _ _ e))
+  value_once p row node (list is) (list js) two h k e = ap list (items_once p row node is js two h.1 k.1 (let q : item_values row (row_node node 0) is ≡ item_values row (row_node node 0) js = cc in q))
+  value_once p row node (alternative n c) (alternative m d) two h k e =
       let parts = member_same _ _ _ _ _ _ (object_same _ _ e) in
       let same = row_once node n m h.0 k.0 h.1.1 k.1.1 parts.0 in
       let body = parts.1 ∙ ap (λ (x : ℕ). value_json (row_name node x) (row_node node x) d) (sym same) in
       let fits = subst (λ (x : ℕ). Fits p d (row_node node x)) (sym same) (row_fits p node m d k.0 k.1.1 k.2) in
-      let inner = value_once p (row_name node n) (row_node node n) c d (closed_at node n h.0 h.1.1) (row_fits p node n c h.0 h.1.1 h.2) fits body in
+      let inner = value_once p (row_name node n) (row_node node n) c d (two_at node n h.0 two h.1.1) (row_fits p node n c h.0 h.1.1 h.2) fits body in
       ap (alternative n) inner ∙ ap (λ (x : ℕ). alternative x d) same
-  value_once p row node (simple v) (sequence fs) closed h k e = absurd (omega (arith, small_sort v, other p (simple v) (sequence fs) node h k))
-  value_once p row node (simple v) (list js) closed h k e = absurd (omega (arith, small_sort v, other p (simple v) (list js) node h k))
-  value_once p row node (simple v) (alternative m d) closed h k e = absurd (omega (arith, small_sort v, other p (simple v) (alternative m d) node h k))
-  value_once p row node (sequence es) (simple w) closed h k e = absurd (omega (arith, small_sort w, other p (sequence es) (simple w) node h k))
-  value_once p row node (list is) (simple w) closed h k e = absurd (omega (arith, small_sort w, other p (list is) (simple w) node h k))
-  value_once p row node (alternative n c) (simple w) closed h k e = absurd (omega (arith, small_sort w, other p (alternative n c) (simple w) node h k))
-  value_once p row node (sequence es) (list js) closed h k e = absurd (omega (arith, other p (sequence es) (list js) node h k))
-  value_once p row node (sequence es) (alternative m d) closed h k e = absurd (omega (arith, other p (sequence es) (alternative m d) node h k))
-  value_once p row node (list is) (sequence fs) closed h k e = absurd (omega (arith, other p (list is) (sequence fs) node h k))
-  value_once p row node (list is) (alternative m d) closed h k e = absurd (omega (arith, other p (list is) (alternative m d) node h k))
-  value_once p row node (alternative n c) (sequence fs) closed h k e = absurd (omega (arith, other p (alternative n c) (sequence fs) node h k))
-  value_once p row node (alternative n c) (list js) closed h k e = absurd (omega (arith, other p (alternative n c) (list js) node h k))
-  value_once p row node (foreign T) d closed h k e = absurd (closed h.0)
-  value_once p row node c (foreign U) closed h k e = absurd (closed k.0)
+  value_once p row node (simple v) (sequence fs) two h k e = absurd (omega (arith, small_sort v, other p (simple v) (sequence fs) node h k))
+  value_once p row node (simple v) (list js) two h k e = absurd (omega (arith, small_sort v, other p (simple v) (list js) node h k))
+  value_once p row node (simple v) (alternative m d) two h k e = absurd (omega (arith, small_sort v, other p (simple v) (alternative m d) node h k))
+  value_once p row node (sequence es) (simple w) two h k e = absurd (omega (arith, small_sort w, other p (sequence es) (simple w) node h k))
+  value_once p row node (list is) (simple w) two h k e = absurd (omega (arith, small_sort w, other p (list is) (simple w) node h k))
+  value_once p row node (alternative n c) (simple w) two h k e = absurd (omega (arith, small_sort w, other p (alternative n c) (simple w) node h k))
+  value_once p row node (sequence es) (list js) two h k e = absurd (omega (arith, other p (sequence es) (list js) node h k))
+  value_once p row node (sequence es) (alternative m d) two h k e = absurd (omega (arith, other p (sequence es) (alternative m d) node h k))
+  value_once p row node (list is) (sequence fs) two h k e = absurd (omega (arith, other p (list is) (sequence fs) node h k))
+  value_once p row node (list is) (alternative m d) two h k e = absurd (omega (arith, other p (list is) (alternative m d) node h k))
+  value_once p row node (alternative n c) (sequence fs) two h k e = absurd (omega (arith, other p (alternative n c) (sequence fs) node h k))
+  value_once p row node (alternative n c) (list js) two h k e = absurd (omega (arith, other p (alternative n c) (list js) node h k))
+  value_once p row node (foreign T) d two h k e = absurd (two_not_any node two h.0)
+  value_once p row node c (foreign U) two h k e = absurd (two_not_any node two k.0)
 
-  entries_once : (p : Profile) (node : NodeId) (i : ℕ) (rows : List Row) (es fs : Entries) → From rows i (rows_of node) → FitRows p es rows → FitRows p fs rows → entry_members node i es ≡ entry_members node i fs → es ≡ fs
-  entries_once p node i [] no_entries no_entries from h k e = refl
-  entries_once p node i [] no_entries (absent fs) from h k e = absurd k
-  entries_once p node i [] no_entries (present d fs) from h k e = absurd k
-  entries_once p node i [] (absent es) fs from h k e = absurd h
-  entries_once p node i [] (present c es) fs from h k e = absurd h
-  entries_once p node i (row ∷ rows) no_entries fs from h k e = absurd h
-  entries_once p node i (row ∷ rows) (absent es) no_entries from h k e = absurd k
-  entries_once p node i (row ∷ rows) (present c es) no_entries from h k e = absurd k
-  entries_once p node i (row ∷ rows) (absent es) (absent fs) from h k e = ap absent (entries_once p node (suc i) rows es fs (from_next row rows i (rows_of node) from) h.1 k.1 e)
-  entries_once p node i (row ∷ rows) (absent es) (present d fs) from h k e =
+  entries_once : (p : Profile) (node : NodeId) (i : ℕ) (rows : List Row) (es fs : Entries) → IsTrue (is_of_two node) → From rows i (rows_of node) → FitRows p es rows → FitRows p fs rows → entry_members node i es ≡ entry_members node i fs → es ≡ fs
+  entries_once p node i [] no_entries no_entries two from h k e = refl
+  entries_once p node i [] no_entries (absent fs) two from h k e = absurd k
+  entries_once p node i [] no_entries (present d fs) two from h k e = absurd k
+  entries_once p node i [] (absent es) fs two from h k e = absurd h
+  entries_once p node i [] (present c es) fs two from h k e = absurd h
+  entries_once p node i (row ∷ rows) no_entries fs two from h k e = absurd h
+  entries_once p node i (row ∷ rows) (absent es) no_entries two from h k e = absurd k
+  entries_once p node i (row ∷ rows) (present c es) no_entries two from h k e = absurd k
+  entries_once p node i (row ∷ rows) (absent es) (absent fs) two from h k e = ap absent (entries_once p node (suc i) rows es fs two (from_next row rows i (rows_of node) from) h.1 k.1 e)
+  entries_once p node i (row ∷ rows) (absent es) (present d fs) two from h k e =
       absurd (no_later p node i (suc i) rows es row _ _ (from_here row rows i (rows_of node) from) (omega arith) (from_next row rows i (rows_of node) from) h.1 e)
-  entries_once p node i (row ∷ rows) (present c es) (absent fs) from h k e =
+  entries_once p node i (row ∷ rows) (present c es) (absent fs) two from h k e =
       absurd (no_later p node i (suc i) rows fs row _ _ (from_here row rows i (rows_of node) from) (omega arith) (from_next row rows i (rows_of node) from) k.1 (sym e))
-  entries_once p node i (row ∷ rows) (present c es) (present d fs) from h k e =
+  entries_once p node i (row ∷ rows) (present c es) (present d fs) two from h k e =
       let parts = member_same _ _ _ _ _ _ e in
       let at = from_here row rows i (rows_of node) from in
-      let first = value_once p (row_name node i) (row_node node i) c d (closed_at node i row at) (row_fits p node i c row at h.1) (row_fits p node i d row at k.1) parts.1 in
-      let rest = entries_once p node (suc i) rows es fs (from_next row rows i (rows_of node) from) h.2 k.2 parts.2 in
+      let first = value_once p (row_name node i) (row_node node i) c d (two_at node i row two at) (row_fits p node i c row at h.1) (row_fits p node i d row at k.1) parts.1 in
+      let rest = entries_once p node (suc i) rows es fs two (from_next row rows i (rows_of node) from) h.2 k.2 parts.2 in
       ap (λ (x : Content). present x es) first ∙ ap (present d) rest
 
-  items_once : (p : Profile) (row : List ℕ) (node : NodeId) (is js : Items) → FitItems p is (rows_of node) → FitItems p js (rows_of node) → item_values row (row_node node 0) is ≡ item_values row (row_node node 0) js → is ≡ js
-  items_once p row node no_items no_items h k e = refl
-  items_once p row node no_items (item d js) h k e = absurd cc
-  items_once p row node (item c is) no_items h k e = absurd cc
-  items_once p row node (item c is) (item d js) h k e =
+  items_once : (p : Profile) (row : List ℕ) (node : NodeId) (is js : Items) → IsTrue (is_of_two node) → FitItems p is (rows_of node) → FitItems p js (rows_of node) → item_values row (row_node node 0) is ≡ item_values row (row_node node 0) js → is ≡ js
+  items_once p row node no_items no_items two h k e = refl
+  items_once p row node no_items (item d js) two h k e = absurd cc
+  items_once p row node (item c is) no_items two h k e = absurd cc
+  items_once p row node (item c is) (item d js) two h k e =
       let one : value_json row (row_node node 0) c ≡ value_json row (row_node node 0) d = cc in
       let values : item_values row (row_node node 0) is ≡ item_values row (row_node node 0) js = cc in
-      let first = value_once p row (row_node node 0) c d (closed_at node 0 h.0 h.1) (row_fits p node 0 c h.0 h.1 h.2) (row_fits p node 0 d k.0 k.1 k.2) one in
-      let rest = items_once p row node is js h.3 k.3 values in
+      let first = value_once p row (row_node node 0) c d (two_at node 0 h.0 two h.1) (row_fits p node 0 c h.0 h.1 h.2) (row_fits p node 0 d k.0 k.1 k.2) one in
+      let rest = items_once p row node is js two h.3 k.3 values in
       ap (λ (x : Content). item x is) first ∙ ap (item d) rest
 
 -- ---- APDUs
@@ -387,8 +388,8 @@ with_file_once : (file : Option (List ℕ)) (ms ns : Members) → with_file file
 with_file_once None ms ns e = e
 with_file_once (Some name) ms ns e = (member_same _ _ _ _ _ _ e).2
 
-pub apdu_once : (p : Profile) (file : Option (List ℕ)) (head head' : Head) (a b : Apdu) → FitsApdu p a → FitsApdu p b → line_json file head a ≡ line_json file head' b → choice_of a ≡ choice_of b
-apdu_once p file head head' a b h k e =
+pub apdu_once : (file : Option (List ℕ)) (head head' : Head) (a b : Apdu) → FitsApdu profile_two a → FitsApdu profile_two b → line_json file head a ≡ line_json file head' b → choice_of a ≡ choice_of b
+apdu_once file head head' a b h k e =
     let number = member_same _ _ _ _ _ _ (with_file_once file _ _ (object_same _ _ e)) in
     let offset = member_same _ _ _ _ _ _ number.2 in
     let octets = member_same _ _ _ _ _ _ offset.2 in
@@ -399,8 +400,8 @@ apdu_once p file head head' a b h k e =
     let m = b.number - 1 in
     let name : row_name IllApdu n ≡ row_name IllApdu m = let q = apdu.1 in cc in
     let same = row_once IllApdu n m h.1.0 k.1.0 h.1.1.1 k.1.1.1 name in
-    let fits = subst (λ (x : ℕ). Fits p b.body (row_node IllApdu x)) (sym same) (row_fits p IllApdu m b.body k.1.0 k.1.1.1 k.1.2) in
-    let inner = value_once p [] (row_node IllApdu n) a.body b.body (closed_at IllApdu n h.1.0 h.1.1.1) (row_fits p IllApdu n a.body h.1.0 h.1.1.1 h.1.2) fits (body.1 ∙ ap (λ (x : ℕ). value_json [] (row_node IllApdu x) b.body) (sym same)) in
+    let fits = subst (λ (x : ℕ). Fits profile_two b.body (row_node IllApdu x)) (sym same) (row_fits profile_two IllApdu m b.body k.1.0 k.1.1.1 k.1.2) in
+    let inner = value_once profile_two [] (row_node IllApdu n) a.body b.body (two_at IllApdu n h.1.0 refl h.1.1.1) (row_fits profile_two IllApdu n a.body h.1.0 h.1.1.1 h.1.2) fits (body.1 ∙ ap (λ (x : ℕ). value_json [] (row_node IllApdu x) b.body) (sym same)) in
     ap (alternative n) inner ∙ ap (λ (x : ℕ). alternative x b.body) same
 
 -- ---- texts
@@ -467,38 +468,38 @@ leaf_written p row k (bits n o) l known e h = absurd cc
 leaf_written p row k (descriptor o) l known e h = absurd cc
 
 mutual
-  value_written : (p : Profile) (row : List ℕ) (node : NodeId) (c : Content) → (kind_of node ≡ Kind.Any → ⊥) → Fits p c node → IsWritten (value_json row node c)
-  value_written p row node (simple v) closed h = leaf_written p row (kind_of node) v h.0 (known_leaf node v h.0 h.1) h.1 h.2
-  value_written p row node (sequence es) closed h = entries_written p node 0 (rows_of node) es (from_all (rows_of node)) h.1
-  value_written p row node (list is) closed h = items_written p row node is h.1
-  value_written p row node (alternative n c) closed h =
-      let v = value_written p (row_name node n) (row_node node n) c (closed_at node n h.0 h.1.1) (row_fits p node n c h.0 h.1.1 h.2) in
+  value_written : (p : Profile) (row : List ℕ) (node : NodeId) (c : Content) → IsTrue (is_of_two node) → Fits p c node → IsWritten (value_json row node c)
+  value_written p row node (simple v) two h = leaf_written p row (kind_of node) v h.0 (known_leaf node v h.0 two h.1) h.1 h.2
+  value_written p row node (sequence es) two h = entries_written p node 0 (rows_of node) es two (from_all (rows_of node)) h.1
+  value_written p row node (list is) two h = items_written p row node is two h.1
+  value_written p row node (alternative n c) two h =
+      let v = value_written p (row_name node n) (row_node node n) c (two_at node n h.0 two h.1.1) (row_fits p node n c h.0 h.1.1 h.2) in
       ((v.0, tt), (IsUtf8-row_name node n, v.1, tt))
-  value_written p row node (foreign T) closed h = absurd (closed h.0)
+  value_written p row node (foreign T) two h = absurd (two_not_any node two h.0)
 
-  entries_written : (p : Profile) (node : NodeId) (i : ℕ) (rows : List Row) (es : Entries) → From rows i (rows_of node) → FitRows p es rows → IsWritten (json.object (entry_members node i es))
-  entries_written p node i rows no_entries from h = (tt, tt)
-  entries_written p node i [] (absent es) from h = absurd h
-  entries_written p node i [] (present c es) from h = absurd h
-  entries_written p node i (row ∷ rows) (absent es) from h = entries_written p node (suc i) rows es (from_next row rows i (rows_of node) from) h.1
-  entries_written p node i (row ∷ rows) (present c es) from h =
+  entries_written : (p : Profile) (node : NodeId) (i : ℕ) (rows : List Row) (es : Entries) → IsTrue (is_of_two node) → From rows i (rows_of node) → FitRows p es rows → IsWritten (json.object (entry_members node i es))
+  entries_written p node i rows no_entries two from h = (tt, tt)
+  entries_written p node i [] (absent es) two from h = absurd h
+  entries_written p node i [] (present c es) two from h = absurd h
+  entries_written p node i (row ∷ rows) (absent es) two from h = entries_written p node (suc i) rows es two (from_next row rows i (rows_of node) from) h.1
+  entries_written p node i (row ∷ rows) (present c es) two from h =
       let at = from_here row rows i (rows_of node) from in
-      let v = value_written p (row_name node i) (row_node node i) c (closed_at node i row at) (row_fits p node i c row at h.1) in
-      let rest = entries_written p node (suc i) rows es (from_next row rows i (rows_of node) from) h.2 in
+      let v = value_written p (row_name node i) (row_node node i) c (two_at node i row two at) (row_fits p node i c row at h.1) in
+      let rest = entries_written p node (suc i) rows es two (from_next row rows i (rows_of node) from) h.2 in
       ((v.0, rest.0), (IsUtf8-row_name node i, v.1, rest.1))
 
-  items_written : (p : Profile) (row : List ℕ) (node : NodeId) (is : Items) → FitItems p is (rows_of node) → IsWritten (json.array (item_values row (row_node node 0) is))
-  items_written p row node no_items h = (tt, tt)
-  items_written p row node (item c is) h =
-      let v = value_written p row (row_node node 0) c (closed_at node 0 h.0 h.1) (row_fits p node 0 c h.0 h.1 h.2) in
-      let rest = items_written p row node is h.3 in
+  items_written : (p : Profile) (row : List ℕ) (node : NodeId) (is : Items) → IsTrue (is_of_two node) → FitItems p is (rows_of node) → IsWritten (json.array (item_values row (row_node node 0) is))
+  items_written p row node no_items two h = (tt, tt)
+  items_written p row node (item c is) two h =
+      let v = value_written p row (row_node node 0) c (two_at node 0 h.0 two h.1) (row_fits p node 0 c h.0 h.1 h.2) in
+      let rest = items_written p row node is two h.3 in
       ((v.0, rest.0), (v.1, rest.1))
 
 -- a line with no name of a file
-line_written : (p : Profile) (head : Head) (a : Apdu) → IsSmall head → FitsApdu p a → IsWritten (line_json None head a)
-line_written p head a small h =
+line_written : (head : Head) (a : Apdu) → IsSmall head → FitsApdu profile_two a → IsWritten (line_json None head a)
+line_written head a small h =
     let n = a.number - 1 in
-    let v = value_written p [] (row_node IllApdu n) a.body (closed_at IllApdu n h.1.0 h.1.1.1) (row_fits p IllApdu n a.body h.1.0 h.1.1.1 h.1.2) in
+    let v = value_written profile_two [] (row_node IllApdu n) a.body (two_at IllApdu n h.1.0 refl h.1.1.1) (row_fits profile_two IllApdu n a.body h.1.0 h.1.1.1 h.1.2) in
     let name : (k : List ℕ) → are_low k ≡ true → IsUtf8 k = IsUtf8-are_low in (
       (IsNumber-decimal head.number small.0, (IsNumber-decimal head.offset small.1, (IsNumber-decimal head.octets small.2, (tt, (tt, (v.0, tt)))))),
       (name _ refl, tt, (name _ refl, tt, (name _ refl, tt, (name _ refl, IsUtf8-row_name IllApdu n, (name _ refl, tt, (name _ refl, v.1, tt)))))),
@@ -582,7 +583,7 @@ without_file None head head' a b e = e
 without_file (Some name) head head' a b e = unnamed (codes "file") name (codes "number") _ _ e
 
 -- APDUs that fit the tables have one line only where they are one APDU
-pub line_once : (p : Profile) (file : Option (List ℕ)) (head head' : Head) (a b : Apdu) → IsSmall head → IsSmall head' → FitsApdu p a → FitsApdu p b → json_line_of file head a ≡ json_line_of file head' b → choice_of a ≡ choice_of b
-line_once p file head head' a b small small' h k e =
-    apdu_once p None head head' a b h k
-    (text_once _ _ (line_written p head a small h) (line_written p head' b small' k) (without_file file head head' a b (append_cancel_right _ _ (codes "\n") e)))
+pub line_once : (file : Option (List ℕ)) (head head' : Head) (a b : Apdu) → IsSmall head → IsSmall head' → FitsApdu profile_two a → FitsApdu profile_two b → json_line_of file head a ≡ json_line_of file head' b → choice_of a ≡ choice_of b
+line_once file head head' a b small small' h k e =
+    apdu_once None head head' a b h k
+    (text_once _ _ (line_written head a small h) (line_written head' b small' k) (without_file file head head' a b (append_cancel_right _ _ (codes "\n") e)))

@@ -9,10 +9,9 @@ use Rattle.ber_leaf.proofs.Bits.{length-cleared}
 use Rattle.ber_leaf.specs.Simple.{Simple, flag, whole, date, time, printable, general, visible, null, oid, binary, bits, descriptor}
 use Rattle.ill_schema.specs.declared.node.Kind.{Kind}
 use Rattle.ill_schema.specs.declared.node.NodeId.{NodeId}
-use Rattle.ill_schema.specs.declared.node.NodeId.TheVariants.{IllApdu}
 use Rattle.ill_schema.specs.declared.part.Presence.{Presence}
 use Rattle.ill_schema.specs.declared.part.Row.{Row}
-use Rattle.ill_schema.specs.Apdu.{choice_of}
+use Rattle.ill_schema.specs.Apdu.{choice_of, root}
 use Rattle.ill_schema.specs.Content.{Content, simple, sequence, list, alternative, foreign, Entries, no_entries, absent, present, Items, no_items, item}
 use Rattle.ill_schema.specs.Meaning.{Means, Matches, MatchItems}
 use Rattle.ill_schema.specs.Presence.{is_default_of, default_value, same_value}
@@ -166,7 +165,7 @@ mutual
 
 pub values_small : (p : Profile) → ValuesAreSmall p
 values_small p a b h =
-    let w = means_within p (choice_of a) IllApdu untagged h.tree h.means.1 in
+    let w = means_within p (choice_of a) (root p) untagged h.tree h.means.1 in
     let s = spelled_text h.tree b h.spells in
     let w0 : text_octets a.body ≤ length (text h.tree) = w.texts in let w1 : list_items a.body + 1 ≤ elements h.tree = w.items in
     let s0 = s.0 in let s1 = s.1 in

@@ -5,8 +5,7 @@ use Rattle.ber_core.specs.Identifier.{Tag, identifier}
 use Rattle.ber_core.specs.Length.{IsLength}
 use Rattle.ber_core.specs.Tree.{Tree, Trees, primitive, constructed, none, more, tag_of, Spells, SpellsAll, depth, depth_all, text, text_all}
 use Rattle.ill_schema.specs.declared.node.Kind.{Kind}
-use Rattle.ill_schema.specs.declared.node.NodeId.TheVariants.{IllApdu}
-use Rattle.ill_schema.specs.Apdu.{Apdu, MeansApdu}
+use Rattle.ill_schema.specs.Apdu.{Apdu, root, MeansApdu}
 use Rattle.ill_schema.specs.Content.{Content, simple, alternative}
 use Rattle.ill_schema.specs.Content as content
 use Rattle.ill_refusals.proofs.FirstFault.{has_fault}
@@ -16,9 +15,11 @@ use Rattle.ill_refusals.specs.code.Judge.{Judgement, faulty, closes, opens, read
 use Rattle.ber_core.specs.Octets.{are_octets}
 use Rattle.ill_schema.specs.Meaning.{Means}
 use Rattle.ill_refusals.specs.Next.{rows, Due, part, element_of, due, start_of, opening, IsWhole}
-use Rattle.ill_refusals.specs.Place.{Open, next_in, bound, allows, IsOpening, IsOpen, IsPlace, IsDue}
+use Rattle.ill_refusals.specs.Place.{Open, message, next_in, bound, allows, IsOpening, IsOpen, IsPlace, IsDue}
 use Rattle.ber_leaf.specs.Profile.{Profile}
+use Rattle.ill_schema.specs.Table.{kind_of}
 use Rattle.ill_schema.specs.Tagging.{untagged}
+use Rattle.ill_schema.proofs.Tags.{root_choice}
 use Rattle.ill_schema.proofs.Unique.{no_leaf}
 use Rattle.ill_refusals.proofs.WholeElements.{IsProper, IsElement}
 use Rattle.ill_refusals.proofs.OpenElements.{in_body, due_whole, due_proper, read_element, primitive_element}
@@ -27,7 +28,7 @@ use Rattle.ill_refusals.proofs.Judgements.{MayEnd, Judged, Closes, Opens, Reads,
 use Rattle.ill_refusals.specs.code.Step.{Step, refused, goes, whole, stuck, snoc, with_tree, close, opened, moved}
 use Rattle.ill_refusals.proofs.Machine.{step, IsFinal, Runs, runs-none, runs-step, runs-trans}
 use Rattle.ill_refusals.proofs.TreeRuns.{whole-snoc}
-use Rattle.ill_refusals.proofs.PlaceRuns.{root, place_proper}
+use Rattle.ill_refusals.proofs.PlaceRuns.{place_proper}
 
 -- a tree after trees
 spelled-snoc : (ts : Trees) (T : Tree) (a b : List ℕ) → SpellsAll ts a → Spells T b → SpellsAll (snoc ts T) (a ++ b)
@@ -74,25 +75,25 @@ Placed p s (whole T n) = IsMessage p s T n
 Placed p s (refused f) = (path : List Open) × (k : ℕ) × IsDue p s k path × (fault_at p path k (drop k s) ≡ Some f)
 Placed p s stuck = ⊥
 
-root_value : (p : Profile) (d : Due) (T : Tree) → due p (tag_of T) (next_in p []) ≡ Some d → IsWhole p d T → (v : Content) × Means p v IllApdu untagged T
-root_value p d T e w = found (start_of p (tag_of T) root) refl
+root_value : (p : Profile) (d : Due) (T : Tree) → due p (tag_of T) (next_in p []) ≡ Some d → IsWhole p d T → (v : Content) × Means p v (root p) untagged T
+root_value p d T e w = found (start_of p (tag_of T) (message p)) refl
   where
-    found : (o : Option Start) → start_of p (tag_of T) root ≡ o → (v : Content) × Means p v IllApdu untagged T
+    found : (o : Option Start) → start_of p (tag_of T) root ≡ o → (v : Content) × Means p v (root p) untagged T
     found (Some s) q =
-        let r : Some (part root s.element (rows [])) ≡ Some d = sym (ap (in_body p (tag_of T) root []) q) ∙ e in
-        let t : d ≡ part root s.element (rows []) = cc in
-        let x : IsWhole p (part root s.element (rows [])) T = subst (λ y. IsWhole p y T) t w in
+        let r : Some (part (message p) s.element (rows [])) ≡ Some d = sym (ap (in_body p (tag_of T) (message p) []) q) ∙ e in
+        let t : d ≡ part (message p) s.element (rows []) = cc in
+        let x : IsWhole p (part (message p) s.element (rows [])) T = subst (λ y. IsWhole p y T) t w in
         x.1
-    found None q = absurd (let r : None ≡ Some d = sym (ap (in_body p (tag_of T) root []) q) ∙ e in cc)
+    found None q = absurd (let r : None ≡ Some d = sym (ap (in_body p (tag_of T) (message p) []) q) ∙ e in cc)
 
-apdu_of : (p : Profile) (v : Content) (T : Tree) → Means p v IllApdu untagged T → (a : Apdu) × MeansApdu p a T
+apdu_of : (p : Profile) (v : Content) (T : Tree) → Means p v (root p) untagged T → (a : Apdu) × MeansApdu p a T
 apdu_of p (alternative n body) T m =
     let e : n ≡ n + 1 - 1 = omega arith in
-    (record { number = n + 1; body = body }, (omega arith, subst (λ z. Means p (alternative z body) IllApdu untagged T) e m))
-apdu_of p (simple w) T m = absurd (no_leaf Kind.Choice w m.0 m.1 (inr (inr refl)))
-apdu_of p (content.sequence es) T m = absurd (let q : Kind.Choice ≡ Kind.Seq = m.0 in cc)
-apdu_of p (content.list is) T m = absurd (let q : Kind.Choice ≡ Kind.SeqOf = m.0 in cc)
-apdu_of p (content.foreign V) T m = absurd (let q : Kind.Choice ≡ Kind.Any = m.0 in cc)
+    (record { number = n + 1; body = body }, (omega arith, subst (λ z. Means p (alternative z body) (root p) untagged T) e m))
+apdu_of p (simple w) T m = absurd (no_leaf (kind_of (root p)) w m.0 m.1 (inr (inr (root_choice p.full))))
+apdu_of p (content.sequence es) T m = absurd (let q : Kind.Choice ≡ Kind.Seq = sym (root_choice p.full) ∙ m.0 in cc)
+apdu_of p (content.list is) T m = absurd (let q : Kind.Choice ≡ Kind.SeqOf = sym (root_choice p.full) ∙ m.0 in cc)
+apdu_of p (content.foreign V) T m = absurd (let q : Kind.Choice ≡ Kind.Any = sym (root_choice p.full) ∙ m.0 in cc)
 
 -- a whole tree is appended, or is the message
 pub add_tree : (p : Profile) (s : List ℕ) (path : List Open) (T : Tree) (u b x : List ℕ) (d : Due) → s ≡ u ++ (b ++ x) → IsPlace p u path → due p (tag_of T) (next_in p path) ≡ Some d → IsWhole p d T

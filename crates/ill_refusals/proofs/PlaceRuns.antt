@@ -3,15 +3,14 @@ use Rattle.std.proofs.Common.{◌≡◌, ℕ, ◌+◌, true, List, [], ◌∷◌
 use Rattle.std.proofs.lemmas.List.{drop_at}
 use Rattle.ber_core.specs.Identifier.{identifier}
 use Rattle.ber_core.specs.Tree.{Tree, none, tag_of}
-use Rattle.ill_schema.specs.declared.node.NodeId.TheVariants.{IllApdu}
-use Rattle.ill_schema.specs.declared.part.Presence.{Presence}
-use Rattle.ill_schema.specs.Apdu.{Apdu, choice_of, MeansApdu, Encodes}
-use Rattle.ill_refusals.specs.Element.{Component, Element, starts}
+use Rattle.ill_schema.specs.declared.node.Kind.{Kind}
+use Rattle.ill_schema.specs.Apdu.{Apdu, choice_of, root, MeansApdu, Encodes}
+use Rattle.ill_refusals.specs.Element.{Element, starts}
 use Rattle.ill_refusals.specs.Next.{rows, Due, part, element_of, due, opening, IsWhole}
-use Rattle.ill_refusals.specs.Place.{Open, next_in, bound, allows, IsOpen, IsPlace}
+use Rattle.ill_refusals.specs.Place.{Open, message, next_in, bound, allows, IsOpen, IsPlace}
 use Rattle.ber_leaf.specs.Profile.{Profile}
 use Rattle.ill_schema.specs.Tagging.{untagged}
-use Rattle.ill_schema.proofs.Tags.{Mem}
+use Rattle.ill_schema.proofs.Tags.{Mem, root_choice, root_untagged}
 use Rattle.ill_schema.proofs.Unique.{means_begins}
 use Rattle.ill_refusals.proofs.WholeElements.{IsProper}
 use Rattle.ill_refusals.proofs.OpenElements.{IsProperNext, inner_proper, inner_tags, due_proper, opening_proper, after_proper}
@@ -21,14 +20,11 @@ use Rattle.ill_refusals.specs.code.Step.{goes, whole, opened}
 use Rattle.ill_refusals.proofs.Machine.{step, after, Runs, runs-step, runs-trans}
 use Rattle.ill_refusals.proofs.TreeRuns.{step_is, tree_run, trees_run}
 
-abbrev pub root : Component
-root = record { part = record { node = IllApdu; row = 0 }; presence = Presence.Must; tagging = untagged; node = IllApdu }
-
-pub root_proper : (p : Profile) → IsProperNext p (next_in p [])
-root_proper p = (inner_proper p root refl refl (λ e. cc), tt)
+pub message_proper : (p : Profile) → IsProperNext p (next_in p [])
+message_proper p = (inner_proper p (message p) refl refl (λ e. let q : Kind.Choice ≡ Kind.Any = sym (root_choice p.full) ∙ e in cc), tt)
 
 pub place_proper : (p : Profile) (path : List Open) (u : List ℕ) → IsPlace p u path → IsProperNext p (next_in p path)
-place_proper p [] u h = root_proper p
+place_proper p [] u h = message_proper p
 place_proper p (o ∷ path) u h =
     let q = h.4 in
     let e = (due_proper p o.tag (next_in p path) q.is_due.0 (place_proper p path h.0 h.3) q.is_due.1).0 in
@@ -96,13 +92,13 @@ place_run p (o ∷ path) u x h =
 -- the tree of a message is due at its start
 pub root_due : (p : Profile) (a : Apdu) (T : Tree) → MeansApdu p a T → (d : Due) × (due p (tag_of T) (next_in p []) ≡ Some d) × IsWhole p d T
 root_due p a T h =
-    let s = starting_some (tag_of T) (starts p root) (subst (λ z. Mem (tag_of T) z) (sym (inner_tags p root refl refl)) (means_begins p (choice_of a) IllApdu untagged T refl h.1)) in
-    (part root s.0.element (rows []), due-found p (tag_of T) root [] s.0 s.1, (tt, (choice_of a, h.1)))
+    let s = starting_some (tag_of T) (starts p (message p)) (subst (λ z. Mem (tag_of T) z) (sym (inner_tags p (message p) refl refl)) (means_begins p (choice_of a) (root p) untagged T (root_untagged p.full) h.1)) in
+    (part (message p) s.0.element (rows []), due-found p (tag_of T) (message p) [] s.0 s.1, (tt, (choice_of a, h.1)))
 
 pub message_run : (p : Profile) (a : Apdu) (b x : List ℕ) → (h : Encodes p a b) → Runs p (goes [] 0 (b ++ x)) (whole h.tree (length b))
 message_run p a b x h =
     let d = root_due p a h.tree h.means in
     let le = h.short in let deep = h.shallow in
-    let r = tree_run p h.tree [] 0 b x d.0 (root_proper p) d.1 d.2 h.spells (omega arith) (omega arith) in
+    let r = tree_run p h.tree [] 0 b x d.0 (message_proper p) d.1 d.2 h.spells (omega arith) (omega arith) in
     let e : 0 + length b ≡ length b = omega arith in
     (r.0, r.1 ∙ ap (whole h.tree) e)

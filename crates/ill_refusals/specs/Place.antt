@@ -3,12 +3,12 @@ use Rattle.std.specs.Prelude.{◌≡◌, ◌⊎◌, ℕ, ◌+◌, ◌≤◌, Boo
 use Rattle.ber_core.specs.Identifier.{Tag, identifier, HasIdentifier}
 use Rattle.ber_core.specs.Length.{IsLength}
 use Rattle.ber_core.specs.Tree.{Trees, depth_all, SpellsAll}
-use Rattle.ill_schema.specs.declared.node.NodeId.TheVariants.{IllApdu}
 use Rattle.ill_schema.specs.declared.part.Presence.{Presence}
 use Rattle.ber_leaf.specs.Leaf.{is_string}
 use Rattle.ber_leaf.specs.Profile.{Profile}
+use Rattle.ill_schema.specs.Apdu.{root}
 use Rattle.ill_schema.specs.Tagging.{untagged}
-use Rattle.ill_refusals.specs.Element.{Element, leaf, segment, foreign, left_out}
+use Rattle.ill_refusals.specs.Element.{Component, Element, leaf, segment, foreign, left_out}
 use Rattle.ill_refusals.specs.Next.{Next, rows, Due, element_of, due, opening, next_after, AreWhole}
 
 -- an open element: where it begins, where it ends if its length is definite, and the whole trees in it so far
@@ -19,9 +19,13 @@ pub record Open : Type 0 where
   pub end : Option ℕ
   pub trees : Trees
 
+-- a message, which is due where no element is open
+abbrev pub message : Profile → Component
+message p = record { part = record { node = root p; row = 0 }; presence = Presence.Must; tagging = untagged; node = root p }
+
 -- what may come next, the open elements being listed innermost first
 abbrev pub next_in : Profile → List Open → Next
-next_in p [] = rows (record { part = record { node = IllApdu; row = 0 }; presence = Presence.Must; tagging = untagged; node = IllApdu } ∷ [])
+next_in p [] = rows (message p ∷ [])
 next_in p (o ∷ path) = next_after p (opening p o.element) o.trees
 
 -- the end of the innermost definite element

@@ -6,9 +6,9 @@ use Rattle.ber_core.specs.Identifier.{Tag}
 use Rattle.ber_core.specs.Tree.{Tree, Trees, constructed, depth, depth_all, none, more}
 use Rattle.ill_schema.specs.declared.node.Kind.{Kind}
 use Rattle.ill_schema.specs.declared.node.NodeId.{NodeId}
-use Rattle.ill_schema.specs.declared.node.NodeId.TheVariants.{Boolean, Integer, Enumerated, IsoDate, IsoTime, PrintableString, IllString, LeftOut, Symbol, Name, SystemId, TransactionId, DateTime, ServiceDateTime, PostalAddress, SystemAddress, DeliveryAddress, ClientId, DeliveryService, RequesterOptionalMessages, ResponderOptionalMessages, SearchType, SupplyMediumInfo, ItemId, Amount, CostInfo, SendTo, SendToList, AlreadyTriedList, ThirdPartyInfo, UnitsPerMedium, UnitsPerMediumList, DateDue, ShippedVia, SupplyDetails, IllServiceTypes, SupplyMediumInfos, IllRequest, LocationInfo, Locs, Conditional, Retry, Unfilled, Locations, WillSupply, HoldPlaced, Estimate, Results, IllAnswer, IllApdu, Any}
+use Rattle.ill_schema.specs.declared.node.NodeId.TheVariants.{Boolean, Integer, Enumerated, IsoDate, IsoTime, PrintableString, IllString, LeftOut, Symbol, Name, SystemId, TransactionId, DateTime, ServiceDateTime, PostalAddress, SystemAddress, DeliveryAddress, ClientId, DeliveryService, RequesterOptionalMessages, ResponderOptionalMessages, SearchType, SupplyMediumInfo, ItemId, Amount, CostInfo, SendTo, SendToList, AlreadyTriedList, ThirdPartyInfo, UnitsPerMedium, UnitsPerMediumList, DateDue, ShippedVia, SupplyDetails, IllServiceTypes, SupplyMediumInfos, IllRequest, LocationInfo, Locs, Conditional, Retry, Unfilled, Locations, WillSupply, HoldPlaced, Estimate, Results, IllAnswer, IllApdu, Any, Null, ObjectIdentifier, OctetString, BitString, ObjectDescriptor, Encoding, External, TaggedExternal, Externals, Extension, Extensions, EDeliveryService, DocumentType, EDeliveryDetails, ElectronicDelivery, ElectronicDeliveries, SpecificUnits, DamagedPortion, DamagedDetails, HistoryReport, AlreadyForwarded, UserErrorReport, StateTransition, ProviderErrorReport, ErrorReport, ForwardNotification, StatusOrErrorReport, ModuleDeliveryService, ModuleShippedVia, ModuleItemId, ModuleUnitsPerMedium, ModuleUnitsPerMediumList, ModuleSupplyDetails, ModuleIllRequest, ModuleShipped, ModuleConditional, ModuleWillSupply, ModuleResults, ModuleIllAnswer, ModuleConditionalReply, ModuleCancel, ModuleCancelReply, ModuleReceived, ModuleRecall, ModuleReturned, ModuleCheckedIn, ModuleOverdue, ModuleRenew, ModuleRenewAnswer, ModuleLost, ModuleDamaged, ModuleMessageApdu, ModuleStatusQuery, ModuleExpired, ModuleIllApdu}
 use Rattle.ill_schema.specs.declared.part.Row.{Row}
-use Rattle.ill_schema.specs.Apdu.{Apdu, choice_of}
+use Rattle.ill_schema.specs.Apdu.{Apdu, choice_of, root, root_of}
 use Rattle.ill_schema.specs.Content.{Content, simple, sequence, list, alternative, foreign, Entries, no_entries, absent, present, Items, no_items, item}
 use Rattle.ill_schema.specs.Fits.{Fits, FitRows, FitItems, FitsApdu}
 use Rattle.ber_leaf.specs.Profile.{Profile, profile_two}
@@ -18,6 +18,7 @@ use Rattle.ber_core.proofs.Foreign.{foreign_depth}
 use Rattle.ill_schema.specs.Presence.{is_default}
 use Rattle.ill_schema.specs.Normal.{normal_tree, normal_trees, normal_items}
 use Rattle.ill_schema.specs.Table.{kind_of, rows_of}
+use Rattle.ill_schema.specs.TableFacts.{deepest}
 use Rattle.std.proofs.lemmas.Bool.{and_parts}
 use Rattle.ill_schema.proofs.Tags.{at_row}
 
@@ -74,6 +75,61 @@ height Results = 8
 height IllAnswer = 10
 height IllApdu = 11
 height Any = 20
+height Null = 1
+height ObjectIdentifier = 1
+height OctetString = 1
+height BitString = 1
+height ObjectDescriptor = 1
+height Encoding = 21
+height External = 22
+height TaggedExternal = 22
+height Externals = 23
+height Extension = 22
+height Extensions = 23
+height EDeliveryService = 22
+height DocumentType = 22
+height EDeliveryDetails = 4
+height ElectronicDelivery = 23
+height ElectronicDeliveries = 24
+height SpecificUnits = 2
+height DamagedPortion = 2
+height DamagedDetails = 3
+height HistoryReport = 5
+height AlreadyForwarded = 5
+height UserErrorReport = 5
+height StateTransition = 2
+height ProviderErrorReport = 2
+height ErrorReport = 7
+height ForwardNotification = 24
+height StatusOrErrorReport = 24
+height ModuleDeliveryService = 24
+height ModuleShippedVia = 23
+height ModuleItemId = 24
+height ModuleUnitsPerMedium = 3
+height ModuleUnitsPerMediumList = 4
+height ModuleSupplyDetails = 24
+height ModuleIllRequest = 25
+height ModuleShipped = 25
+height ModuleConditional = 25
+height ModuleWillSupply = 25
+height ModuleResults = 26
+height ModuleIllAnswer = 28
+height ModuleConditionalReply = 24
+height ModuleCancel = 24
+height ModuleCancelReply = 24
+height ModuleReceived = 24
+height ModuleRecall = 24
+height ModuleReturned = 24
+height ModuleCheckedIn = 24
+height ModuleOverdue = 25
+height ModuleRenew = 24
+height ModuleRenewAnswer = 24
+height ModuleLost = 24
+height ModuleDamaged = 24
+height ModuleMessageApdu = 24
+height ModuleStatusQuery = 24
+height ModuleExpired = 24
+height ModuleIllApdu = 29
 height _ = 6
 
 abbrev wrap : Tagging → ℕ
@@ -171,5 +227,9 @@ mutual
       let s = items_depth p is (row ∷ rows) n h fit.3 in
       omega arith
 
-pub normal_depth : (p : Profile) (a : Apdu) → FitsApdu p a → depth (normal_tree (choice_of a) IllApdu untagged) ≤ 11
-normal_depth p a fit = tree_depth p (choice_of a) IllApdu untagged fit.1
+root_height : (full : Bool) → height (root_of full) ≡ deepest full
+root_height false = refl
+root_height true = refl
+
+pub normal_depth : (p : Profile) (a : Apdu) → FitsApdu p a → depth (normal_tree (choice_of a) (root p) untagged) ≤ deepest p.full
+normal_depth p a fit = let q = tree_depth p (choice_of a) (root p) untagged fit.1 in let e = root_height p.full in omega arith

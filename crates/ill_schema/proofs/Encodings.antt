@@ -11,10 +11,10 @@ use Rattle.ber_core.proofs.Encodings.{encoding_spells}
 use Rattle.ber_core.proofs.Trees.{one_reading}
 use Rattle.ill_schema.specs.declared.part.Mode.{Mode}
 use Rattle.ill_schema.specs.declared.node.NodeId.{NodeId}
-use Rattle.ill_schema.specs.declared.node.NodeId.TheVariants.{Boolean, IllApdu}
+use Rattle.ill_schema.specs.declared.node.NodeId.TheVariants.{Boolean}
 use Rattle.ill_schema.specs.declared.part.Presence.{Presence}
 use Rattle.ill_schema.specs.declared.part.Row.{Row}
-use Rattle.ill_schema.specs.Apdu.{Apdu, choice_of, normal_form, MeansApdu, SpellsApdu}
+use Rattle.ill_schema.specs.Apdu.{Apdu, choice_of, normal_form_in, root, MeansApdu, SpellsApdu}
 use Rattle.ill_schema.specs.Content.{Content, simple, sequence, list, alternative, foreign, Entries, no_entries, absent, present, Items, no_items, item}
 use Rattle.ill_schema.specs.Fits.{Fits, FitRows, FitItems, FitsApdu}
 use Rattle.ber_leaf.specs.Leaf.{Leaf, boolean, integer, enumerated, general_string, visible_string, printable_string, iso_date, iso_time, null_type, object_identifier, octet_string, bit_string, object_descriptor, normal_content}
@@ -24,6 +24,7 @@ use Rattle.ill_schema.specs.Presence.{is_default}
 use Rattle.ill_schema.specs.Normal.{normal_tree, normal_trees, normal_items}
 use Rattle.ber_core.specs.Der.{HasIdentifiers, HaveIdentifiers}
 use Rattle.ill_schema.specs.Table.{rows_of}
+use Rattle.ill_schema.specs.TableFacts.{deepest}
 use Rattle.std.proofs.lemmas.Bool.{and_parts}
 use Rattle.ill_schema.proofs.Tags.{at_row}
 use Rattle.ill_schema.proofs.Normal.{normal_apdu_means}
@@ -142,24 +143,28 @@ le_lt : (a b c : ℕ) → a ≤ b → b < c → a < c
 le_lt a b c h k = omega arith
 
 -- a normal form is an encoding of the normal tree
-spelled : (p : Profile) (a : Apdu) → FitsApdu p a → length (normal_form a) < 256 ^ 126 → Spells (normal_tree (choice_of a) IllApdu untagged) (normal_form a)
-spelled p a fit h = encoding_spells (normal_tree (choice_of a) IllApdu untagged) (normal_valid p (choice_of a) IllApdu untagged tt fit.1) h
+spelled : (p : Profile) (a : Apdu) → FitsApdu p a → length (normal_form_in p a) < 256 ^ 126 → Spells (normal_tree (choice_of a) (root p) untagged) (normal_form_in p a)
+spelled p a fit h = encoding_spells (normal_tree (choice_of a) (root p) untagged) (normal_valid p (choice_of a) (root p) untagged tt fit.1) h
+
+deep_enough : (full : Bool) → deepest full ≤ 32
+deep_enough false = lit≤ tt
+deep_enough true = lit≤ tt
 
 -- the normal form of an APDU that fits spells it, where the limit allows it
-pub normal_spells : (p : Profile) (a : Apdu) → FitsApdu p a → p.limit < 256 ^ 126 → length (normal_form a) ≤ p.limit → SpellsApdu p a (normal_form a)
+pub normal_spells : (p : Profile) (a : Apdu) → FitsApdu p a → p.limit < 256 ^ 126 → length (normal_form_in p a) ≤ p.limit → SpellsApdu p a (normal_form_in p a)
 normal_spells p a fit big le = record {
   encodes = record {
-    tree = normal_tree (choice_of a) IllApdu untagged;
+    tree = normal_tree (choice_of a) (root p) untagged;
     means = normal_apdu_means p a fit;
     spells = spelled p a fit (le_lt _ _ _ le big);
-    shallow = let d = normal_depth p a fit in omega arith;
+    shallow = let d = normal_depth p a fit in let e = deep_enough p.full in omega arith;
     short = le;
   };
   normal_short = le;
 }
 
 -- two APDUs with one normal form are one
-pub normal_unique : (p : Profile) (a b : Apdu) → FitsApdu p a → FitsApdu p b → length (normal_form a) < 256 ^ 126 → length (normal_form b) < 256 ^ 126 → normal_form a ≡ normal_form b → a ≡ b
+pub normal_unique : (p : Profile) (a b : Apdu) → FitsApdu p a → FitsApdu p b → length (normal_form_in p a) < 256 ^ 126 → length (normal_form_in p b) < 256 ^ 126 → normal_form_in p a ≡ normal_form_in p b → a ≡ b
 normal_unique p a b f g s t e =
-    let u = one_reading _ _ (normal_form a) (normal_form b) [] [] (spelled p a f s) (spelled p b g t) (ap (λ z. z ++ []) e) in
+    let u = one_reading _ _ (normal_form_in p a) (normal_form_in p b) [] [] (spelled p a f s) (spelled p b g t) (ap (λ z. z ++ []) e) in
     apdu_unique p a b _ (normal_apdu_means p a f) (subst (λ T. MeansApdu p b T) (sym u.0) (normal_apdu_means p b g))

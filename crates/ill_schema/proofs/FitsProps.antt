@@ -4,8 +4,8 @@ use Rattle.std.specs.Coded.{Coded, Coded-set, codes, coded_option, ×_prop, Unit
 use mathlib.Core.HLevel.{is_prop→PathP, ×₃_prop}
 use Rattle.ber_leaf.specs.{Simple.Simple, Profile.Profile}
 use Rattle.ber_leaf.specs.Leaf.{Leaf, Holds, normal_content}
-use Rattle.ill_schema.specs.declared.{node.NodeId.NodeId, node.NodeId.TheVariants.IllApdu, node.Kind.Kind, part.Presence.Presence, part.Row.Row}
-use Rattle.ill_schema.specs.Apdu.{Apdu, choice_of}
+use Rattle.ill_schema.specs.declared.{node.NodeId.NodeId, node.Kind.Kind, part.Presence.Presence, part.Row.Row}
+use Rattle.ill_schema.specs.Apdu.{Apdu, choice_of, root}
 use Rattle.ill_schema.specs.Content.{Content, simple, sequence, list, alternative, foreign, Entries, no_entries, absent, present, Items, no_items, item}
 use Rattle.ill_schema.specs.Fits.{FitsSimple, Fits, FitRows, FitItems, FitsApdu}
 use Rattle.ill_schema.specs.{Meaning.IsAlternative, Tagging.leaf_of}
@@ -91,4 +91,4 @@ mutual
       )
 
 pub FitsApdu-prop : (p : Profile) (a : Apdu) → IsProp (FitsApdu p a)
-FitsApdu-prop p a = ×_prop le_prop (Fits-prop p (choice_of a) IllApdu)
+FitsApdu-prop p a = ×_prop le_prop (Fits-prop p (choice_of a) (root p))

@@ -1,15 +1,16 @@
--- The leaves that stand in the tables: NULL, OBJECT IDENTIFIER, OCTET STRING, BIT STRING and ObjectDescriptor are in no row yet.
+-- The leaves of profile 2: it has no NULL, OBJECT IDENTIFIER, OCTET STRING, BIT STRING and ObjectDescriptor.
 use Rattle.std.proofs.Common.{◌≡◌, Bool, true, false, Some, IsTrue, refl}
 use Rattle.ber_leaf.specs.Leaf.{Leaf}
 use Rattle.ber_leaf.specs.Simple.{Simple, null, oid, binary, bits, descriptor}
 use Rattle.ill_schema.specs.declared.node.Kind.{Kind}
 use Rattle.ill_schema.specs.declared.node.LeafKind.{LeafKind}
 use Rattle.ill_schema.specs.declared.node.NodeId.{NodeId}
-use Rattle.ill_schema.specs.declared.node.NodeId.TheVariants.{Boolean}
+use Rattle.ill_schema.specs.declared.node.NodeId.TheVariants.{Null, ObjectIdentifier, OctetString, BitString, ObjectDescriptor}
 use Rattle.ill_schema.specs.Table.{kind_of}
+use Rattle.ill_schema.specs.TableFacts.{is_of_two}
 use Rattle.ill_schema.specs.Tagging.{leaf_of}
 
--- a value of a leaf that the tables have
+-- a value of a leaf that profile 2 has
 abbrev pub is_known : Simple → Bool
 is_known null = false
 is_known (oid _) = false
@@ -26,9 +27,13 @@ is_known_kind (Kind.Leaf LeafKind.BitString) = false
 is_known_kind (Kind.Leaf LeafKind.ObjectDescriptor) = false
 is_known_kind _ = true
 
-all_known : (node : NodeId) → IsTrue (is_known_kind (kind_of node))
-all_known Boolean = refl
-all_known _ = refl
+all_known : (node : NodeId) → IsTrue (is_of_two node) → IsTrue (is_known_kind (kind_of node))
+all_known Null h = absurd cc
+all_known ObjectIdentifier h = absurd cc
+all_known OctetString h = absurd cc
+all_known BitString h = absurd cc
+all_known ObjectDescriptor h = absurd cc
+all_known _ h = refl
 
 known_by : (k : Kind) (v : Simple) (l : Leaf) → IsTrue (is_known_kind k) → leaf_of k v ≡ Some l → IsTrue (is_known v)
 known_by (Kind.Leaf LeafKind.Null) v l h e = absurd cc
@@ -43,5 +48,5 @@ known_by k (bits _ _) l h e = absurd cc
 known_by k (descriptor _) l h e = absurd cc
 known_by _ _ l h e = refl
 
-pub known_leaf : (node : NodeId) (v : Simple) (l : Leaf) → leaf_of (kind_of node) v ≡ Some l → IsTrue (is_known v)
-known_leaf node v l e = known_by (kind_of node) v l (all_known node) e
+pub known_leaf : (node : NodeId) (v : Simple) (l : Leaf) → IsTrue (is_of_two node) → leaf_of (kind_of node) v ≡ Some l → IsTrue (is_known v)
+known_leaf node v l h e = known_by (kind_of node) v l (all_known node h) e

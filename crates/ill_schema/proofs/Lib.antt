@@ -18,3 +18,6 @@ pub mod Carried
 pub mod RowNames
 pub mod FitsProps
 pub mod KnownLeaves
+pub mod Twins
+pub mod Lifted
+pub mod BothProfiles

@@ -6,10 +6,10 @@ use Rattle.ber_core.specs.Tree.{Tree, Trees, text}
 use Rattle.ill_schema.specs.declared.node.Kind.{Kind}
 use Rattle.ill_schema.specs.declared.node.LeafKind.{LeafKind}
 use Rattle.ill_schema.specs.declared.node.NodeId.{NodeId}
-use Rattle.ill_schema.specs.declared.node.NodeId.TheVariants.{Boolean, IllApdu}
+use Rattle.ill_schema.specs.declared.node.NodeId.TheVariants.{Boolean}
 use Rattle.ill_schema.specs.declared.part.Presence.{Presence}
 use Rattle.ill_schema.specs.declared.part.Row.{Row}
-use Rattle.ill_schema.specs.Apdu.{Apdu, MeansApdu, choice_of}
+use Rattle.ill_schema.specs.Apdu.{Apdu, MeansApdu, choice_of, root}
 use Rattle.ill_schema.specs.Content.{Content, simple, sequence, list, alternative, foreign, Entries, no_entries, absent, present, Items, no_items, item}
 use Rattle.ber_leaf.specs.Simple.{Simple, flag, whole}
 use Rattle.ill_schema.specs.Fits.{Fits, FitRows, FitItems, FitsApdu}
@@ -73,7 +73,7 @@ kind_fits p (Presence.Default (pos n)) (Kind.Leaf LeafKind.Enumerated) v h e =
 kind_fits p pr k v h e = absurd cc
 
 -- only a leaf's value is a default
-default_simple : (pr : Presence) (k : Kind) (c : Content) → IsTrue (is_default_of pr k c) → (v : Simple) × (c ≡ simple v)
+pub default_simple : (pr : Presence) (k : Kind) (c : Content) → IsTrue (is_default_of pr k c) → (v : Simple) × (c ≡ simple v)
 default_simple (Presence.Default d) k (simple v) e = (v, refl)
 default_simple pr k c e = absurd cc
 
@@ -115,4 +115,4 @@ mutual
 
 -- what means an APDU fits
 pub means_apdu_fits : (p : Profile) (a : Apdu) (T : Tree) → MeansApdu p a T → FitsApdu p a
-means_apdu_fits p a T m = (m.0, means_fits p (choice_of a) IllApdu untagged T m.1)
+means_apdu_fits p a T m = (m.0, means_fits p (choice_of a) (root p) untagged T m.1)

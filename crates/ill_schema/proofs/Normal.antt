@@ -5,10 +5,9 @@ use Rattle.ber_core.specs.Identifier.{Tag}
 use Rattle.ber_core.specs.Tree.{Tree, Trees, primitive, constructed, none, more}
 use Rattle.ill_schema.specs.declared.part.Mode.{Mode}
 use Rattle.ill_schema.specs.declared.node.NodeId.{NodeId}
-use Rattle.ill_schema.specs.declared.node.NodeId.TheVariants.{IllApdu}
 use Rattle.ill_schema.specs.declared.part.Presence.{Presence}
 use Rattle.ill_schema.specs.declared.part.Row.{Row}
-use Rattle.ill_schema.specs.Apdu.{Apdu, MeansApdu, choice_of}
+use Rattle.ill_schema.specs.Apdu.{Apdu, MeansApdu, choice_of, root}
 use Rattle.ill_schema.specs.Content.{Content, simple, sequence, list, alternative, foreign, Entries, no_entries, absent, present, Items, no_items, item}
 use Rattle.ber_leaf.specs.Simple.{Simple}
 use Rattle.ill_schema.specs.Fits.{Fits, FitRows, FitItems, FitsApdu}
@@ -107,5 +106,5 @@ mutual
       (row, _, _, refl, refl, m, normal_match_items p is (row ∷ rows) fit.3)
 
 -- the normal tree of an APDU that fits means the APDU
-pub normal_apdu_means : (p : Profile) (a : Apdu) → FitsApdu p a → MeansApdu p a (normal_tree (choice_of a) IllApdu untagged)
-normal_apdu_means p a fit = (fit.0, normal_means p (choice_of a) IllApdu untagged fit.1)
+pub normal_apdu_means : (p : Profile) (a : Apdu) → FitsApdu p a → MeansApdu p a (normal_tree (choice_of a) (root p) untagged)
+normal_apdu_means p a fit = (fit.0, normal_means p (choice_of a) (root p) untagged fit.1)

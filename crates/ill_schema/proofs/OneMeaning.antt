@@ -2,11 +2,11 @@
 use Rattle.std.proofs.Common.{◌≡◌, ℕ, ◌-◌, List, [], ◌∷◌, ◌++◌, append-nil, refl, sym, ap₂, subst, arith}
 use Rattle.ber_core.specs.Tree.{Tree}
 use Rattle.ber_core.proofs.Trees.{one_reading}
-use Rattle.ill_schema.specs.declared.node.NodeId.TheVariants.{IllApdu}
 use Rattle.ill_schema.specs.Content.{Content, alternative}
 use Rattle.ber_leaf.specs.Profile.{Profile}
 use Rattle.ill_schema.specs.Tagging.{untagged}
-use Rattle.ill_schema.specs.Apdu.{Apdu, choice_of, MeansApdu, Encodes, SpellsApdu}
+use Rattle.ill_schema.specs.Apdu.{Apdu, choice_of, root, MeansApdu, Encodes, SpellsApdu}
+use Rattle.ill_schema.proofs.Tags.{root_untagged}
 use Rattle.ill_schema.proofs.Unique.{means_unique}
 
 same_apdu : (a b : Apdu) → a.number ≡ b.number → a.body ≡ b.body → a ≡ b
@@ -15,7 +15,7 @@ same_apdu a b e f = ap₂ (λ (n : ℕ) (c : Content). let x : Apdu = record { n
 -- a tree means at most one APDU
 pub apdu_unique : (p : Profile) (a b : Apdu) (T : Tree) → MeansApdu p a T → MeansApdu p b T → a ≡ b
 apdu_unique p a b T h k =
-    let e : alternative (a.number - 1) a.body ≡ alternative (b.number - 1) b.body = means_unique p (choice_of a) (choice_of b) IllApdu untagged T refl h.1 k.1 in
+    let e : alternative (a.number - 1) a.body ≡ alternative (b.number - 1) b.body = means_unique p (choice_of a) (choice_of b) (root p) untagged T (root_untagged p.full) h.1 k.1 in
     let n : a.number - 1 ≡ b.number - 1 = cc in
     let c : a.body ≡ b.body = cc in
     same_apdu a b (omega (arith, h.0, k.0)) c

@@ -10,8 +10,9 @@ use Rattle.ill_schema.specs.declared.node.NodeId.TheVariants.{Boolean}
 use Rattle.ill_schema.specs.declared.part.Row.{Row}
 use Rattle.ber_leaf.specs.Profile.{Profile}
 use Rattle.ill_schema.specs.Tagging.{Tagging, untagged, implicit, explicit, explicit_or_bare, tagging, sequence_tag, same_tag}
+use Rattle.ill_schema.specs.Apdu.{root_of}
 use Rattle.ill_schema.specs.Table.{kind_of, rows_of}
-use Rattle.ill_schema.specs.TableFacts.{alternative_tags, row_tags, are_distinct, has_different_tags, names_below}
+use Rattle.ill_schema.specs.TableFacts.{alternative_tags, row_tags, are_distinct, are_of_two, has_different_tags, is_of_two, names_below}
 
 -- a tagging suits a kind: an open type is under an explicit tag
 abbrev pub is_proper : Tagging → Kind → Bool
@@ -55,6 +56,15 @@ at_proper f false l full _ = refl
 
 pub tables_proper : (p : Profile) (node : NodeId) → IsTrue (list_all (is_proper_row p) (rows_of node))
 tables_proper p node = at_proper p.general p.bare p.limit p.full node
+
+-- a message's type is a choice
+pub root_choice : (full : Bool) → kind_of (root_of full) ≡ Kind.Choice
+root_choice false = refl
+root_choice true = refl
+
+pub root_untagged : (full : Bool) → IsTrue (is_proper untagged (kind_of (root_of full)))
+root_untagged false = refl
+root_untagged true = refl
 
 -- membership and difference
 abbrev pub Mem : Tag → List Tag → Type 0
@@ -137,19 +147,41 @@ untagged_any k ok e = let q : IsTrue (is_proper untagged Kind.Any) = subst (λ z
 pub implicit_any : (t : Tag) (k : Kind) → IsTrue (is_proper (implicit t) k) → k ≡ Kind.Any → ⊥
 implicit_any t k ok e = let q : IsTrue (is_proper (implicit t) Kind.Any) = subst (λ z. IsTrue (is_proper (implicit t) z)) e ok in cc
 
--- no row is of an open type
-abbrev pub is_closed : Row → Bool
-is_closed row = elim (kind_of row.node) as (λ _. Bool) [ Kind.Any ↦ false | _ ↦ true ]
+-- the rows of profile 2's nodes are of such nodes
+abbrev unless : Bool → Bool → Bool
+unless true b = b
+unless false b = true
 
-pub rows_closed : (node : NodeId) → IsTrue (list_all is_closed (rows_of node))
-rows_closed Boolean = refl
-rows_closed _ = refl
+two_names_two : (node : NodeId) → IsTrue (unless (is_of_two node) (are_of_two (rows_of node)))
+two_names_two Boolean = refl
+two_names_two _ = refl
 
-pub closed : (row : Row) → IsTrue (is_closed row) → kind_of row.node ≡ Kind.Any → ⊥
-closed row h e = let q : IsTrue false = subst (λ (k : Kind). IsTrue (elim k as (λ _. Bool) [ Kind.Any ↦ false | _ ↦ true ])) e h in cc
+pub rows_of_two : (node : NodeId) → IsTrue (is_of_two node) → IsTrue (are_of_two (rows_of node))
+rows_of_two node h = at (is_of_two node) (are_of_two (rows_of node)) h (two_names_two node)
+  where
+    at : (a b : Bool) → IsTrue a → IsTrue (unless a b) → IsTrue b
+    at true b h k = k
+    at false b h k = absurd cc
 
-pub row_closed : (node : NodeId) (n : ℕ) (row : Row) → slice_get (rows_of node) n ≡ Some row → kind_of row.node ≡ Kind.Any → ⊥
-row_closed node n row e = closed row (at_row is_closed (rows_of node) n row (rows_closed node) e)
+pub row_of_two : (node : NodeId) (n : ℕ) (row : Row) → IsTrue (is_of_two node) → slice_get (rows_of node) n ≡ Some row → IsTrue (is_of_two row.node)
+row_of_two node n row h e = at_row (λ r. is_of_two r.node) (rows_of node) n row (rows_of_two node h) e
+
+-- and none of them is an open type
+abbrev is_any : Kind → Bool
+is_any Kind.Any = true
+is_any _ = false
+
+any_not_two : (node : NodeId) → IsTrue (not (is_of_two node && is_any (kind_of node)))
+any_not_two Boolean = refl
+any_not_two _ = refl
+
+pub two_not_any : (node : NodeId) → IsTrue (is_of_two node) → kind_of node ≡ Kind.Any → ⊥
+two_not_any node h e = at (is_of_two node) (is_any (kind_of node)) h (ap is_any e) (any_not_two node)
+  where
+    at : (a b : Bool) → IsTrue a → b ≡ true → IsTrue (not (a && b)) → ⊥
+    at true true h k n = cc
+    at true false h k n = absurd cc
+    at false b h k n = absurd cc
 
 different_at : (f : ℕ → Bool) (b : Bool) (l : ℕ) (full : Bool) (node : NodeId) → IsTrue (has_different_tags (record { general = f; bare = b; limit = l; full = full }) node)
 different_at f true l full Boolean = refl

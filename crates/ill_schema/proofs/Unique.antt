@@ -287,7 +287,7 @@ not_bare p es node t T U k e f h =
     (matches_begins p es (rows_of node) U none (tables_proper p node) (subst (λ z. Matches p es (rows_of node) z) same h.2)))
 
 -- two elements under one tagging are one, if their parts are
-under : {R : Type 0} (g : Tagging) (own : Tag) (E F : Tag → Tree → Type 0) (T : Tree) → ((t : Tag) (U : Tree) → E t U → F t U → R)
+pub under : {R : Type 0} (g : Tagging) (own : Tag) (E F : Tag → Tree → Type 0) (T : Tree) → ((t : Tag) (U : Tree) → E t U → F t U → R)
     → ((t : Tag) → g ≡ explicit_or_bare t → (U : Tree) → T ≡ constructed t (more U none) → E own U → F t T → R)
     → ((t : Tag) → g ≡ explicit_or_bare t → (U : Tree) → T ≡ constructed t (more U none) → F own U → E t T → R)
     → Tagged g own E T → Tagged g own F T → R
@@ -303,7 +303,7 @@ under (explicit_or_bare t) own E F T same b c (inl h) (inr k) = b t refl h.0 h.1
 under (explicit_or_bare t) own E F T same b c (inr h) (inl k) = c t refl k.0 k.1 k.2 h
 under (explicit_or_bare t) own E F T same b c (inr h) (inr k) = same t T h k
 
-bare_sequence : (t : Tag) (g : Tagging) (k : Kind) → IsTrue (is_proper g k) → g ≡ explicit_or_bare t → k ≡ Kind.Seq
+pub bare_sequence : (t : Tag) (g : Tagging) (k : Kind) → IsTrue (is_proper g k) → g ≡ explicit_or_bare t → k ≡ Kind.Seq
 bare_sequence t g Kind.Seq ok e = refl
 bare_sequence t g Kind.SeqOf ok e = let h : IsTrue (is_proper (explicit_or_bare t) Kind.SeqOf) = subst (λ x. IsTrue (is_proper x Kind.SeqOf)) e ok in absurd cc
 bare_sequence t g Kind.Choice ok e = let h : IsTrue (is_proper (explicit_or_bare t) Kind.Choice) = subst (λ x. IsTrue (is_proper x Kind.Choice)) e ok in absurd cc
@@ -311,7 +311,7 @@ bare_sequence t g Kind.Any ok e = let h : IsTrue (is_proper (explicit_or_bare t)
 bare_sequence t g Kind.IllString ok e = let h : IsTrue (is_proper (explicit_or_bare t) Kind.IllString) = subst (λ x. IsTrue (is_proper x Kind.IllString)) e ok in absurd cc
 bare_sequence t g (Kind.Leaf l) ok e = let h : IsTrue (is_proper (explicit_or_bare t) (Kind.Leaf l)) = subst (λ x. IsTrue (is_proper x (Kind.Leaf l))) e ok in absurd cc
 
-same_constructed : (t : Tag) (U : Tree) (ss ts : Trees) → U ≡ constructed t ss → U ≡ constructed t ts → ts ≡ ss
+pub same_constructed : (t : Tag) (U : Tree) (ss ts : Trees) → U ≡ constructed t ss → U ≡ constructed t ts → ts ≡ ss
 same_constructed t U ss ts e f = let q : constructed t ss ≡ constructed t ts = sym e ∙ f in cc
 
 -- a tree is an alternative at one place only

@@ -36,7 +36,7 @@ same_wider : (g : Tagging) → Wider g g
 unfolding Wider
 same_wider g = inl refl
 
-wider_part : (g : Tagging) (own : Tag) (E F : Tag → Tree → Type 0) (T : Tree) → ((t : Tag) (U : Tree) → E t U → F t U) → Tagged g own E T → Tagged g own F T
+pub wider_part : (g : Tagging) (own : Tag) (E F : Tag → Tree → Type 0) (T : Tree) → ((t : Tag) (U : Tree) → E t U → F t U) → Tagged g own E T → Tagged g own F T
 wider_part untagged own E F T f h = f own T h
 wider_part (implicit t) own E F T f h = f t T h
 wider_part (explicit t) own E F T f h = (h.0, h.1, f own h.0 h.2)

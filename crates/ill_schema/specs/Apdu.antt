@@ -1,9 +1,10 @@
 -- APDUs of ISO 10161-1 (the type ILL-APDU of its module), their encodings, their normal forms and streams of them.
-use Rattle.std.specs.Prelude.{◌≡◌, ℕ, ◌-◌, ◌≤◌, List, [], ◌∷◌, ◌++◌, length, take}
+use Rattle.std.specs.Prelude.{◌≡◌, ℕ, ◌-◌, ◌≤◌, Bool, true, false, List, [], ◌∷◌, ◌++◌, length, take}
 use Rattle.ber_core.specs.Tree.{Tree, depth, Spells}
-use Rattle.ill_schema.specs.declared.node.NodeId.TheVariants.{IllApdu}
+use Rattle.ill_schema.specs.declared.node.NodeId.{NodeId}
+use Rattle.ill_schema.specs.declared.node.NodeId.TheVariants.{IllApdu, ModuleIllApdu}
 use Rattle.ill_schema.specs.Content.{Content, alternative}
-use Rattle.ber_leaf.specs.Profile.{Profile}
+use Rattle.ber_leaf.specs.Profile.{Profile, profile_two}
 use Rattle.ill_schema.specs.{Tagging.untagged, Meaning.Means, Normal.normal_tree}
 use Rattle.ber_core.specs.Der.{encoding}
 
@@ -16,9 +17,17 @@ pub record Apdu : Type 0 where
 abbrev pub choice_of : Apdu → Content
 choice_of a = alternative (a.number - 1) a.body
 
+abbrev pub root_of : Bool → NodeId
+root_of false = IllApdu
+root_of true = ModuleIllApdu
+
+-- the type of a message: ILL-APDU, with all rows of the module where the profile has them
+abbrev pub root : Profile → NodeId
+root p = root_of p.full
+
 -- the tree means the APDU
 abbrev pub MeansApdu : Profile → Apdu → Tree → Type 0
-MeansApdu p a T = (1 ≤ a.number) × Means p (choice_of a) IllApdu untagged T
+MeansApdu p a T = (1 ≤ a.number) × Means p (choice_of a) (root p) untagged T
 
 -- the octets are an encoding of the APDU (X.690, 8) with at most 32 open elements and within the profile's limit, whatever the size of its normal form
 pub record Encodes (p : Profile) (a : Apdu) (b : List ℕ) : Type 0 where
@@ -29,13 +38,17 @@ pub record Encodes (p : Profile) (a : Apdu) (b : List ℕ) : Type 0 where
   pub short : length b ≤ p.limit
 
 -- the normal form: the octets of the APDU in DER (X.690, 10 and 11)
+abbrev pub normal_form_in : Profile → Apdu → List ℕ
+normal_form_in p a = encoding (normal_tree (choice_of a) (root p) untagged)
+
+-- the normal form in profile 2
 abbrev pub normal_form : Apdu → List ℕ
-normal_form a = encoding (normal_tree (choice_of a) IllApdu untagged)
+normal_form a = normal_form_in profile_two a
 
 -- the octets are a spelling of the APDU: an encoding whose normal form is within the limit, too
 pub record SpellsApdu (p : Profile) (a : Apdu) (b : List ℕ) : Type 0 where
   pub encodes : Encodes p a b
-  pub normal_short : length (normal_form a) ≤ p.limit
+  pub normal_short : length (normal_form_in p a) ≤ p.limit
 
 -- the first n octets of s are a spelling of the APDU
 abbrev pub Accepts : Profile → List ℕ → Apdu → ℕ → Type 0

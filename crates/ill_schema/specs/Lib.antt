@@ -9,6 +9,7 @@ pub mod Meaning
 pub mod Normal
 pub mod Apdu
 pub mod Fits
+pub mod Lift
 pub mod Names
 pub mod Value
 pub mod Elements

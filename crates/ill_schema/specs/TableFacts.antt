@@ -1,9 +1,10 @@
 -- Facts about the tables as a whole.
-use Rattle.std.specs.Prelude.{ℕ, zero, suc, ◌+◌, max, Bool, true, ◌&&◌, not, nat_lt, List, [], ◌∷◌, flat_map}
+use Rattle.std.specs.Prelude.{ℕ, zero, suc, ◌+◌, max, Bool, true, false, ◌&&◌, not, nat_lt, List, [], ◌∷◌, flat_map}
 use Rattle.std.specs.List.{fold, list_all, list_any}
 use Rattle.ber_core.specs.Identifier.{Tag}
 use Rattle.ber_leaf.specs.Profile.{Profile}
 use Rattle.ill_schema.specs.declared.{node.Kind.Kind, node.LeafKind.LeafKind, node.NodeId.NodeId, part.Row.Row}
+use Rattle.ill_schema.specs.declared.node.NodeId.TheVariants.{Null, ObjectIdentifier, OctetString, BitString, ObjectDescriptor, Encoding, External, TaggedExternal, Externals, Extension, Extensions, EDeliveryService, DocumentType, EDeliveryDetails, ElectronicDelivery, ElectronicDeliveries, SpecificUnits, DamagedPortion, DamagedDetails, HistoryReport, StatusReport, AlreadyForwarded, UserErrorReport, StateTransition, ProviderErrorReport, ErrorReport, ForwardNotification, StatusOrErrorReport, ModuleDeliveryService, ModuleShippedVia, ModuleItemId, ModuleUnitsPerMedium, ModuleUnitsPerMediumList, ModuleSupplyDetails, ModuleIllRequest, ModuleShipped, ModuleConditional, ModuleWillSupply, ModuleResults, ModuleIllAnswer, ModuleConditionalReply, ModuleCancel, ModuleCancelReply, ModuleReceived, ModuleRecall, ModuleReturned, ModuleCheckedIn, ModuleOverdue, ModuleRenew, ModuleRenewAnswer, ModuleLost, ModuleDamaged, ModuleMessageApdu, ModuleStatusQuery, ModuleExpired, ModuleIllApdu, Any}
 use Rattle.ill_schema.specs.Table.{kind_of, rows_of}
 use Rattle.ill_schema.specs.Tagging.{Tagging, untagged, implicit, explicit, explicit_or_bare, tagging, universal, sequence_tag, same_tag}
 
@@ -61,10 +62,79 @@ abbrev levels : ℕ → NodeId → ℕ
 levels zero node = 0
 levels (suc n) node = fold (λ most row. max most (1 + levels n row.node)) 0 (rows_of node)
 
--- a node's level, which is at most 9
+-- a node's level, which is at most 10
 abbrev pub rank : NodeId → ℕ
-rank = levels 9
+rank = levels 10
 
 -- the node's rows name only nodes of lower levels
 abbrev pub names_below : NodeId → Bool
 names_below node = list_all (λ row. nat_lt (rank row.node) (rank node)) (rows_of node)
+
+-- the depth of a message's normal tree, at most: in profile 2, and with all rows of the module
+abbrev pub deepest : Bool → ℕ
+deepest false = 11
+deepest true = 29
+
+-- a node of profile 2's tables
+abbrev pub is_of_two : NodeId → Bool
+is_of_two Null = false
+is_of_two ObjectIdentifier = false
+is_of_two OctetString = false
+is_of_two BitString = false
+is_of_two ObjectDescriptor = false
+is_of_two Encoding = false
+is_of_two External = false
+is_of_two TaggedExternal = false
+is_of_two Externals = false
+is_of_two Extension = false
+is_of_two Extensions = false
+is_of_two EDeliveryService = false
+is_of_two DocumentType = false
+is_of_two EDeliveryDetails = false
+is_of_two ElectronicDelivery = false
+is_of_two ElectronicDeliveries = false
+is_of_two SpecificUnits = false
+is_of_two DamagedPortion = false
+is_of_two DamagedDetails = false
+is_of_two HistoryReport = false
+is_of_two StatusReport = false
+is_of_two AlreadyForwarded = false
+is_of_two UserErrorReport = false
+is_of_two StateTransition = false
+is_of_two ProviderErrorReport = false
+is_of_two ErrorReport = false
+is_of_two ForwardNotification = false
+is_of_two StatusOrErrorReport = false
+is_of_two ModuleDeliveryService = false
+is_of_two ModuleShippedVia = false
+is_of_two ModuleItemId = false
+is_of_two ModuleUnitsPerMedium = false
+is_of_two ModuleUnitsPerMediumList = false
+is_of_two ModuleSupplyDetails = false
+is_of_two ModuleIllRequest = false
+is_of_two ModuleShipped = false
+is_of_two ModuleConditional = false
+is_of_two ModuleWillSupply = false
+is_of_two ModuleResults = false
+is_of_two ModuleIllAnswer = false
+is_of_two ModuleConditionalReply = false
+is_of_two ModuleCancel = false
+is_of_two ModuleCancelReply = false
+is_of_two ModuleReceived = false
+is_of_two ModuleRecall = false
+is_of_two ModuleReturned = false
+is_of_two ModuleCheckedIn = false
+is_of_two ModuleOverdue = false
+is_of_two ModuleRenew = false
+is_of_two ModuleRenewAnswer = false
+is_of_two ModuleLost = false
+is_of_two ModuleDamaged = false
+is_of_two ModuleMessageApdu = false
+is_of_two ModuleStatusQuery = false
+is_of_two ModuleExpired = false
+is_of_two ModuleIllApdu = false
+is_of_two Any = false
+is_of_two node = true
+
+abbrev pub are_of_two : List Row → Bool
+are_of_two rows = list_all (λ row. is_of_two row.node) rows

@@ -6,19 +6,23 @@ ghost use Rattle.ill_schema.specs.declared.profile.Profile.TheVariants.{Two, Mod
 ghost use Rattle.ill_schema.specs.Profiles.{profile_of};
 ghost use Rattle.ill_schema.specs.Content.{Content};
 ghost use Rattle.ill_schema.specs.Tagging.{Tagging, untagged};
-ghost use Rattle.ill_schema.specs.TableFacts.{has_different_tags, names_below};
+ghost use Rattle.ill_schema.specs.TableFacts.{are_of_two, deepest, has_different_tags, is_of_two, names_below};
+ghost use Rattle.ill_schema.specs.Table.{rows_of};
 ghost use Rattle.ill_schema.specs.Meaning.{Means};
 ghost use Rattle.ill_schema.specs.Fits.{Fits, FitsApdu};
 ghost use Rattle.ill_schema.specs.Normal.{normal_tree};
-ghost use Rattle.ill_schema.specs.Apdu.{Apdu, choice_of, Encodes, SpellsApdu, MeansApdu, normal_form};
+ghost use Rattle.ill_schema.specs.Apdu.{Accepts, Apdu, choice_of, root, Encodes, SpellsApdu, MeansApdu, normal_form, normal_form_in};
+ghost use Rattle.ill_schema.specs.Lift.{is_plain_apdu, lift_apdu};
 ghost use Rattle.ill_schema.specs.Worked.{hex, expired, request, answer, estimate, unfilled, retry, IsNormalForm};
 
 use crate::node::NodeId;
 
-/// In each sequence and choice the tags of all rows are different, and each row names a node of a lower level.
+/// In each sequence and choice the tags of all rows are different, and each row names a node of a lower level. The rows of profile
+/// 2's nodes name nodes of profile 2: no open type, and none of the types that the module alone has.
 pub fn tables_are_well_formed()
     ensures tags { (p : Profile) (node : NodeId) → IsTrue (has_different_tags p node) }
     ensures below { (node : NodeId) → IsTrue (names_below node) }
+    ensures two { (node : NodeId) → IsTrue (is_of_two node) → IsTrue (are_of_two (rows_of node)) }
 {}
 
 /// A tree means at most one value as the type of a node, and at most one APDU.
@@ -39,21 +43,21 @@ pub fn one_meaning()
     ensures prefix { (p : Profile) (a b : Apdu) (octets more : List ℕ) → SpellsApdu p a octets → SpellsApdu p b (octets ++ more) → more ≡ [] }
 {}
 
-/// The normal tree of a value that fits means it; the normal tree of an APDU has depth 11 at most.
+/// The normal tree of a value that fits means it; the normal tree of an APDU has depth 11 at most, and 29 in the module profile.
 pub fn normal_tree_means_the_value()
     ensures value { (p : Profile) (v : Content) (node : NodeId) (g : Tagging) → Fits p v node → Means p v node g (normal_tree v node g) }
-    ensures depth { (p : Profile) (a : Apdu) → FitsApdu p a → depth (normal_tree (choice_of a) NodeId.IllApdu untagged) ≤ 11 }
+    ensures depth { (p : Profile) (a : Apdu) → FitsApdu p a → depth (normal_tree (choice_of a) (root p) untagged) ≤ deepest p.full }
 {}
 
 /// The normal form of an APDU spells it, where it is within a profile's limit that a length can say (X.690, 10.1).
 pub fn normal_form_is_a_spelling()
-    ensures { (p : Profile) (a : Apdu) → p.limit < 256 ^ 126 → FitsApdu p a → length (normal_form a) ≤ p.limit → SpellsApdu p a (normal_form a) }
+    ensures { (p : Profile) (a : Apdu) → p.limit < 256 ^ 126 → FitsApdu p a → length (normal_form_in p a) ≤ p.limit → SpellsApdu p a (normal_form_in p a) }
 {}
 
 /// Two APDUs with one normal form are one APDU, where a length can say their sizes.
 pub fn normal_form_is_one_to_one()
-    ensures { (p : Profile) (a b : Apdu) → FitsApdu p a → FitsApdu p b → length (normal_form a) < 256 ^ 126 → length (normal_form b) < 256 ^ 126
-        → normal_form a ≡ normal_form b → a ≡ b }
+    ensures { (p : Profile) (a b : Apdu) → FitsApdu p a → FitsApdu p b → length (normal_form_in p a) < 256 ^ 126 → length (normal_form_in p b) < 256 ^ 126
+        → normal_form_in p a ≡ normal_form_in p b → a ≡ b }
 {}
 
 /// Where wrappers aren't bare, a normal form is no longer than a spelling of up to 65,535 octets: there an indefinite form costs
@@ -67,6 +71,24 @@ pub fn normal_form_is_no_longer()
 pub fn profile_two_extends_profile_one()
     ensures small { (a : Apdu) (octets : List ℕ) → Encodes (profile_one 65_535) a octets → SpellsApdu profile_two a octets }
     ensures large { (a : Apdu) (octets : List ℕ) → SpellsApdu (profile_one 1_048_576) a octets → SpellsApdu profile_two a octets }
+{}
+
+/// What spells an APDU in profile 2 spells it in the module profile, too, and has the same normal form there, where the APDU has
+/// no Units-Per-Medium and no Will-Supply, the tags of which are explicit in the module alone. As a value of the module profile
+/// each APDU fits, and is of one APDU alone.
+pub fn the_module_reads_profile_two()
+    ensures spelling { (a : Apdu) (octets : List ℕ) → IsTrue (is_plain_apdu a) → SpellsApdu profile_two a octets → SpellsApdu profile_three (lift_apdu a) octets }
+    ensures normal { (a : Apdu) → IsTrue (is_plain_apdu a) → FitsApdu profile_two a → normal_form_in profile_three (lift_apdu a) ≡ normal_form a }
+    ensures fits { (a : Apdu) → FitsApdu profile_two a → FitsApdu profile_three (lift_apdu a) }
+    ensures one { (a b : Apdu) → FitsApdu profile_two a → FitsApdu profile_two b → lift_apdu a ≡ lift_apdu b → a ≡ b }
+{}
+
+/// What octets spell in both profiles is one APDU, and none with a Units-Per-Medium or a Will-Supply. Where some of the first
+/// octets spell an APDU in profile 2 and some in the module profile, they are the same octets.
+pub fn no_octets_change_their_meaning()
+    ensures apdu { (a b : Apdu) (octets : List ℕ) → SpellsApdu profile_two a octets → SpellsApdu profile_three b octets → b ≡ lift_apdu a }
+    ensures plain { (a b : Apdu) (octets : List ℕ) → SpellsApdu profile_two a octets → SpellsApdu profile_three b octets → IsTrue (is_plain_apdu a) }
+    ensures prefix { (a b : Apdu) (m n : ℕ) (octets : List ℕ) → Accepts profile_two octets a m → Accepts profile_three octets b n → m ≡ n }
 {}
 
 /// The profiles that a program can name are profile 2 and the module profile.

@@ -17,19 +17,39 @@ pub fn kind(node: NodeId) -> Kind
         NodeId::IsoDate => Kind::Leaf(LeafKind::Date),
         NodeId::IsoTime => Kind::Leaf(LeafKind::Time),
         NodeId::PrintableString => Kind::Leaf(LeafKind::Printable),
+        NodeId::Null => Kind::Leaf(LeafKind::Null),
+        NodeId::ObjectIdentifier => Kind::Leaf(LeafKind::ObjectIdentifier),
+        NodeId::OctetString => Kind::Leaf(LeafKind::OctetString),
+        NodeId::BitString => Kind::Leaf(LeafKind::BitString),
+        NodeId::ObjectDescriptor => Kind::Leaf(LeafKind::ObjectDescriptor),
         NodeId::IllString => Kind::IllString,
         NodeId::Symbol
         | NodeId::Name
         | NodeId::DeliveryService
         | NodeId::ShippedVia
         | NodeId::Results
-        | NodeId::IllApdu => Kind::Choice,
+        | NodeId::IllApdu
+        | NodeId::Encoding
+        | NodeId::TaggedExternal
+        | NodeId::EDeliveryDetails
+        | NodeId::DamagedPortion
+        | NodeId::UserErrorReport
+        | NodeId::ProviderErrorReport
+        | NodeId::ModuleDeliveryService
+        | NodeId::ModuleShippedVia
+        | NodeId::ModuleResults
+        | NodeId::ModuleIllApdu => Kind::Choice,
         NodeId::SendToList
         | NodeId::AlreadyTriedList
         | NodeId::UnitsPerMediumList
         | NodeId::IllServiceTypes
         | NodeId::SupplyMediumInfos
-        | NodeId::Locs => Kind::SeqOf,
+        | NodeId::Locs
+        | NodeId::Externals
+        | NodeId::Extensions
+        | NodeId::ElectronicDeliveries
+        | NodeId::SpecificUnits
+        | NodeId::ModuleUnitsPerMediumList => Kind::SeqOf,
         NodeId::Any => Kind::Any,
         _ => Kind::Seq,
     }

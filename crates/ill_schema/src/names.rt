@@ -327,6 +327,109 @@ const ILL_APDU: Names<20> = [
     "Expired",
 ];
 
+const ENCODING: Names<3> = ["single-asn1-type", "octet-aligned", "arbitrary"];
+
+const EXTERNAL: Names<4> = [
+    "direct-reference",
+    "indirect-reference",
+    "data-value-descriptor",
+    "encoding",
+];
+
+const TAGGED_EXTERNAL: Names<1> = [""];
+
+const EXTERNALS: Names<1> = ["item"];
+
+const EXTENSION: Names<3> = ["identifier", "critical", "item"];
+
+const EXTENSIONS: Names<1> = ["item"];
+
+const E_DELIVERY_SERVICE: Names<2> = ["e-delivery-mode", "e-delivery-parameters"];
+
+const DOCUMENT_TYPE: Names<2> = ["document-type-id", "document-type-parameters"];
+
+const E_DELIVERY_DETAILS: Names<2> = ["e-delivery-address", "e-delivery-id"];
+
+const ELECTRONIC_DELIVERY: Names<6> = [
+    "e-delivery-service",
+    "document-type",
+    "e-delivery-description",
+    "e-delivery-details",
+    "name-or-code",
+    "delivery-time",
+];
+
+const ELECTRONIC_DELIVERIES: Names<1> = ["item"];
+
+const SPECIFIC_UNITS: Names<1> = ["item"];
+
+const DAMAGED_PORTION: Names<2> = ["complete-document", "specific-units"];
+
+const DAMAGED_DETAILS: Names<2> = ["document-type-id", "damaged-portion"];
+
+const HISTORY_REPORT: Names<12> = [
+    "date-requested",
+    "author",
+    "title",
+    "author-of-article",
+    "title-of-article",
+    "date-of-last-transition",
+    "most-recent-service",
+    "date-of-most-recent-service",
+    "initiator-of-most-recent-service",
+    "shipped-service-type",
+    "transaction-results",
+    "most-recent-service-note",
+];
+
+const STATUS_REPORT: Names<2> = ["user-status-report", "provider-status-report"];
+
+const ALREADY_FORWARDED: Names<2> = ["responder-id", "responder-address"];
+
+const USER_ERROR_REPORT: Names<4> = [
+    "already-forwarded",
+    "intermediary-problem",
+    "security-problem",
+    "unable-to-perform",
+];
+
+const STATE_TRANSITION: Names<2> = ["apdu-type", "current-state"];
+
+const PROVIDER_ERROR_REPORT: Names<3> = [
+    "general-problem",
+    "transaction-id-problem",
+    "state-transition-prohibited",
+];
+
+const ERROR_REPORT: Names<4> = [
+    "correlation-information",
+    "report-source",
+    "user-error-report",
+    "provider-error-report",
+];
+
+const FORWARD_NOTIFICATION: Names<9> = headed![
+    "responder-address",
+    "intermediary-id",
+    "notification-note",
+    "forward-notification-extensions"
+];
+
+const STATUS_OR_ERROR_REPORT: Names<10> = headed![
+    "reason-no-report",
+    "status-report",
+    "error-report",
+    "note",
+    "status-or-error-report-extensions"
+];
+
+const MODULE_CONDITIONAL: Names<4> = [
+    "conditions",
+    "date-for-reply",
+    "location-list",
+    "proposed-delivery-service",
+];
+
 /// The name of a node, which is empty for a list inside a row.
 fn node_name(node: NodeId) -> &'static str
     ensures { result.now ≡ (names_of node).0 }
@@ -342,51 +445,69 @@ fn node_name(node: NodeId) -> &'static str
         NodeId::SystemAddress => "System-Address",
         NodeId::DeliveryAddress => "Delivery-Address",
         NodeId::ClientId => "Client-Id",
-        NodeId::DeliveryService => "Delivery-Service",
+        NodeId::DeliveryService | NodeId::ModuleDeliveryService => "Delivery-Service",
         NodeId::RequesterOptionalMessages => "Requester-Optional-Messages",
         NodeId::ResponderOptionalMessages => "Responder-Optional-Messages",
         NodeId::SearchType => "Search-Type",
         NodeId::SupplyMediumInfo => "Supply-Medium-Info",
-        NodeId::ItemId => "Item-Id",
+        NodeId::ItemId | NodeId::ModuleItemId => "Item-Id",
         NodeId::Amount => "Amount",
         NodeId::CostInfo => "Cost-Info",
         NodeId::SendTo => "Send-To",
         NodeId::SendToList => "Send-To-List",
         NodeId::AlreadyTriedList => "Already-Tried-List",
         NodeId::ThirdPartyInfo => "Third-Party-Info",
-        NodeId::UnitsPerMedium => "Units-Per-Medium",
+        NodeId::UnitsPerMedium | NodeId::ModuleUnitsPerMedium => "Units-Per-Medium",
         NodeId::DateDue => "Date-Due",
-        NodeId::ShippedVia => "Shipped-Via",
-        NodeId::SupplyDetails => "Supply-Details",
-        NodeId::IllRequest => "ILL-Request",
-        NodeId::Shipped => "Shipped",
+        NodeId::ShippedVia | NodeId::ModuleShippedVia => "Shipped-Via",
+        NodeId::SupplyDetails | NodeId::ModuleSupplyDetails => "Supply-Details",
+        NodeId::IllRequest | NodeId::ModuleIllRequest => "ILL-Request",
+        NodeId::Shipped | NodeId::ModuleShipped => "Shipped",
         NodeId::LocationInfo => "Location-Info",
         NodeId::Locs => "Locs",
-        NodeId::Conditional => "Conditional",
+        NodeId::Conditional | NodeId::ModuleConditional => "Conditional",
         NodeId::Retry => "Retry",
         NodeId::Unfilled => "Unfilled",
         NodeId::Locations => "Locations",
-        NodeId::WillSupply => "Will-Supply",
+        NodeId::WillSupply | NodeId::ModuleWillSupply => "Will-Supply",
         NodeId::HoldPlaced => "Hold-Placed",
         NodeId::Estimate => "Estimate",
-        NodeId::Results => "Results",
-        NodeId::IllAnswer => "ILL-Answer",
-        NodeId::ConditionalReply => "Conditional-Reply",
-        NodeId::Cancel => "Cancel",
-        NodeId::CancelReply => "Cancel-Reply",
-        NodeId::Received => "Received",
-        NodeId::Recall => "Recall",
-        NodeId::Returned => "Returned",
-        NodeId::CheckedIn => "Checked-In",
-        NodeId::Overdue => "Overdue",
-        NodeId::Renew => "Renew",
-        NodeId::RenewAnswer => "Renew-Answer",
-        NodeId::Lost => "Lost",
-        NodeId::Damaged => "Damaged",
-        NodeId::MessageApdu => "Message",
-        NodeId::StatusQuery => "Status-Query",
-        NodeId::Expired => "Expired",
-        NodeId::IllApdu => "ILL-APDU",
+        NodeId::Results | NodeId::ModuleResults => "Results",
+        NodeId::IllAnswer | NodeId::ModuleIllAnswer => "ILL-Answer",
+        NodeId::ConditionalReply | NodeId::ModuleConditionalReply => "Conditional-Reply",
+        NodeId::Cancel | NodeId::ModuleCancel => "Cancel",
+        NodeId::CancelReply | NodeId::ModuleCancelReply => "Cancel-Reply",
+        NodeId::Received | NodeId::ModuleReceived => "Received",
+        NodeId::Recall | NodeId::ModuleRecall => "Recall",
+        NodeId::Returned | NodeId::ModuleReturned => "Returned",
+        NodeId::CheckedIn | NodeId::ModuleCheckedIn => "Checked-In",
+        NodeId::Overdue | NodeId::ModuleOverdue => "Overdue",
+        NodeId::Renew | NodeId::ModuleRenew => "Renew",
+        NodeId::RenewAnswer | NodeId::ModuleRenewAnswer => "Renew-Answer",
+        NodeId::Lost | NodeId::ModuleLost => "Lost",
+        NodeId::Damaged | NodeId::ModuleDamaged => "Damaged",
+        NodeId::MessageApdu | NodeId::ModuleMessageApdu => "Message",
+        NodeId::StatusQuery | NodeId::ModuleStatusQuery => "Status-Query",
+        NodeId::Expired | NodeId::ModuleExpired => "Expired",
+        NodeId::IllApdu | NodeId::ModuleIllApdu => "ILL-APDU",
+        NodeId::Encoding => "Encoding",
+        NodeId::Extension => "Extension",
+        NodeId::EDeliveryService => "E-Delivery-Service",
+        NodeId::DocumentType => "Document-Type",
+        NodeId::EDeliveryDetails => "E-Delivery-Details",
+        NodeId::ElectronicDelivery => "Electronic-Delivery",
+        NodeId::DamagedPortion => "Damaged-Portion",
+        NodeId::DamagedDetails => "Damaged-Details",
+        NodeId::HistoryReport => "History-Report",
+        NodeId::StatusReport => "Status-Report",
+        NodeId::AlreadyForwarded => "Already-Forwarded",
+        NodeId::UserErrorReport => "User-Error-Report",
+        NodeId::StateTransition => "State-Transition",
+        NodeId::ProviderErrorReport => "Provider-Error-Report",
+        NodeId::ErrorReport => "Error-Report",
+        NodeId::ForwardNotification => "Forward-Notification",
+        NodeId::StatusOrErrorReport => "Status-Or-Error-Report",
+        NodeId::TaggedExternal | NodeId::External => "External",
         _ => "",
     }
 }
@@ -406,54 +527,78 @@ pub fn row_names(node: NodeId) -> &'static [&'static str]
         NodeId::SystemAddress => &SYSTEM_ADDRESS,
         NodeId::DeliveryAddress => &DELIVERY_ADDRESS,
         NodeId::ClientId => &CLIENT_ID,
-        NodeId::DeliveryService => &DELIVERY_SERVICE,
+        NodeId::DeliveryService | NodeId::ModuleDeliveryService => &DELIVERY_SERVICE,
         NodeId::RequesterOptionalMessages => &REQUESTER_OPTIONAL_MESSAGES,
         NodeId::ResponderOptionalMessages => &RESPONDER_OPTIONAL_MESSAGES,
         NodeId::SearchType => &SEARCH_TYPE,
         NodeId::SupplyMediumInfo => &SUPPLY_MEDIUM_INFO,
-        NodeId::ItemId => &ITEM_ID,
+        NodeId::ItemId | NodeId::ModuleItemId => &ITEM_ID,
         NodeId::Amount => &AMOUNT,
         NodeId::CostInfo => &COST_INFO,
         NodeId::SendTo => &SEND_TO,
         NodeId::SendToList => &SEND_TO_LIST,
         NodeId::AlreadyTriedList => &ALREADY_TRIED_LIST,
         NodeId::ThirdPartyInfo => &THIRD_PARTY_INFO,
-        NodeId::UnitsPerMedium => &UNITS_PER_MEDIUM,
-        NodeId::UnitsPerMediumList => &UNITS_PER_MEDIUM_LIST,
+        NodeId::UnitsPerMedium | NodeId::ModuleUnitsPerMedium => &UNITS_PER_MEDIUM,
+        NodeId::UnitsPerMediumList | NodeId::ModuleUnitsPerMediumList => &UNITS_PER_MEDIUM_LIST,
         NodeId::DateDue => &DATE_DUE,
-        NodeId::ShippedVia => &SHIPPED_VIA,
-        NodeId::SupplyDetails => &SUPPLY_DETAILS,
+        NodeId::ShippedVia | NodeId::ModuleShippedVia => &SHIPPED_VIA,
+        NodeId::SupplyDetails | NodeId::ModuleSupplyDetails => &SUPPLY_DETAILS,
         NodeId::IllServiceTypes => &ILL_SERVICE_TYPES,
         NodeId::SupplyMediumInfos => &SUPPLY_MEDIUM_INFOS,
-        NodeId::IllRequest => &ILL_REQUEST,
-        NodeId::Shipped => &SHIPPED,
+        NodeId::IllRequest | NodeId::ModuleIllRequest => &ILL_REQUEST,
+        NodeId::Shipped | NodeId::ModuleShipped => &SHIPPED,
         NodeId::LocationInfo => &LOCATION_INFO,
         NodeId::Locs => &LOCS,
         NodeId::Conditional => &CONDITIONAL,
         NodeId::Retry => &RETRY,
         NodeId::Unfilled => &UNFILLED,
         NodeId::Locations => &LOCATIONS,
-        NodeId::WillSupply => &WILL_SUPPLY,
+        NodeId::WillSupply | NodeId::ModuleWillSupply => &WILL_SUPPLY,
         NodeId::HoldPlaced => &HOLD_PLACED,
         NodeId::Estimate => &ESTIMATE,
-        NodeId::Results => &RESULTS,
-        NodeId::IllAnswer => &ILL_ANSWER,
-        NodeId::ConditionalReply => &CONDITIONAL_REPLY,
-        NodeId::Cancel => &CANCEL,
-        NodeId::CancelReply => &CANCEL_REPLY,
-        NodeId::Received => &RECEIVED,
-        NodeId::Recall => &RECALL,
-        NodeId::Returned => &RETURNED,
-        NodeId::CheckedIn => &CHECKED_IN,
-        NodeId::Overdue => &OVERDUE,
-        NodeId::Renew => &RENEW,
-        NodeId::RenewAnswer => &RENEW_ANSWER,
-        NodeId::Lost => &LOST,
-        NodeId::Damaged => &DAMAGED,
-        NodeId::MessageApdu => &MESSAGE_APDU,
-        NodeId::StatusQuery => &STATUS_QUERY,
-        NodeId::Expired => &EXPIRED,
-        NodeId::IllApdu => &ILL_APDU,
+        NodeId::Results | NodeId::ModuleResults => &RESULTS,
+        NodeId::IllAnswer | NodeId::ModuleIllAnswer => &ILL_ANSWER,
+        NodeId::ConditionalReply | NodeId::ModuleConditionalReply => &CONDITIONAL_REPLY,
+        NodeId::Cancel | NodeId::ModuleCancel => &CANCEL,
+        NodeId::CancelReply | NodeId::ModuleCancelReply => &CANCEL_REPLY,
+        NodeId::Received | NodeId::ModuleReceived => &RECEIVED,
+        NodeId::Recall | NodeId::ModuleRecall => &RECALL,
+        NodeId::Returned | NodeId::ModuleReturned => &RETURNED,
+        NodeId::CheckedIn | NodeId::ModuleCheckedIn => &CHECKED_IN,
+        NodeId::Overdue | NodeId::ModuleOverdue => &OVERDUE,
+        NodeId::Renew | NodeId::ModuleRenew => &RENEW,
+        NodeId::RenewAnswer | NodeId::ModuleRenewAnswer => &RENEW_ANSWER,
+        NodeId::Lost | NodeId::ModuleLost => &LOST,
+        NodeId::Damaged | NodeId::ModuleDamaged => &DAMAGED,
+        NodeId::MessageApdu | NodeId::ModuleMessageApdu => &MESSAGE_APDU,
+        NodeId::StatusQuery | NodeId::ModuleStatusQuery => &STATUS_QUERY,
+        NodeId::Expired | NodeId::ModuleExpired => &EXPIRED,
+        NodeId::IllApdu | NodeId::ModuleIllApdu => &ILL_APDU,
+        NodeId::Encoding => &ENCODING,
+        NodeId::External => &EXTERNAL,
+        NodeId::TaggedExternal => &TAGGED_EXTERNAL,
+        NodeId::Externals => &EXTERNALS,
+        NodeId::Extension => &EXTENSION,
+        NodeId::Extensions => &EXTENSIONS,
+        NodeId::EDeliveryService => &E_DELIVERY_SERVICE,
+        NodeId::DocumentType => &DOCUMENT_TYPE,
+        NodeId::EDeliveryDetails => &E_DELIVERY_DETAILS,
+        NodeId::ElectronicDelivery => &ELECTRONIC_DELIVERY,
+        NodeId::ElectronicDeliveries => &ELECTRONIC_DELIVERIES,
+        NodeId::SpecificUnits => &SPECIFIC_UNITS,
+        NodeId::DamagedPortion => &DAMAGED_PORTION,
+        NodeId::DamagedDetails => &DAMAGED_DETAILS,
+        NodeId::HistoryReport => &HISTORY_REPORT,
+        NodeId::StatusReport => &STATUS_REPORT,
+        NodeId::AlreadyForwarded => &ALREADY_FORWARDED,
+        NodeId::UserErrorReport => &USER_ERROR_REPORT,
+        NodeId::StateTransition => &STATE_TRANSITION,
+        NodeId::ProviderErrorReport => &PROVIDER_ERROR_REPORT,
+        NodeId::ErrorReport => &ERROR_REPORT,
+        NodeId::ForwardNotification => &FORWARD_NOTIFICATION,
+        NodeId::StatusOrErrorReport => &STATUS_OR_ERROR_REPORT,
+        NodeId::ModuleConditional => &MODULE_CONDITIONAL,
         _ => &[],
     }
 }

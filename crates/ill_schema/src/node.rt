@@ -7,7 +7,7 @@ pub enum LeafKind {
     Date,
     Time,
     Printable,
-    /// NULL. No row has this kind, nor one of the four below.
+    /// NULL. This kind and the four below stand in the module's rows alone.
     Null,
     ObjectIdentifier,
     OctetString,
@@ -27,7 +27,8 @@ pub enum Kind {
     Any,
 }
 
-/// A node of the schema. Its rows name only nodes of lower levels.
+/// A node of the schema. Its rows name only nodes of lower levels. What the module profile reads in another way than
+/// profile 2 is a node of its own, whose name begins with `Module`.
 #[derive(Clone, Copy, Debug, PartialEq, Eq)]
 pub enum NodeId {
     Boolean,
@@ -37,7 +38,7 @@ pub enum NodeId {
     IsoTime,
     PrintableString,
     IllString,
-    /// The open type; no row has it.
+    /// The open type.
     Any,
     LeftOut,
     Symbol,
@@ -98,6 +99,62 @@ pub enum NodeId {
     StatusQuery,
     Expired,
     IllApdu,
+    Null,
+    ObjectIdentifier,
+    OctetString,
+    BitString,
+    ObjectDescriptor,
+    Encoding,
+    External,
+    TaggedExternal,
+    Externals,
+    Extension,
+    Extensions,
+    EDeliveryService,
+    DocumentType,
+    EDeliveryDetails,
+    ElectronicDelivery,
+    ElectronicDeliveries,
+    SpecificUnits,
+    DamagedPortion,
+    DamagedDetails,
+    HistoryReport,
+    StatusReport,
+    AlreadyForwarded,
+    UserErrorReport,
+    StateTransition,
+    ProviderErrorReport,
+    ErrorReport,
+    ForwardNotification,
+    StatusOrErrorReport,
+    ModuleDeliveryService,
+    ModuleShippedVia,
+    ModuleItemId,
+    ModuleUnitsPerMedium,
+    ModuleUnitsPerMediumList,
+    ModuleSupplyDetails,
+    ModuleIllRequest,
+    ModuleShipped,
+    ModuleConditional,
+    ModuleWillSupply,
+    ModuleResults,
+    ModuleIllAnswer,
+    ModuleConditionalReply,
+    ModuleCancel,
+    ModuleCancelReply,
+    ModuleReceived,
+    ModuleRecall,
+    ModuleReturned,
+    ModuleCheckedIn,
+    ModuleOverdue,
+    ModuleRenew,
+    ModuleRenewAnswer,
+    ModuleLost,
+    ModuleDamaged,
+    ModuleMessageApdu,
+    ModuleStatusQuery,
+    ModuleExpired,
+    ModuleIllApdu,
 }
 
 impl NodeId {

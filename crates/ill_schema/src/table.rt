@@ -23,9 +23,115 @@ macro_rules! headed {
 }
 
 /// The rows of a node: for each its presence, tag, mode and node, or presence, `untagged` and node. They are handed to the macro that is
-/// named, after the node and the class of their tags: what is made of the tables is made from here.
+/// named, after the node and the class of their tags: what is made of the tables is made from here. Where profile 2 and the
+/// module differ in a few rows of many, a rule whose name begins with `@` has those that they share.
 #[macro_export]
 macro_rules! table {
+    (@ItemId $node:ident, $made:ident, $bibliography:tt, $system:tt) => {
+        $made![$node, Context:
+            (May, 0, Implicit, Enumerated),
+            (May, 1, Implicit, Enumerated),
+            (May, 2, Explicit, IllString),
+            (May, 3, Explicit, IllString),
+            (May, 4, Explicit, IllString),
+            (May, 5, Explicit, IllString),
+            (May, 6, Explicit, IllString),
+            (May, 7, Explicit, IllString),
+            (May, 8, Explicit, IllString),
+            (May, 9, Explicit, IllString),
+            (May, 10, Explicit, IllString),
+            (May, 11, Explicit, IllString),
+            (May, 12, Explicit, IllString),
+            (May, 13, Explicit, IllString),
+            (May, 14, Explicit, IllString),
+            (May, 15, Explicit, IllString),
+            (May, 16, Explicit, IllString),
+            $bibliography,
+            (May, 18, Explicit, IllString),
+            (May, 19, Explicit, IllString),
+            $system,
+            (May, 21, Explicit, IllString),
+            (May, 22, Explicit, IllString)
+        ]
+    };
+    (@SupplyDetails $node:ident, $made:ident, $via:ident, $units:ident) => {
+        $made![$node, Context:
+            (May, 0, Implicit, IsoDate),
+            (May, 1, Implicit, DateDue),
+            (May, 2, Implicit, Integer),
+            (May, 3, Implicit, Amount),
+            (May, 4, Implicit, Enumerated),
+            (May, untagged, $via),
+            (May, 6, Implicit, Amount),
+            (May, 7, Implicit, Amount),
+            (May, 8, Implicit, $units)
+        ]
+    };
+    (@Results $node:ident, $made:ident, $conditional:ident, $will_supply:ident) => {
+        $made![$node, Context:
+            (Must, 1, ExplicitOrBare, $conditional),
+            (Must, 2, ExplicitOrBare, Retry),
+            (Must, 3, ExplicitOrBare, Unfilled),
+            (Must, 4, ExplicitOrBare, Locations),
+            (Must, 5, ExplicitOrBare, $will_supply),
+            (Must, 6, ExplicitOrBare, HoldPlaced),
+            (Must, 7, ExplicitOrBare, Estimate)
+        ]
+    };
+    (@IllRequest $node:ident, $made:ident, $service:ident, $specific:tt, $item:ident, $supplements:tt, $extensions:tt) => {
+        $crate::headed![$node, $made:
+            (Default(1), 5, Implicit, Enumerated),
+            (May, 6, Implicit, DeliveryAddress),
+            (May, untagged, $service),
+            (May, 8, Implicit, DeliveryAddress),
+            (Must, 9, Implicit, IllServiceTypes),
+            $specific,
+            (Must, 11, Implicit, RequesterOptionalMessages),
+            (May, 12, Implicit, SearchType),
+            (May, 13, Implicit, SupplyMediumInfos),
+            (Default(3), 14, Implicit, Enumerated),
+            (May, 15, Implicit, ClientId),
+            (Must, 16, Implicit, $item),
+            $supplements,
+            (May, 18, Implicit, CostInfo),
+            (May, 19, Explicit, IllString),
+            (May, 20, Implicit, ThirdPartyInfo),
+            (Default(0), 21, Implicit, Boolean),
+            (Default(0), 22, Implicit, Boolean),
+            (May, 46, Explicit, IllString),
+            (May, 47, Explicit, IllString),
+            $extensions
+        ]
+    };
+    (@Shipped $node:ident, $made:ident, $supplements:tt, $details:ident, $extensions:tt) => {
+        $crate::headed![$node, $made:
+            (May, 24, Implicit, SystemAddress),
+            (May, 25, Implicit, SystemId),
+            (May, 26, Implicit, SystemId),
+            (May, 15, Implicit, ClientId),
+            (Default(1), 5, Implicit, Enumerated),
+            $supplements,
+            (Must, 27, Implicit, Enumerated),
+            (May, 28, Implicit, ResponderOptionalMessages),
+            (Must, 29, Implicit, $details),
+            (May, 30, Implicit, PostalAddress),
+            (May, 46, Explicit, IllString),
+            $extensions
+        ]
+    };
+    (@IllAnswer $node:ident, $made:ident, $results:ident, $specific:tt, $supplements:tt, $extensions:tt) => {
+        $crate::headed![$node, $made:
+            (Must, 31, Implicit, Enumerated),
+            (May, 32, Explicit, $results),
+            $specific,
+            $supplements,
+            (May, 23, Implicit, SendToList),
+            (May, 34, Implicit, AlreadyTriedList),
+            (May, 28, Implicit, ResponderOptionalMessages),
+            (May, 46, Explicit, IllString),
+            $extensions
+        ]
+    };
     (Symbol, $made:ident) => {
         $made![Symbol, Context: (Must, 0, Explicit, IllString), (Must, 1, Explicit, IllString)]
     };
@@ -120,31 +226,9 @@ macro_rules! table {
         ]
     };
     (ItemId, $made:ident) => {
-        $made![ItemId, Context:
-            (May, 0, Implicit, Enumerated),
-            (May, 1, Implicit, Enumerated),
-            (May, 2, Explicit, IllString),
-            (May, 3, Explicit, IllString),
-            (May, 4, Explicit, IllString),
-            (May, 5, Explicit, IllString),
-            (May, 6, Explicit, IllString),
-            (May, 7, Explicit, IllString),
-            (May, 8, Explicit, IllString),
-            (May, 9, Explicit, IllString),
-            (May, 10, Explicit, IllString),
-            (May, 11, Explicit, IllString),
-            (May, 12, Explicit, IllString),
-            (May, 13, Explicit, IllString),
-            (May, 14, Explicit, IllString),
-            (May, 15, Explicit, IllString),
-            (May, 16, Explicit, IllString),
+        $crate::table!(@ItemId ItemId, $made,
             (LeftOut, 17, Implicit, LeftOut),
-            (May, 18, Explicit, IllString),
-            (May, 19, Explicit, IllString),
-            (LeftOut, 20, Implicit, LeftOut),
-            (May, 21, Explicit, IllString),
-            (May, 22, Explicit, IllString)
-        ]
+            (LeftOut, 20, Implicit, LeftOut))
     };
     (Amount, $made:ident) => {
         $made![Amount, Context:
@@ -205,17 +289,7 @@ macro_rules! table {
         ]
     };
     (SupplyDetails, $made:ident) => {
-        $made![SupplyDetails, Context:
-            (May, 0, Implicit, IsoDate),
-            (May, 1, Implicit, DateDue),
-            (May, 2, Implicit, Integer),
-            (May, 3, Implicit, Amount),
-            (May, 4, Implicit, Enumerated),
-            (May, untagged, ShippedVia),
-            (May, 6, Implicit, Amount),
-            (May, 7, Implicit, Amount),
-            (May, 8, Implicit, UnitsPerMediumList)
-        ]
+        $crate::table!(@SupplyDetails SupplyDetails, $made, ShippedVia, UnitsPerMediumList)
     };
     (IllServiceTypes, $made:ident) => {
         $made![IllServiceTypes, Context: (Must, untagged, Enumerated)]
@@ -224,45 +298,18 @@ macro_rules! table {
         $made![SupplyMediumInfos, Context: (Must, untagged, SupplyMediumInfo)]
     };
     (IllRequest, $made:ident) => {
-        $crate::headed![IllRequest, $made:
-            (Default(1), 5, Implicit, Enumerated),
-            (May, 6, Implicit, DeliveryAddress),
-            (May, untagged, DeliveryService),
-            (May, 8, Implicit, DeliveryAddress),
-            (Must, 9, Implicit, IllServiceTypes),
+        $crate::table!(@IllRequest IllRequest, $made,
+            DeliveryService,
             (LeftOut, 10, Implicit, LeftOut),
-            (Must, 11, Implicit, RequesterOptionalMessages),
-            (May, 12, Implicit, SearchType),
-            (May, 13, Implicit, SupplyMediumInfos),
-            (Default(3), 14, Implicit, Enumerated),
-            (May, 15, Implicit, ClientId),
-            (Must, 16, Implicit, ItemId),
+            ItemId,
             (LeftOut, 17, Implicit, LeftOut),
-            (May, 18, Implicit, CostInfo),
-            (May, 19, Explicit, IllString),
-            (May, 20, Implicit, ThirdPartyInfo),
-            (Default(0), 21, Implicit, Boolean),
-            (Default(0), 22, Implicit, Boolean),
-            (May, 46, Explicit, IllString),
-            (May, 47, Explicit, IllString),
-            (LeftOut, 49, Implicit, LeftOut)
-        ]
+            (LeftOut, 49, Implicit, LeftOut))
     };
     (Shipped, $made:ident) => {
-        $crate::headed![Shipped, $made:
-            (May, 24, Implicit, SystemAddress),
-            (May, 25, Implicit, SystemId),
-            (May, 26, Implicit, SystemId),
-            (May, 15, Implicit, ClientId),
-            (Default(1), 5, Implicit, Enumerated),
+        $crate::table!(@Shipped Shipped, $made,
             (LeftOut, 17, Implicit, LeftOut),
-            (Must, 27, Implicit, Enumerated),
-            (May, 28, Implicit, ResponderOptionalMessages),
-            (Must, 29, Implicit, SupplyDetails),
-            (May, 30, Implicit, PostalAddress),
-            (May, 46, Explicit, IllString),
-            (LeftOut, 49, Implicit, LeftOut)
-        ]
+            SupplyDetails,
+            (LeftOut, 49, Implicit, LeftOut))
     };
     (LocationInfo, $made:ident) => {
         $made![LocationInfo, Context:
@@ -314,28 +361,14 @@ macro_rules! table {
         $made![Estimate, Context: (Must, 0, Explicit, IllString), (May, 1, Implicit, Locs)]
     };
     (Results, $made:ident) => {
-        $made![Results, Context:
-            (Must, 1, ExplicitOrBare, Conditional),
-            (Must, 2, ExplicitOrBare, Retry),
-            (Must, 3, ExplicitOrBare, Unfilled),
-            (Must, 4, ExplicitOrBare, Locations),
-            (Must, 5, ExplicitOrBare, WillSupply),
-            (Must, 6, ExplicitOrBare, HoldPlaced),
-            (Must, 7, ExplicitOrBare, Estimate)
-        ]
+        $crate::table!(@Results Results, $made, Conditional, WillSupply)
     };
     (IllAnswer, $made:ident) => {
-        $crate::headed![IllAnswer, $made:
-            (Must, 31, Implicit, Enumerated),
-            (May, 32, Explicit, Results),
+        $crate::table!(@IllAnswer IllAnswer, $made,
+            Results,
             (LeftOut, 33, Implicit, LeftOut),
             (LeftOut, 17, Implicit, LeftOut),
-            (May, 23, Implicit, SendToList),
-            (May, 34, Implicit, AlreadyTriedList),
-            (May, 28, Implicit, ResponderOptionalMessages),
-            (May, 46, Explicit, IllString),
-            (LeftOut, 49, Implicit, LeftOut)
-        ]
+            (LeftOut, 49, Implicit, LeftOut))
     };
     (ConditionalReply, $made:ident) => {
         $crate::headed![ConditionalReply, $made:
@@ -462,6 +495,361 @@ macro_rules! table {
             (Must, 18, ExplicitOrBare, StatusQuery),
             (LeftOut, 19, Implicit, LeftOut),
             (Must, 20, ExplicitOrBare, Expired)
+        ]
+    };
+    (Encoding, $made:ident) => {
+        $made![Encoding, Context:
+            (Must, 0, Explicit, Any),
+            (Must, 1, Implicit, OctetString),
+            (Must, 2, Implicit, BitString)
+        ]
+    };
+    (External, $made:ident) => {
+        $made![External, Context:
+            (May, untagged, ObjectIdentifier),
+            (May, untagged, Integer),
+            (May, untagged, ObjectDescriptor),
+            (Must, untagged, Encoding)
+        ]
+    };
+    (TaggedExternal, $made:ident) => {
+        $made![TaggedExternal, Universal: (Must, 8, Implicit, External)]
+    };
+    (Externals, $made:ident) => {
+        $made![Externals, Context: (Must, untagged, TaggedExternal)]
+    };
+    (Extension, $made:ident) => {
+        $made![Extension, Context:
+            (Must, 0, Implicit, Integer),
+            (Default(0), 1, Implicit, Boolean),
+            (Must, 2, Explicit, Any)
+        ]
+    };
+    (Extensions, $made:ident) => {
+        $made![Extensions, Context: (Must, untagged, Extension)]
+    };
+    (EDeliveryService, $made:ident) => {
+        $made![EDeliveryService, Context:
+            (Must, 0, Implicit, ObjectIdentifier),
+            (Must, 1, Explicit, Any)
+        ]
+    };
+    (DocumentType, $made:ident) => {
+        $made![DocumentType, Context:
+            (Must, 2, Implicit, ObjectIdentifier),
+            (Must, 3, Explicit, Any)
+        ]
+    };
+    (EDeliveryDetails, $made:ident) => {
+        $made![EDeliveryDetails, Context:
+            (Must, 0, Implicit, SystemAddress),
+            (Must, 1, Implicit, SystemId)
+        ]
+    };
+    (ElectronicDelivery, $made:ident) => {
+        $made![ElectronicDelivery, Context:
+            (May, 0, Implicit, EDeliveryService),
+            (May, 1, Implicit, DocumentType),
+            (May, 4, Explicit, IllString),
+            (Must, 5, Explicit, EDeliveryDetails),
+            (May, 6, Explicit, IllString),
+            (May, 7, Implicit, IsoTime)
+        ]
+    };
+    (ElectronicDeliveries, $made:ident) => {
+        $made![ElectronicDeliveries, Context: (Must, untagged, ElectronicDelivery)]
+    };
+    (SpecificUnits, $made:ident) => {
+        $made![SpecificUnits, Context: (Must, untagged, Integer)]
+    };
+    (DamagedPortion, $made:ident) => {
+        $made![DamagedPortion, Context:
+            (Must, 1, Implicit, Null),
+            (Must, 2, Implicit, SpecificUnits)
+        ]
+    };
+    (DamagedDetails, $made:ident) => {
+        $made![DamagedDetails, Context:
+            (May, 0, Implicit, ObjectIdentifier),
+            (Must, untagged, DamagedPortion)
+        ]
+    };
+    (HistoryReport, $made:ident) => {
+        $made![HistoryReport, Context:
+            (May, 0, Implicit, IsoDate),
+            (May, 1, Explicit, IllString),
+            (May, 2, Explicit, IllString),
+            (May, 3, Explicit, IllString),
+            (May, 4, Explicit, IllString),
+            (Must, 5, Implicit, IsoDate),
+            (Must, 6, Implicit, Enumerated),
+            (Must, 7, Implicit, IsoDate),
+            (Must, 8, Implicit, SystemId),
+            (May, 9, Implicit, Enumerated),
+            (May, 10, Implicit, Enumerated),
+            (May, 11, Explicit, IllString)
+        ]
+    };
+    (StatusReport, $made:ident) => {
+        $made![StatusReport, Context:
+            (Must, 0, Implicit, HistoryReport),
+            (Must, 1, Implicit, Enumerated)
+        ]
+    };
+    (AlreadyForwarded, $made:ident) => {
+        $made![AlreadyForwarded, Context:
+            (Must, 0, Implicit, SystemId),
+            (May, 1, Implicit, SystemAddress)
+        ]
+    };
+    (UserErrorReport, $made:ident) => {
+        $made![UserErrorReport, Context:
+            (Must, 0, Implicit, AlreadyForwarded),
+            (Must, 1, Implicit, Enumerated),
+            (Must, 2, Explicit, IllString),
+            (Must, 3, Implicit, Enumerated)
+        ]
+    };
+    (StateTransition, $made:ident) => {
+        $made![StateTransition, Context:
+            (Must, 0, Implicit, Enumerated),
+            (Must, 1, Implicit, Enumerated)
+        ]
+    };
+    (ProviderErrorReport, $made:ident) => {
+        $made![ProviderErrorReport, Context:
+            (Must, 0, Implicit, Enumerated),
+            (Must, 1, Implicit, Enumerated),
+            (Must, 2, Implicit, StateTransition)
+        ]
+    };
+    (ErrorReport, $made:ident) => {
+        $made![ErrorReport, Context:
+            (Must, 0, Explicit, IllString),
+            (Must, 1, Implicit, Enumerated),
+            (May, 2, Explicit, UserErrorReport),
+            (May, 3, Explicit, ProviderErrorReport)
+        ]
+    };
+    (ForwardNotification, $made:ident) => {
+        $made![ForwardNotification, Context:
+            (Must, 0, Implicit, Integer),
+            (Must, 1, Implicit, TransactionId),
+            (Must, 2, Implicit, ServiceDateTime),
+            (May, 3, Implicit, SystemId),
+            (Must, 4, Implicit, SystemId),
+            (May, 24, Implicit, SystemAddress),
+            (Must, 25, Implicit, SystemId),
+            (May, 48, Explicit, IllString),
+            (May, 49, Implicit, Extensions)
+        ]
+    };
+    (StatusOrErrorReport, $made:ident) => {
+        $crate::headed![StatusOrErrorReport, $made:
+            (May, 43, Implicit, Enumerated),
+            (May, 44, Implicit, StatusReport),
+            (May, 45, Implicit, ErrorReport),
+            (May, 46, Explicit, IllString),
+            (May, 49, Implicit, Extensions)
+        ]
+    };
+    (ModuleDeliveryService, $made:ident) => {
+        $made![ModuleDeliveryService, Context:
+            (Must, 7, Explicit, IllString),
+            (Must, 50, Implicit, ElectronicDeliveries)
+        ]
+    };
+    (ModuleShippedVia, $made:ident) => {
+        $made![ModuleShippedVia, Context:
+            (Must, 5, Explicit, IllString),
+            (Must, 50, Implicit, ElectronicDelivery)
+        ]
+    };
+    (ModuleItemId, $made:ident) => {
+        $crate::table!(@ItemId ModuleItemId, $made,
+            (May, 17, Explicit, TaggedExternal),
+            (May, 20, Explicit, TaggedExternal))
+    };
+    (ModuleUnitsPerMedium, $made:ident) => {
+        $made![ModuleUnitsPerMedium, Context:
+            (Must, 0, Explicit, Enumerated),
+            (Must, 1, Explicit, Integer)
+        ]
+    };
+    (ModuleUnitsPerMediumList, $made:ident) => {
+        $made![ModuleUnitsPerMediumList, Context: (Must, untagged, ModuleUnitsPerMedium)]
+    };
+    (ModuleSupplyDetails, $made:ident) => {
+        $crate::table!(@SupplyDetails ModuleSupplyDetails, $made,
+            ModuleShippedVia,
+            ModuleUnitsPerMediumList)
+    };
+    (ModuleIllRequest, $made:ident) => {
+        $crate::table!(@IllRequest ModuleIllRequest, $made,
+            ModuleDeliveryService,
+            (May, 10, Explicit, TaggedExternal),
+            ModuleItemId,
+            (May, 17, Implicit, Externals),
+            (May, 49, Implicit, Extensions))
+    };
+    (ModuleShipped, $made:ident) => {
+        $crate::table!(@Shipped ModuleShipped, $made,
+            (May, 17, Implicit, Externals),
+            ModuleSupplyDetails,
+            (May, 49, Implicit, Extensions))
+    };
+    (ModuleConditional, $made:ident) => {
+        $made![ModuleConditional, Context:
+            (Must, 0, Implicit, Enumerated),
+            (May, 1, Implicit, IsoDate),
+            (May, 2, Implicit, Locs),
+            (May, untagged, ModuleDeliveryService)
+        ]
+    };
+    (ModuleWillSupply, $made:ident) => {
+        $made![ModuleWillSupply, Context:
+            (Must, 0, Explicit, Enumerated),
+            (May, 1, Explicit, IsoDate),
+            (May, 2, Explicit, PostalAddress),
+            (May, 3, Implicit, Locs),
+            (May, 4, Explicit, ElectronicDelivery)
+        ]
+    };
+    (ModuleResults, $made:ident) => {
+        $crate::table!(@Results ModuleResults, $made, ModuleConditional, ModuleWillSupply)
+    };
+    (ModuleIllAnswer, $made:ident) => {
+        $crate::table!(@IllAnswer ModuleIllAnswer, $made,
+            ModuleResults,
+            (May, 33, Explicit, TaggedExternal),
+            (May, 17, Implicit, Externals),
+            (May, 49, Implicit, Extensions))
+    };
+    (ModuleConditionalReply, $made:ident) => {
+        $crate::headed![ModuleConditionalReply, $made:
+            (Must, 35, Implicit, Boolean),
+            (May, 46, Explicit, IllString),
+            (May, 49, Implicit, Extensions)
+        ]
+    };
+    (ModuleCancel, $made:ident) => {
+        $crate::headed![ModuleCancel, $made:
+            (May, 46, Explicit, IllString),
+            (May, 49, Implicit, Extensions)
+        ]
+    };
+    (ModuleCancelReply, $made:ident) => {
+        $crate::headed![ModuleCancelReply, $made:
+            (Must, 35, Implicit, Boolean),
+            (May, 46, Explicit, IllString),
+            (May, 49, Implicit, Extensions)
+        ]
+    };
+    (ModuleReceived, $made:ident) => {
+        $crate::headed![ModuleReceived, $made:
+            (May, 26, Implicit, SystemId),
+            (May, 17, Implicit, Externals),
+            (Must, 36, Implicit, IsoDate),
+            (Must, 27, Implicit, Enumerated),
+            (May, 46, Explicit, IllString),
+            (May, 49, Implicit, Extensions)
+        ]
+    };
+    (ModuleRecall, $made:ident) => {
+        $crate::headed![ModuleRecall, $made:
+            (May, 46, Explicit, IllString),
+            (May, 49, Implicit, Extensions)
+        ]
+    };
+    (ModuleReturned, $made:ident) => {
+        $crate::headed![ModuleReturned, $made:
+            (May, 17, Implicit, Externals),
+            (Must, 37, Implicit, IsoDate),
+            (May, 38, Explicit, IllString),
+            (May, 39, Implicit, Amount),
+            (May, 46, Explicit, IllString),
+            (May, 49, Implicit, Extensions)
+        ]
+    };
+    (ModuleCheckedIn, $made:ident) => {
+        $crate::headed![ModuleCheckedIn, $made:
+            (Must, 40, Implicit, IsoDate),
+            (May, 46, Explicit, IllString),
+            (May, 49, Implicit, Extensions)
+        ]
+    };
+    (ModuleOverdue, $made:ident) => {
+        $crate::headed![ModuleOverdue, $made:
+            (Must, 41, Implicit, DateDue),
+            (May, 46, Explicit, IllString),
+            (May, 49, Explicit, Extensions)
+        ]
+    };
+    (ModuleRenew, $made:ident) => {
+        $crate::headed![ModuleRenew, $made:
+            (May, 42, Implicit, IsoDate),
+            (May, 46, Explicit, IllString),
+            (May, 49, Implicit, Extensions)
+        ]
+    };
+    (ModuleRenewAnswer, $made:ident) => {
+        $crate::headed![ModuleRenewAnswer, $made:
+            (Must, 35, Implicit, Boolean),
+            (May, 41, Implicit, DateDue),
+            (May, 46, Explicit, IllString),
+            (May, 49, Implicit, Extensions)
+        ]
+    };
+    (ModuleLost, $made:ident) => {
+        $crate::headed![ModuleLost, $made:
+            (May, 46, Explicit, IllString),
+            (May, 49, Implicit, Extensions)
+        ]
+    };
+    (ModuleDamaged, $made:ident) => {
+        $crate::headed![ModuleDamaged, $made:
+            (May, 5, Implicit, DamagedDetails),
+            (May, 46, Explicit, IllString),
+            (May, 49, Implicit, Extensions)
+        ]
+    };
+    (ModuleMessageApdu, $made:ident) => {
+        $crate::headed![ModuleMessageApdu, $made:
+            (Must, 46, Explicit, IllString),
+            (May, 49, Implicit, Extensions)
+        ]
+    };
+    (ModuleStatusQuery, $made:ident) => {
+        $crate::headed![ModuleStatusQuery, $made:
+            (May, 46, Explicit, IllString),
+            (May, 49, Implicit, Extensions)
+        ]
+    };
+    (ModuleExpired, $made:ident) => {
+        $crate::headed![ModuleExpired, $made: (May, 49, Implicit, Extensions)]
+    };
+    (ModuleIllApdu, $made:ident) => {
+        $made![ModuleIllApdu, Application:
+            (Must, 1, ExplicitOrBare, ModuleIllRequest),
+            (Must, 2, ExplicitOrBare, ForwardNotification),
+            (Must, 3, ExplicitOrBare, ModuleShipped),
+            (Must, 4, ExplicitOrBare, ModuleIllAnswer),
+            (Must, 5, ExplicitOrBare, ModuleConditionalReply),
+            (Must, 6, ExplicitOrBare, ModuleCancel),
+            (Must, 7, ExplicitOrBare, ModuleCancelReply),
+            (Must, 8, ExplicitOrBare, ModuleReceived),
+            (Must, 9, ExplicitOrBare, ModuleRecall),
+            (Must, 10, ExplicitOrBare, ModuleReturned),
+            (Must, 11, ExplicitOrBare, ModuleCheckedIn),
+            (Must, 12, ExplicitOrBare, ModuleOverdue),
+            (Must, 13, ExplicitOrBare, ModuleRenew),
+            (Must, 14, ExplicitOrBare, ModuleRenewAnswer),
+            (Must, 15, ExplicitOrBare, ModuleLost),
+            (Must, 16, ExplicitOrBare, ModuleDamaged),
+            (Must, 17, ExplicitOrBare, ModuleMessageApdu),
+            (Must, 18, ExplicitOrBare, ModuleStatusQuery),
+            (Must, 19, ExplicitOrBare, StatusOrErrorReport),
+            (Must, 20, ExplicitOrBare, ModuleExpired)
         ]
     };
 }
@@ -609,6 +997,108 @@ const EXPIRED: [Row; 6] = table!(Expired, rows);
 
 const ILL_APDU: [Row; 20] = table!(IllApdu, rows);
 
+const ENCODING: [Row; 3] = table!(Encoding, rows);
+
+const EXTERNAL: [Row; 4] = table!(External, rows);
+
+const TAGGED_EXTERNAL: [Row; 1] = table!(TaggedExternal, rows);
+
+const EXTERNALS: [Row; 1] = table!(Externals, rows);
+
+const EXTENSION: [Row; 3] = table!(Extension, rows);
+
+const EXTENSIONS: [Row; 1] = table!(Extensions, rows);
+
+const E_DELIVERY_SERVICE: [Row; 2] = table!(EDeliveryService, rows);
+
+const DOCUMENT_TYPE: [Row; 2] = table!(DocumentType, rows);
+
+const E_DELIVERY_DETAILS: [Row; 2] = table!(EDeliveryDetails, rows);
+
+const ELECTRONIC_DELIVERY: [Row; 6] = table!(ElectronicDelivery, rows);
+
+const ELECTRONIC_DELIVERIES: [Row; 1] = table!(ElectronicDeliveries, rows);
+
+const SPECIFIC_UNITS: [Row; 1] = table!(SpecificUnits, rows);
+
+const DAMAGED_PORTION: [Row; 2] = table!(DamagedPortion, rows);
+
+const DAMAGED_DETAILS: [Row; 2] = table!(DamagedDetails, rows);
+
+const HISTORY_REPORT: [Row; 12] = table!(HistoryReport, rows);
+
+const STATUS_REPORT: [Row; 2] = table!(StatusReport, rows);
+
+const ALREADY_FORWARDED: [Row; 2] = table!(AlreadyForwarded, rows);
+
+const USER_ERROR_REPORT: [Row; 4] = table!(UserErrorReport, rows);
+
+const STATE_TRANSITION: [Row; 2] = table!(StateTransition, rows);
+
+const PROVIDER_ERROR_REPORT: [Row; 3] = table!(ProviderErrorReport, rows);
+
+const ERROR_REPORT: [Row; 4] = table!(ErrorReport, rows);
+
+const FORWARD_NOTIFICATION: [Row; 9] = table!(ForwardNotification, rows);
+
+const STATUS_OR_ERROR_REPORT: [Row; 10] = table!(StatusOrErrorReport, rows);
+
+const MODULE_DELIVERY_SERVICE: [Row; 2] = table!(ModuleDeliveryService, rows);
+
+const MODULE_SHIPPED_VIA: [Row; 2] = table!(ModuleShippedVia, rows);
+
+const MODULE_ITEM_ID: [Row; 23] = table!(ModuleItemId, rows);
+
+const MODULE_UNITS_PER_MEDIUM: [Row; 2] = table!(ModuleUnitsPerMedium, rows);
+
+const MODULE_UNITS_PER_MEDIUM_LIST: [Row; 1] = table!(ModuleUnitsPerMediumList, rows);
+
+const MODULE_SUPPLY_DETAILS: [Row; 9] = table!(ModuleSupplyDetails, rows);
+
+const MODULE_ILL_REQUEST: [Row; 26] = table!(ModuleIllRequest, rows);
+
+const MODULE_SHIPPED: [Row; 17] = table!(ModuleShipped, rows);
+
+const MODULE_CONDITIONAL: [Row; 4] = table!(ModuleConditional, rows);
+
+const MODULE_WILL_SUPPLY: [Row; 5] = table!(ModuleWillSupply, rows);
+
+const MODULE_RESULTS: [Row; 7] = table!(ModuleResults, rows);
+
+const MODULE_ILL_ANSWER: [Row; 14] = table!(ModuleIllAnswer, rows);
+
+const MODULE_CONDITIONAL_REPLY: [Row; 8] = table!(ModuleConditionalReply, rows);
+
+const MODULE_CANCEL: [Row; 7] = table!(ModuleCancel, rows);
+
+const MODULE_CANCEL_REPLY: [Row; 8] = table!(ModuleCancelReply, rows);
+
+const MODULE_RECEIVED: [Row; 11] = table!(ModuleReceived, rows);
+
+const MODULE_RECALL: [Row; 7] = table!(ModuleRecall, rows);
+
+const MODULE_RETURNED: [Row; 11] = table!(ModuleReturned, rows);
+
+const MODULE_CHECKED_IN: [Row; 8] = table!(ModuleCheckedIn, rows);
+
+const MODULE_OVERDUE: [Row; 8] = table!(ModuleOverdue, rows);
+
+const MODULE_RENEW: [Row; 8] = table!(ModuleRenew, rows);
+
+const MODULE_RENEW_ANSWER: [Row; 9] = table!(ModuleRenewAnswer, rows);
+
+const MODULE_LOST: [Row; 7] = table!(ModuleLost, rows);
+
+const MODULE_DAMAGED: [Row; 8] = table!(ModuleDamaged, rows);
+
+const MODULE_MESSAGE_APDU: [Row; 7] = table!(ModuleMessageApdu, rows);
+
+const MODULE_STATUS_QUERY: [Row; 7] = table!(ModuleStatusQuery, rows);
+
+const MODULE_EXPIRED: [Row; 6] = table!(ModuleExpired, rows);
+
+const MODULE_ILL_APDU: [Row; 20] = table!(ModuleIllApdu, rows);
+
 /// The rows of a node, in the order of the tables; a leaf has none.
 pub fn rows_of(node: NodeId) -> &'static [Row]
     ensures rows { result.now ≡ rows_of node }
@@ -673,6 +1163,57 @@ pub fn rows_of(node: NodeId) -> &'static [Row]
         NodeId::StatusQuery => &STATUS_QUERY,
         NodeId::Expired => &EXPIRED,
         NodeId::IllApdu => &ILL_APDU,
+        NodeId::Encoding => &ENCODING,
+        NodeId::External => &EXTERNAL,
+        NodeId::TaggedExternal => &TAGGED_EXTERNAL,
+        NodeId::Externals => &EXTERNALS,
+        NodeId::Extension => &EXTENSION,
+        NodeId::Extensions => &EXTENSIONS,
+        NodeId::EDeliveryService => &E_DELIVERY_SERVICE,
+        NodeId::DocumentType => &DOCUMENT_TYPE,
+        NodeId::EDeliveryDetails => &E_DELIVERY_DETAILS,
+        NodeId::ElectronicDelivery => &ELECTRONIC_DELIVERY,
+        NodeId::ElectronicDeliveries => &ELECTRONIC_DELIVERIES,
+        NodeId::SpecificUnits => &SPECIFIC_UNITS,
+        NodeId::DamagedPortion => &DAMAGED_PORTION,
+        NodeId::DamagedDetails => &DAMAGED_DETAILS,
+        NodeId::HistoryReport => &HISTORY_REPORT,
+        NodeId::StatusReport => &STATUS_REPORT,
+        NodeId::AlreadyForwarded => &ALREADY_FORWARDED,
+        NodeId::UserErrorReport => &USER_ERROR_REPORT,
+        NodeId::StateTransition => &STATE_TRANSITION,
+        NodeId::ProviderErrorReport => &PROVIDER_ERROR_REPORT,
+        NodeId::ErrorReport => &ERROR_REPORT,
+        NodeId::ForwardNotification => &FORWARD_NOTIFICATION,
+        NodeId::StatusOrErrorReport => &STATUS_OR_ERROR_REPORT,
+        NodeId::ModuleDeliveryService => &MODULE_DELIVERY_SERVICE,
+        NodeId::ModuleShippedVia => &MODULE_SHIPPED_VIA,
+        NodeId::ModuleItemId => &MODULE_ITEM_ID,
+        NodeId::ModuleUnitsPerMedium => &MODULE_UNITS_PER_MEDIUM,
+        NodeId::ModuleUnitsPerMediumList => &MODULE_UNITS_PER_MEDIUM_LIST,
+        NodeId::ModuleSupplyDetails => &MODULE_SUPPLY_DETAILS,
+        NodeId::ModuleIllRequest => &MODULE_ILL_REQUEST,
+        NodeId::ModuleShipped => &MODULE_SHIPPED,
+        NodeId::ModuleConditional => &MODULE_CONDITIONAL,
+        NodeId::ModuleWillSupply => &MODULE_WILL_SUPPLY,
+        NodeId::ModuleResults => &MODULE_RESULTS,
+        NodeId::ModuleIllAnswer => &MODULE_ILL_ANSWER,
+        NodeId::ModuleConditionalReply => &MODULE_CONDITIONAL_REPLY,
+        NodeId::ModuleCancel => &MODULE_CANCEL,
+        NodeId::ModuleCancelReply => &MODULE_CANCEL_REPLY,
+        NodeId::ModuleReceived => &MODULE_RECEIVED,
+        NodeId::ModuleRecall => &MODULE_RECALL,
+        NodeId::ModuleReturned => &MODULE_RETURNED,
+        NodeId::ModuleCheckedIn => &MODULE_CHECKED_IN,
+        NodeId::ModuleOverdue => &MODULE_OVERDUE,
+        NodeId::ModuleRenew => &MODULE_RENEW,
+        NodeId::ModuleRenewAnswer => &MODULE_RENEW_ANSWER,
+        NodeId::ModuleLost => &MODULE_LOST,
+        NodeId::ModuleDamaged => &MODULE_DAMAGED,
+        NodeId::ModuleMessageApdu => &MODULE_MESSAGE_APDU,
+        NodeId::ModuleStatusQuery => &MODULE_STATUS_QUERY,
+        NodeId::ModuleExpired => &MODULE_EXPIRED,
+        NodeId::ModuleIllApdu => &MODULE_ILL_APDU,
         _ => &[],
     }
 }

@@ -29,11 +29,12 @@ use Rattle.ill_schema.specs.Names.{names_of}
 use Rattle.ill_schema.specs.Normal.{normal_tree, normal_trees, normal_items}
 use Rattle.ill_schema.specs.Presence.{default_value, is_default, is_default_of, same_value}
 use Rattle.ill_schema.specs.Table.{kind_of, rows_of}
+use Rattle.ill_schema.specs.TableFacts.{are_of_two, is_of_two}
 use Rattle.ill_schema.specs.Tagging.{Tagging, untagged, implicit, explicit, explicit_or_bare, sequence_tag, tag_tree, tagging}
 use Rattle.ill_schema.proofs.KnownLeaves.{is_known, known_leaf}
 use Rattle.ill_schema.proofs.MeansFits.{means_apdu_fits}
 use Rattle.std.proofs.lemmas.Bool.{and_parts}
-use Rattle.ill_schema.proofs.Tags.{at_row, closed, is_closed, row_closed, rows_closed}
+use Rattle.ill_schema.proofs.Tags.{at_row, row_of_two, rows_of_two, two_not_any}
 use Rattle.ill_text.specs.Numbers.{number_name, number_names}
 use Rattle.ill_text.specs.Shown.{Place, body_place, entry_lines, escaped, in_brackets, is_empty, item_lines, item_of, leaf_text, line, lines_of, name_or_none, part, quoted, row_name, shown_text, within}
 
@@ -132,19 +133,19 @@ number_size_of row z integer h = whole_size row z (mag_bound z ((whole_bounds pr
 number_size_of row z enumerated h = whole_size row z (mag_bound z ((whole_bounds profile_two z).0 (normal_content (whole z), h)))
 number_size_of row z _ h = absurd (let e = h.2 in cc)
 
-leaf_size : (row : List ℕ) (v : Simple) (node : NodeId) → FitsSimple profile_two v node → length (leaf_text row v) ≤ 4 * length (normal_content v) + 85
-leaf_size row (flag b) node h = omega (arith, flag_size row b)
-leaf_size row (whole z) node h = omega (arith, number_size_of row z h.0 h.2)
-leaf_size row (date o) node h = omega arith
-leaf_size row (time o) node h = omega arith
-leaf_size row (printable o) node h = omega (arith, quoted_size o)
-leaf_size row (general o) node h = omega (arith, quoted_size o, length-append (codes "general ") (quoted o))
-leaf_size row (visible o) node h = omega (arith, quoted_size o, length-append (codes "visible ") (quoted o))
-leaf_size row null node h = absurd (let known : IsTrue (is_known null) = known_leaf node null h.0 h.1 in cc)
-leaf_size row (oid o) node h = absurd (let known : IsTrue (is_known (oid o)) = known_leaf node (oid o) h.0 h.1 in cc)
-leaf_size row (binary o) node h = absurd (let known : IsTrue (is_known (binary o)) = known_leaf node (binary o) h.0 h.1 in cc)
-leaf_size row (bits n o) node h = absurd (let known : IsTrue (is_known (bits n o)) = known_leaf node (bits n o) h.0 h.1 in cc)
-leaf_size row (descriptor o) node h = absurd (let known : IsTrue (is_known (descriptor o)) = known_leaf node (descriptor o) h.0 h.1 in cc)
+leaf_size : (row : List ℕ) (v : Simple) (node : NodeId) → IsTrue (is_of_two node) → FitsSimple profile_two v node → length (leaf_text row v) ≤ 4 * length (normal_content v) + 85
+leaf_size row (flag b) node two h = omega (arith, flag_size row b)
+leaf_size row (whole z) node two h = omega (arith, number_size_of row z h.0 h.2)
+leaf_size row (date o) node two h = omega arith
+leaf_size row (time o) node two h = omega arith
+leaf_size row (printable o) node two h = omega (arith, quoted_size o)
+leaf_size row (general o) node two h = omega (arith, quoted_size o, length-append (codes "general ") (quoted o))
+leaf_size row (visible o) node two h = omega (arith, quoted_size o, length-append (codes "visible ") (quoted o))
+leaf_size row null node two h = absurd (let known : IsTrue (is_known null) = known_leaf node null h.0 two h.1 in cc)
+leaf_size row (oid o) node two h = absurd (let known : IsTrue (is_known (oid o)) = known_leaf node (oid o) h.0 two h.1 in cc)
+leaf_size row (binary o) node two h = absurd (let known : IsTrue (is_known (binary o)) = known_leaf node (binary o) h.0 two h.1 in cc)
+leaf_size row (bits n o) node two h = absurd (let known : IsTrue (is_known (bits n o)) = known_leaf node (bits n o) h.0 two h.1 in cc)
+leaf_size row (descriptor o) node two h = absurd (let known : IsTrue (is_known (descriptor o)) = known_leaf node (descriptor o) h.0 two h.1 in cc)
 
 -- a default is no text
 same_size : (row : List ℕ) (v w : Simple) (node : NodeId) → FitsSimple profile_two v node → IsTrue (same_value v w) → length (leaf_text row v) ≤ 85
@@ -286,28 +287,28 @@ present_bound false row c es rows p i e h le first others =
     omega (arith, first room, others (omega (arith, le)), length-append (lines_of (part p i) c) (entry_lines p (suc i) es))
 
 mutual
-  value_bound : (c : Content) (node : NodeId) (g : Tagging) (p : Place) → (kind_of node ≡ Kind.Any → ⊥) → Fits profile_two c node → length p.path + more_path c + 100 * size (normal_tree c node g) ≤ longest
+  value_bound : (c : Content) (node : NodeId) (g : Tagging) (p : Place) → IsTrue (is_of_two node) → Fits profile_two c node → length p.path + more_path c + 100 * size (normal_tree c node g) ≤ longest
       → length (lines_of p c) ≤ octet_room * size (normal_tree c node g)
-  value_bound (simple v) node g p typed h le =
+  value_bound (simple v) node g p two h le =
       let n : length (normal_content v) + 2 ≤ size (normal_tree (simple v) node g) = tagged_size g _ _ _ (λ t. primitive_size t (normal_content v)) in
-      omega (arith, le, n, leaf_size p.name v node h, line_size p.path (leaf_text p.name v))
-  value_bound (sequence es) node g p typed h le =
+      omega (arith, le, n, leaf_size p.name v node two h, line_size p.path (leaf_text p.name v))
+  value_bound (sequence es) node g p two h le =
       let n : sizes (normal_trees es (rows_of node)) + 2 ≤ size (normal_tree (sequence es) node g) = tagged_size g _ _ _ (λ t. constructed_size t (normal_trees es (rows_of node))) in
-      let inside = entries_bound es (rows_of node) p 0 (rows_closed node) h.1 (omega (arith, le, n)) in
+      let inside = entries_bound es (rows_of node) p 0 (rows_of_two node two) h.1 (omega (arith, le, n)) in
       sequence_bound es p (size (normal_tree (sequence es) node g)) (omega (arith, le)) (omega (arith, n)) (omega (arith, n, inside, rows_few node))
-  value_bound (list no_items) node g p typed h le =
+  value_bound (list no_items) node g p two h le =
       omega (arith, le, some_size (normal_tree (list no_items) node g), line_size p.path (codes "[]"))
-  value_bound (list (item c is)) node g p typed h le =
+  value_bound (list (item c is)) node g p two h le =
       let n : sizes (normal_items (item c is) (rows_of node)) + 2 ≤ size (normal_tree (list (item c is)) node g) = tagged_size g _ _ _ (λ t. constructed_size t (normal_items (item c is) (rows_of node))) in
-      omega (arith, n, items_bound (item c is) (rows_of node) p 0 (rows_closed node) h.1 (omega (arith, le, n)))
-  value_bound (foreign T) node g p typed h le = absurd (typed h.0)
-  value_bound (alternative n c) node g p typed h le =
+      omega (arith, n, items_bound (item c is) (rows_of node) p 0 (rows_of_two node two) h.1 (omega (arith, le, n)))
+  value_bound (foreign T) node g p two h le = absurd (two_not_any node two h.0)
+  value_bound (alternative n c) node g p two h le =
       let row = h.0 in
       let s = alternative_size c node n g row h.1.1 in
       let none = no_more_path c row.node h.2 (no_choice node n row h.1.0 h.1.1) in
-      omega (arith, s, value_bound c row.node (tagging profile_two row) (part p n) (row_closed node n row h.1.1) h.2 (omega (arith, le, s, none, part_size p n)))
+      omega (arith, s, value_bound c row.node (tagging profile_two row) (part p n) (row_of_two node n row two h.1.1) h.2 (omega (arith, le, s, none, part_size p n)))
 
-  entries_bound : (es : Entries) (rows : List Row) (p : Place) (i : ℕ) → IsTrue (list_all is_closed rows) → FitRows profile_two es rows → length p.path + 122 + 100 * sizes (normal_trees es rows) ≤ longest
+  entries_bound : (es : Entries) (rows : List Row) (p : Place) (i : ℕ) → IsTrue (are_of_two rows) → FitRows profile_two es rows → length p.path + 122 + 100 * sizes (normal_trees es rows) ≤ longest
       → length (entry_lines p i es) ≤ row_room * length rows + octet_room * sizes (normal_trees es rows)
   entries_bound no_entries [] p i ok h le = omega arith
   entries_bound no_entries (row ∷ rows) p i ok h le = absurd h
@@ -316,9 +317,9 @@ mutual
   entries_bound (present c es) [] p i ok h le = absurd h
   entries_bound (present c es) (row ∷ rows) p i ok h le =
       let parts = and_parts _ _ ok in
-      present_bound (is_default row c) row c es rows p i refl h.1 le (λ fits. value_bound c row.node (tagging profile_two row) (part p i) (closed row parts.0) h.1 fits) (λ fits. entries_bound es rows p (suc i) parts.1 h.2 fits)
+      present_bound (is_default row c) row c es rows p i refl h.1 le (λ fits. value_bound c row.node (tagging profile_two row) (part p i) parts.0 h.1 fits) (λ fits. entries_bound es rows p (suc i) parts.1 h.2 fits)
 
-  items_bound : (is : Items) (rows : List Row) (p : Place) (i : ℕ) → IsTrue (list_all is_closed rows) → FitItems profile_two is rows → length p.path + i + 164 + 100 * sizes (normal_items is rows) ≤ longest
+  items_bound : (is : Items) (rows : List Row) (p : Place) (i : ℕ) → IsTrue (are_of_two rows) → FitItems profile_two is rows → length p.path + i + 164 + 100 * sizes (normal_items is rows) ≤ longest
       → length (item_lines p i is) ≤ octet_room * sizes (normal_items is rows)
   items_bound no_items rows p i ok h le = omega arith
   items_bound (item c is) [] p i ok h le = absurd (let e = h.1 in cc)
@@ -327,7 +328,7 @@ mutual
       let fits : Fits profile_two c row.node = subst (λ (r : Row). Fits profile_two c r.node) (sym same) h.2 in
       let some = some_size (normal_tree c row.node (tagging profile_two row)) in
       let small : i < 2 ^ 64 = omega (arith, le) in
-      let first = value_bound c row.node (tagging profile_two row) (item_of p i) (closed row (and_parts _ _ ok).0) fits (omega (arith, le, some, item_size p i small, little_more_path c)) in
+      let first = value_bound c row.node (tagging profile_two row) (item_of p i) (and_parts _ _ ok).0 fits (omega (arith, le, some, item_size p i small, little_more_path c)) in
       omega (arith, first, items_bound is (row ∷ rows) p (suc i) ok h.3 (omega (arith, le, some)), length-append (lines_of (item_of p i) c) (item_lines p (suc i) is))
 
 -- the text of a message
@@ -348,6 +349,6 @@ text_bound i a b small h =
     let n : size (normal_tree (choice_of a) IllApdu untagged) ≤ 1_048_576 = omega (arith, h.normal_short, length-encoding (normal_tree (choice_of a) IllApdu untagged)) in
     let s = alternative_size a.body IllApdu (a.number - 1) untagged row fits.1.1.1 in
     let none = no_more_path a.body row.node fits.1.2 (no_choice IllApdu (a.number - 1) row fits.1.1.0 fits.1.1.1) in
-    let lines = value_bound a.body row.node (tagging profile_two row) (body_place a) (row_closed IllApdu (a.number - 1) row fits.1.1.1) fits.1.2 (omega (arith, n, s, none)) in
+    let lines = value_bound a.body row.node (tagging profile_two row) (body_place a) (row_of_two IllApdu (a.number - 1) row refl fits.1.1.1) fits.1.2 (omega (arith, n, s, none)) in
     let head = codes "message " ++ decimal i ++ codes " " ++ name ++ codes "\n" in
     omega (arith, n, s, lines, head_size i name small (name_size IllApdu (a.number - 1)), length-append head (lines_of (body_place a) a.body))

@@ -1,6 +1,6 @@
 -- The tags of elements have identifiers.
-use Rattle.std.proofs.Common.{◌≡◌, ℕ, zero, suc, ◌≤◌, Bool, true, ◌&&◌, not, List, [], ◌∷◌, Option, Some, None, IsTrue, refl, sym, subst, arith, slice_get, lit≤}
-use Rattle.std.specs.Prelude.{nat_le}
+use Rattle.std.proofs.Common.{◌≡◌, ℕ, zero, suc, ◌≤◌, Bool, true, ◌&&◌, ◌||◌, not, List, [], ◌∷◌, Option, Some, None, IsTrue, refl, sym, subst, arith, slice_get, lit≤, ltb-true}
+use Rattle.std.specs.Prelude.{nat_le, nat_lt}
 use Rattle.std.specs.List.{list_all}
 use Rattle.std.proofs.lemmas.Bool.{and_parts}
 use Rattle.ber_core.specs.declared.id.Class.{Class}
@@ -42,8 +42,10 @@ own_id (list is) k f = universal_id 16 f (lit≤ tt) (λ e. cc)
 own_id (alternative n c) k f = universal_id 16 f (lit≤ tt) (λ e. cc)
 own_id (foreign V) k f = universal_id 16 f (lit≤ tt) (λ e. cc)
 
-class_id : (c : Class) (n : ℕ) (f : Bool) → IsTrue (not (is_universal c) && nat_le n 268_435_455) → HasIdentifier (record { class = c; number = n }) f
-class_id Class.Universal n f h = absurd cc
+class_id : (c : Class) (n : ℕ) (f : Bool) → IsTrue ((not (is_universal c) || nat_lt 0 n) && nat_le n 268_435_455) → HasIdentifier (record { class = c; number = n }) f
+class_id Class.Universal n f h =
+    let p = and_parts (nat_lt 0 n) (nat_le n 268_435_455) h in
+    universal_id n f (let q : nat_le n 268_435_455 ≡ true = p.1 in grind (arith, q)) (λ e. let q : nat_lt 0 n ≡ true = p.0 in absurd (omega (arith, ltb-true 0 n q, e)))
 class_id Class.Application n f h = record { number = let q : nat_le n 268_435_455 ≡ true = h in grind (arith, q); not_end = λ e _. cc }
 class_id Class.Context n f h = record { number = let q : nat_le n 268_435_455 ≡ true = h in grind (arith, q); not_end = λ e _. cc }
 class_id Class.Private n f h = record { number = let q : nat_le n 268_435_455 ≡ true = h in grind (arith, q); not_end = λ e _. cc }

@@ -6,6 +6,7 @@ use Rattle.ill_schema.specs.declared.node.Kind.{Kind}
 use Rattle.ill_schema.specs.declared.node.NodeId.{NodeId}
 use Rattle.ill_schema.specs.declared.part.Presence.{Presence}
 use Rattle.ill_schema.specs.Table.{kind_of}
+use Rattle.ill_schema.specs.TableFacts.{is_of_two}
 use Rattle.ill_schema.specs.Tagging.{untagged}
 use Rattle.ill_refusals.specs.Element.{Component, components, component_starts, segment, Start, start, starts}
 use Rattle.ill_refusals.specs.Next.{first_mandatory}
@@ -72,11 +73,15 @@ default_at node position slot.Row = default_first (drop (row_before position) (c
 default_at node position slot.Item = default_first (components profile_two node)
 default_at node position _ = None
 
+-- the element opens where the node, which is one of profile 2, is open
 abbrev pub opens_in : What → NodeId → Bool
-opens_in w node = opens w (kind_of node) (components profile_two node)
+opens_in w node = is_of_two node && opens w (kind_of node) (components profile_two node)
+
+abbrev pub opens_nested : NodeId → Bool
+opens_nested node = is_of_two node && is_nested (kind_of node)
 
 abbrev pub cell_opens : Cell → Bool
-cell_opens c = if c.nested then is_nested (kind_of c.node) else opens_in c.what c.node
+cell_opens c = if c.nested then opens_nested c.node else opens_in c.what c.node
 
 abbrev pub cell_choice : Cell → Option NodeId
 cell_choice c = if c.nested then node_choice c.node else None

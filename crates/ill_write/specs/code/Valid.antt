@@ -1,5 +1,5 @@
 -- Rows whose tags have identifiers in both forms.
-use Rattle.std.specs.Prelude.{ℕ, Bool, true, false, not, ◌&&◌, nat_le, Option, Some, None}
+use Rattle.std.specs.Prelude.{ℕ, Bool, true, false, not, ◌&&◌, ◌||◌, nat_le, nat_lt, Option, Some, None}
 use Rattle.ber_core.specs.declared.id.Class.{Class}
 use Rattle.ill_schema.specs.declared.part.Row.{Row}
 
@@ -10,7 +10,7 @@ is_universal _ = false
 -- the tag, if there is one, has an identifier in both forms
 abbrev pub is_valid_tag : Option (Class × ℕ) → Bool
 is_valid_tag None = true
-is_valid_tag (Some t) = not (is_universal t.0) && nat_le t.1 268_435_455
+is_valid_tag (Some t) = (not (is_universal t.0) || nat_lt 0 t.1) && nat_le t.1 268_435_455
 
 abbrev pub is_valid : Row → Bool
 is_valid row = is_valid_tag row.tag

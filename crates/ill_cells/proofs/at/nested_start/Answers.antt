@@ -1,4 +1,5 @@
 use Rattle.std.proofs.Common.{◌≡◌, ℕ, ◌+◌, suc, drop, option_map, sym, ap, subst, ◌∙◌, arith}
+use Rattle.std.proofs.lemmas.Bool.{and_parts}
 use Rattle.ber_core.specs.Id.{tag_of_id}
 use Rattle.ill_cells.specs.Cells.{element_with, node_choice}
 use Rattle.ill_cells.specs.code.Meant.{cell_start}
@@ -9,7 +10,7 @@ use Rattle.ill_cells.proofs.at.nested_start.Goals as goal
 pub loop-row-init : goal.loop-row-init
 loop-row-init c =
     let cells = c.alternatives_of-cells.result.now in
-    ap (element_with (tag_of_id c.args.id)) (starts-nested c.args.node cells c.requires c.alternatives_of-cells.ensures.meant)
+    ap (element_with (tag_of_id c.args.id)) (starts-nested c.args.node cells (and_parts _ _ c.requires).1 c.alternatives_of-cells.ensures.meant)
 
 pub returns-then-has_tag : goal.returns-then-has_tag
 returns-then-has_tag c =
@@ -25,7 +26,7 @@ returns-then-has_tag c =
         is = c.loop-row.invariant ∙ ap (λ cs. element_with t (starts_from cs)) (drop-at cells row cell c.cell_at-cell.ensures)
             ∙ element_with-found t (cell_start cell) _ same;
         by = subst (λ (n : ℕ). BeginsIn t (node_choice c.args.node) (option_map (λ _. n) (node_choice c.args.node)) (cell_start cell).element) (z ∙ own.1)
-            (begins-nested t c.args.node row cells cell c.requires c.alternatives_of-cells.ensures.meant c.cell_at-cell.ensures same);
+            (begins-nested t c.args.node row cells cell (and_parts _ _ c.requires).1 c.alternatives_of-cells.ensures.meant c.cell_at-cell.ensures same);
       };
       opens = own.0;
     }

@@ -5,5 +5,5 @@ use Rattle.test_jobs.proofs.jobs.contracts.lines_of_json_are_of_one_apdu.Goals a
 
 pub returns : goal.returns
 returns c a b h k f g e =
-    line_once profile_two _ c.args.head c.args.other_head a b (omega arith, omega arith, omega arith) (omega arith, omega arith, omega arith) f g
+    line_once _ c.args.head c.args.other_head a b (omega arith, omega arith, omega arith) (omega arith, omega arith, omega arith) f g
     (sym (c.in_ok-json_line.ensures a h) ∙ e ∙ c.in_ok-json_line-2.ensures b k)
