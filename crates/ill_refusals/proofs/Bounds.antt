@@ -15,24 +15,19 @@ use Rattle.ill_schema.specs.Apdu.{choice_of, root}
 use Rattle.ill_schema.specs.Content.{Content, simple, sequence, list, alternative, foreign, Entries, no_entries, absent, present, Items, no_items, item}
 use Rattle.ill_schema.specs.Meaning.{Means, Matches, MatchItems}
 use Rattle.ill_schema.specs.Presence.{is_default_of, default_value, same_value}
-use Rattle.ill_schema.specs.Table.{kind_of}
-use Rattle.ill_schema.specs.Tagging.{Tagging, Tagged, sequence_tag, untagged, implicit, explicit, explicit_or_bare}
-use Rattle.ill_refusals.specs.Bounds.{text_size, text_octets, entries_text, items_text, list_items, entries_items, items_items, ValuesAreSmall}
+use Rattle.ill_schema.specs.Table.{kind_of, rows_of}
+use Rattle.ill_schema.proofs.Tags.{at_row, is_proper, is_proper_row, root_untagged, tables_proper}
+use Rattle.ill_schema.proofs.Unique.{any_proper}
+use Rattle.std.proofs.lemmas.Bool.{and_parts}
+use Rattle.std.specs.List.{list_all}
+use Rattle.ill_schema.specs.Tagging.{Tagging, Tagged, tagging, sequence_tag, untagged, implicit, explicit, explicit_or_bare}
+use Rattle.ill_refusals.specs.Bounds.{elements, elements_all, text_size, text_octets, entries_text, items_text, items_and_elements, entries_items, items_items, ValuesAreSmall}
 use Rattle.ill_refusals.proofs.Judgements.{id_size, length_size}
-
-abbrev mutual
-  elements : Tree → ℕ
-  elements (primitive tag octets) = 1
-  elements (constructed tag ts) = 1 + elements_all ts
-
-  elements_all : Trees → ℕ
-  elements_all none = 0
-  elements_all (more T ts) = elements T + elements_all ts
 
 -- what is held is within what the tree has
 record IsWithin (c : Content) (T : Tree) : Type 0 where
   texts : text_octets c ≤ length (text T)
-  items : list_items c + 1 ≤ elements T
+  items : items_and_elements c + 1 ≤ elements T
 
 record AreWithin (octets count : ℕ) (ts : Trees) : Type 0 where
   texts : octets ≤ length (text_all ts)
@@ -113,7 +108,7 @@ same_text k d (binary o) h = absurd cc
 same_text k d (bits n o) h = absurd cc
 same_text k d (descriptor o) h = absurd cc
 
-default_text : (pr : Presence) (k : Kind) (c : Content) → IsTrue (is_default_of pr k c) → (text_octets c ≡ 0) × (list_items c ≡ 0)
+default_text : (pr : Presence) (k : Kind) (c : Content) → IsTrue (is_default_of pr k c) → (text_octets c ≡ 0) × (items_and_elements c ≡ 0)
 default_text (Presence.Default d) k (simple v) h = (same_text k d v h, refl)
 default_text (Presence.Default d) k (sequence es) h = absurd cc
 default_text (Presence.Default d) k (list is) h = absurd cc
@@ -123,50 +118,55 @@ default_text Presence.Must k c h = absurd cc
 default_text Presence.May k c h = absurd cc
 default_text Presence.LeftOut k c h = absurd cc
 
-within_constructed : (c : Content) (t : Tag) (ts : Trees) (U : Tree) (texts items : ℕ) → U ≡ constructed t ts → text_octets c ≡ texts → list_items c ≡ items → AreWithin texts items ts → IsWithin c U
+within_constructed : (c : Content) (t : Tag) (ts : Trees) (U : Tree) (texts items : ℕ) → U ≡ constructed t ts → text_octets c ≡ texts → items_and_elements c ≡ items → AreWithin texts items ts → IsWithin c U
 within_constructed c t ts U texts items e x y h =
     let p = h.texts in let q = h.items in
     subst (IsWithin c) (sym e) (record { texts = omega (arith, x, p); items = omega (arith, y, q) })
 
 mutual
-  means_within : (p : Profile) (c : Content) (node : NodeId) (g : Tagging) (T : Tree) → Means p c node g T → IsWithin c T
-  means_within p (simple v) node g T h = tagged g _ _ (simple v) T (λ t U e. record {
+  means_within : (p : Profile) (c : Content) (node : NodeId) (g : Tagging) (T : Tree) → IsTrue (is_proper g (kind_of node)) → Means p c node g T → IsWithin c T
+  means_within p (simple v) node g T ok h = tagged g _ _ (simple v) T (λ t U e. record {
     texts = subst (λ w. text_size w ≤ length (text U)) (sym e.2.2) (leaf_text h.0 (text U));
     items = one_element U;
   }) h.2
-  means_within p (sequence es) node g T h = tagged g _ _ (sequence es) T (λ t U e. within_constructed (sequence es) t e.0 U _ _ e.1 refl refl (matches_within p es _ e.0 e.2)) h.1
-  means_within p (list is) node g T h = tagged g _ _ (list is) T (λ t U e. within_constructed (list is) t e.0 U _ _ e.1 refl refl (items_within p is _ e.0 e.2)) h.1
-  means_within p (alternative n c) node g T h = tagged g _ _ (alternative n c) T (λ t U e. let r = means_within p c _ _ U e in record { texts = r.texts; items = r.items }) h.2
-  means_within p (foreign V) node g T h = tagged g sequence_tag (λ _ U. (U ≡ V) × IsTrue (is_foreign foreign_levels U)) (foreign V) T (λ t U e. let q = ap (λ z. length (text z)) e.0 in record { texts = omega (arith, q); items = one_element U }) h.1
+  means_within p (sequence es) node g T ok h = tagged g _ _ (sequence es) T (λ t U e. within_constructed (sequence es) t e.0 U _ _ e.1 refl refl (matches_within p es (rows_of node) e.0 (tables_proper p node) e.2)) h.1
+  means_within p (list is) node g T ok h = tagged g _ _ (list is) T (λ t U e. within_constructed (list is) t e.0 U _ _ e.1 refl refl (items_within p is (rows_of node) e.0 (tables_proper p node) e.2)) h.1
+  means_within p (alternative n c) node g T ok h = tagged g _ _ (alternative n c) T (λ t U e. let r = means_within p c h.0.node (tagging p h.0) U (at_row (is_proper_row p) (rows_of node) n h.0 (tables_proper p node) h.1.1) e in record { texts = r.texts; items = r.items }) h.2
+  means_within p (foreign V) node g T ok h =
+      let a = any_proper g (kind_of node) h.0 ok in
+      let x : (U : Tree) × (T ≡ constructed a.0 (more U none)) × ((U ≡ V) × IsTrue (is_foreign foreign_levels U)) = subst (λ z. Tagged z sequence_tag (λ _ U. (U ≡ V) × IsTrue (is_foreign foreign_levels U)) T) a.1 h.1 in
+      let t = ap (λ z. length (text z)) x.2.0 in
+      let e = ap elements x.2.0 in
+      subst (IsWithin (foreign V)) (sym x.1) (record { texts = omega (arith, t, length-append (text x.0) []); items = omega (arith, e) })
 
-  matches_within : (p : Profile) (es : Entries) (rows : List Row) (ts : Trees) → Matches p es rows ts → AreWithin (entries_text es) (entries_items es) ts
-  matches_within p no_entries [] ts h = record { texts = omega arith; items = omega arith }
-  matches_within p no_entries (row ∷ rows) ts h = absurd h
-  matches_within p (absent es) [] ts h = absurd h
-  matches_within p (absent es) (row ∷ rows) ts h = let r = matches_within p es rows ts h.1 in record { texts = r.texts; items = r.items }
-  matches_within p (present c es) [] ts h = absurd h
-  matches_within p (present c es) (row ∷ rows) ts h = elim h.1 [
+  matches_within : (p : Profile) (es : Entries) (rows : List Row) (ts : Trees) → IsTrue (list_all (is_proper_row p) rows) → Matches p es rows ts → AreWithin (entries_text es) (entries_items es) ts
+  matches_within p no_entries [] ts ok h = record { texts = omega arith; items = omega arith }
+  matches_within p no_entries (row ∷ rows) ts ok h = absurd h
+  matches_within p (absent es) [] ts ok h = absurd h
+  matches_within p (absent es) (row ∷ rows) ts ok h = let r = matches_within p es rows ts (and_parts _ _ ok).1 h.1 in record { texts = r.texts; items = r.items }
+  matches_within p (present c es) [] ts ok h = absurd h
+  matches_within p (present c es) (row ∷ rows) ts ok h = elim h.1 [
     | inl x ↦
-        let a = means_within p c _ _ x.0 x.3 in let r = matches_within p es rows x.1 x.4 in
+        let a = means_within p c row.node (tagging p row) x.0 (and_parts (is_proper_row p row) _ ok).0 x.3 in let r = matches_within p es rows x.1 (and_parts _ _ ok).1 x.4 in
         let a0 = a.texts in let a1 = a.items in let r0 = r.texts in let r1 = r.items in
         subst (AreWithin _ _) (sym x.2) (record { texts = omega (arith, a0, r0, length-append (text x.0) (text_all x.1)); items = omega (arith, a1, r1) })
     | inr x ↦
-        let z = default_text row.presence (kind_of row.node) c x.0 in let r = matches_within p es rows ts x.1 in
+        let z = default_text row.presence (kind_of row.node) c x.0 in let r = matches_within p es rows ts (and_parts _ _ ok).1 x.1 in
         let z0 = z.0 in let z1 = z.1 in let r0 = r.texts in let r1 = r.items in
         record { texts = omega (arith, z0, r0); items = omega (arith, z1, r1) }
   ]
 
-  items_within : (p : Profile) (is : Items) (rows : List Row) (ts : Trees) → MatchItems p is rows ts → AreWithin (items_text is) (items_items is) ts
-  items_within p no_items rows ts h = record { texts = omega arith; items = omega arith }
-  items_within p (item c is) rows ts h =
-      let a = means_within p c _ _ h.1 h.5 in let r = items_within p is rows h.2 h.6 in
+  items_within : (p : Profile) (is : Items) (rows : List Row) (ts : Trees) → IsTrue (list_all (is_proper_row p) rows) → MatchItems p is rows ts → AreWithin (items_text is) (items_items is) ts
+  items_within p no_items rows ts ok h = record { texts = omega arith; items = omega arith }
+  items_within p (item c is) rows ts ok h =
+      let a = means_within p c h.0.node (tagging p h.0) h.1 (at_row (is_proper_row p) rows 0 h.0 ok h.3) h.5 in let r = items_within p is rows h.2 ok h.6 in
       let a0 = a.texts in let a1 = a.items in let r0 = r.texts in let r1 = r.items in
       subst (AreWithin _ _) (sym h.4) (record { texts = omega (arith, a0, r0, length-append (text h.1) (text_all h.2)); items = omega (arith, a1, r1) })
 
 pub values_small : (p : Profile) → ValuesAreSmall p
 values_small p a b h =
-    let w = means_within p (choice_of a) (root p) untagged h.tree h.means.1 in
+    let w = means_within p (choice_of a) (root p) untagged h.tree (root_untagged p.full) h.means.1 in
     let s = spelled_text h.tree b h.spells in
-    let w0 : text_octets a.body ≤ length (text h.tree) = w.texts in let w1 : list_items a.body + 1 ≤ elements h.tree = w.items in
+    let w0 : text_octets a.body ≤ length (text h.tree) = w.texts in let w1 : items_and_elements a.body + 1 ≤ elements h.tree = w.items in
     let s0 = s.0 in let s1 = s.1 in
     (omega (arith, w0, s0), omega (arith, w1, s1))

@@ -1,7 +1,7 @@
 -- What may still follow a place that is due.
 use Rattle.std.proofs.Common.{◌≡◌, ◌⊎◌, ℕ, zero, suc, ◌+◌, ◌≤◌, List, [], ◌∷◌, ◌++◌, length, length-append, take, drop, Some, None, IsTrue, sym, ap, subst, ◌∙◌, inl, inr, arith}
 use Rattle.ber_core.specs.Tree.{Tree}
-use Rattle.ill_schema.specs.Apdu.{Apdu, Encodes, normal_form}
+use Rattle.ill_schema.specs.Apdu.{Apdu, Encodes, normal_form_in}
 use Rattle.ill_refusals.proofs.FirstFault.{has_fault}
 use Rattle.ill_refusals.specs.Fault.{Fault}
 use Rattle.ill_refusals.specs.code.Judge.{Judgement, faulty, closes, opens, reads, judge}
@@ -34,7 +34,7 @@ refused_at p path u rest f h e =
     (runs-trans p _ _ _ r (runs-step p path (length u) rest (refused f) st))
 
 -- a whole message is the one outcome
-pub accepted_at : (p : Profile) (s : List ℕ) (T : Tree) (n : ℕ) → (m : IsMessage p s T n) → length (normal_form m.apdu) ≤ p.limit → OnlyAccepts p s m.apdu n
+pub accepted_at : (p : Profile) (s : List ℕ) (T : Tree) (n : ℕ) → (m : IsMessage p s T n) → length (normal_form_in p m.apdu) ≤ p.limit → OnlyAccepts p s m.apdu n
 accepted_at p s T n m short = let e = message_encodes p s T n m in accepted_alone p s m.apdu n e.0 e.1 short
 
 -- an open element has this end

@@ -78,7 +78,7 @@ Placed p s stuck = ⊥
 root_value : (p : Profile) (d : Due) (T : Tree) → due p (tag_of T) (next_in p []) ≡ Some d → IsWhole p d T → (v : Content) × Means p v (root p) untagged T
 root_value p d T e w = found (start_of p (tag_of T) (message p)) refl
   where
-    found : (o : Option Start) → start_of p (tag_of T) root ≡ o → (v : Content) × Means p v (root p) untagged T
+    found : (o : Option Start) → start_of p (tag_of T) (message p) ≡ o → (v : Content) × Means p v (root p) untagged T
     found (Some s) q =
         let r : Some (part (message p) s.element (rows [])) ≡ Some d = sym (ap (in_body p (tag_of T) (message p) []) q) ∙ e in
         let t : d ≡ part (message p) s.element (rows []) = cc in

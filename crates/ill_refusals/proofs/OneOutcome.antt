@@ -4,7 +4,7 @@ use Rattle.std.specs.Prelude.{nat_lt}
 use Rattle.std.proofs.lemmas.List.{length-drop, length-take-le, take-append-drop}
 use Rattle.ber_core.specs.Tree.{Tree, Spells}
 use Rattle.ill_schema.specs.declared.refusal.Cause.{Cause}
-use Rattle.ill_schema.specs.Apdu.{Apdu, MeansApdu, Encodes, normal_form}
+use Rattle.ill_schema.specs.Apdu.{Apdu, MeansApdu, Encodes, normal_form_in}
 use Rattle.ill_refusals.proofs.FirstFault.{is_judged}
 use Rattle.ill_refusals.specs.Fault.{Fault, fault, fault_at, Refuses}
 use Rattle.ill_refusals.specs.code.Judge.{faulty}
@@ -88,7 +88,7 @@ message_encodes p s T n m =
       record { tree = T; means = m.means; spells = subst (λ x. Spells T x) (sym t) m.spells; shallow = m.shallow; short = omega (arith, m.size, ap length t) },
     )
 
-pub accepted_alone : (p : Profile) (s : List ℕ) (a : Apdu) (n : ℕ) → n ≤ length s → (h : Encodes p a (take n s)) → length (normal_form a) ≤ p.limit → OnlyAccepts p s a n
+pub accepted_alone : (p : Profile) (s : List ℕ) (a : Apdu) (n : ℕ) → n ≤ length s → (h : Encodes p a (take n s)) → length (normal_form_in p a) ≤ p.limit → OnlyAccepts p s a n
 accepted_alone p s a n le h short =
     let r = encodes_run p s a n le h in (
       (le, record { encodes = h; normal_short = short }),
@@ -97,12 +97,12 @@ accepted_alone p s a n le h short =
         | inl x ↦ not_both p s _ _ f r (fault_run p s x.0 x.1 f x.2 x.3)
         | inr x ↦
             let q = one_encoding p s x.1.0 a x.1.1 n x.1.2 le x.1.3 h in
-            let l : p.limit < length (normal_form a) = subst (λ b. p.limit < length (normal_form b)) q.0 x.1.4 in
+            let l : p.limit < length (normal_form_in p a) = subst (λ b. p.limit < length (normal_form_in p b)) q.0 x.1.4 in
             omega arith
       ]),
     )
 
-pub long_alone : (p : Profile) (s : List ℕ) (a : Apdu) (n : ℕ) → n ≤ length s → (h : Encodes p a (take n s)) → p.limit < length (normal_form a) → OnlyRefuses p s (fault Cause.NormalTooLong 0)
+pub long_alone : (p : Profile) (s : List ℕ) (a : Apdu) (n : ℕ) → n ≤ length s → (h : Encodes p a (take n s)) → p.limit < length (normal_form_in p a) → OnlyRefuses p s (fault Cause.NormalTooLong 0)
 long_alone p s a n le h long =
     let r = encodes_run p s a n le h in (
       inr (refl, (a, n, le, h, long)),
@@ -112,7 +112,7 @@ long_alone p s a n le h long =
       ]),
       (λ b m k.
           let q = one_encoding p s b a m n k.0 le k.1.encodes h in
-          let l : length (normal_form a) ≤ p.limit = subst (λ c. length (normal_form c) ≤ p.limit) q.0 k.1.normal_short in
+          let l : length (normal_form_in p a) ≤ p.limit = subst (λ c. length (normal_form_in p c) ≤ p.limit) q.0 k.1.normal_short in
           omega arith),
     )
 
@@ -128,7 +128,7 @@ one_outcome p s ok =
     end (refused f) g h r = inr (f, refused_alone p s f (inl (h.0, h.1, h.2, h.3)) r)
     end (whole T n) f h r =
         let e = message_encodes p s T n h in
-        elim (two_cases (nat_lt p.limit (length (normal_form h.apdu)))) [
+        elim (two_cases (nat_lt p.limit (length (normal_form_in p h.apdu)))) [
           | inl l ↦ inr (fault Cause.NormalTooLong 0, long_alone p s h.apdu n e.0 e.1 (ltb-true _ _ l))
           | inr l ↦ inl (h.apdu, n, accepted_alone p s h.apdu n e.0 e.1 (ltb-false _ _ l))
         ]

@@ -1,6 +1,6 @@
 -- How much an APDU's value holds beside the octets that spell it.
 use Rattle.std.specs.Prelude.{ℕ, ◌+◌, ◌*◌, ◌≤◌, List, length}
-use Rattle.ber_core.specs.Tree.{text}
+use Rattle.ber_core.specs.Tree.{Tree, Trees, primitive, constructed, none, more, text}
 use Rattle.ber_leaf.specs.Profile.{Profile}
 use Rattle.ber_leaf.specs.Simple.{Simple, flag, whole, date, time, printable, general, visible, null, oid, binary, bits, descriptor}
 use Rattle.ill_schema.specs.Apdu.{Apdu, Encodes}
@@ -39,23 +39,33 @@ abbrev mutual
   items_text (item c is) = text_octets c + items_text is
 
 abbrev mutual
-  -- the items of all lists
-  pub list_items : Content → ℕ
-  list_items (simple v) = 0
-  list_items (sequence es) = entries_items es
-  list_items (list is) = items_items is
-  list_items (alternative n c) = list_items c
-  list_items (foreign T) = 0
+  -- the elements of a tree, its own among them
+  pub elements : Tree → ℕ
+  elements (primitive tag octets) = 1
+  elements (constructed tag trees) = 1 + elements_all trees
+
+  pub elements_all : Trees → ℕ
+  elements_all none = 0
+  elements_all (more tree trees) = elements tree + elements_all trees
+
+abbrev mutual
+  -- the items of all lists, and the elements of all foreign trees
+  pub items_and_elements : Content → ℕ
+  items_and_elements (simple v) = 0
+  items_and_elements (sequence es) = entries_items es
+  items_and_elements (list is) = items_items is
+  items_and_elements (alternative n c) = items_and_elements c
+  items_and_elements (foreign T) = elements T
 
   pub entries_items : Entries → ℕ
   entries_items no_entries = 0
   entries_items (absent es) = entries_items es
-  entries_items (present c es) = list_items c + entries_items es
+  entries_items (present c es) = items_and_elements c + entries_items es
 
   pub items_items : Items → ℕ
   items_items no_items = 0
-  items_items (item c is) = list_items c + 1 + items_items is
+  items_items (item c is) = items_and_elements c + 1 + items_items is
 
--- the texts have at most as many octets as the encoding, and the lists half as many items
+-- the texts have at most as many octets as the encoding, and the lists and foreign trees together half as many items and elements
 abbrev pub ValuesAreSmall : Profile → Type 0
-ValuesAreSmall p = (a : Apdu) (b : List ℕ) → Encodes p a b → (text_octets a.body ≤ length b) × (2 * list_items a.body ≤ length b)
+ValuesAreSmall p = (a : Apdu) (b : List ℕ) → Encodes p a b → (text_octets a.body ≤ length b) × (2 * items_and_elements a.body ≤ length b)

@@ -11,7 +11,7 @@ use Rattle.ber_leaf.specs.Profile.{Profile}
 use Rattle.ill_refusals.specs.Element.{Element, leaf, left_out}
 use Rattle.ill_refusals.specs.Next.{Due, element_of, due, missing, is_last}
 use Rattle.ill_refusals.specs.Place.{Open, next_in, innermost_end, bound, allows, IsDue}
-use Rattle.ill_schema.specs.Apdu.{Apdu, Encodes, normal_form}
+use Rattle.ill_schema.specs.Apdu.{Apdu, Encodes, normal_form_in}
 use Rattle.ill_refusals.specs.Reading.{IdentifierRead, read_identifier, identified, part_identifier, no_identifier, LengthRead, read_length, definite, part_length, no_length}
 
 -- a cause and an offset
@@ -163,7 +163,7 @@ fault_at p path k rest = first_fault (conditions p path k (cut_fault p path k re
 
 -- the normal form of what is encoded passes the limit
 abbrev pub HasLongNormal : Profile → List ℕ → Type 0
-HasLongNormal p s = (a : Apdu) × (n : ℕ) × (n ≤ length s) × Encodes p a (take n s) × (p.limit < length (normal_form a))
+HasLongNormal p s = (a : Apdu) × (n : ℕ) × (n ≤ length s) × Encodes p a (take n s) × (p.limit < length (normal_form_in p a))
 
 -- the input is refused with this fault
 abbrev pub Refuses : Profile → List ℕ → Fault → Type 0

@@ -36,7 +36,8 @@ pub fn one_place()
     ensures last { (p : Profile) → FaultsAreLast p }
 {}
 
-/// The texts of an APDU have at most as many octets as its encoding, and its lists at most half as many items.
+/// The texts of an APDU have at most as many octets as its encoding, and its lists and foreign trees together at most half as many
+/// items and elements.
 pub fn values_are_small()
     ensures { (p : Profile) → ValuesAreSmall p }
 {}
