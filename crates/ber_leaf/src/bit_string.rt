@@ -51,7 +51,7 @@ impl BitString {
         }
     }
 
-    /// How many bits there are, as a number that eight times the octets of any memory fit in.
+    /// The number of bits. It has a type that holds eight times the octets of any memory.
     pub fn bit_len(&self) -> u128
         ensures { result ≡ self.now.0 }
     {
@@ -110,7 +110,7 @@ impl Eq for BitString {
         (on_equiv (λ v. v.1) nat_list_eq_equiv) };
 }
 
-/// Whether the octets are a number of unused bits, and octets that have these.
+/// Tells whether the octets are a number of unused bits and octets that have these.
 fn is_bits(octets: &[u8]) -> bool
     ensures { result ≡ is_bits octets.now }
 {

@@ -18,8 +18,8 @@ use Rattle.ill_elements.specs.Due.{BeginsAt, IsComing, IsDueIn, behind, due_as, 
 use Rattle.ill_refusals.specs.Element.{Element}
 use Rattle.ill_refusals.specs.Fault.{Fault, fault, element_fault, ends_at, is_indefinite, cut_fault}
 use Rattle.ill_refusals.specs.code.Judge.{Judgement, faulty, closes, or_faulty, judge_end, judge_size, judge_length, judge_form, judge_tag, judge_element, judge_mark, judge_octets, judge}
-use Rattle.ill_elements.specs.Judging.{IsFormed, judge_identified}
-use Rattle.ill_elements.specs.Judging.{IsBegin, IsEnd, content_in}
+use Rattle.ill_elements.specs.code.Judging.{IsFormed, judge_identified}
+use Rattle.ill_elements.specs.code.Judging.{IsBegin, IsEnd, content_in}
 use Rattle.ill_refusals.specs.Next.{Due, due, element_of, is_last, missing}
 use Rattle.ill_refusals.specs.Place.{Open, next_in, bound}
 use Rattle.ill_refusals.specs.Reading.{IdentifierRead, identified, part_identifier, no_identifier, read_identifier, definite, read_length}

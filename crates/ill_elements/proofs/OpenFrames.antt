@@ -2,7 +2,7 @@
 use Rattle.std.proofs.Common.{◌≡◌, ℕ, suc, ◌-◌, List, [], ◌∷◌, ◌++◌, length, length-append, Option, Some, None, is_some, refl, sym, ap, ◌∙◌, arith, slice_get, ◌≤◌, ◌+◌, subst, get_or, set}
 use Rattle.ber_leaf.specs.Profile.{profile_two}
 use Rattle.ill_elements.specs.Due.{next_is, shape}
-use Rattle.ill_elements.specs.Judging.{outermost_end}
+use Rattle.ill_elements.specs.code.Judging.{outermost_end}
 use Rattle.ill_elements.specs.Need.{outermost}
 use Rattle.ill_refusals.specs.Place.{Open, next_in, innermost_end, bound}
 use Rattle.ill_elements.specs.Standing.{Level, next_at, AreFrames}

@@ -10,7 +10,7 @@ use Rattle.ill_refusals.proofs.FirstFault.{is_judged}
 use Rattle.ill_elements.specs.declared.frames.Frames.{Frames}
 use Rattle.ill_elements.specs.Standing.{StandsLast, StandsAt}
 use Rattle.ill_elements.specs.HeaderCode.{IsHeaderRead, IsLengthRead, need_read}
-use Rattle.ill_elements.specs.Judging.{outermost_end}
+use Rattle.ill_elements.specs.code.Judging.{outermost_end}
 use Rattle.ill_elements.specs.Need.{outermost, in_mark, NeedsOfLength, NeedsOfElement, NeedsAfterMark, NeedsBefore, IsNeed}
 use Rattle.ill_refusals.specs.Place.{Open, bound, IsPlace}
 use Rattle.ill_refusals.specs.Reading.{identified, part_identifier, no_identifier, read_identifier, definite, indefinite, part_length, no_length, read_length}

@@ -6,5 +6,5 @@ pub mod Contents
 pub mod Written
 pub mod HeaderCode
 pub mod Standing
-pub mod Judging
+pub mod code
 pub mod Need

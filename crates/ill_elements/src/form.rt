@@ -1,11 +1,11 @@
 //! The forms of elements.
 ghost use Rattle.std.specs.Prelude.{◌≡◌};
-ghost use Rattle.ill_elements.specs.Judging.{IsFormed, has_form};
+ghost use Rattle.ill_elements.specs.code.Judging.{IsFormed, has_form};
 
 use ill_cells::{Found, What};
 use ill_schema::Cause;
 
-/// Why what was found can't have the form, None where it may.
+/// The fault of an element in this form, None where it may have the form.
 #[inline(always)]
 pub fn form_fault(found: Found, constructed: bool) -> Option<Cause>
     ensures { IsFormed found constructed result }
@@ -19,7 +19,7 @@ pub fn form_fault(found: Found, constructed: bool) -> Option<Cause>
     }
 }
 
-/// Whether what is read so may have the form (X.690, 8.2 to 8.10, 8.14 and 8.23). What is left out has none.
+/// Tells whether an element that is read so may have the form (X.690, 8.2 to 8.10, 8.14 and 8.23). One that is left out has none.
 #[inline(always)]
 fn has_form(what: What, constructed: bool) -> bool
     ensures { result ≡ has_form what constructed }

@@ -7,7 +7,7 @@ use ill_cells::{At, Found};
 /// An open element: a constructed one whose header has been read.
 #[derive(Clone, Copy)]
 pub struct Frame {
-    /// As what it was found in the element round it.
+    /// The element as it was found in the one round it.
     pub found: Found,
     /// The place that has been reached in it.
     pub place: At,
@@ -17,23 +17,23 @@ pub struct Frame {
     pub end: Option<u32>,
     /// The offset that no octet in it may reach: its own end, or that of the nearest element round it, or the limit.
     pub bound: u32,
-    /// How many values are held for the elements round it.
+    /// The number of values that are held for the elements round it.
     pub base: usize,
     ghost within: { bound ≤ 1_048_576 },
 }
 
 impl Frame {
     ghost use Rattle.ill_elements.specs.Due.{shape};
-    ghost use Rattle.ill_elements.specs.Judging.{end_at};
+    ghost use Rattle.ill_elements.specs.code.Judging.{end_at};
 
-    /// What may come next in it.
+    /// The elements that may come next in it.
     pub fn next(&self) -> Next
         ensures { result ≡ shape self.now.place }
     {
         Next::at(self.place)
     }
 
-    /// Whether it is definite and ends there.
+    /// Tells whether its length is definite and it ends there.
     pub fn ends_at(&self, at: u32) -> bool
         ensures { result ≡ end_at self.now.end at }
     {
@@ -44,7 +44,7 @@ impl Frame {
     }
 }
 
-/// What a place holds where no element is open.
+/// A frame for a place where no element is open.
 impl Default for Frame {
     fn default() -> Frame {
         Frame {

@@ -7,7 +7,7 @@ use arrayvec::ArrayVec;
 use ill_cells::At;
 use ill_schema::{Cause, LIMIT};
 
-/// How many elements may be open at once.
+/// The number of elements that may be open at once.
 pub const MAX_DEPTH: usize = 32;
 
 /// The open elements, innermost last. They take no memory.
@@ -25,7 +25,7 @@ impl Frames {
     ghost use Rattle.ber_leaf.specs.Profile.{profile_two};
     ghost use Rattle.ill_refusals.specs.Fault.{ends_at, is_indefinite, past_end};
     ghost use Rattle.ill_refusals.specs.Place.{bound};
-    ghost use Rattle.ill_elements.specs.Judging.{WhereItStands, outermost_end};
+    ghost use Rattle.ill_elements.specs.code.Judging.{WhereItStands, outermost_end};
     ghost use Rattle.ill_elements.specs.Standing.{depth_of};
 
     /// No open element.
@@ -90,7 +90,7 @@ impl Frames {
         }
     }
 
-    /// What may come next.
+    /// The elements that may come next.
     pub fn next(&self) -> Next
         ensures { result ≡ next_at self.now.open.items }
     {
@@ -120,7 +120,7 @@ impl Frames {
         None
     }
 
-    /// Why an octet at the bound can't be read.
+    /// The fault of an octet past the bound.
     pub fn past_end(&self) -> Cause
         ensures { WhereItStands self.now (λ place. result ≡ past_end place) }
     {
@@ -130,7 +130,7 @@ impl Frames {
         }
     }
 
-    /// Whether the innermost element is indefinite.
+    /// Tells whether the length of the innermost element is indefinite.
     pub fn awaits_end_mark(&self) -> bool
         ensures open { IsTrue result → 0 < depth_of self.now }
         ensures exact { WhereItStands self.now (λ place. result ≡ is_indefinite place) }
@@ -141,7 +141,7 @@ impl Frames {
         }
     }
 
-    /// Whether the innermost element is definite and ends there.
+    /// Tells whether the length of the innermost element is definite and it ends there.
     pub fn ends_at(&self, at: u32) -> bool
         ensures open { IsTrue result → 0 < depth_of self.now }
         ensures exact { WhereItStands self.now (λ place. result ≡ ends_at place at) }

@@ -7,7 +7,7 @@ ghost use Rattle.ill_refusals.specs.Reading.{class_of, identified, read_identifi
 
 use ber_core::{Class, HeaderFault, HeaderState, Id, Len};
 
-/// What the octets at hand show of a header.
+/// The part of a header that the octets at hand show.
 #[derive(Clone, Copy)]
 pub enum HeaderRead {
     NoIdentifier,
@@ -16,13 +16,13 @@ pub enum HeaderRead {
     Identified(Id, LengthRead),
 }
 
-/// What the octets after an identifier show of a length.
+/// The part of a length that the octets after an identifier show.
 #[derive(Clone, Copy)]
 pub enum LengthRead {
     NoLength,
-    /// How many octets at least still belong to the header.
+    /// The least number of octets that still belong to the header.
     PartLength(u32),
-    /// The length, and how many octets the header has.
+    /// The length, and the number of octets of the header.
     Whole(Len, u32),
 }
 

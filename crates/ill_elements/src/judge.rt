@@ -43,10 +43,10 @@ pub enum Extent {
 impl Frames {
     ghost use Rattle.std.specs.Prelude.{◌+◌, ◌<◌, ℕ, List, ◌++◌, min, drop};
     ghost use Rattle.ill_elements.specs.Standing.{depth_of};
-    ghost use Rattle.ill_elements.specs.Judging.{HeaderIsIn};
+    ghost use Rattle.ill_elements.specs.code.Judging.{HeaderIsIn};
     ghost use Rattle.ill_refusals.specs.Fault.{fault_of, cut_fault};
     ghost use Rattle.ill_refusals.specs.code.Judge.{judge_length, judge_size};
-    ghost use Rattle.ill_elements.specs.Judging.{WhereItStands, EndsAs, Fits, Reaches, IsIdentified, IsRoom};
+    ghost use Rattle.ill_elements.specs.code.Judging.{WhereItStands, EndsAs, Fits, Reaches, IsIdentified, IsRoom};
     ghost use Rattle.ber_core.specs.Id.{tag_of_id};
     ghost use Rattle.ill_elements.specs.Due.{read_as};
     ghost use Rattle.ill_elements.specs.Elements.{element_is};

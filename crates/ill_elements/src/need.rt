@@ -8,7 +8,7 @@ use crate::frames::Frames;
 use crate::header::{HeaderRead, LengthRead, read_header};
 use ber_core::Len;
 
-/// How many octets at least still belong to a message, after octets that don't reach the next place.
+/// The least number of octets that still belong to a message, after octets that don't reach the next place.
 pub fn need_at(frames: &Frames, at: u32, octets: &[u8]) -> u32
     requires { length octets.now ≤ 1_048_576 }
     ensures { (s : List ℕ) (stands : StandsLast (StandsAt frames.now) at s octets.now) → IsNeed stands.0.place at octets.now result }
@@ -23,7 +23,7 @@ pub fn need_at(frames: &Frames, at: u32, octets: &[u8]) -> u32
     need_in_element(read_header(octets), count)
 }
 
-/// How many octets at least still belong to an element of which `came` octets came.
+/// The least number of octets that still belong to an element of which `count` octets are there.
 fn need_in_element(read: HeaderRead, count: u32) -> u32
     ensures { result ≡ need_read read count }
 {

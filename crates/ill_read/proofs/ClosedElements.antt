@@ -18,7 +18,7 @@ use Rattle.ill_cells.specs.Places.{alternative_of, where_of}
 use Rattle.ill_elements.specs.Elements.{element_is}
 use Rattle.ill_read.specs.code.Drafts.{ChecksText, HasClosed, IsRightText, with_entry}
 use Rattle.ill_elements.specs.Due.{due_with}
-use Rattle.ill_elements.specs.Judging.{IsEnd}
+use Rattle.ill_elements.specs.code.Judging.{IsEnd}
 use Rattle.ill_read.specs.code.Judged.{IsStep}
 use Rattle.ill_read.specs.code.Stepping.{GoesOn}
 use Rattle.ill_elements.specs.Standing.{Level, level_of, pushed, next_at, IsHeld, IsFrame, AreFrames}

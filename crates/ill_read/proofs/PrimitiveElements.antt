@@ -19,7 +19,7 @@ use Rattle.ill_elements.specs.Due.{IsDueIn, read_as, shape_at, slot_in, next_pla
 use Rattle.ill_elements.specs.LeafTypes.{leaf_is}
 use Rattle.ill_read.specs.code.Drafts.{HasLeaf, HasText}
 use Rattle.ill_elements.specs.Due.{due_with}
-use Rattle.ill_elements.specs.Judging.{IsBegin, content_in}
+use Rattle.ill_elements.specs.code.Judging.{IsBegin, content_in}
 use Rattle.ill_read.specs.code.Judged.{IsJudgement, IsStep}
 use Rattle.ill_read.specs.code.Stepping.{GoesOn, ReadsExactly}
 use Rattle.ill_elements.specs.Standing.{Level, next_at, AreFrames}

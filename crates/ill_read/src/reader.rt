@@ -51,7 +51,7 @@ impl<D: Draft> Reader<D> {
     ghost use Rattle.ill_read.specs.code.Drafts.{HoldsApdu};
     ghost use Rattle.ill_read.specs.code.Filling.{HasLooked, NoneEndsWithin};
     ghost use Rattle.ill_read.specs.code.Judged.{IsJudgement, IsStep};
-    ghost use Rattle.ill_elements.specs.Judging.{IsRoom};
+    ghost use Rattle.ill_elements.specs.code.Judging.{IsRoom};
     ghost use Rattle.ill_read.specs.code.Progress.{Judgement, Closes, Opens, Reads, size_of, IsProgress};
     ghost use Rattle.ill_elements.specs.Standing.{depth_of};
     ghost use Rattle.ill_read.specs.code.ReaderCode.{CanRefuse, CanStep, HasAdvanced, HasClosed, HasOutcome, HasStopped, IsFed, IsRunning, LeadsOn, Progresses, Steps, ended};

@@ -1,5 +1,5 @@
 -- What is spelled in profile 2 and in the module profile is plain, and one value: no octets change their meaning.
-use Rattle.std.proofs.Common.{◌≡◌, ◌⊎◌, ℕ, ◌+◌, ◌≤◌, Bool, true, false, ◌&&◌, not, List, [], ◌∷◌, ◌++◌, length, take, drop, Option, Some, None, IsTrue, refl, sym, ap, subst, ◌∙◌, inl, inr, slice_get, arith}
+use Rattle.std.proofs.Common.{◌≡◌, ◌⊎◌, ℕ, ◌≤◌, Bool, true, false, ◌&&◌, not, List, [], ◌∷◌, ◌++◌, length, take, drop, Some, None, IsTrue, refl, sym, ap, subst, ◌∙◌, inl, inr, slice_get, arith}
 use Rattle.std.specs.List.{list_all}
 use Rattle.std.specs.Prelude.{flat_map}
 use Rattle.std.proofs.lemmas.Bool.{and_parts}
@@ -8,7 +8,7 @@ use Rattle.ber_core.proofs.Trees.{one_reading}
 use Rattle.ber_core.specs.declared.id.Class.{Class}
 use Rattle.ber_core.specs.Identifier.{Tag}
 use Rattle.ber_core.specs.Tree.{Tree, Trees, constructed, more, none, tag_of}
-use Rattle.ber_leaf.specs.Leaf.{Leaf, enumerated, is_string}
+use Rattle.ber_leaf.specs.Leaf.{enumerated, is_string}
 use Rattle.ber_leaf.specs.Profile.{profile_two, profile_three}
 use Rattle.ill_schema.specs.declared.node.Kind.{Kind}
 use Rattle.ill_schema.specs.declared.node.LeafKind.{LeafKind}
@@ -24,13 +24,13 @@ use Rattle.ill_schema.specs.Meaning.{IsLeaf, Means, Matches, MatchItems}
 use Rattle.ill_schema.specs.Presence.{IsCarried, is_default}
 use Rattle.ill_schema.specs.Table.{kind_of, rows_of, twin}
 use Rattle.ill_schema.specs.TableFacts.{alternative_tags, row_tags}
-use Rattle.ill_schema.specs.Tagging.{Tagging, implicit, explicit, explicit_or_bare, tagging, sequence_tag, untagged}
+use Rattle.ill_schema.specs.Tagging.{Tagging, implicit, explicit, tagging, sequence_tag, untagged}
 use Rattle.ill_schema.proofs.Lifted.{apdu_spelled, choice_plain, first_stands, list_plain, rest_stand}
 use Rattle.ill_schema.proofs.MeansFits.{default_simple}
 use Rattle.ill_schema.proofs.OneMeaning.{one_apdu}
 use Rattle.ill_schema.proofs.Tags.{is_proper, is_proper_row, is_tagged, tables_proper, Mem, Distinct, disjoint, distinct-right, same_place, at_row, mem-left, mem-right}
-use Rattle.ill_schema.proofs.Twins.{SameTags, Stand, Stands, all_stand, all_tags, item_carried, kinds_stay, mode_of, modes, modes_at, same_modes, same_tagging, stand_at, standing, stands, tags_at}
-use Rattle.ill_schema.proofs.Unique.{bare_sequence, good_choice, leaf_at, leaf_is, matches_begins, means_begins, no_leaf, no_any_leaf, not_bare, same_constructed, same_tags, sequence_distinct, under}
+use Rattle.ill_schema.proofs.Twins.{SameTags, Stand, Stands, all_stand, all_tags, item_carried, kinds_stay, mode_of, modes, modes_at, same_modes, same_tagging, stand_at, stands, tags_at}
+use Rattle.ill_schema.proofs.Unique.{bare_sequence, good_choice, leaf_at, leaf_is, matches_begins, means_begins, no_leaf, not_bare, same_constructed, same_tags, sequence_distinct, under}
 
 both_true : (a b : Bool) → IsTrue a → IsTrue b → IsTrue (a && b)
 both_true true b h k = k
@@ -282,7 +282,7 @@ mutual
       let t : k.1 ≡ h.1 = cc in
       let u : k.2 ≡ h.2 = cc in
       let one = plain_of c d r.node (tagging profile_two r) h.1 (at_row (is_proper_row profile_two) rows 0 r (tables_proper profile_two node) h.3) h.5
-          (as_two d r at.0 h.1 stood g (subst (λ z. Means profile_three d at.0.node (tagging profile_three at.0) z) t (subst (λ (z : Row). Means profile_three d z.node (tagging profile_three z) k.1) (sym same) k.5))) in
+      (as_two d r at.0 h.1 stood g (subst (λ z. Means profile_three d at.0.node (tagging profile_three at.0) z) t (subst (λ (z : Row). Means profile_three d z.node (tagging profile_three z) k.1) (sym same) k.5))) in
       let rest = items_plain_of is js node h.2 seq h.6 (subst (λ z. MatchItems profile_three js others z) u k.6) in
       first_plain c is rows r h.3 one rest
 

@@ -1,5 +1,5 @@
 -- What is spelled in profile 2 is spelled in the module profile, too, but for the types whose tags are explicit there.
-use Rattle.std.proofs.Common.{◌≡◌, ℕ, ◌-◌, ◌≤◌, Bool, true, false, ◌&&◌, not, List, [], ◌∷◌, length, Option, Some, None, IsTrue, refl, sym, ap, ap₂, subst, ◌∙◌, inl, inr, slice_get}
+use Rattle.std.proofs.Common.{◌≡◌, ℕ, ◌≤◌, Bool, true, false, not, List, [], ◌∷◌, length, Option, Some, None, IsTrue, refl, sym, ap, ap₂, subst, ◌∙◌, inl, inr, slice_get}
 use Rattle.std.specs.List.{list_all}
 use Rattle.std.specs.Prelude.{if◌then◌else◌}
 use Rattle.std.proofs.lemmas.Bool.{and_parts}
@@ -7,9 +7,8 @@ use Rattle.ber_core.specs.Der.{encoding}
 use Rattle.ber_core.specs.Identifier.{Tag}
 use Rattle.ber_core.specs.Tree.{Tree, Trees, primitive, constructed, more, none}
 use Rattle.ber_leaf.specs.declared.fault.LeafFault.{LeafFault}
-use Rattle.ber_leaf.specs.Leaf.{Leaf, boolean, integer, enumerated, general_string, visible_string, printable_string, iso_date, iso_time, null_type, object_identifier, octet_string, bit_string, object_descriptor, content_fault, normal_content}
+use Rattle.ber_leaf.specs.Leaf.{Leaf, general_string, content_fault, normal_content}
 use Rattle.ber_leaf.specs.Profile.{profile_two, profile_three}
-use Rattle.ber_leaf.specs.Simple.{Simple}
 use Rattle.ill_schema.specs.declared.node.Kind.{Kind}
 use Rattle.ill_schema.specs.declared.node.NodeId.{NodeId}
 use Rattle.ill_schema.specs.declared.node.NodeId.TheVariants.{Conditional, IllApdu, UnitsPerMedium, WillSupply}
@@ -23,9 +22,10 @@ use Rattle.ill_schema.specs.Meaning.{Means, Matches, MatchItems, HoldsLeaf}
 use Rattle.ill_schema.specs.Normal.{normal_tree, normal_trees, normal_items}
 use Rattle.ill_schema.specs.Presence.{IsCarried, is_default, is_default_of}
 use Rattle.ill_schema.specs.Table.{kind_of, rows_of, twin}
+use Rattle.ill_schema.specs.TableFacts.{standing}
 use Rattle.ill_schema.specs.Tagging.{Tagging, Tagged, untagged, leaf_of, leaf_tag, sequence_tag, tag_tree, tagging}
 use Rattle.ill_schema.proofs.MeansFits.{means_apdu_fits}
-use Rattle.ill_schema.proofs.Twins.{Stand, Stands, after, all_stand, are_optional, item_carried, kinds_stay, lacks-at, mode_of, modes, modes_at, more_fit, more_match, optional, same_modes, same_tagging, stand_at, standing, stands}
+use Rattle.ill_schema.proofs.Twins.{Stand, Stands, after, all_stand, are_optional, item_carried, kinds_stay, lacks-at, mode_of, modes, modes_at, more_fit, more_match, optional, same_modes, same_tagging, stand_at, stands}
 use Rattle.ill_schema.proofs.Wider.{wider_part}
 
 -- any octet may stand in a GeneralString
@@ -153,13 +153,21 @@ mutual
   lift_means (sequence es) node g T p m =
       let q = and_parts (not (is_retagged node)) (are_plain es (rows_of node)) p in (
         kinds_stay node ∙ m.0,
-        wider_part g sequence_tag _ _ T (λ t U x. (x.0, x.1, rows_match es (rows_of node) (rows_of (twin node)) (added_entries node) x.0
-            (all_stand node) (optional node m.0) (modes node q.0) (more_match node) q.1 x.2)) m.1,
+        wider_part g sequence_tag _ _ T (λ t U x. (
+          x.0,
+          x.1,
+          rows_match es (rows_of node) (rows_of (twin node)) (added_entries node) x.0
+              (all_stand node) (optional node m.0) (modes node q.0) (more_match node) q.1 x.2,
+        )) m.1,
       )
   lift_means (list is) node g T p m = (
     kinds_stay node ∙ m.0,
-    wider_part g sequence_tag _ _ T (λ t U x. (x.0, x.1, items_match is (rows_of node) (rows_of (twin node)) x.0
-        (all_stand node) (modes node (list_plain node m.0)) (λ row e. item_carried node row m.0 e) p x.2)) m.1,
+    wider_part g sequence_tag _ _ T (λ t U x. (
+      x.0,
+      x.1,
+      items_match is (rows_of node) (rows_of (twin node)) x.0
+          (all_stand node) (modes node (list_plain node m.0)) (λ row e. item_carried node row m.0 e) p x.2,
+    )) m.1,
   )
   lift_means (alternative n c) node g T p m =
       let r = m.0 in

@@ -1,5 +1,5 @@
 -- The rows of a node in profile 2 stand in the table of its twin in the module.
-use Rattle.std.proofs.Common.{◌≡◌, ℕ, zero, suc, Bool, true, false, ◌&&◌, ◌||◌, not, List, [], ◌∷◌, Option, Some, None, IsTrue, refl, sym, ap, ap₂, map, subst, ◌∙◌, slice_get}
+use Rattle.std.proofs.Common.{◌≡◌, ℕ, zero, suc, Bool, true, false, ◌&&◌, ◌||◌, not, List, [], ◌∷◌, Option, Some, IsTrue, refl, sym, ap, ap₂, map, subst, ◌∙◌, slice_get}
 use Rattle.std.specs.List.{list_all}
 use Rattle.std.proofs.lemmas.Bool.{and_parts}
 use Rattle.ber_core.specs.declared.id.Class.{Class}
@@ -17,18 +17,8 @@ use Rattle.ill_schema.specs.Lift.{added_entries, is_retagged}
 use Rattle.ill_schema.specs.Meaning.{Matches}
 use Rattle.ill_schema.specs.Presence.{IsCarried, MayLack}
 use Rattle.ill_schema.specs.Table.{kind_of, rows_of, twin}
-use Rattle.ill_schema.specs.TableFacts.{row_tags}
-use Rattle.ill_schema.specs.Tagging.{Tagging, tagging, row_tagging}
-
--- a row s of the module that stands for a row r of profile 2 with this presence
-abbrev pub standing : Presence → Row → Row → Row
-standing Presence.LeftOut r s = s
-standing presence r s = record { tag = r.tag; mode = s.mode; presence = presence; node = twin r.node }
-
-abbrev pub stand : List Row → List Row → List Row
-stand [] ss = ss
-stand (r ∷ rs) [] = standing r.presence r r ∷ stand rs []
-stand (r ∷ rs) (s ∷ ss) = standing r.presence r s ∷ stand rs ss
+use Rattle.ill_schema.specs.TableFacts.{row_tags, stand, standing}
+use Rattle.ill_schema.specs.Tagging.{tagging, row_tagging}
 
 abbrev pub Stand : List Row → List Row → Type 0
 Stand rs ss = ss ≡ stand rs ss

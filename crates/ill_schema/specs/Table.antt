@@ -1,4 +1,5 @@
--- The nodes of the schema, and the rows of each: the types of ISO 10161-1 and their components in order.
+-- The nodes of the schema, and the rows of each: the types of ISO 10161-1 and their components in order. Where the module profile
+-- reads a type in another way than profile 2, the type has a node for each, and its table says in which rows they differ.
 use Rattle.std.specs.Prelude.{ℕ, Bool, true, false, List, [], ◌∷◌, Some, None, pos, ℤ}
 use Rattle.ber_core.specs.declared.id.Class.{Class}
 use Rattle.ill_schema.specs.declared.{node.NodeId.NodeId, node.Kind.Kind, node.LeafKind.LeafKind, part.Mode.Mode, part.Presence.Presence, part.Row.Row}
@@ -83,22 +84,22 @@ result = tagged Class.Context Mode.ExplicitOrBare Presence.Must
 abbrev apdu : ℕ → NodeId → Row
 apdu = tagged Class.Application Mode.ExplicitOrBare Presence.Must
 
--- a row that the module has and profile 2 leaves out
+-- a row of the module that profile 2 leaves out
 abbrev only : Bool → Row → Row
 only true row = row
 only false row = record { tag = row.tag; mode = Mode.Implicit; presence = Presence.LeftOut; node = LeftOut }
 
--- a row that profile 2 doesn't have
+-- a row of the module that profile 2 doesn't have at all
 abbrev added : Bool → Row → List Row
 added true row = row ∷ []
 added false row = []
 
--- a row whose tag is explicit in the module
+-- a row whose tag is explicit in the module alone
 abbrev strict : Bool → Presence → ℕ → NodeId → Row
 strict true presence number node = explicit presence number node
 strict false presence number node = component presence number node
 
--- the node of the module that stands for one of profile 2
+-- the node of the module profile for the type of a node of profile 2
 abbrev pub twin : NodeId → NodeId
 twin DeliveryService = ModuleDeliveryService
 twin ShippedVia = ModuleShippedVia
@@ -130,6 +131,7 @@ twin Expired = ModuleExpired
 twin IllApdu = ModuleIllApdu
 twin node = node
 
+-- the same where a table is that of the module profile
 abbrev twin_in : Bool → NodeId → NodeId
 twin_in true node = twin node
 twin_in false node = node
@@ -146,7 +148,8 @@ head rows =
     mandatory 0 Integer ∷ mandatory 1 TransactionId ∷ mandatory 2 ServiceDateTime
     ∷ optional 3 SystemId ∷ optional 4 SystemId ∷ rows
 
--- the rows of a node in profile 2, and where "full" holds those of its twin in the module
+-- the rows of a node in profile 2, and with `full` those of its twin in the module profile. EXTERNAL is a SEQUENCE under the tag of
+-- class universal with number 8 (X.690, 8.18.1): `TaggedExternal` is that tag, round the components of `External`.
 abbrev rows : Bool → NodeId → List Row
 rows full Symbol = mandatory 0 IllString ∷ mandatory 1 IllString ∷ []
 rows full Name = mandatory 0 IllString ∷ mandatory 1 IllString ∷ []
@@ -171,7 +174,8 @@ rows full ItemId =
     optional 0 Enumerated ∷ optional 1 Enumerated ∷ optional 2 IllString ∷ optional 3 IllString ∷ optional 4 IllString
     ∷ optional 5 IllString ∷ optional 6 IllString ∷ optional 7 IllString ∷ optional 8 IllString ∷ optional 9 IllString
     ∷ optional 10 IllString ∷ optional 11 IllString ∷ optional 12 IllString ∷ optional 13 IllString
-    ∷ optional 14 IllString ∷ optional 15 IllString ∷ optional 16 IllString ∷ only full (optional 17 TaggedExternal) ∷ optional 18 IllString
+    ∷ optional 14 IllString ∷ optional 15 IllString ∷ optional 16 IllString ∷ only full (optional 17 TaggedExternal)
+    ∷ optional 18 IllString
     ∷ optional 19 IllString ∷ only full (optional 20 TaggedExternal) ∷ optional 21 IllString ∷ optional 22 IllString ∷ []
 rows full Amount = optional 0 PrintableString ∷ mandatory 1 PrintableString ∷ []
 rows full CostInfo =
@@ -189,7 +193,8 @@ rows full DateDue = mandatory 0 IsoDate ∷ default (pos 1) 1 Boolean ∷ []
 rows full ShippedVia = mandatory 5 IllString ∷ only full (mandatory 50 ElectronicDelivery) ∷ []
 rows full SupplyDetails =
     optional 0 IsoDate ∷ optional 1 DateDue ∷ optional 2 Integer ∷ optional 3 Amount ∷ optional 4 Enumerated
-    ∷ untagged Presence.May (twin_in full ShippedVia) ∷ optional 6 Amount ∷ optional 7 Amount ∷ optional 8 (twin_in full UnitsPerMediumList) ∷ []
+    ∷ untagged Presence.May (twin_in full ShippedVia) ∷ optional 6 Amount ∷ optional 7 Amount
+    ∷ optional 8 (twin_in full UnitsPerMediumList) ∷ []
 rows full IllServiceTypes = untagged Presence.Must Enumerated ∷ []
 rows full SupplyMediumInfos = untagged Presence.Must SupplyMediumInfo ∷ []
 rows full IllRequest =
@@ -206,7 +211,8 @@ rows full Shipped =
 rows full LocationInfo = mandatory 0 SystemId ∷ optional 1 SystemAddress ∷ optional 2 IllString ∷ []
 rows full Locs = untagged Presence.Must LocationInfo ∷ []
 rows full Conditional =
-    mandatory 0 Enumerated ∷ optional 1 IsoDate ∷ optional 2 Locs ∷ added full (untagged Presence.May (twin_in full DeliveryService))
+    mandatory 0 Enumerated ∷ optional 1 IsoDate ∷ optional 2 Locs
+    ∷ added full (untagged Presence.May (twin_in full DeliveryService))
 rows full Retry = optional 0 Enumerated ∷ optional 1 IsoDate ∷ optional 2 Locs ∷ []
 rows full Unfilled = mandatory 0 Enumerated ∷ optional 1 Locs ∷ []
 rows full Locations = optional 0 Enumerated ∷ mandatory 1 Locs ∷ []
@@ -219,7 +225,8 @@ rows full Results =
     result 1 (twin_in full Conditional) ∷ result 2 Retry ∷ result 3 Unfilled ∷ result 4 Locations
     ∷ result 5 (twin_in full WillSupply) ∷ result 6 HoldPlaced ∷ result 7 Estimate ∷ []
 rows full IllAnswer =
-    head (mandatory 31 Enumerated ∷ optional 32 (twin_in full Results) ∷ only full (optional 33 TaggedExternal) ∷ supplements full ∷ optional 23 SendToList
+    head (mandatory 31 Enumerated ∷ optional 32 (twin_in full Results) ∷ only full (optional 33 TaggedExternal)
+    ∷ supplements full ∷ optional 23 SendToList
     ∷ optional 34 AlreadyTriedList ∷ optional 28 ResponderOptionalMessages ∷ optional 46 IllString ∷ extensions full ∷ [])
 rows full ConditionalReply = head (mandatory 35 Boolean ∷ optional 46 IllString ∷ extensions full ∷ [])
 rows full Cancel = head (optional 46 IllString ∷ extensions full ∷ [])
@@ -232,7 +239,8 @@ rows full Returned =
     head (supplements full ∷ mandatory 37 IsoDate ∷ optional 38 IllString
     ∷ optional 39 Amount ∷ optional 46 IllString ∷ extensions full ∷ [])
 rows full CheckedIn = head (mandatory 40 IsoDate ∷ optional 46 IllString ∷ extensions full ∷ [])
-rows full Overdue = head (mandatory 41 DateDue ∷ optional 46 IllString ∷ only full (explicit Presence.May 49 Extensions) ∷ [])
+rows full Overdue = head (mandatory 41 DateDue ∷ optional 46 IllString
+    ∷ only full (explicit Presence.May 49 Extensions) ∷ [])
 rows full Renew = head (optional 42 IsoDate ∷ optional 46 IllString ∷ extensions full ∷ [])
 rows full RenewAnswer = head (mandatory 35 Boolean ∷ optional 41 DateDue ∷ optional 46 IllString ∷ extensions full ∷ [])
 rows full Lost = head (optional 46 IllString ∷ extensions full ∷ [])
@@ -241,11 +249,16 @@ rows full MessageApdu = head (mandatory 46 IllString ∷ extensions full ∷ [])
 rows full StatusQuery = head (optional 46 IllString ∷ extensions full ∷ [])
 rows full Expired = head (extensions full ∷ [])
 rows full IllApdu =
-    apdu 1 (twin_in full IllRequest) ∷ only full (apdu 2 ForwardNotification) ∷ apdu 3 (twin_in full Shipped) ∷ apdu 4 (twin_in full IllAnswer)
-    ∷ apdu 5 (twin_in full ConditionalReply) ∷ apdu 6 (twin_in full Cancel) ∷ apdu 7 (twin_in full CancelReply) ∷ apdu 8 (twin_in full Received)
-    ∷ apdu 9 (twin_in full Recall) ∷ apdu 10 (twin_in full Returned) ∷ apdu 11 (twin_in full CheckedIn) ∷ apdu 12 (twin_in full Overdue)
-    ∷ apdu 13 (twin_in full Renew) ∷ apdu 14 (twin_in full RenewAnswer) ∷ apdu 15 (twin_in full Lost) ∷ apdu 16 (twin_in full Damaged)
-    ∷ apdu 17 (twin_in full MessageApdu) ∷ apdu 18 (twin_in full StatusQuery) ∷ only full (apdu 19 StatusOrErrorReport) ∷ apdu 20 (twin_in full Expired) ∷ []
+    apdu 1 (twin_in full IllRequest) ∷ only full (apdu 2 ForwardNotification) ∷ apdu 3 (twin_in full Shipped)
+    ∷ apdu 4 (twin_in full IllAnswer)
+    ∷ apdu 5 (twin_in full ConditionalReply) ∷ apdu 6 (twin_in full Cancel) ∷ apdu 7 (twin_in full CancelReply)
+    ∷ apdu 8 (twin_in full Received)
+    ∷ apdu 9 (twin_in full Recall) ∷ apdu 10 (twin_in full Returned) ∷ apdu 11 (twin_in full CheckedIn)
+    ∷ apdu 12 (twin_in full Overdue)
+    ∷ apdu 13 (twin_in full Renew) ∷ apdu 14 (twin_in full RenewAnswer) ∷ apdu 15 (twin_in full Lost)
+    ∷ apdu 16 (twin_in full Damaged)
+    ∷ apdu 17 (twin_in full MessageApdu) ∷ apdu 18 (twin_in full StatusQuery)
+    ∷ only full (apdu 19 StatusOrErrorReport) ∷ apdu 20 (twin_in full Expired) ∷ []
 rows full Encoding = mandatory 0 Any ∷ mandatory 1 OctetString ∷ mandatory 2 BitString ∷ []
 rows full External =
     untagged Presence.May ObjectIdentifier ∷ untagged Presence.May Integer ∷ untagged Presence.May ObjectDescriptor

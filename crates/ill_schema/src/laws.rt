@@ -6,8 +6,8 @@ ghost use Rattle.ill_schema.specs.declared.profile.Profile.TheVariants.{Two, Mod
 ghost use Rattle.ill_schema.specs.Profiles.{profile_of};
 ghost use Rattle.ill_schema.specs.Content.{Content};
 ghost use Rattle.ill_schema.specs.Tagging.{Tagging, untagged};
-ghost use Rattle.ill_schema.specs.TableFacts.{are_of_two, deepest, has_different_tags, is_of_two, names_below};
-ghost use Rattle.ill_schema.specs.Table.{rows_of};
+ghost use Rattle.ill_schema.specs.TableFacts.{are_of_two, deepest, has_different_tags, is_of_two, names_below, stand};
+ghost use Rattle.ill_schema.specs.Table.{rows_of, twin};
 ghost use Rattle.ill_schema.specs.Meaning.{Means};
 ghost use Rattle.ill_schema.specs.Fits.{Fits, FitsApdu};
 ghost use Rattle.ill_schema.specs.Normal.{normal_tree};
@@ -18,11 +18,13 @@ ghost use Rattle.ill_schema.specs.Worked.{hex, expired, request, answer, estimat
 use crate::node::NodeId;
 
 /// In each sequence and choice the tags of all rows are different, and each row names a node of a lower level. The rows of profile
-/// 2's nodes name nodes of profile 2: no open type, and none of the types that the module alone has.
+/// 2's nodes name nodes of profile 2: no open type, and none of the types that the module alone has. Each of them that isn't left
+/// out stands in the table of its node's twin.
 pub fn tables_are_well_formed()
     ensures tags { (p : Profile) (node : NodeId) → IsTrue (has_different_tags p node) }
     ensures below { (node : NodeId) → IsTrue (names_below node) }
     ensures two { (node : NodeId) → IsTrue (is_of_two node) → IsTrue (are_of_two (rows_of node)) }
+    ensures twins { (node : NodeId) → rows_of (twin node) ≡ stand (rows_of node) (rows_of (twin node)) }
 {}
 
 /// A tree means at most one value as the type of a node, and at most one APDU.

@@ -29,9 +29,10 @@ mod value;
 pub use entry::{is_carried, is_default, may_lack};
 pub use equality::equal;
 pub use laws::{
-    named_profiles, no_octets_change_their_meaning, normal_form_is_a_spelling, normal_form_is_no_longer, normal_form_is_one_to_one,
-    normal_tree_means_the_value, one_meaning, one_value, profile_two_extends_profile_one,
-    tables_are_well_formed, the_module_reads_profile_two, what_is_meant_fits, worked_messages,
+    named_profiles, no_octets_change_their_meaning, normal_form_is_a_spelling,
+    normal_form_is_no_longer, normal_form_is_one_to_one, normal_tree_means_the_value, one_meaning,
+    one_value, profile_two_extends_profile_one, tables_are_well_formed,
+    the_module_reads_profile_two, what_is_meant_fits, worked_messages,
 };
 pub use lookup::{kind, row, rows};
 pub use message::Message;

@@ -20,7 +20,7 @@ use Rattle.ill_read.specs.code.Progress.{Judgement as CodeJudgement}
 use Rattle.ill_read.specs.code.Progress as code
 use Rattle.ill_elements.specs.declared.frames.Frames.{Frames}
 use Rattle.ill_read.specs.declared.path.Path.{Path}
-use Rattle.ill_elements.specs.Judging.{IsBegin, IsEnd, content_in}
+use Rattle.ill_elements.specs.code.Judging.{IsBegin, IsEnd, content_in}
 
 -- the decoder's judgement is the one of the definitions, but for the fault of a text or a content
 abbrev pub IsJudgement : Frames → List Open → ℕ → List ℕ → CodeJudgement → Judgement → Type 0

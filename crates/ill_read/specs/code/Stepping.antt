@@ -9,7 +9,7 @@ use Rattle.ill_refusals.specs.code.Step.{moved, opened}
 use Rattle.ill_elements.specs.Due.{read_as}
 use Rattle.ill_elements.specs.Elements.{element_is}
 use Rattle.ill_cells.specs.declared.at.At.{At}
-use Rattle.ill_elements.specs.Judging.{IsEnd, IsBegin}
+use Rattle.ill_elements.specs.code.Judging.{IsEnd, IsBegin}
 use Rattle.ill_read.specs.code.Judged.{IsStep}
 use Rattle.ill_elements.specs.Standing.{Level}
 use Rattle.ill_read.specs.Paths.{HoldsAt}

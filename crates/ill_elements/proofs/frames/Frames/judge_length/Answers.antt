@@ -8,7 +8,7 @@ use Rattle.ill_elements.specs.HeaderCode.{IsLengthRead, IsWholeLength}
 use Rattle.ber_leaf.specs.Profile.{profile_two}
 use Rattle.ill_elements.specs.Due.{read_as}
 use Rattle.ill_refusals.specs.Fault.{cut_fault}
-use Rattle.ill_elements.specs.Judging.{IsExtent}
+use Rattle.ill_elements.specs.code.Judging.{IsExtent}
 use Rattle.ill_refusals.specs.Reading.{read_length}
 use Rattle.ill_elements.specs.declared.header.LengthRead.TheVariants.{Whole}
 use Rattle.ill_elements.proofs.Judgements.{definite_judged}

@@ -2,7 +2,7 @@ use Rattle.std.proofs.Common.{◌<◌, ◌≤◌, ℕ, None, Some, sym, ap, subs
 use Rattle.ber_core.specs.Id.{tag_of_id}
 use Rattle.ber_leaf.specs.Profile.{profile_two}
 use Rattle.ill_elements.specs.Due.{next_is}
-use Rattle.ill_elements.specs.Judging.{IsFormed}
+use Rattle.ill_elements.specs.code.Judging.{IsFormed}
 use Rattle.ill_refusals.specs.Next.{due}
 use Rattle.ill_elements.proofs.DueCells.{is-coming, shape-next}
 use Rattle.ill_elements.proofs.OpenFrames.{frames_open}

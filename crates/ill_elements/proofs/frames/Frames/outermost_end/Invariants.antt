@@ -1,5 +1,5 @@
 use Rattle.std.proofs.Common.{◌≡◌, drop}
-use Rattle.ill_elements.specs.Judging.{outermost_end}
+use Rattle.ill_elements.specs.code.Judging.{outermost_end}
 use Rattle.ill_elements.proofs.frames.Frames.outermost_end.Given as goal
 
 abbrev pub invariant-loop-frame : goal.invariant-loop-frame

@@ -1,5 +1,5 @@
 use Rattle.std.proofs.Common.{◌∙◌, ap, arith, length, length-append, subst, sym}
-use Rattle.ill_elements.specs.Judging.{IsEnd}
+use Rattle.ill_elements.specs.code.Judging.{IsEnd}
 use Rattle.ill_read.proofs.reader.Reader.end_element.Goals as goal
 
 pub returns-in-Some-clause-goes : goal.returns-in-Some-clause-goes

@@ -10,8 +10,8 @@ use Rattle.ill_elements.specs.Standing.{StandsAt}
 use Rattle.ill_refusals.specs.code.Judge.{judge_length}
 use Rattle.ill_elements.specs.Due.{read_as}
 use Rattle.ill_elements.specs.Elements.{element_is}
-use Rattle.ill_elements.specs.Judging.{IsBegin}
-use Rattle.ill_elements.specs.Judging.{Fits, IsExtent}
+use Rattle.ill_elements.specs.code.Judging.{IsBegin}
+use Rattle.ill_elements.specs.code.Judging.{Fits, IsExtent}
 use Rattle.ill_elements.proofs.Judgements.{behind_identifier, headed_judged}
 use Rattle.ill_read.proofs.reader.Reader.identified.Goals as goal
 

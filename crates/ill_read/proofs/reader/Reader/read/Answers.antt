@@ -7,7 +7,7 @@ use Rattle.ill_elements.specs.Due.{read_as}
 use Rattle.ill_elements.specs.Elements.{element_is}
 use Rattle.ill_refusals.specs.code.Step.{moved}
 use Rattle.ill_read.specs.code.Judged.{IsJudgement, IsStep}
-use Rattle.ill_elements.specs.Judging.{content_in}
+use Rattle.ill_elements.specs.code.Judging.{content_in}
 use Rattle.ill_read.specs.code.Progress.{Reads}
 use Rattle.ill_read.specs.code.Stepping.{ReadsExactly}
 use Rattle.ill_read.proofs.DecoderSteps.{is_refused}
