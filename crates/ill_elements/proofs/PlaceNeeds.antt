@@ -20,7 +20,7 @@ use Rattle.ill_elements.specs.declared.header.LengthRead.{LengthRead as Length}
 use Rattle.ill_elements.specs.declared.header.LengthRead.TheVariants.{NoLength, PartLength, Whole}
 use Rattle.ill_refusals.proofs.Continuations.{HasEnd}
 use Rattle.ill_elements.proofs.OpenFrames.{outermost_open}
-use Rattle.ill_refusals.proofs.Judgements.{judged, bound_some}
+use Rattle.ill_refusals.proofs.Judgements.{bound_some}
 use Rattle.ill_refusals.proofs.Truncation.{IsCutShort, in_mark as in_end_mark, in_identifier, in_element, IsLengthCut, truncated_at, truncated_in}
 
 -- no place reaches past the limit
