@@ -5,7 +5,7 @@ use Rattle.ber_leaf.specs.Leaf.{Leaf, integer, enumerated, Holds as LeafHolds, n
 use Rattle.ber_leaf.specs.Profile.{profile_two}
 use Rattle.ber_leaf.specs.Simple.{Simple, whole}
 use Rattle.ill_schema.specs.declared.{node.Kind.Kind, node.NodeId.NodeId, part.Presence.Presence, part.Row.Row}
-use Rattle.ill_schema.specs.declared.node.NodeId.TheVariants.{Integer, Enumerated, SendToList, AlreadyTriedList, UnitsPerMediumList, IllServiceTypes, SupplyMediumInfos, Locs}
+use Rattle.ill_schema.specs.declared.node.NodeId.TheVariants.{Integer, Enumerated}
 use Rattle.ill_schema.specs.declared.value.Value.{Value, Seq, List as ListOf, Alt}
 use Rattle.ill_schema.specs.Content.{Content, simple, sequence, list, alternative, foreign, Items, no_items, item}
 use Rattle.ill_schema.specs.Fits.{Fits, FitRows, FitItems}
@@ -74,25 +74,22 @@ unfolding IsListOf
 of_list_holds node (list is) e h = (e, of_items_hold is (rows_of node) h)
 of_list_holds node _ e h = absurd h
 
+abbrev KindHolds : Kind → NodeId → Content → Type 0
+KindHolds k node = elim k as (λ _. Content → Type 0) [ Kind.SeqOf ↦ IsListOf (ItemHolds (rows_of node)) | _ ↦ Single node ]
+
 holds_of : (node : NodeId) (c : Content) → Fits profile_two c node → Holds node c
-holds_of SendToList c h = list_holds SendToList c refl h
-holds_of AlreadyTriedList c h = list_holds AlreadyTriedList c refl h
-holds_of UnitsPerMediumList c h = list_holds UnitsPerMediumList c refl h
-holds_of IllServiceTypes c h = list_holds IllServiceTypes c refl h
-holds_of SupplyMediumInfos c h = list_holds SupplyMediumInfos c refl h
-holds_of Locs c h = list_holds Locs c refl h
-holds_of Enumerated c h = single_of Enumerated c h
-holds_of node c h = single_of node c h
+holds_of node c h = go (kind_of node) refl
+  where
+    go : (k : Kind) → kind_of node ≡ k → KindHolds k node c
+    go Kind.SeqOf e = list_holds node c e h
+    go _ e = single_of node c h
 
 of_holds : (node : NodeId) (c : Content) → Holds node c → Fits profile_two c node
-of_holds SendToList c h = of_list_holds SendToList c refl h
-of_holds AlreadyTriedList c h = of_list_holds AlreadyTriedList c refl h
-of_holds UnitsPerMediumList c h = of_list_holds UnitsPerMediumList c refl h
-of_holds IllServiceTypes c h = of_list_holds IllServiceTypes c refl h
-of_holds SupplyMediumInfos c h = of_list_holds SupplyMediumInfos c refl h
-of_holds Locs c h = of_list_holds Locs c refl h
-of_holds Enumerated c h = of_single Enumerated c h
-of_holds node c h = of_single node c h
+of_holds node c h = go (kind_of node) refl h
+  where
+    go : (k : Kind) → kind_of node ≡ k → KindHolds k node c → Fits profile_two c node
+    go Kind.SeqOf e x = of_list_holds node c e x
+    go _ e x = of_single node c x
 
 absent_holds : (p : Presence) (P : Content → Type 0) → MayLack p → PresenceHolds p P None
 unfolding Must May
