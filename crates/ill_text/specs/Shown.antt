@@ -4,11 +4,12 @@ use Rattle.std.specs.Fmt.{signed_decimal}
 use Rattle.std.specs.List.{list_all}
 use Rattle.ber_core.specs.Identifier.{identifier}
 use Rattle.ber_core.specs.Tree.{Tree, Trees, primitive, constructed, none, more}
+use Rattle.ber_leaf.specs.Profile.{Profile}
 use Rattle.ber_leaf.specs.Simple.{Simple, flag, whole, date, time, printable, general, visible, null, oid, binary, bits, descriptor}
 use Rattle.ill_schema.specs.declared.node.NodeId.{NodeId}
 use Rattle.ill_schema.specs.declared.node.NodeId.TheVariants.{LeftOut, IllApdu}
 use Rattle.ill_schema.specs.declared.part.Row.{Row}
-use Rattle.ill_schema.specs.Apdu.{Apdu}
+use Rattle.ill_schema.specs.Apdu.{Apdu, root}
 use Rattle.ill_schema.specs.Content.{Content, simple, sequence, list, alternative, foreign, Entries, no_entries, absent, present, Items, no_items, item}
 use Rattle.ill_schema.specs.Names.{names_of}
 use Rattle.ill_schema.specs.Table.{rows_of}
@@ -157,3 +158,9 @@ body_place a = record { path = []; name = []; node = row_node IllApdu (a.number 
 -- the text of an APDU that is message i
 abbrev pub shown_text : ℕ → Apdu → List ℕ
 shown_text i a = codes "message " ++ decimal i ++ codes " " ++ row_name IllApdu (a.number - 1) ++ codes "\n" ++ lines_of (body_place a) a.body
+
+-- the same in a profile, by the type of its messages
+abbrev pub shown_text_in : Profile → ℕ → Apdu → List ℕ
+shown_text_in p i a =
+    codes "message " ++ decimal i ++ codes " " ++ row_name (root p) (a.number - 1) ++ codes "\n"
+    ++ lines_of (record { path = []; name = []; node = row_node (root p) (a.number - 1) }) a.body

@@ -7,6 +7,7 @@
 //! ```
 #![tactic(auto)]
 
+mod laws;
 mod leaf;
 mod message;
 mod number;
@@ -17,6 +18,7 @@ mod show;
 mod text;
 mod trail;
 
+pub use laws::lifted_texts_are_the_same;
 pub use leaf::{front_octets, is_set, number_in};
 pub use message::{outline_of, show_text};
 pub use number::number_name;
