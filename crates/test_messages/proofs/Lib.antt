@@ -1,3 +1,4 @@
 pub mod Accepted
 pub mod FrontForms
 pub mod Refused
+pub mod ModuleForms

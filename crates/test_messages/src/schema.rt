@@ -1,14 +1,16 @@
 //! Worked messages, with their sizes from outside.
 
 mod contracts;
+mod module;
 
 use ber_core::Class;
 use ill_schema::{
     Kind, LIMIT, LeafKind, Message, Mode, NodeId, PartId, Presence, Row, Unfit, Value, apdu_name,
-    apdu_node, equal, fits, is_carried, is_default, kind, may_lack, normal_form_is_a_spelling,
-    normal_form_is_no_longer, normal_form_is_one_to_one, normal_size, normal_tree_means_the_value,
-    one_meaning, one_value, part_name, profile_two_extends_profile_one, replacement, row, rows,
-    rows_of, tables_are_well_formed, what_is_meant_fits, worked_messages, wrapper,
+    apdu_node, equal, fits, is_carried, is_default, kind, may_lack, no_octets_change_their_meaning,
+    normal_form_is_a_spelling, normal_form_is_no_longer, normal_form_is_one_to_one, normal_size,
+    normal_tree_means_the_value, one_meaning, one_value, part_name,
+    profile_two_extends_profile_one, replacement, row, rows, rows_of, tables_are_well_formed,
+    the_module_reads_profile_two, what_is_meant_fits, worked_messages, wrapper,
 };
 use std::alloc::Global;
 use std::test::Fail;
@@ -218,5 +220,7 @@ fn laws() {
     normal_form_is_one_to_one();
     normal_form_is_no_longer();
     profile_two_extends_profile_one();
+    the_module_reads_profile_two();
+    no_octets_change_their_meaning();
     worked_messages();
 }
