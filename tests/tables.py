@@ -8,7 +8,6 @@ from pathlib import Path
 TOP = Path(__file__).resolve().parent.parent
 PROGRAM = TOP / "crates/illcanon/out/illcanon"
 LEAVES = {"Boolean": 1, "Integer": 2, "Enumerated": 10, "IsoDate": 26, "IsoTime": 26, "PrintableString": 19}
-CHOICES = {"Symbol", "Name", "DeliveryService", "ShippedVia", "Results", "IllApdu"}
 PRINTABLE = "ABCXYZabcxyz0189 '()+,-./:=?"
 VISIBLE = "".join(map(chr, range(0x20, 0x7F)))
 # in Latin-1: no SO, SI and ESC
@@ -29,18 +28,42 @@ def read_tables():
         ]
 
     head = rows(re.search(r"macro_rules! headed \{(.*?)\n\}", source, re.S).group(1), "context")
-    arm = r"\((\w+), \$made:ident\) => \{\s*\$(made|crate::headed)!\[\w+, (?:(\w+)|\$made):(.*?)\]\s*\};"
-    tables = {
-        node: (head if kind == "crate::headed" else []) + rows(text, "application" if class_of_tags == "Application" else "context")
-        for node, kind, class_of_tags, text in re.findall(arm, source, re.S)
+    macro = re.search(r"macro_rules! table \{(.*?)\n\}", source, re.S).group(1)
+    rules = {
+        name: (re.findall(r"\$(\w+):\w+", words)[2:], text)
+        for name, words, text in re.findall(r"\(@(\w+) ([^)]*)\) => \{(.*?)\n    \};", macro, re.S)
     }
+    tables = {}
+    for node, text in re.findall(r"\((\w+), \$made:ident\) => \{(.*?)\n    \};", macro, re.S):
+        use = re.search(r"table!\(@(\w+) \w+, \$made,(.*)\)", text, re.S)
+        if use:
+            words, text = rules[use.group(1)]
+            for word, given in zip(words, re.findall(r"\([^)]*\)|\w+", use.group(2)), strict=True):
+                text = text.replace("$" + word, given)
+        class_of_tags = re.search(r"\[[\w$]+, (\w+):", text)
+        tables[node] = ([] if class_of_tags else head) + rows(text, class_of_tags.group(1).lower() if class_of_tags else "context")
     counts = {node: int(count) for count, node in re.findall(r"\[Row; (\d+)\] = table!\((\w+), rows\);", source)}
     assert counts == {node: len(rows) for node, rows in tables.items()}
     return tables
 
 
+def read_choices():
+    """The nodes that are choices."""
+    source = (TOP / "crates/ill_schema/src/lookup.rt").read_text()
+    return set(re.findall(r"NodeId::(\w+)", re.search(r"(NodeId::Symbol[^=]*)=> Kind::Choice", source).group(1)))
+
+
 ROWS = read_tables()
+CHOICES = read_choices()
 LISTS = {node for node, rows in ROWS.items() if len(rows) == 1 and rows[0].tag is None and node not in CHOICES}
+
+
+def reached(root):
+    """The nodes that a message of this type can have."""
+    nodes = [root]
+    for node in nodes:
+        nodes += {row.node for row in ROWS.get(node, [])} - set(nodes)
+    return nodes
 
 
 def read_names():
@@ -51,8 +74,13 @@ def read_names():
         name: (head if kind else []) + re.findall(r'"([^"]*)"', text)
         for name, kind, text in re.findall(r"const ([A-Z_]+): Names<\d+> =\s*(headed!)?\[(.*?)\];\n", source, re.S)
     }
-    titles = dict(re.findall(r'NodeId::(\w+) => "([^"]*)",', source))
-    return {node: (titles.get(node, ""), constants[name]) for node, name in re.findall(r"NodeId::(\w+) => &([A-Z_]+),", source)}
+    arm = r"((?:NodeId::\w+ \| )*NodeId::\w+) => "
+    titles = {node: title for nodes, title in re.findall(arm + r'"([^"]*)",', source) for node in re.findall(r"NodeId::(\w+)", nodes)}
+    return {
+        node: (titles.get(node, ""), constants[name])
+        for nodes, name in re.findall(arm + r"&([A-Z_]+),", source)
+        for node in re.findall(r"NodeId::(\w+)", nodes)
+    }
 
 
 NAMES = read_names()
