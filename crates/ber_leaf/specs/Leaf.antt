@@ -13,15 +13,13 @@ pub data Leaf : Type 0 where
   boolean integer enumerated general_string visible_string printable_string iso_date iso_time : Leaf
   null_type object_identifier octet_string bit_string object_descriptor : Leaf
 
--- strings of characters and of octets may be in segments (8.7, 8.23, 8.25). A string of bits may be, too (8.6.4), but its segments
--- are not defined yet.
+-- strings of bits, of octets and of characters may be in segments (8.6.4, 8.7.3, 8.23, 8.25)
 abbrev pub is_string : Leaf → Bool
 is_string boolean = false
 is_string integer = false
 is_string enumerated = false
 is_string null_type = false
 is_string object_identifier = false
-is_string bit_string = false
 is_string _ = true
 
 -- the characters of PrintableString (X.680, 41.4)

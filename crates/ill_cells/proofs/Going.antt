@@ -1,6 +1,7 @@
 -- Where an element begins inside, and what comes after it.
 use Rattle.std.proofs.Common.{◌≡◌, ℕ, zero, suc, ◌+◌, true, IsTrue, List, [], ◌∷◌, drop, None, refl, sym, ap, ◌∙◌, arith}
 use Rattle.std.proofs.lemmas.Bool.{and_parts}
+use Rattle.ber_core.specs.Tree.{octet_string}
 use Rattle.ber_leaf.specs.Profile.{profile_two}
 use Rattle.ill_schema.specs.declared.node.Kind.{Kind}
 use Rattle.ill_schema.specs.declared.node.NodeId.{NodeId}
@@ -31,19 +32,25 @@ segment-element other (sequence n) = refl
 segment-element other (list n) = refl
 segment-element other (wrapper c) = refl
 segment-element other (loose_wrapper c) = refl
-segment-element other segment = refl
+segment-element other (segment t) = refl
 segment-element other (left_out p) = refl
 segment-element other (foreign n) = refl
 
-segment-next : (other : Component) (e : Element) → next_of (due_segment other e) ≡ segments
-segment-next other (leaf l) = refl
-segment-next other (sequence n) = refl
-segment-next other (list n) = refl
-segment-next other (wrapper c) = refl
-segment-next other (loose_wrapper c) = refl
-segment-next other segment = refl
-segment-next other (left_out p) = refl
-segment-next other (foreign n) = refl
+segment-next : (other : Component) (q : PartId) (node : NodeId) (w : What) → next_of (due_segment other (element_in q node w)) ≡ segments octet_string
+segment-next other q node what.Boolean = refl
+segment-next other q node what.Integer = refl
+segment-next other q node what.Enumerated = refl
+segment-next other q node what.General = refl
+segment-next other q node what.Visible = refl
+segment-next other q node what.Printable = refl
+segment-next other q node what.Date = refl
+segment-next other q node what.Time = refl
+segment-next other q node what.Sequence = refl
+segment-next other q node what.List = refl
+segment-next other q node what.Wrapper = refl
+segment-next other q node what.LooseWrapper = refl
+segment-next other q node what.Segment = refl
+segment-next other q node what.LeftOut = refl
 
 -- what is due is the element
 pub element-due : (p : PartId) (node : NodeId) (position : ℕ) (s : Slot) (e : Element) → element_of (due_at p node position s e) ≡ e
@@ -66,7 +73,7 @@ segment-default other (sequence n) h = ap presence_default (sym h)
 segment-default other (list n) h = ap presence_default (sym h)
 segment-default other (wrapper c) h = ap presence_default (sym h)
 segment-default other (loose_wrapper c) h = ap presence_default (sym h)
-segment-default other segment h = refl
+segment-default other (segment t) h = refl
 segment-default other (left_out p) h = ap presence_default (sym h)
 segment-default other (foreign n) h = ap presence_default (sym h)
 
@@ -77,7 +84,7 @@ default-due p node position slot.Inner e = refl
 default-due p node position slot.Item e = item-default (wrapped p node) e _ refl
 default-due p node position slot.Segment e = segment-default (wrapped p node) e refl
 
-leaf-first : (p : PartId) (node : NodeId) (k : Kind) → is_leaf k ≡ true → next_of_kind k p node 1 ≡ segments
+leaf-first : (p : PartId) (node : NodeId) (k : Kind) → is_leaf k ≡ true → next_of_kind k p node 1 ≡ segments octet_string
 leaf-first p node (Kind.Leaf l) h = refl
 leaf-first p node Kind.IllString h = refl
 leaf-first p node Kind.Seq h = absurd cc
@@ -198,8 +205,8 @@ after-item p node zero e k f h = absurd cc
 after-item p node (suc (suc n)) e k f h = absurd cc
 
 -- after a segment come more
-pub after-segment : (p : PartId) (node : NodeId) (position : ℕ) (e : Element) (k : Kind) → kind_of node ≡ k → is_placed k position slot.Segment ≡ true
-    → next_from p node position ≡ next_of (due_at p node position slot.Segment e)
-after-segment p node (suc zero) e k f h = ap (λ (x : Kind). next_of_kind x p node 1) f ∙ leaf-first p node k h ∙ sym (segment-next (wrapped p node) e)
-after-segment p node zero e k f h = absurd cc
-after-segment p node (suc (suc n)) e k f h = absurd cc
+pub after-segment : (p : PartId) (node : NodeId) (position : ℕ) (q : PartId) (n : NodeId) (w : What) (k : Kind) → kind_of node ≡ k → is_placed k position slot.Segment ≡ true
+    → next_from p node position ≡ next_of (due_at p node position slot.Segment (element_in q n w))
+after-segment p node (suc zero) q n w k f h = ap (λ (x : Kind). next_of_kind x p node 1) f ∙ leaf-first p node k h ∙ sym (segment-next (wrapped p node) q n w)
+after-segment p node zero q n w k f h = absurd cc
+after-segment p node (suc (suc m)) q n w k f h = absurd cc

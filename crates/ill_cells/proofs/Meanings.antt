@@ -113,7 +113,7 @@ said-item node (c ∷ cs) m ms e f =
       begins = λ t p a x b. subst (λ xs. BeginsDue t (due_item (wrapped p node) x xs) a) (sym e) (begins-component t c a x (record { is = b.is; by = b.by }));
     })
 
-segment-only : (b : Bool) (e : Element) → option_map (λ (s : Start). s.element) (if b then Some (start octet_string segment) else None) ≡ Some e → segment ≡ e
+segment-only : (b : Bool) (e : Element) → option_map (λ (s : Start). s.element) (if b then Some (start octet_string (segment octet_string)) else None) ≡ Some e → segment octet_string ≡ e
 segment-only true e h = cc
 segment-only false e h = absurd cc
 
@@ -121,7 +121,7 @@ no_alternative : (t : Tag) (a : Option ℕ) (e : Element) → BeginsIn t None a 
 no_alternative t None e b = refl
 no_alternative t (Some n) e b = absurd b
 
-said-segment : (k : Kind) (node : NodeId) → IsTrue (is_placed k 1 slot.Segment) → IsSaid k node 1 (meant (start octet_string segment ∷ []) slot.Segment false false None None)
+said-segment : (k : Kind) (node : NodeId) → IsTrue (is_placed k 1 slot.Segment) → IsSaid k node 1 (meant (start octet_string (segment octet_string) ∷ []) slot.Segment false false None None)
 said-segment k node h = record {
   opens = refl;
   placed = h;
@@ -136,7 +136,7 @@ said-string : (k : Kind) (node : NodeId) (position : ℕ) (m : Meant) (ms : List
 said-string k node zero m ms h f =
     let g : meant (node_starts node) slot.Inner true true (node_choice node) None ≡ m = cc in subst (IsSaid k node zero) g (said-around k node true true)
 said-string k node (suc zero) m ms h f =
-    let g : meant (start octet_string segment ∷ []) slot.Segment false false None None ≡ m = cc in subst (IsSaid k node 1) g (said-segment k node h)
+    let g : meant (start octet_string (segment octet_string) ∷ []) slot.Segment false false None None ≡ m = cc in subst (IsSaid k node 1) g (said-segment k node h)
 said-string k node (suc (suc n)) m ms h f = absurd (let g : [] ≡ m ∷ ms = sym (drop-none n) ∙ f in cc)
 
 said-kind : (k : Kind) (node : NodeId) (position : ℕ) (m : Meant) (ms : List Meant) → drop position (kind_meant k node) ≡ m ∷ ms → IsSaid k node position m

@@ -89,13 +89,13 @@ pub same_tag-swap : (s t : Tag) → same_tag s t ≡ same_tag t s
 same_tag-swap s t = ap₂ ◌&&◌ (nat_eq-swap (class_bits s.class) (class_bits t.class)) (nat_eq-swap s.number t.number)
 
 -- in a string there are segments
-scan-segments : (t : Tag) (p : PartId) (node : NodeId) → scan t p node 1 segment_meant ≡ due profile_two t segments
-scan-segments t p node = at (same_tag octet_string t) ∙ ap (λ b. if b then Some octets else None) (same_tag-swap octet_string t)
+scan-segments : (t : Tag) (p : PartId) (node : NodeId) → scan t p node 1 segment_meant ≡ due profile_two t (segments octet_string)
+scan-segments t p node = at (same_tag octet_string t) ∙ ap (λ b. if b then Some (octets octet_string) else None) (same_tag-swap octet_string t)
   where
-    at : (b : Bool) → elim (option_map (λ (s : Start). s.element) (if b then Some (start octet_string segment) else None)) as (λ _. Option Due) [
+    at : (b : Bool) → elim (option_map (λ (s : Start). s.element) (if b then Some (start octet_string (segment octet_string)) else None)) as (λ _. Option Due) [
       | Some x ↦ Some (due_at p node 1 slot.Segment x)
       | None ↦ None
-    ] ≡ (if b then Some octets else None)
+    ] ≡ (if b then Some (octets octet_string) else None)
     at true = refl
     at false = refl
 

@@ -1,6 +1,7 @@
 -- What an index and a cell that is found stand for.
 use Rattle.std.specs.Prelude.{◌≡◌, ℕ, ℤ, zero, suc, Bool, true, false, List, [], ◌∷◌, drop, Option, Some, None, find, option_map, slice_get, if◌then◌else◌}
 use Rattle.ber_core.specs.Identifier.{Tag}
+use Rattle.ber_core.specs.Tree.{octet_string}
 use Rattle.ber_leaf.specs.Leaf.{boolean, integer, enumerated, general_string, visible_string, printable_string, iso_date, iso_time}
 use Rattle.ber_leaf.specs.Profile.{profile_two}
 use Rattle.ill_schema.specs.declared.node.Kind.{Kind}
@@ -24,8 +25,8 @@ wrapped p node = record { part = p; presence = Presence.Must; tagging = untagged
 -- what may come in a node that is open
 abbrev pub inside : Kind → NodeId → Next
 inside Kind.SeqOf node = opening profile_two (list node)
-inside (Kind.Leaf _) node = segments
-inside Kind.IllString node = segments
+inside (Kind.Leaf _) node = segments octet_string
+inside Kind.IllString node = segments octet_string
 inside _ node = rows []
 
 -- what may come at a position of a node: at 0 in the wrapper of a part round it, from 1 on in the node itself
@@ -53,7 +54,7 @@ element_in p node what.Sequence = sequence node
 element_in p node what.List = list node
 element_in p node what.Wrapper = wrapper (wrapped p node)
 element_in p node what.LooseWrapper = loose_wrapper (wrapped p node)
-element_in p node what.Segment = segment
+element_in p node what.Segment = segment octet_string
 element_in p node what.LeftOut = left_out p
 
 -- the node, where it is a choice
@@ -105,8 +106,8 @@ due_item other e [] = part other e (rows [])
 due_item other e (c ∷ cs) = part c e (items c)
 
 abbrev pub due_segment : Component → Element → Due
-due_segment other segment = octets
-due_segment other e = part other e segments
+due_segment other (segment t) = octets t
+due_segment other e = part other e (segments octet_string)
 
 -- the element is due at a position of a node, where the wrapper round it is of a part
 abbrev pub due_at : PartId → NodeId → ℕ → Slot → Element → Due
@@ -131,7 +132,7 @@ Begins t c (Some n) e = (c.tagging ≡ untagged) × (kind_of c.node ≡ Kind.Cho
 -- the same of what is due
 abbrev pub BeginsDue : Tag → Due → Option ℕ → Type 0
 BeginsDue t (part c e n) alternative = Begins t c alternative e
-BeginsDue t octets alternative = alternative ≡ None
+BeginsDue t (octets u) alternative = alternative ≡ None
 BeginsDue t (any n next) alternative = alternative ≡ None
 
 -- the part that is missing at a position of a node, where the wrapper round it is of a part
@@ -146,5 +147,5 @@ presence_default _ = None
 -- the default of the component that is due (8.9.3)
 abbrev pub default_due : Due → Option ℤ
 default_due (part c e n) = presence_default c.presence
-default_due octets = None
+default_due (octets tag) = None
 default_due (any n next) = None

@@ -207,11 +207,11 @@ item-due t node D d h b slot is = go (components profile_two node) refl h
     go (c ∷ cs) f k = item-start t node c cs D d (start_of profile_two t c) f refl k b slot is
 
 -- a segment that is due
-pub segment-due : (t : Tag) (D : next.Due) (d : Due) → due profile_two t next.segments ≡ Some D → d.slot ≡ InString → found_is d.found ≡ element_of D → IsSegmentDue t d
+pub segment-due : (t : Tag) (D : next.Due) (d : Due) → due profile_two t (next.segments octet_string) ≡ Some D → d.slot ≡ InString → found_is d.found ≡ element_of D → IsSegmentDue t d
 segment-due t D d h slot is = at (same_tag t octet_string) refl h
   where
-    at : (b : Bool) → same_tag t octet_string ≡ b → (if b then Some octets else None) ≡ Some D → IsSegmentDue t d
-    at true f k = record { slot = slot; tag = f; found = is ∙ ap element_of (let q : octets ≡ D = cc in sym q) }
+    at : (b : Bool) → same_tag t octet_string ≡ b → (if b then Some (octets octet_string) else None) ≡ Some D → IsSegmentDue t d
+    at true f k = record { slot = slot; tag = f; found = is ∙ ap element_of (let q : octets octet_string ≡ D = cc in sym q) }
     at false f k = absurd cc
 
 -- what is due at a place with the tag, in its slot

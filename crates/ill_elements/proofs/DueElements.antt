@@ -1,6 +1,7 @@
 -- What is due by the decoder's words is due by the definitions.
 use Rattle.std.proofs.Common.{◌≡◌, ℕ, zero, suc, ◌+◌, Bool, true, false, List, [], ◌∷◌, drop, Option, Some, None, option_map, refl, sym, ap, ap₂, ◌∙◌, arith, inl, inr, if◌then◌else◌, slice_get}
 use Rattle.ber_core.specs.Identifier.{Tag}
+use Rattle.ber_core.specs.Tree.{octet_string}
 use Rattle.ber_leaf.specs.Profile.{profile_two}
 use Rattle.ill_schema.specs.declared.node.NodeId.{NodeId}
 use Rattle.ill_schema.specs.declared.part.Presence.{Presence}
@@ -112,5 +113,5 @@ due_element_is t (Either w) d (inr h) =
     let e = ap (λ b. elim b as (λ _. Option next.Due) [ true ↦ due_in profile_two t (component_of w ∷ []) | false ↦ due_in profile_two t (components profile_two w.node) ]) h.0 in
     (a.2.0, e ∙ a.2.1, a.2.2, a.2.3 ∙ ap (λ s. next_is (behind (Either w) s)) (sym a.1))
 due_element_is t Segments d h =
-    (octets, ap (λ (b : Bool). if b then Some octets else None) h.tag, sym h.found, ap (λ s. next_is (behind Segments s)) (sym h.slot))
+    (octets octet_string, ap (λ (b : Bool). if b then Some (octets octet_string) else None) h.tag, sym h.found, ap (λ s. next_is (behind Segments s)) (sym h.slot))
 due_element_is t Nothing d h = absurd h

@@ -4,6 +4,7 @@ use Rattle.std.specs.List.{list_all}
 use Rattle.ber_core.specs.Identifier.{Tag}
 use Rattle.ber_core.specs.declared.id.Class.{Class}
 use Rattle.ber_core.specs.declared.id.Class.TheVariants.{Universal}
+use Rattle.ber_core.specs.Tree.{octet_string}
 use Rattle.ber_leaf.specs.Leaf.{boolean, enumerated, integer, is_string}
 use Rattle.ber_leaf.specs.Profile.{profile_two}
 use Rattle.ill_schema.specs.Content.{Content}
@@ -54,7 +55,7 @@ retag_all P Q t (s ∷ ss) f h = (f s.tag s.element h.0, retag_all P Q t ss f h.
 
 -- no segment, and its tag is no end mark's
 abbrev IsStart : Tag → Element → Type 0
-IsStart t e = (e ≡ segment → ⊥) × (t.class ≡ Universal → t.number ≡ 0 → ⊥)
+IsStart t e = (e ≡ segment octet_string → ⊥) × (t.class ≡ Universal → t.number ≡ 0 → ⊥)
 
 own_apart : (k : Kind) (node : NodeId) → AllStarts IsStart (own_starts k node)
 own_apart Kind.Choice node = tt
@@ -148,15 +149,15 @@ due_start t Segments d h = inl refl
 due_start t Nothing d h = absurd h
 
 -- a segment is due in strings alone
-pub segment_due : (t : Tag) (n : Next) (d : Due) → IsDueIn t n d → found_is d.found ≡ segment → n ≡ Segments
+pub segment_due : (t : Tag) (n : Next) (d : Due) → IsDueIn t n d → found_is d.found ≡ segment octet_string → n ≡ Segments
 segment_due t n d h s = elim (due_start t n d h) [ inl e ↦ e | inr k ↦ absurd (k.0 s) ]
 
 -- and what is due in a string is a segment
-pub due_segment : (t : Tag) (n : Next) (d : Due) → IsDueIn t n d → n ≡ Segments → found_is d.found ≡ segment
+pub due_segment : (t : Tag) (n : Next) (d : Due) → IsDueIn t n d → n ≡ Segments → found_is d.found ≡ segment octet_string
 due_segment t n d h e = (let k : IsDueIn t Segments d = subst (λ x. IsDueIn t x d) e h in k.found)
 
 -- the tag of what is due, but of a segment
-pub due_apart : (t : Tag) (n : Next) (d : Due) → IsDueIn t n d → (found_is d.found ≡ segment → ⊥) → t.class ≡ Universal → t.number ≡ 0 → ⊥
+pub due_apart : (t : Tag) (n : Next) (d : Due) → IsDueIn t n d → (found_is d.found ≡ segment octet_string → ⊥) → t.class ≡ Universal → t.number ≡ 0 → ⊥
 due_apart t n d h s = elim (due_start t n d h) [ inl e ↦ absurd (s (due_segment t n d h e)) | inr k ↦ k.1 ]
 
 -- an element that may be constructed

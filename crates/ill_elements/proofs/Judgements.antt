@@ -5,7 +5,6 @@ use Rattle.std.proofs.lemmas.List.{take-append-le, drop-append-le}
 use Rattle.ber_core.specs.Id.{tag_of_id, form_of_id}
 use Rattle.ber_core.specs.Identifier.{Tag}
 use Rattle.ber_core.specs.Octets.{are_octets}
-use Rattle.ber_core.specs.Tree.{text_all}
 use Rattle.ber_core.specs.declared.id.Id.{Id}
 use Rattle.ber_leaf.specs.Profile.{profile_two}
 use Rattle.ill_schema.specs.declared.part.PartId.{PartId}
@@ -16,7 +15,7 @@ use Rattle.ill_cells.specs.declared.at.At.{At}
 use Rattle.ill_cells.specs.declared.at.Found.{Found as CellFound}
 use Rattle.ill_elements.specs.Due.{BeginsAt, IsComing, IsDueIn, behind, due_as, next_is, read_as, read_due, shape, slot_in}
 use Rattle.ill_refusals.specs.Element.{Element}
-use Rattle.ill_refusals.specs.Fault.{Fault, fault, element_fault, ends_at, is_indefinite, cut_fault}
+use Rattle.ill_refusals.specs.Fault.{Fault, fault, string_fault, ends_at, is_indefinite, cut_fault}
 use Rattle.ill_refusals.specs.code.Judge.{Judgement, faulty, closes, or_faulty, judge_end, judge_size, judge_length, judge_form, judge_tag, judge_element, judge_mark, judge_octets, judge}
 use Rattle.ill_elements.specs.code.Judging.{IsFormed, judge_identified}
 use Rattle.ill_elements.specs.code.Judging.{IsBegin, IsEnd, content_in}
@@ -36,7 +35,7 @@ use Rattle.ill_refusals.proofs.Headers.{read_is_length}
 abbrev end_body : Open → List Open → ℕ → ℕ → Option PartId → Judgement
 end_body o path at marks x = elim x as (λ _. Judgement) [
   | Some part ↦ faulty (fault (Cause.Missing part) at)
-  | None ↦ or_faulty (element_fault profile_two o.element (text_all o.trees)) o.start (closes marks)
+  | None ↦ or_faulty (string_fault profile_two o.element o.trees) o.start (closes marks)
 ]
 
 -- the innermost element ends, and a part is missing

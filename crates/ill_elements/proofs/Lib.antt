@@ -1,4 +1,5 @@
 pub mod Enumerated
+pub mod ReadLeaves
 pub mod DueElements
 pub mod DueCells
 pub mod Entries

@@ -1,7 +1,8 @@
 -- What a whole element means where it is due.
 use Rattle.std.proofs.Common.{◌≡◌, ◌⊎◌, ℕ, List, Option, Some, None, option_map, IsTrue, refl, sym, ap, subst, ◌∙◌, inl, inr}
 use Rattle.ber_core.specs.Identifier.{Tag}
-use Rattle.ber_core.specs.Tree.{Tree, constructed, none, more, tag_of, text}
+use Rattle.ber_core.specs.Tree.{Tree, constructed, none, more, tag_of}
+use Rattle.ber_leaf.specs.Segments.{leaf_content}
 use Rattle.ber_leaf.specs.Leaf.{value}
 use Rattle.ber_leaf.specs.Profile.{profile_two}
 use Rattle.ill_schema.specs.declared.node.Kind.{Kind}
@@ -47,7 +48,7 @@ kind_means node g T Kind.Any c e n o lift h = absurd (o refl)
 kind_means node g T Kind.IllString c e n o lift h =
     let l = leaf_at Kind.IllString (tag_of T).number in
     subst (λ x. Means profile_two x node g T) (sym h.3)
-    (l, ap (λ k. leaf_of k (value l (text T))) e ∙ leaf_value Kind.IllString (tag_of T).number (text T) (λ x. no_shape x), lift _ (refl, h.0, (h.1, h.2, refl)))
+    (l, ap (λ k. leaf_of k (value l (leaf_content l T))) e ∙ leaf_value Kind.IllString (tag_of T).number (leaf_content l T) (λ x. no_shape x), lift _ (refl, h.0, (h.1, h.2, refl)))
   where
     no_shape : (Kind.IllString ≡ Kind.Seq) ⊎ (Kind.IllString ≡ Kind.SeqOf) ⊎ (Kind.IllString ≡ Kind.Choice) ⊎ (Kind.IllString ≡ Kind.Any) → ⊥
     no_shape (inl x) = cc
@@ -57,7 +58,7 @@ kind_means node g T Kind.IllString c e n o lift h =
 kind_means node g T (Kind.Leaf x) c e n o lift h =
     let l = leaf_at (Kind.Leaf x) (tag_of T).number in
     subst (λ y. Means profile_two y node g T) (sym h.3)
-    (l, ap (λ k. leaf_of k (value l (text T))) e ∙ leaf_value (Kind.Leaf x) (tag_of T).number (text T) (λ y. no_shape x y), lift _ (refl, h.0, (h.1, h.2, refl)))
+    (l, ap (λ k. leaf_of k (value l (leaf_content l T))) e ∙ leaf_value (Kind.Leaf x) (tag_of T).number (leaf_content l T) (λ y. no_shape x y), lift _ (refl, h.0, (h.1, h.2, refl)))
   where
     no_shape : (x : LeafKind) → (Kind.Leaf x ≡ Kind.Seq) ⊎ (Kind.Leaf x ≡ Kind.SeqOf) ⊎ (Kind.Leaf x ≡ Kind.Choice) ⊎ (Kind.Leaf x ≡ Kind.Any) → ⊥
     no_shape x (inl y) = cc

@@ -1,7 +1,8 @@
 -- The normal tree of what an element holds, where the element is due.
 use Rattle.std.proofs.Common.{◌≡◌, ◌⊎◌, ℕ, List, Option, Some, None, option_map, IsTrue, refl, sym, ap, subst, ◌∙◌, inl, inr}
 use Rattle.ber_core.specs.Identifier.{Tag}
-use Rattle.ber_core.specs.Tree.{Tree, primitive, constructed, none, more, text}
+use Rattle.ber_core.specs.Tree.{Tree, primitive, constructed, none, more}
+use Rattle.ber_leaf.specs.Segments.{leaf_content}
 use Rattle.ber_leaf.specs.Leaf.{normal_content, value}
 use Rattle.ber_leaf.specs.Profile.{profile_two}
 use Rattle.ill_schema.specs.declared.node.Kind.{Kind}
@@ -47,9 +48,9 @@ unfolding own_of
 kind_tree node g t Kind.Choice n c T e other typed at h = absurd (other refl)
 kind_tree node g t Kind.Any n c T e other typed at h = absurd (typed refl)
 kind_tree node g t Kind.IllString n c T e other typed at h =
-    rw h.3 (leaf_tree node g t Kind.IllString n (text T) e (λ x. elim x [ inl q ↦ cc | inr (inl q) ↦ cc | inr (inr (inl q)) ↦ cc | inr (inr (inr q)) ↦ cc ]) at)
+    rw h.3 (leaf_tree node g t Kind.IllString n (leaf_content (leaf_at Kind.IllString n) T) e (λ x. elim x [ inl q ↦ cc | inr (inl q) ↦ cc | inr (inr (inl q)) ↦ cc | inr (inr (inr q)) ↦ cc ]) at)
 kind_tree node g t (Kind.Leaf l) n c T e other typed at h =
-    rw h.3 (leaf_tree node g t (Kind.Leaf l) n (text T) e (λ x. elim x [ inl q ↦ cc | inr (inl q) ↦ cc | inr (inr (inl q)) ↦ cc | inr (inr (inr q)) ↦ cc ]) at)
+    rw h.3 (leaf_tree node g t (Kind.Leaf l) n (leaf_content (leaf_at (Kind.Leaf l) n) T) e (λ x. elim x [ inl q ↦ cc | inr (inl q) ↦ cc | inr (inr (inl q)) ↦ cc | inr (inr (inr q)) ↦ cc ]) at)
 kind_tree node g t _ n c T e other typed at h = rw h.4 (at _)
 
 -- an explicit tag holds the one tree, also where it may be bare

@@ -3,9 +3,10 @@ use Rattle.std.specs.Prelude.{◌≡◌, ◌⊎◌, ℕ, suc, Option, Some, None
 use Rattle.ber_core.specs.Foreign.{is_foreign}
 use Rattle.ber_core.specs.Identifier.{Tag}
 use Rattle.ber_core.specs.Octets.{are_octets}
-use Rattle.ber_core.specs.Tree.{Tree, Trees, constructed, none, more, text}
+use Rattle.ber_core.specs.Tree.{Tree, Trees, constructed, none, more}
 use Rattle.ber_leaf.specs.Leaf.{value, content_fault}
 use Rattle.ber_leaf.specs.Profile.{profile_two}
+use Rattle.ber_leaf.specs.Segments.{leaf_content}
 use Rattle.ill_schema.specs.Content.{Content, simple, alternative, Entries, Items}
 use Rattle.ill_schema.specs.Content as content
 use Rattle.ill_schema.specs.Meaning.{Means, Matches, MatchItems, IsLeaf}
@@ -18,14 +19,14 @@ use Rattle.ill_refusals.specs.Element.{Element, leaf, sequence, list, wrapper, l
 
 -- the content is what the tree means as a whole element
 abbrev pub IsValueOf : Element → Content → Tree → Type 0
-IsValueOf (leaf l) c T = IsLeaf l T × IsTrue (are_octets (text T)) × (content_fault profile_two l (text T) ≡ None) × (c ≡ simple (value l (text T)))
+IsValueOf (leaf l) c T = IsLeaf l T × IsTrue (are_octets (leaf_content l T)) × (content_fault profile_two l (leaf_content l T) ≡ None) × (c ≡ simple (value l (leaf_content l T)))
 IsValueOf (sequence node) c T = (tag : Tag) × (ts : Trees) × (es : Entries) × (T ≡ constructed tag ts) × (c ≡ content.sequence es) × Matches profile_two es (rows_of node) ts
 IsValueOf (list node) c T = (tag : Tag) × (ts : Trees) × (is : Items) × (T ≡ constructed tag ts) × (c ≡ content.list is) × MatchItems profile_two is (rows_of node) ts
 IsValueOf (wrapper w) c T = (tag : Tag) × (U : Tree) × (T ≡ constructed tag (more U none)) × Means profile_two c w.node untagged U
 IsValueOf (loose_wrapper w) c T =
     ((tag : Tag) × (U : Tree) × (T ≡ constructed tag (more U none)) × Means profile_two c w.node untagged U)
     ⊎ ((tag : Tag) × (ts : Trees) × (es : Entries) × (T ≡ constructed tag ts) × (c ≡ content.sequence es) × Matches profile_two es (rows_of w.node) ts)
-IsValueOf segment c T = ⊥
+IsValueOf (segment tag) c T = ⊥
 IsValueOf (foreign n) c T = IsTrue (is_foreign (suc n) T) × (c ≡ content.foreign T)
 IsValueOf (left_out part) c T = ⊥
 

@@ -121,7 +121,7 @@ next_is (Rows node n) = next.rows (drop n (components profile_two node))
 next_is (Inner w) = next.rows (component_of w ∷ [])
 next_is (Items node) = next.opening profile_two (list node)
 next_is (Either w) = next.either (component_of w)
-next_is Segments = next.segments
+next_is Segments = next.segments octet_string
 next_is Nothing = next.rows []
 
 -- the tag begins an element of the row of a choice
@@ -178,7 +178,7 @@ pub record IsInnerDue (t : Tag) (w : Wrapped) (d : Due) : Type 0 where
 pub record IsSegmentDue (t : Tag) (d : Due) : Type 0 where
   pub slot : d.slot ≡ Segment
   pub tag : same_tag t octet_string ≡ true
-  pub found : found_is d.found ≡ segment
+  pub found : found_is d.found ≡ segment octet_string
 
 -- what is due there with the tag
 abbrev pub IsDueIn : Tag → Next → Due → Type 0

@@ -1,6 +1,7 @@
 -- What the decoder's types stand for.
 use Rattle.std.specs.Prelude.{List, find, Option, option_map}
 use Rattle.ber_core.specs.Identifier.{Tag}
+use Rattle.ber_core.specs.Tree.{octet_string}
 use Rattle.ber_leaf.specs.Profile.{profile_two}
 use Rattle.ill_schema.specs.declared.part.PartId.{PartId}
 use Rattle.ill_schema.specs.declared.part.Presence.{Presence}
@@ -23,7 +24,7 @@ element_is (code.Sequence node) = sequence node
 element_is (code.List node) = list node
 element_is (code.Wrapper w) = wrapper (component_of w)
 element_is (code.LooseWrapper w) = loose_wrapper (component_of w)
-element_is code.Segment = segment
+element_is code.Segment = segment octet_string
 
 abbrev pub found_is : Found → Element
 found_is (found.Element e) = element_is e

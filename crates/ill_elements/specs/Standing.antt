@@ -1,6 +1,6 @@
 -- How frames stand for the elements that are open at a place.
 use Rattle.std.specs.Prelude.{◌≡◌, ℕ, List, [], ◌∷◌, ◌++◌, length, take, map, Option, Some, IsTrue}
-use Rattle.ber_core.specs.Tree.{Tree, Trees, none, more, tag_of, AreSegments}
+use Rattle.ber_core.specs.Tree.{Tree, Trees, none, more, tag_of, AreSegments, octet_string}
 use Rattle.ber_core.specs.Identifier.{Tag}
 use Rattle.ber_core.specs.Octets.{are_octets}
 use Rattle.ber_leaf.specs.Leaf.{is_string}
@@ -53,8 +53,8 @@ HoldsPart w entries ts = (c : Content) × (U : Tree) × (entries ≡ Some c ∷ 
 
 -- the entries are what the trees in an element mean so far
 abbrev pub IsHeld : CodeElement → Next → List (Option Content) → Trees → Type 0
-IsHeld (Leaf l) Segments entries ts = IsTrue (is_string (leaf_is l)) × (entries ≡ []) × AreSegments ts
-IsHeld Segment Segments entries ts = (entries ≡ []) × AreSegments ts
+IsHeld (Leaf l) Segments entries ts = IsTrue (is_string (leaf_is l)) × (entries ≡ []) × AreSegments octet_string ts
+IsHeld Segment Segments entries ts = (entries ≡ []) × AreSegments octet_string ts
 IsHeld (Sequence node) (Rows same n) entries ts = (same ≡ node) × Matches profile_two (entries_of entries) (take n (rows_of node)) ts
 IsHeld (ListOf node) (Items same) entries ts =
     (same ≡ node) × (items : List Content) × (entries ≡ map Some items) × MatchItems profile_two (items_of items) (rows_of node) ts

@@ -3,14 +3,14 @@ use Rattle.std.specs.Prelude.{⊤}
 use Rattle.std.proofs.Common.{◌≡◌, ℕ, ◌+◌, ◌-◌, List, [], ◌∷◌, ◌++◌, length, length-append, take, drop, Bool, false, Option, Some, None, Result, Ok, Err, refl, sym, ap, ap₂, subst, ◌∙◌, arith, slice_get}
 use Rattle.std.proofs.lemmas.List.{take_at}
 use Rattle.std.specs.Result.{IsErrAnd}
-use Rattle.ber_core.specs.Tree.{Trees, constructed, text_all, AreSegments}
+use Rattle.ber_core.specs.Tree.{Trees, constructed, octet_string, text_all, AreSegments}
 use Rattle.ber_leaf.specs.Profile.{profile_two}
 use Rattle.ber_leaf.specs.declared.fault.LeafFault.{LeafFault}
 use Rattle.ill_schema.specs.Causes.{cause_of}
 use Rattle.ill_schema.specs.Content.{Content}
 use Rattle.ill_refusals.specs.Element.{segment}
 use Rattle.ill_refusals.specs.Next.{missing}
-use Rattle.ill_refusals.specs.Fault.{fault, element_fault}
+use Rattle.ill_refusals.specs.Fault.{fault, element_fault, string_fault}
 use Rattle.ill_refusals.specs.Place.{Open, next_in}
 use Rattle.ill_refusals.specs.code.Judge.{Judgement, closes, or_faulty}
 use Rattle.ill_refusals.specs.code.Step.{moved}
@@ -64,7 +64,7 @@ popped old frames levels f o path a rest last =
     }
 
 -- the end that was judged, by the fault of its text
-ending : (place : List Open) (marks at : ℕ) (rest : List ℕ) (j : Judgement) (e : IsEnd place marks j) (x : Option LeafFault) → element_fault profile_two e.innermost.element (text_all e.innermost.trees) ≡ x
+ending : (place : List Open) (marks at : ℕ) (rest : List ℕ) (j : Judgement) (e : IsEnd place marks j) (x : Option LeafFault) → string_fault profile_two e.innermost.element e.innermost.trees ≡ x
     → moved j place at rest ≡ moved (or_faulty x e.innermost.start (closes marks)) (e.innermost ∷ e.outer) at rest
 ending place marks at rest j e x h = ap₂ (λ y p. moved y p at rest) e.is e.is_path ∙ ap (λ y. moved (or_faulty y e.innermost.start (closes marks)) (e.innermost ∷ e.outer) at rest) h
 
@@ -77,17 +77,17 @@ segment_closed holds old new f place marks at rest j stands end frames last is d
     let path = end.outer in
     let here : HoldsAt holds old (o ∷ path) = subst (HoldsAt holds old) end.is_path stands in
     let p = popped old.frames.open.items new.frames.open.items here.0 f o path here.1 frames last in
-    let e : segment ≡ o.element = ap element_is (sym is) ∙ p.framed.element in
+    let e : segment octet_string ≡ o.element = ap element_is (sym is) ∙ p.framed.element in
     let string : next_at new.frames.open.items ≡ Segments = segment_due o.tag (next_at new.frames.open.items) (due_with (slot_in f.found) (alternative_of f.found) (read_as f.found)) p.framed.is_due (ap element_is is) in
     let h = segment_holds (shape f.place) p.entries o.trees (subst (λ x. IsHeld x (shape f.place) p.entries o.trees) is p.framed.held) in
     let levels : here.0 ≡ p.below = p.held ∙ pushed_segment (level_of f o.tag p.entries) p.below is in
     let joined : text_so_far (o ∷ path) ≡ text_so_far path ++ text_all o.trees = sym (ap (λ x. text_with x (text_so_far path) o.trees) e) in
     let held = subst (λ t. holds new.draft p.below t) joined (subst (λ ls. holds new.draft ls (text_so_far (o ∷ path))) levels (subst (λ d. holds d here.0 (text_so_far (o ∷ path))) (sym draft) here.2)) in
     let added = segment_added holds new path p.below (due_with (slot_in f.found) (alternative_of f.found) (read_as f.found)) (constructed o.tag o.trees) (at + marks) (drop marks rest) p.outer p.framed.is_due string h held in
-    let none : element_fault profile_two o.element (text_all o.trees) ≡ None = sym (ap (λ x. element_fault profile_two x (text_all o.trees)) e) in
+    let none : string_fault profile_two o.element o.trees ≡ None = sym (ap (λ x. string_fault profile_two x o.trees) e) in
     subst (IsStep holds new (Ok false)) (sym (ending place marks at rest j end None none)) added
   where
-    segment_holds : (n : Next) (entries : List (Option Content)) (ts : Trees) → IsHeld Segment n entries ts → AreSegments ts
+    segment_holds : (n : Next) (entries : List (Option Content)) (ts : Trees) → IsHeld Segment n entries ts → AreSegments octet_string ts
     segment_holds Segments entries ts h = h.1
     segment_holds _ entries ts h = absurd h
 
@@ -109,8 +109,8 @@ element_closed holds old shorter f middle new place marks at rest j result stand
     let ends = frame_ended f o path shorter p.entries p.framed apart (ap (λ x. missing profile_two (next_in profile_two x)) (sym end.is_path) ∙ end.complete) in
     let held = subst (λ ls. holds old.draft ls text) (p.held ∙ pushed_apart (level_of f o.tag p.entries) p.below apart) here.2 in
     let right = checks tt o.tag p.entries p.below text held in
-    let none : element_fault profile_two o.element (text_all o.trees) ≡ None =
-    ap (λ x. element_fault profile_two x (text_all o.trees)) (sym p.framed.element) ∙ ends.fault ∙ right_text (read_as f.found) text right in
+    let none : string_fault profile_two o.element o.trees ≡ None =
+    ap (λ x. string_fault profile_two x o.trees) (sym p.framed.element) ∙ ends.fault ∙ right_text (read_as f.found) text right in
     let added = entry_added holds shorter p.below new path (slot_in f.found) (alternative_of f.found) (read_as f.found) ends.content (constructed o.tag o.trees) (at + marks) (drop marks rest) result p.outer p.framed.is_due
     (λ s. apart (only_segment (read_as f.found) s)) after (ap shape_at there ∙ p.framed.after) goes
     (λ l below e d. (
@@ -134,8 +134,8 @@ element_refused holds old shorter f new place marks at rest j (Failure.Refused r
     let ends = frame_ended f o path shorter p.entries p.framed apart (ap (λ x. missing profile_two (next_in profile_two x)) (sym end.is_path) ∙ end.complete) in
     let held = subst (λ ls. holds old.draft ls text) (p.held ∙ pushed_apart (level_of f o.tag p.entries) p.below apart) here.2 in
     let wrong = checks o.tag p.entries p.below text held in
-    let found : element_fault profile_two o.element (text_all o.trees) ≡ Some wrong.0 =
-    ap (λ x. element_fault profile_two x (text_all o.trees)) (sym p.framed.element) ∙ ends.fault ∙ wrong.1 in
+    let found : string_fault profile_two o.element o.trees ≡ Some wrong.0 =
+    ap (λ x. string_fault profile_two x o.trees) (sym p.framed.element) ∙ ends.fault ∙ wrong.1 in
     subst (IsStep holds new (Err (Failure.Refused r))) (sym (ending place marks at rest j end (Some wrong.0) found))
     (ap (fault (cause_of wrong.0)) (sym p.framed.start) ∙ wrong.2)
 

@@ -1,6 +1,6 @@
 -- An element's content goes where it belongs.
 use Rattle.std.proofs.Common.{◌≡◌, ℕ, Bool, true, false, List, [], ◌∷◌, ◌++◌, Option, Ok, refl, sym, ap, subst, ◌∙◌}
-use Rattle.ber_core.specs.Tree.{Tree, Trees, none, tag_of}
+use Rattle.ber_core.specs.Tree.{Tree, Trees, none, tag_of, octet_string}
 use Rattle.ber_leaf.specs.Profile.{profile_two}
 use Rattle.ill_schema.specs.Content.{Content}
 use Rattle.ill_refusals.specs.Element.{segment}
@@ -63,7 +63,7 @@ innermost_level (o ∷ path) frames levels h apart =
 
 -- an element's content in the element round it, or in the message
 pub entry_added : {D : Type 0} (holds : D → List Level → List ℕ → Type 0) (frames : List Frame) (levels : List Level) (new : Path D) (place : List Open) (slot : Slot) (alt : Option ℕ) (el : CodeElement)
-    (c : Content) (T : Tree) (at : ℕ) (rest : List ℕ) (result : Bool) → AreFrames place frames levels → IsDueIn (tag_of T) (next_at frames) (due_with slot alt el) → (element_is el ≡ segment → ⊥)
+    (c : Content) (T : Tree) (at : ℕ) (rest : List ℕ) (result : Bool) → AreFrames place frames levels → IsDueIn (tag_of T) (next_at frames) (due_with slot alt el) → (element_is el ≡ segment octet_string → ⊥)
     → (after : At) → shape after ≡ behind (next_at frames) slot → GoesOn after frames new.frames.open.items result
     → ((l : Level) (below : List Level) → levels ≡ l ∷ below → IsDueAt l (next_at frames) (tag_of T) slot alt el
     → IsValueOf (element_is el) c T × holds new.draft (with_entry l slot (with_alternative alt c) ∷ below) [])

@@ -1,15 +1,17 @@
 -- The content of an element that has ended.
-use Rattle.std.proofs.Common.{◌≡◌, ℕ, List, [], ◌∷◌, ◌++◌, take, map, Option, None, refl, sym, ap, subst, ◌∙◌, inl, inr}
-use Rattle.ber_core.specs.Tree.{Trees, constructed, none, text_all}
-use Rattle.ber_leaf.specs.Leaf.{value}
+use Rattle.std.proofs.Common.{◌≡◌, ℕ, List, [], ◌∷◌, ◌++◌, take, map, Option, None, IsTrue, refl, sym, ap, subst, ◌∙◌, inl, inr}
+use Rattle.ber_core.specs.Octets.{are_octets}
+use Rattle.ber_core.specs.Tree.{AreSegments, Trees, constructed, none, text_all}
+use Rattle.ber_leaf.specs.Leaf.{content_fault, value}
 use Rattle.ber_leaf.specs.Profile.{profile_two}
+use Rattle.ber_leaf.specs.Segments.{leaf_content}
 use Rattle.ill_schema.specs.Content.{Content, simple}
 use Rattle.ill_schema.specs.Content as content
 use Rattle.ill_schema.specs.Meaning.{Matches}
 use Rattle.ill_schema.specs.Table.{rows_of}
 use Rattle.ill_schema.specs.Value.{entries_of, items_of}
 use Rattle.ill_schema.specs.declared.node.NodeId.{NodeId}
-use Rattle.ill_refusals.specs.Fault.{element_fault}
+use Rattle.ill_refusals.specs.Fault.{element_fault, string_fault}
 use Rattle.ill_refusals.specs.Next.{missing}
 use Rattle.ill_refusals.specs.Place.{Open, next_in}
 use Rattle.ill_elements.specs.Due.{next_is, shape, read_as}
@@ -26,6 +28,7 @@ use Rattle.ill_elements.specs.declared.element.Element.TheVariants.{Leaf, Sequen
 use Rattle.ill_elements.specs.declared.element.Wrapped.{Wrapped}
 use Rattle.ill_elements.specs.declared.frame.Frame.{Frame}
 use Rattle.ill_elements.proofs.Entries.{rows_ended}
+use Rattle.ill_elements.proofs.ReadLeaves.{read_content, read_fault, read_segments}
 use Rattle.ill_read.proofs.Segments.{text_with}
 
 -- the rows of a node as the entries have them
@@ -40,12 +43,20 @@ pub record EndsWith (e : CodeElement) (n : Next) (entries : List (Option Content
   pub content : Content
   pub is : IsContentOf e n entries text content
   pub value : IsRightText e text → IsValueOf (element_is e) content (constructed o.tag o.trees)
-  pub fault : element_fault profile_two (element_is e) (text_all o.trees) ≡ element_fault profile_two (element_is e) text
+  pub fault : string_fault profile_two (element_is e) o.trees ≡ element_fault profile_two (element_is e) text
 
 content_ended : (e : CodeElement) (n : Next) (entries : List (Option Content)) (o : Open) (before : List ℕ) → IsHeld e n entries o.trees → (e ≡ Segment → ⊥)
     → missing profile_two (next_is n) ≡ None → EndsWith e n entries o (text_with (element_is e) before o.trees)
 content_ended (Leaf l) Segments entries o before h apart m =
-    record { content = simple (value (leaf_is l) (text_all o.trees)); is = refl; value = λ right. ((h.0, h.2), right.0, right.1, refl); fault = refl }
+    let c = simple (value (leaf_is l) (text_all o.trees)) in
+    record {
+      content = c;
+      is = refl;
+      value = λ right. (let held : IsTrue (are_octets (leaf_content (leaf_is l) (constructed o.tag o.trees))) × (content_fault profile_two (leaf_is l) (leaf_content (leaf_is l) (constructed o.tag o.trees)) ≡ None) × (c ≡ simple (value (leaf_is l) (leaf_content (leaf_is l) (constructed o.tag o.trees)))) =
+          subst (λ x. IsTrue (are_octets x) × (content_fault profile_two (leaf_is l) x ≡ None) × (c ≡ simple (value (leaf_is l) x))) (sym (read_content l (constructed o.tag o.trees))) (right.0, right.1, refl) in
+          ((h.0, subst (λ t. AreSegments t o.trees) (sym (read_segments l)) h.2), held.0, held.1, held.2));
+      fault = read_fault (Leaf l) o.trees;
+    }
 content_ended (Sequence node) (Rows own n) entries o before h apart m =
     let es = entries_of (entries ++ map absent_content (rows_left (Rows own n))) in
     record { content = content.sequence es; is = (refl, refl); value = λ right. (o.tag, o.trees, es, refl, refl, whole_rows node own n entries o.trees h.0 m h.1); fault = refl }

@@ -6,7 +6,7 @@ use Rattle.ber_core.specs.Id.{tag_of_id}
 use Rattle.ber_core.specs.Identifier.{Tag, identifier}
 use Rattle.ber_core.specs.Length.{shortest_length}
 use Rattle.ber_core.specs.Octets.{are_octets}
-use Rattle.ber_core.specs.Tree.{Tree, Trees, primitive, tag_of}
+use Rattle.ber_core.specs.Tree.{Tree, Trees, primitive, tag_of, octet_string}
 use Rattle.ber_leaf.specs.Leaf.{boolean, is_string, normal_content, value, content_fault}
 use Rattle.ber_leaf.specs.Profile.{profile_two}
 use Rattle.ill_schema.specs.Content.{Content, simple}
@@ -148,7 +148,7 @@ octets_closed old new middle f next tag entries trees l below text c h held righ
     let w = written (read_as f.found) (shape f.place) entries in
     let contents = contents_of (read_as f.found) (shape f.place) w text in
     let id = identifier tag (form_of (read_as f.found)) in
-    let apart : element_is (read_as f.found) ≡ segment → ⊥ = λ s. subst (λ x. IsContentOf x (shape f.place) entries text c) (only_segment (read_as f.found) s) is in
+    let apart : element_is (read_as f.found) ≡ segment octet_string → ⊥ = λ s. subst (λ x. IsContentOf x (shape f.place) entries text c) (only_segment (read_as f.found) s) is in
     let header : a.1 ≡ id ++ 0 ∷ [] = a.4 (λ class number. absurd (due_apart tag l.next (due_with (slot_in f.found) (alternative_of f.found) (read_as f.found)) due.is_due apart class number)) in
     let all : old.octets ≡ (a.0 ++ a.1) ++ (w ++ text) =
     h.joined ∙ ap (λ x. x ++ text) (a.2 ∙ sym (append_assoc a.0 a.1 w)) ∙ append_assoc (a.0 ++ a.1) w text in

@@ -2,7 +2,7 @@
 use Rattle.std.proofs.Common.{◌≡◌, ℕ, List, [], ◌∷◌, ◌++◌, append-nil, Option, Some, None, unwrap_or, true, refl, sym, ap, subst, ◌∙◌}
 use Rattle.ber_core.specs.Id.{tag_of_id}
 use Rattle.ber_core.specs.Identifier.{Tag}
-use Rattle.ber_core.specs.Tree.{none}
+use Rattle.ber_core.specs.Tree.{none, octet_string}
 use Rattle.ber_leaf.specs.Profile.{profile_two}
 use Rattle.ill_cells.specs.Places.{alternative_of, node_of, part_of, what_of}
 use Rattle.ill_elements.specs.Elements.{element_is}
@@ -36,12 +36,12 @@ holds_none (Wrapper w) n f a = subst (λ x. IsHeld (Wrapper w) x [] none) (sym f
 holds_none (LooseWrapper w) n f a = subst (λ x. IsHeld (LooseWrapper w) x [] none) (sym f) (refl, refl, refl)
 holds_none Segment n f a = subst (λ x. IsHeld Segment x [] none) (sym f) (refl, tt)
 
-pub only_segment : (e : CodeElement) → element_is e ≡ segment → e ≡ Segment
+pub only_segment : (e : CodeElement) → element_is e ≡ segment octet_string → e ≡ Segment
 only_segment Segment s = refl
 only_segment _ s = cc
 
 -- nor does it add text
-text_opened : (e : CodeElement) (before : List ℕ) → ((element_is e ≡ segment → ⊥) → before ≡ []) → before ≡ text_with (element_is e) before none
+text_opened : (e : CodeElement) (before : List ℕ) → ((element_is e ≡ segment octet_string → ⊥) → before ≡ []) → before ≡ text_with (element_is e) before none
 text_opened Segment before h = sym (append-nil before)
 text_opened _ before h = h (λ s. cc)
 
@@ -69,10 +69,10 @@ opens_at holds old new opening f place round h due after allowed first r b has f
       were_due = tt;
     } in
     let next = next_at old.frames.open.items in
-    let apart : (element_is (read_as f.found) ≡ segment → ⊥) → next ≡ Segments → ⊥ = λ n s. n (due_segment tag next (due_with (slot_in f.found) (alternative_of f.found) (read_as f.found)) due s) in
-    let none_before : (element_is (read_as f.found) ≡ segment → ⊥) → text_so_far place ≡ [] = λ n. no_text place old.frames.open.items h.0 h.1 (apart n) in
+    let apart : (element_is (read_as f.found) ≡ segment octet_string → ⊥) → next ≡ Segments → ⊥ = λ n s. n (due_segment tag next (due_with (slot_in f.found) (alternative_of f.found) (read_as f.found)) due s) in
+    let none_before : (element_is (read_as f.found) ≡ segment octet_string → ⊥) → text_so_far place ≡ [] = λ n. no_text place old.frames.open.items h.0 h.1 (apart n) in
     let opens_in : (read_as opening.found ≡ Segment → ⊥) → IsOpeningIn h.0 (text_so_far place) next opening = λ n.
-    let other : element_is (read_as f.found) ≡ segment → ⊥ = λ s. n (ap read_as (sym is) ∙ only_segment (read_as f.found) s) in
+    let other : element_is (read_as f.found) ≡ segment octet_string → ⊥ = λ s. n (ap read_as (sym is) ∙ only_segment (read_as f.found) s) in
     let l = innermost_level place old.frames.open.items h.0 h.1 (apart other) in
     record {
       none = none_before other;

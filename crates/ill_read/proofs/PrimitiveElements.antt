@@ -3,7 +3,7 @@ use Rattle.std.proofs.Common.{◌≡◌, ℕ, ◌+◌, List, [], ◌∷◌, leng
 use Rattle.ber_core.specs.Id.{tag_of_id}
 use Rattle.ber_core.specs.Identifier.{Tag}
 use Rattle.ber_core.specs.Octets.{are_octets}
-use Rattle.ber_core.specs.Tree.{primitive}
+use Rattle.ber_core.specs.Tree.{primitive, octet_string}
 use Rattle.ber_leaf.specs.Leaf.{value, content_fault}
 use Rattle.ber_leaf.specs.Profile.{profile_two}
 use Rattle.ill_schema.specs.Content.{simple}
@@ -49,7 +49,7 @@ pub leaf_read : {D : Type 0} (holds : D → List Level → List ℕ → Type 0) 
 leaf_read holds old new place r l start octets result header at rest stands begin is ok right has after there goes =
     let tag = tag_of_id r.id in
     let due : IsDueIn tag (next_at old.frames.open.items) (due_with (slot_in r.found) (alternative_of r.found) (Leaf l)) = subst (λ x. IsDueIn tag (next_at old.frames.open.items) (due_with (slot_in r.found) (alternative_of r.found) x)) is begin.is_due in
-    let apart : element_is (Leaf l) ≡ segment → ⊥ = λ s. cc in
+    let apart : element_is (Leaf l) ≡ segment octet_string → ⊥ = λ s. cc in
     let no : text_so_far place ≡ [] = no_text place old.frames.open.items stands.0 stands.1 (λ s. apart (due_segment tag (next_at old.frames.open.items) (due_with (slot_in r.found) (alternative_of r.found) (Leaf l)) due s)) in
     let added = entry_added holds old.frames.open.items stands.0 new place (slot_in r.found) (alternative_of r.found) (Leaf l) (simple (value (leaf_is l) octets)) (primitive tag octets)
     (at + header + length octets) (drop (header + length octets) rest) result stands.1 due apart after (ap shape_at there ∙ begin.goes_on) goes

@@ -17,7 +17,7 @@ use Rattle.ill_elements.proofs.OpenFrames.{next_behind}
 
 -- the text that an open element adds
 abbrev pub text_with : Element → List ℕ → Trees → List ℕ
-text_with e before ts = elim e as (λ _. List ℕ) [ leaf l ↦ text_all ts | segment ↦ before ++ text_all ts | _ ↦ [] ]
+text_with e before ts = elim e as (λ _. List ℕ) [ leaf l ↦ text_all ts | segment t ↦ before ++ text_all ts | _ ↦ [] ]
 
 -- an element that is no string holds no text
 pub text_apart : (e : CodeElement) (n : Next) (entries : List (Option Content)) (ts : Trees) → IsHeld e n entries ts → (n ≡ Segments → ⊥) → (before : List ℕ) (us : Trees) → text_with (element_is e) before us ≡ []

@@ -25,7 +25,7 @@ use Rattle.ill_read.proofs.MoreTrees.{next-added, with_one}
 use Rattle.ill_read.proofs.Segments.{text_with}
 use Rattle.ill_refusals.proofs.Rows.{same_tag-is}
 
-segments_more : (ts : Trees) (T : Tree) → AreSegments ts → tag_of T ≡ octet_string → IsString T → AreSegments (snoc ts T)
+segments_more : (ts : Trees) (T : Tree) → AreSegments octet_string ts → tag_of T ≡ octet_string → IsString octet_string T → AreSegments octet_string (snoc ts T)
 segments_more none T h e s = (e, s, tt)
 segments_more (more U ts) T h e s = (h.0, h.1, segments_more ts T h.2 e s)
 
@@ -34,7 +34,7 @@ text_more none T = append-nil (text T)
 text_more (more U ts) T = ap (λ xs. text U ++ xs) (text_more ts T) ∙ sym (append_assoc (text U) (text_all ts) (text T))
 
 -- what a string holds, with a segment more
-string_held : (e : CodeElement) (entries : List (Option Content)) (ts : Trees) (T : Tree) → IsHeld e Segments entries ts → tag_of T ≡ octet_string → IsString T → IsHeld e Segments entries (snoc ts T)
+string_held : (e : CodeElement) (entries : List (Option Content)) (ts : Trees) (T : Tree) → IsHeld e Segments entries ts → tag_of T ≡ octet_string → IsString octet_string T → IsHeld e Segments entries (snoc ts T)
 string_held (Leaf l) entries ts T h e s = (h.0, h.1, segments_more ts T h.2 e s)
 string_held Segment entries ts T h e s = (h.0, segments_more ts T h.1 e s)
 string_held _ entries ts T h e s = absurd h
@@ -49,7 +49,7 @@ segment_tag : (t : Tag) (n : Next) (d : Due) → IsDueIn t n d → n ≡ Segment
 segment_tag t n d h e = let k : IsDueIn t Segments d = subst (λ x. IsDueIn t x d) e h in same_tag-is t octet_string k.tag
 
 string_frame : (f : Frame) (o : Open) (path : List Open) (outer : List Frame) (entries : List (Option Content)) (T : Tree) (d : Due) → IsFrame f o path outer entries
-    → IsDueIn (tag_of T) (shape f.place) d → (shape f.place) ≡ Segments → IsString T → IsFrame f (with_one o T) path outer entries
+    → IsDueIn (tag_of T) (shape f.place) d → (shape f.place) ≡ Segments → IsString octet_string T → IsFrame f (with_one o T) path outer entries
 string_frame f o path outer entries T d h is e s =
     let D = due_element_is (tag_of T) (shape f.place) d is in
     let found : due profile_two (tag_of T) (next_after profile_two (opening profile_two o.element) o.trees) ≡ Some D.0 = ap (due profile_two (tag_of T)) (sym h.next) ∙ D.1 in
@@ -70,7 +70,7 @@ string_frame f o path outer entries T d h is e s =
 
 -- a segment in the string round it
 pub segment_added : {D : Type 0} (holds : D → List Level → List ℕ → Type 0) (path : Path D) (place : List Open) (levels : List Level) (d : Due) (T : Tree) (at : ℕ) (rest : List ℕ)
-    → AreFrames place path.frames.open.items levels → IsDueIn (tag_of T) (next_at path.frames.open.items) d → next_at path.frames.open.items ≡ Segments → IsString T
+    → AreFrames place path.frames.open.items levels → IsDueIn (tag_of T) (next_at path.frames.open.items) d → next_at path.frames.open.items ≡ Segments → IsString octet_string T
     → holds path.draft levels (text_so_far place ++ text T) → IsStep holds path (Ok false) (with_tree place T at rest)
 segment_added holds path [] levels d T at rest h is e s t = absurd (let q : top ≡ Segments = sym (ap next_at h.0) ∙ e in cc)
 segment_added holds path (o ∷ outside) levels d T at rest h is e s t =

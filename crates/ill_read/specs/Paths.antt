@@ -17,7 +17,7 @@ abbrev pub text_so_far : List Open → List ℕ
 text_so_far [] = []
 text_so_far (o ∷ path) = elim o.element as (λ _. List ℕ) [
   | leaf l ↦ text_all o.trees
-  | segment ↦ text_so_far path ++ text_all o.trees
+  | segment t ↦ text_so_far path ++ text_all o.trees
   | _ ↦ []
 ]
 

@@ -1,10 +1,11 @@
 -- A value holds no more text than its encoding has octets, and no more list items than half of them.
-use Rattle.std.proofs.Common.{◌≡◌, ℕ, ℤ, ◌+◌, ◌*◌, ◌≤◌, true, false, List, [], ◌∷◌, ◌++◌, length, length-append, IsTrue, refl, sym, ap, subst, ◌∙◌, inl, inr, arith}
+use Rattle.std.proofs.Common.{◌≡◌, ℕ, ℤ, ◌+◌, ◌-◌, ◌*◌, ◌≤◌, true, false, List, [], ◌∷◌, ◌++◌, length, length-append, IsTrue, refl, sym, ap, subst, ◌∙◌, inl, inr, arith}
 use Rattle.ber_core.specs.Foreign.{is_foreign, foreign_levels}
 use Rattle.ber_core.specs.Identifier.{Tag, identifier}
 use Rattle.ber_core.specs.Tree.{Tree, Trees, primitive, constructed, none, more, text, text_all, Spells, SpellsAll}
 use Rattle.ber_leaf.specs.Leaf.{Leaf, boolean, integer, enumerated, general_string, visible_string, printable_string, iso_date, iso_time, null_type, object_identifier, octet_string, bit_string, object_descriptor, value}
 use Rattle.ber_leaf.specs.Profile.{Profile}
+use Rattle.ber_leaf.specs.Segments.{bits_after, leaf_content}
 use Rattle.ber_leaf.proofs.Bits.{length-cleared}
 use Rattle.ber_leaf.specs.Simple.{Simple, flag, whole, date, time, printable, general, visible, null, oid, binary, bits, descriptor}
 use Rattle.ill_schema.specs.declared.node.Kind.{Kind}
@@ -23,6 +24,7 @@ use Rattle.std.specs.List.{list_all}
 use Rattle.ill_schema.specs.Tagging.{Tagging, Tagged, tagging, sequence_tag, untagged, implicit, explicit, explicit_or_bare}
 use Rattle.ill_refusals.specs.Bounds.{elements, elements_all, text_size, text_octets, entries_text, items_text, items_and_elements, entries_items, items_items, ValuesAreSmall}
 use Rattle.ill_refusals.proofs.Judgements.{id_size, length_size}
+use Rattle.ill_refusals.proofs.Segments.{length-bits_after}
 
 -- what is held is within what the tree has
 record IsWithin (c : Content) (T : Tree) : Type 0 where
@@ -82,6 +84,30 @@ leaf_text bit_string [] = omega arith
 leaf_text bit_string (u ∷ octets) = omega (arith, length-cleared u octets)
 leaf_text object_descriptor octets = omega arith
 
+-- one octet of a content is no bits
+bits_text : (octets : List ℕ) → text_size (value bit_string octets) ≤ length octets - 1
+bits_text [] = omega arith
+bits_text (u ∷ octets) = omega (arith, length-cleared u octets)
+
+tree_text : (l : Leaf) (T : Tree) → text_size (value l (leaf_content l T)) ≤ length (text T)
+tree_text l (primitive tag octets) = leaf_text l octets
+tree_text bit_string (constructed tag ts) =
+    let b = bits_text (bits_after (0 ∷ []) ts) in
+    let n = length-bits_after (0 ∷ []) ts (omega arith) in
+    omega (arith, b, n)
+tree_text boolean (constructed tag ts) = leaf_text boolean (text_all ts)
+tree_text integer (constructed tag ts) = leaf_text integer (text_all ts)
+tree_text enumerated (constructed tag ts) = leaf_text enumerated (text_all ts)
+tree_text general_string (constructed tag ts) = leaf_text general_string (text_all ts)
+tree_text visible_string (constructed tag ts) = leaf_text visible_string (text_all ts)
+tree_text printable_string (constructed tag ts) = leaf_text printable_string (text_all ts)
+tree_text iso_date (constructed tag ts) = leaf_text iso_date (text_all ts)
+tree_text iso_time (constructed tag ts) = leaf_text iso_time (text_all ts)
+tree_text null_type (constructed tag ts) = leaf_text null_type (text_all ts)
+tree_text object_identifier (constructed tag ts) = leaf_text object_identifier (text_all ts)
+tree_text octet_string (constructed tag ts) = leaf_text octet_string (text_all ts)
+tree_text object_descriptor (constructed tag ts) = leaf_text object_descriptor (text_all ts)
+
 wrapped : (c : Content) (t : Tag) (U T : Tree) → T ≡ constructed t (more U none) → IsWithin c U → IsWithin c T
 wrapped c t U T e h =
     let x = h.texts in let y = h.items in
@@ -126,7 +152,7 @@ within_constructed c t ts U texts items e x y h =
 mutual
   means_within : (p : Profile) (c : Content) (node : NodeId) (g : Tagging) (T : Tree) → IsTrue (is_proper g (kind_of node)) → Means p c node g T → IsWithin c T
   means_within p (simple v) node g T ok h = tagged g _ _ (simple v) T (λ t U e. record {
-    texts = subst (λ w. text_size w ≤ length (text U)) (sym e.2.2) (leaf_text h.0 (text U));
+    texts = subst (λ w. text_size w ≤ length (text U)) (sym e.2.2) (tree_text h.0 U);
     items = one_element U;
   }) h.2
   means_within p (sequence es) node g T ok h = tagged g _ _ (sequence es) T (λ t U e. within_constructed (sequence es) t e.0 U _ _ e.1 refl refl (matches_within p es (rows_of node) e.0 (tables_proper p node) e.2)) h.1

@@ -3,7 +3,7 @@ use Rattle.std.proofs.Common.{◌≡◌, ◌⊎◌, ℕ, zero, suc, ◌+◌, ◌
 use Rattle.std.proofs.lemmas.List.{drop_at, length-drop}
 use Rattle.ber_core.specs.Identifier.{Tag, identifier}
 use Rattle.ber_core.specs.Length.{IsLength}
-use Rattle.ber_core.specs.Tree.{Tree, Trees, primitive, constructed, none, more, tag_of, Spells, SpellsAll, depth, depth_all, text, text_all}
+use Rattle.ber_core.specs.Tree.{Tree, Trees, primitive, constructed, none, more, tag_of, Spells, SpellsAll, depth, depth_all}
 use Rattle.ill_schema.specs.declared.node.Kind.{Kind}
 use Rattle.ill_schema.specs.Apdu.{Apdu, root, MeansApdu}
 use Rattle.ill_schema.specs.Content.{Content, simple, alternative}
@@ -23,7 +23,8 @@ use Rattle.ill_schema.proofs.Tags.{root_choice}
 use Rattle.ill_schema.proofs.Unique.{no_leaf}
 use Rattle.ill_refusals.proofs.WholeElements.{IsProper, IsElement}
 use Rattle.ill_refusals.proofs.OpenElements.{in_body, due_whole, due_proper, read_element, primitive_element}
-use Rattle.ill_refusals.proofs.Headers.{octets_left, octets_right, octets_join, take-all}
+use Rattle.ill_refusals.proofs.Headers.{octets_left, octets_right, take-all}
+use Rattle.ill_refusals.proofs.Segments.{segments_octets}
 use Rattle.ill_refusals.proofs.Judgements.{MayEnd, Judged, Closes, Opens, Reads, judged, bound_some, id_size, length_size}
 use Rattle.ill_refusals.specs.code.Step.{Step, refused, goes, whole, stuck, snoc, with_tree, close, opened, moved}
 use Rattle.ill_refusals.proofs.Machine.{step, IsFinal, Runs, runs-none, runs-step, runs-trans}
@@ -39,22 +40,6 @@ spelled-snoc (more U ts) T a b h k =
 depth-snoc : (ts : Trees) (T : Tree) (n : ℕ) → depth_all ts ≤ n → depth T ≤ n → depth_all (snoc ts T) ≤ n
 depth-snoc none T n h k = omega arith
 depth-snoc (more U ts) T n h k = let r = depth-snoc ts T n (omega arith) k in omega arith
-
--- the text of what octets spell is of octets
-mutual
-  text_octets : (T : Tree) (b : List ℕ) → Spells T b → IsTrue (are_octets b) → IsTrue (are_octets (text T))
-  text_octets (primitive tag octets) b h o =
-      octets_right h.octets octets (octets_right (identifier tag false) (h.octets ++ octets) (subst (λ z. IsTrue (are_octets z)) h.joined o))
-  text_octets (constructed tag ts) b h o = texts_octets ts h.0 h.1 (elim h.2 [
-    | inl i ↦ octets_right i.octets h.0 (octets_right (identifier tag true) (i.octets ++ h.0) (subst (λ z. IsTrue (are_octets z)) i.joined o))
-    | inr i ↦ octets_left h.0 (0 ∷ 0 ∷ []) (octets_right (128 ∷ []) (h.0 ++ 0 ∷ 0 ∷ []) (octets_right (identifier tag true) (128 ∷ h.0 ++ 0 ∷ 0 ∷ []) (subst (λ z. IsTrue (are_octets z)) i.joined o)))
-  ])
-
-  texts_octets : (ts : Trees) (b : List ℕ) → SpellsAll ts b → IsTrue (are_octets b) → IsTrue (are_octets (text_all ts))
-  texts_octets none b h o = refl
-  texts_octets (more T ts) b h o =
-      let q = subst (λ z. IsTrue (are_octets z)) h.4 o in
-      octets_join (text T) (text_all ts) (text_octets T h.0 h.2 (octets_left h.0 h.1 q)) (texts_octets ts h.1 h.3 (octets_right h.0 h.1 q))
 
 -- a message's tree, spelled by the first octets
 pub record IsMessage (p : Profile) (s : List ℕ) (T : Tree) (n : ℕ) : Type 0 where
@@ -202,7 +187,7 @@ ended_whole p s o outer u rest before header contents ok e pl i f may =
     octets_right header contents (octets_right before (header ++ contents) (subst (λ z. IsTrue (are_octets z)) f (octets_left u rest (subst (λ z. IsTrue (are_octets z)) e ok)))) in
     let is : IsProper p o.element = subst (IsProper p) i.is_due.2 ((due_proper p o.tag (next_in p outer) d proper i.is_due.1).0) in
     let m : IsElement p o.element (constructed o.tag o.trees) =
-    read_element p o.element o.tag o.trees is i.allowed (record { whole = i.whole; complete = may.complete }) may.no_fault (texts_octets o.trees contents i.spelled octets) i.opens.1 in
+    read_element p o.element o.tag o.trees is i.allowed (record { whole = i.whole; complete = may.complete }) may.no_fault (λ l. segments_octets l o.trees contents i.spelled octets) i.opens.1 in
     due_whole p (next_in p outer) d (constructed o.tag o.trees) proper i.is_due.1 (subst (λ x. IsElement p x (constructed o.tag o.trees)) (sym i.is_due.2) m)
 
 ended_definite : (p : Profile) (o : Open) (outer : List Open) (before header contents : List ℕ) (k : ℕ) → (i : IsOpen p outer o before header contents)

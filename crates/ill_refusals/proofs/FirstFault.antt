@@ -2,13 +2,12 @@
 use Rattle.std.proofs.Common.{◌≡◌, ℕ, ◌+◌, ◌-◌, Bool, true, false, ◌&&◌, List, [], ◌∷◌, length, take, Option, Some, None, refl, sym, ap, ◌∙◌, if◌then◌else◌}
 use Rattle.std.specs.Prelude.{nat_eq, nat_lt}
 use Rattle.ber_core.specs.Identifier.{Tag}
-use Rattle.ber_core.specs.Tree.{text_all}
 use Rattle.ber_leaf.specs.declared.fault.LeafFault.{LeafFault}
 use Rattle.ber_leaf.specs.Profile.{Profile}
 use Rattle.ill_schema.specs.declared.refusal.Cause.{Cause}
 use Rattle.ill_schema.specs.declared.part.PartId.{PartId}
 use Rattle.ill_refusals.specs.Element.{Element, leaf, sequence, list, wrapper, loose_wrapper, segment, foreign, left_out}
-use Rattle.ill_refusals.specs.Fault.{Fault, fault, Finding, passes, finds, first_fault, no_octet, innermost_ends, ended, second_zero, of_element, after_identifier, bad_form, bad_length, too_long, too_deep, bad_content, at_fault, bad_identifier, end_mark, ends_at, is_indefinite, past_end, cut_fault, element_fault, fault_at, is_deep}
+use Rattle.ill_refusals.specs.Fault.{Fault, fault, Finding, passes, finds, first_fault, no_octet, innermost_ends, ended, second_zero, of_element, after_identifier, bad_form, bad_length, too_long, too_deep, bad_content, at_fault, bad_identifier, end_mark, ends_at, is_indefinite, past_end, cut_fault, element_fault, string_fault, fault_at, is_deep}
 use Rattle.ill_refusals.specs.code.Judge.{Judgement, faulty, closes, opens, reads, or_faulty, judge_end, judge_content, judge_size, judge_length, judge_form, judge_tag, judge_element, judge_mark, judge_octets, judge, fault_in}
 use Rattle.ill_refusals.specs.Next.{Due, element_of, due, missing}
 use Rattle.ill_refusals.specs.Place.{Open, next_in, bound, allows}
@@ -17,7 +16,7 @@ use Rattle.ill_refusals.specs.Reading.{IdentifierRead, identified, part_identifi
 -- an end, whatever conditions come after it
 end_judged : (p : Profile) (path : List Open) (k marks : ℕ) (more : List Finding) → first_fault (innermost_ends p path k ∷ more) ≡ fault_in (judge_end p path k marks)
 end_judged p [] k marks more = refl
-end_judged p (o ∷ path) k marks more = go (missing p (next_in p (o ∷ path))) (element_fault p o.element (text_all o.trees))
+end_judged p (o ∷ path) k marks more = go (missing p (next_in p (o ∷ path))) (string_fault p o.element o.trees)
   where
     go : (x : Option PartId) (c : Option LeafFault) → first_fault (ended x k c o.start ∷ more) ≡ fault_in (elim x as (λ _. Judgement) [
       | Some part ↦ faulty (fault (Cause.Missing part) k)
@@ -87,7 +86,7 @@ form_judged p path d tag form k i cut w = go (element_of d)
     go (list n) = judged (allows (list n) form)
     go (wrapper c) = judged (allows (wrapper c) form)
     go (loose_wrapper c) = judged (allows (loose_wrapper c) form)
-    go segment = judged (allows segment form)
+    go (segment u) = judged (allows (segment u) form)
     go (foreign n) = judged (allows (foreign n) form)
     go (left_out part) = refl
 

@@ -5,13 +5,12 @@ use Rattle.std.proofs.Math.Seq.{take-append-add, take-append_seam}
 use Rattle.std.proofs.lemmas.List.{take-append-drop, length-take-le, length-take}
 use Rattle.ber_core.specs.Identifier.{Tag, identifier, HasIdentifier}
 use Rattle.ber_core.specs.Length.{IsLength, short, long}
-use Rattle.ber_core.specs.Tree.{text_all}
 use Rattle.ber_core.proofs.Identifiers.{IsEnd, identifier_no_end}
 use Rattle.ber_leaf.specs.declared.fault.LeafFault.{LeafFault}
 use Rattle.ill_schema.specs.declared.refusal.Cause.{Cause}
 use Rattle.ill_schema.specs.declared.part.PartId.{PartId}
 use Rattle.ill_refusals.specs.Element.{Element, leaf, sequence, list, wrapper, loose_wrapper, segment, foreign, left_out}
-use Rattle.ill_refusals.specs.Fault.{Fault, fault, ends_at, is_indefinite, past_end, cut_fault, element_fault, is_deep}
+use Rattle.ill_refusals.specs.Fault.{Fault, fault, ends_at, is_indefinite, past_end, cut_fault, element_fault, string_fault, is_deep}
 use Rattle.ill_refusals.specs.code.Judge.{Judgement, faulty, closes, opens, reads, or_faulty, judge_end, judge_content, judge_size, judge_length, judge_form, judge_tag, judge_element, judge_mark, judge_octets, judge}
 use Rattle.ber_core.specs.Octets.{are_octets}
 use Rattle.ill_refusals.specs.Next.{Next, rows, items, either, segments, anything, foreigns, is_last, Due, element_of, due, missing}
@@ -32,14 +31,14 @@ pub record IsStarted (p : Profile) (path : List Open) (tag : Tag) (form : Bool) 
 -- the innermost element may end
 pub record MayEnd (p : Profile) (o : Open) (outer : List Open) : Type 0 where
   pub complete : missing p (next_in p (o ∷ outer)) ≡ None
-  pub no_fault : element_fault p o.element (text_all o.trees) ≡ None
+  pub no_fault : string_fault p o.element o.trees ≡ None
 
 not_less : (a b : ℕ) → b ≤ a → nat_lt a b ≡ false
 not_less a b h = grind arith
 
 end_judged : (p : Profile) (o : Open) (outer : List Open) (k m : ℕ) → MayEnd p o outer → judge_end p (o ∷ outer) k m ≡ closes m
 end_judged p o outer k m h =
-    ap (λ x. elim x as (λ _. Judgement) [ Some part ↦ faulty (fault (Cause.Missing part) k) | None ↦ or_faulty (element_fault p o.element (text_all o.trees)) o.start (closes m) ]) h.complete
+    ap (λ x. elim x as (λ _. Judgement) [ Some part ↦ faulty (fault (Cause.Missing part) k) | None ↦ or_faulty (string_fault p o.element o.trees) o.start (closes m) ]) h.complete
     ∙ ap (λ x. or_faulty x o.start (closes m)) h.no_fault
 
 abbrev judge_body : Profile → List Open → ℕ → List ℕ → Bool → Judgement
@@ -105,7 +104,7 @@ form_judged p path (sequence node) tag f k i cut w h = ap (λ x. elim x as (λ _
 form_judged p path (list node) tag f k i cut w h = ap (λ x. elim x as (λ _. Judgement) [ true ↦ judge_length p path (list node) tag f k i cut w | false ↦ faulty (fault Cause.WrongForm k) ]) h
 form_judged p path (wrapper c) tag f k i cut w h = ap (λ x. elim x as (λ _. Judgement) [ true ↦ judge_length p path (wrapper c) tag f k i cut w | false ↦ faulty (fault Cause.WrongForm k) ]) h
 form_judged p path (loose_wrapper c) tag f k i cut w h = ap (λ x. elim x as (λ _. Judgement) [ true ↦ judge_length p path (loose_wrapper c) tag f k i cut w | false ↦ faulty (fault Cause.WrongForm k) ]) h
-form_judged p path segment tag f k i cut w h = ap (λ x. elim x as (λ _. Judgement) [ true ↦ judge_length p path segment tag f k i cut w | false ↦ faulty (fault Cause.WrongForm k) ]) h
+form_judged p path (segment u) tag f k i cut w h = ap (λ x. elim x as (λ _. Judgement) [ true ↦ judge_length p path (segment u) tag f k i cut w | false ↦ faulty (fault Cause.WrongForm k) ]) h
 form_judged p path (foreign n) tag f k i cut w h = refl
 form_judged p path (left_out x) tag f k i cut w h = absurd cc
 
@@ -116,7 +115,7 @@ opens_further p tag (foreigns (suc n)) d h = refl
 opens_further p tag (rows cs) d h = refl
 opens_further p tag (items c) d h = refl
 opens_further p tag (either c) d h = refl
-opens_further p tag segments d h = refl
+opens_further p tag (segments u) d h = refl
 opens_further p tag (anything c) d h = refl
 
 pub neither : (a b : Bool) → a || b ≡ false → (a ≡ false) × (b ≡ false)
@@ -274,9 +273,9 @@ end_says : (p : Profile) (o : Open) (outer : List Open) (k : ℕ) (rest : List �
 end_says p o outer k rest m how = go (missing p (next_in p (o ∷ outer))) refl
   where
     go : (x : Option PartId) → missing p (next_in p (o ∷ outer)) ≡ x → Judged p (o ∷ outer) k rest
-        (elim x as (λ _. Judgement) [ Some part ↦ faulty (fault (Cause.Missing part) k) | None ↦ or_faulty (element_fault p o.element (text_all o.trees)) o.start (closes m) ])
+        (elim x as (λ _. Judgement) [ Some part ↦ faulty (fault (Cause.Missing part) k) | None ↦ or_faulty (string_fault p o.element o.trees) o.start (closes m) ])
     go (Some part) e = tt
-    go None e = or_judged p (o ∷ outer) k rest (element_fault p o.element (text_all o.trees)) o.start (closes m) (λ f.
+    go None e = or_judged p (o ∷ outer) k rest (string_fault p o.element o.trees) o.start (closes m) (λ f.
         record { innermost = o; outer = outer; is_path = refl; may_end = record { complete = e; no_fault = f }; how = how })
 
 abbrev form_body : Profile → List Open → Element → Tag → Bool → ℕ → ℕ → Fault → List ℕ → Bool → Judgement
@@ -288,7 +287,7 @@ form_cases p path (sequence node) tag f k i cut w = elim (two_cases (allows (seq
 form_cases p path (list node) tag f k i cut w = elim (two_cases (allows (list node) f)) [ inl h ↦ inl h | inr h ↦ inr (fault Cause.WrongForm k, ap (form_body p path (list node) tag f k i cut w) h) ]
 form_cases p path (wrapper c) tag f k i cut w = elim (two_cases (allows (wrapper c) f)) [ inl h ↦ inl h | inr h ↦ inr (fault Cause.WrongForm k, ap (form_body p path (wrapper c) tag f k i cut w) h) ]
 form_cases p path (loose_wrapper c) tag f k i cut w = elim (two_cases (allows (loose_wrapper c) f)) [ inl h ↦ inl h | inr h ↦ inr (fault Cause.WrongForm k, ap (form_body p path (loose_wrapper c) tag f k i cut w) h) ]
-form_cases p path segment tag f k i cut w = inl refl
+form_cases p path (segment u) tag f k i cut w = inl refl
 form_cases p path (foreign n) tag f k i cut w = inl refl
 form_cases p path (left_out x) tag f k i cut w = inr (fault (Cause.LeftOut x) k, refl)
 

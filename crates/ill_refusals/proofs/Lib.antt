@@ -4,6 +4,7 @@ pub mod Rows
 pub mod WholeElements
 pub mod OpenElements
 pub mod Headers
+pub mod Segments
 pub mod Judgements
 pub mod TreeRuns
 pub mod PlaceRuns

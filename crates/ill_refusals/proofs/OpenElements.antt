@@ -7,7 +7,9 @@ use Rattle.std.specs.Cmp.{signed_Decides}
 use Rattle.ber_core.specs.Foreign.{is_foreign, are_foreign, foreign_levels}
 use Rattle.ber_core.proofs.Foreign.{both, has_identified}
 use Rattle.ber_core.specs.Identifier.{Tag, HasIdentifier}
-use Rattle.ber_core.specs.Tree.{Tree, Trees, primitive, constructed, none, more, tag_of, AreSegments, text_all, octet_string}
+use Rattle.ber_core.specs.Tree.{Tree, Trees, primitive, constructed, none, more, tag_of, AreSegments}
+use Rattle.ber_leaf.specs.Leaf.{Leaf}
+use Rattle.ber_leaf.specs.Segments.{segment_tag, segments_content}
 use Rattle.ill_schema.specs.declared.node.Kind.{Kind}
 use Rattle.ill_schema.specs.declared.node.LeafKind.{LeafKind}
 use Rattle.ill_schema.specs.declared.node.NodeId.{NodeId}
@@ -19,7 +21,7 @@ use Rattle.ill_schema.specs.Content.{Content, simple, alternative, Entries, no_e
 use Rattle.ber_leaf.specs.Simple.{flag}
 use Rattle.ill_schema.specs.Content as content
 use Rattle.ill_refusals.specs.Element.{Component, components, components_from, Element, leaf, sequence, list, wrapper, loose_wrapper, segment, foreign, left_out, Start, starts}
-use Rattle.ill_refusals.specs.Fault.{element_fault}
+use Rattle.ill_refusals.specs.Fault.{element_fault, string_fault}
 use Rattle.ber_core.specs.Octets.{are_octets}
 use Rattle.ill_schema.specs.Meaning.{Means, Matches, MatchItems}
 use Rattle.ill_refusals.specs.Next.{Next, rows, items, either, segments, anything, foreigns, Due, part, octets, any, due, due_in, start_of, element_of, next_of, next_after, missing, first_mandatory, opening, IsWhole, AreWhole}
@@ -29,7 +31,7 @@ use Rattle.ill_schema.specs.Tagging.{Tagging, untagged, tagging, same_tag, seque
 use Rattle.ill_schema.specs.Presence.{IsCarried, MayLack, is_default_of, default_value, same_value}
 use Rattle.ill_schema.specs.Table.{kind_of, rows_of}
 use Rattle.ill_schema.specs.TableFacts.{node_tags, row_tags}
-use Rattle.ill_schema.proofs.Tags.{is_proper, is_proper_row, is_tagged, Mem, tables_proper, at_row}
+use Rattle.ill_schema.proofs.Tags.{is_proper, is_proper_row, is_tagged, Mem, same_tag-refl, tables_proper, at_row}
 use Rattle.std.proofs.lemmas.Bool.{and_parts}
 use Rattle.ill_schema.proofs.Unique.{means_begins, matches_begins, no_leaf, no_any_leaf, proper_untagged, sequence_apart}
 use Rattle.ill_refusals.proofs.Rows.{AreRead, starting, starting_some, two_cases, same_tag-is, sequence_read, tables_started, are_started, same_tags, same_tags-is, tag_at, next_after-more, due-found}
@@ -43,7 +45,7 @@ abbrev pub IsProperNext : Profile → Next → Type 0
 IsProperNext p (rows cs) = AllProper p cs
 IsProperNext p (items c) = IsProperComponent p c
 IsProperNext p (either c) = IsProper p (loose_wrapper c)
-IsProperNext p segments = Unit {0}
+IsProperNext p (segments t) = Unit {0}
 IsProperNext p (anything c) = (c.presence ≡ Presence.Must) × (c.tagging ≡ untagged) × (kind_of c.node ≡ Kind.Any)
 IsProperNext p (foreigns n) = Unit {0}
 
@@ -82,7 +84,7 @@ inner_proper p c e f n = record {
 -- where the element that is due was found
 abbrev IsFound : Profile → Tag → Due → Type 0
 IsFound p t (part c e n) = (s : Start) × (starting t (starts p c) ≡ Some s) × (s.element ≡ e) × IsProperComponent p c × IsProperNext p n
-IsFound p t octets = t ≡ octet_string
+IsFound p t (octets u) = t ≡ u
 IsFound p t (any n next) = IsProperNext p next
 
 -- what is due, by what was found
@@ -126,9 +128,9 @@ due_found p t (either c) d ok h = elim (two_cases (same_tag t sequence_tag)) [
 due_found p t (anything c) d ok h = let q : Some (any (foreign_levels - 1) (rows [])) ≡ Some d = h in let r : any (foreign_levels - 1) (rows []) ≡ d = cc in subst (λ x. IsFound p t x) r tt
 due_found p t (foreigns zero) d ok h = absurd (let q : None ≡ Some d = h in cc)
 due_found p t (foreigns (suc n)) d ok h = let q : Some (any n (foreigns (suc n))) ≡ Some d = h in let r : any n (foreigns (suc n)) ≡ d = cc in subst (λ x. IsFound p t x) r tt
-due_found p t segments d ok h = elim (two_cases (same_tag t octet_string)) [
-  | inl e ↦ let q : Some octets ≡ Some d = sym (ap (λ (b : Bool). if b then Some octets else None) e) ∙ h in let r : octets ≡ d = cc in subst (λ x. IsFound p t x) r (same_tag-is t octet_string e)
-  | inr e ↦ absurd (let q : None ≡ Some d = sym (ap (λ (b : Bool). if b then Some octets else None) e) ∙ h in cc)
+due_found p t (segments u) d ok h = elim (two_cases (same_tag t u)) [
+  | inl e ↦ let q : Some (octets u) ≡ Some d = sym (ap (λ (b : Bool). if b then Some (octets u) else None) e) ∙ h in let r : octets u ≡ d = cc in subst (λ x. IsFound p t x) r (same_tag-is t u e)
+  | inr e ↦ absurd (let q : None ≡ Some d = sym (ap (λ (b : Bool). if b then Some (octets u) else None) e) ∙ h in cc)
 ]
 
 -- a whole tree of what is due is a whole element of its sort
@@ -136,21 +138,21 @@ pub due_element : (p : Profile) (n : Next) (d : Due) (T : Tree) → IsProperNext
 due_element p n (part c e nx) T ok h w =
     let f : IsFound p (tag_of T) (part c e nx) = due_found p (tag_of T) n (part c e nx) ok h in
     subst (λ x. IsElement p x T) f.2 (start_element p c f.0 w.1.0 T f.3 f.1 w.0 w.1.1)
-due_element p n octets T ok h w = w
+due_element p n (octets u) T ok h w = w
 due_element p n (any m nx) T ok h w = w
 
 pub due_whole : (p : Profile) (n : Next) (d : Due) (T : Tree) → IsProperNext p n → due p (tag_of T) n ≡ Some d → IsElement p (element_of d) T → IsWhole p d T
 due_whole p n (part c e nx) T ok h w =
     let f : IsFound p (tag_of T) (part c e nx) = due_found p (tag_of T) n (part c e nx) ok h in
     start_value p c f.0 T f.3 f.1 (subst (λ x. IsElement p x T) (sym f.2) w)
-due_whole p n octets T ok h w = w
+due_whole p n (octets u) T ok h w = w
 due_whole p n (any m nx) T ok h w = w
 
 pub due_proper : (p : Profile) (t : Tag) (n : Next) (d : Due) → IsProperNext p n → due p t n ≡ Some d → IsProper p (element_of d) × IsProperNext p (next_of d)
 due_proper p t n (part c e nx) ok h =
     let f : IsFound p t (part c e nx) = due_found p t n (part c e nx) ok h in
     (subst (λ x. IsProper p x) f.2 (start_proper p c t f.0 f.3 f.1), f.4)
-due_proper p t n octets ok h = (tt, tt)
+due_proper p t n (octets u) ok h = (tt, tt)
 due_proper p t n (any m nx) ok h = (tt, due_found p t n (any m nx) ok h)
 
 abbrev first_items : List Component → Next
@@ -174,7 +176,7 @@ opening_proper p (wrapper c) h = go (kind_of c.node) refl
     go Kind.IllString e = (inner_proper p c h.0 h.1 (λ q. let z : Kind.IllString ≡ Kind.Any = sym e ∙ q in cc), tt)
     go (Kind.Leaf l) e = (inner_proper p c h.0 h.1 (λ q. let z : Kind.Leaf l ≡ Kind.Any = sym e ∙ q in cc), tt)
 opening_proper p (loose_wrapper c) h = h
-opening_proper p segment h = tt
+opening_proper p (segment u) h = tt
 opening_proper p (foreign n) h = tt
 opening_proper p (left_out x) h = tt
 
@@ -273,21 +275,22 @@ read_matches p node n (row ∷ rs) (more T us) h = elim (first_read p (component
 ]
 
 -- segments
-segments_read : (p : Profile) (ts : Trees) → AreSegments ts → AreRead p segments ts
-segments_read p none h = record { whole = tt; complete = refl }
-segments_read p (more T ts) h =
-    let r = segments_read p ts h.2 in
-    let e : due p (tag_of T) segments ≡ Some octets = ap (λ t. if same_tag t octet_string then Some octets else None) h.0 in
-    record { whole = (octets, e, h.1, r.whole); complete = ap (missing p) (next_after-more p segments T ts octets e) ∙ r.complete }
+segments_read : (p : Profile) (u : Tag) (ts : Trees) → AreSegments u ts → AreRead p (segments u) ts
+segments_read p u none h = record { whole = tt; complete = refl }
+segments_read p u (more T ts) h =
+    let r = segments_read p u ts h.2 in
+    let e : due p (tag_of T) (segments u) ≡ Some (octets u) =
+    ap (λ t. if same_tag t u then Some (octets u) else None) h.0 ∙ ap (λ (b : Bool). if b then Some (octets u) else None) (same_tag-refl u) in
+    record { whole = (octets u, e, h.1, r.whole); complete = ap (missing p) (next_after-more p (segments u) T ts (octets u) e) ∙ r.complete }
 
-read_segments : (p : Profile) (ts : Trees) → AreWhole p segments ts → AreSegments ts
-read_segments p none h = tt
-read_segments p (more T ts) h = elim (two_cases (same_tag (tag_of T) octet_string)) [
+read_segments : (p : Profile) (u : Tag) (ts : Trees) → AreWhole p (segments u) ts → AreSegments u ts
+read_segments p u none h = tt
+read_segments p u (more T ts) h = elim (two_cases (same_tag (tag_of T) u)) [
   | inl e ↦
-      let q : Some octets ≡ Some h.0 = sym (ap (λ (b : Bool). if b then Some octets else None) e) ∙ h.1 in
-      let r : h.0 ≡ octets = cc in
-      (same_tag-is (tag_of T) octet_string e, subst (λ d. IsWhole p d T) r h.2, read_segments p ts (subst (λ d. AreWhole p (next_of d) ts) r h.3))
-  | inr e ↦ absurd (let q : None ≡ Some h.0 = sym (ap (λ (b : Bool). if b then Some octets else None) e) ∙ h.1 in cc)
+      let q : Some (octets u) ≡ Some h.0 = sym (ap (λ (b : Bool). if b then Some (octets u) else None) e) ∙ h.1 in
+      let r : h.0 ≡ octets u = cc in
+      (same_tag-is (tag_of T) u e, subst (λ d. IsWhole p d T) r h.2, read_segments p u ts (subst (λ d. AreWhole p (next_of d) ts) r h.3))
+  | inr e ↦ absurd (let q : None ≡ Some h.0 = sym (ap (λ (b : Bool). if b then Some (octets u) else None) e) ∙ h.1 in cc)
 ]
 
 carried_is : (pr : Presence) → IsTrue (is_carried pr) → IsCarried pr
@@ -496,26 +499,26 @@ same_inside s t ss ts e = cc
 
 -- a whole element that is constructed is read as its sort opens, and the other way round
 pub element_read : (p : Profile) (e : Element) (t : Tag) (ts : Trees) → IsProper p e → IsElement p e (constructed t ts)
-    → AreRead p (opening p e) ts × (allows e true ≡ true) × (element_fault p e (text_all ts) ≡ None)
-element_read p (leaf l) t ts ok h = (segments_read p ts h.0.1, h.0.0, h.2)
+    → AreRead p (opening p e) ts × (allows e true ≡ true) × (string_fault p e ts ≡ None)
+element_read p (leaf l) t ts ok h = (segments_read p (segment_tag l) ts h.0.1, h.0.0, h.2)
 element_read p (sequence node) t ts ok h = (sequence_read p node h.3.0 ts ok (subst (λ z. Matches p h.3.0 (rows_of node) z) (same_inside _ _ _ _ h.2) h.3.1), refl, refl)
 element_read p (list node) t ts ok h =
     (list_read p node (rows_of node) h.3.0 ts (items_carried node ok) (tables_proper p node) (tables_started p node) (subst (λ z. MatchItems p h.3.0 (rows_of node) z) (same_inside _ _ _ _ h.2) h.3.1), refl, refl)
 element_read p (wrapper c) t ts ok h = (subst (λ z. AreRead p (opening p (wrapper c)) z) (same_inside _ _ _ _ h.2) (wrapper_read p c h.1 h.3.0 ok.0 ok.1 h.3.1), refl, refl)
 element_read p (loose_wrapper c) t ts ok (inl h) = (subst (λ z. AreRead p (either c) z) (same_inside _ _ _ _ h.2) (loose_wrapped_read p c h.1 h.3.0 ok h.3.1), refl, refl)
 element_read p (loose_wrapper c) t ts ok (inr h) = (subst (λ z. AreRead p (either c) z) (same_inside _ _ _ _ h.2) (loose_bare_read p c h.3.0 h.1 ok h.3.1), refl, refl)
-element_read p segment t ts ok h = (segments_read p ts h, refl, refl)
+element_read p (segment u) t ts ok h = (segments_read p u ts h, refl, refl)
 element_read p (foreign n) t ts ok h = (foreigns_read p n ts (and_parts _ _ h).1, refl, refl)
 element_read p (left_out x) t ts ok h = absurd h
 
-pub read_element : (p : Profile) (e : Element) (t : Tag) (ts : Trees) → IsProper p e → allows e true ≡ true → AreRead p (opening p e) ts → element_fault p e (text_all ts) ≡ None
-    → IsTrue (are_octets (text_all ts)) → HasIdentifier t true → IsElement p e (constructed t ts)
-read_element p (leaf l) t ts ok a h f o i = ((a, read_segments p ts h.whole), o, f)
+pub read_element : (p : Profile) (e : Element) (t : Tag) (ts : Trees) → IsProper p e → allows e true ≡ true → AreRead p (opening p e) ts → string_fault p e ts ≡ None
+    → ((l : Leaf) → IsTrue (are_octets (segments_content l ts))) → HasIdentifier t true → IsElement p e (constructed t ts)
+read_element p (leaf l) t ts ok a h f o i = ((a, read_segments p (segment_tag l) ts h.whole), o l, f)
 read_element p (sequence node) t ts ok a h f o i = (t, ts, refl, read_matches p node 0 (rows_of node) ts h)
 read_element p (list node) t ts ok a h f o i = (t, ts, refl, read_list p node (rows_of node) ts h.whole)
 read_element p (wrapper c) t ts ok a h f o i = read_wrapper p c t ts ok.0 ok.1 h
 read_element p (loose_wrapper c) t ts ok a h f o i = read_loose p c t ts ok h
-read_element p segment t ts ok a h f o i = read_segments p ts h.whole
+read_element p (segment u) t ts ok a h f o i = read_segments p u ts h.whole
 read_element p (foreign n) t ts ok a h f o i = both _ _ (has_identified t true i) (read_foreigns p n ts h.whole)
 read_element p (left_out x) t ts ok a h f o i = absurd cc
 
@@ -527,7 +530,7 @@ element_primitive p (list node) t os h = absurd (let q : primitive t os ≡ cons
 element_primitive p (wrapper c) t os h = absurd (let q : primitive t os ≡ constructed h.0 (more h.1 none) = h.2 in cc)
 element_primitive p (loose_wrapper c) t os (inl h) = absurd (let q : primitive t os ≡ constructed h.0 (more h.1 none) = h.2 in cc)
 element_primitive p (loose_wrapper c) t os (inr h) = absurd (let q : primitive t os ≡ constructed h.0 h.1 = h.2 in cc)
-element_primitive p segment t os h = (refl, refl)
+element_primitive p (segment u) t os h = (refl, refl)
 element_primitive p (foreign n) t os h = (refl, refl)
 element_primitive p (left_out x) t os h = absurd h
 
@@ -537,6 +540,6 @@ primitive_element p (sequence node) t os a f o i = absurd cc
 primitive_element p (list node) t os a f o i = absurd cc
 primitive_element p (wrapper c) t os a f o i = absurd cc
 primitive_element p (loose_wrapper c) t os a f o i = absurd cc
-primitive_element p segment t os a f o i = tt
+primitive_element p (segment u) t os a f o i = tt
 primitive_element p (foreign n) t os a f o i = both _ _ (has_identified t false i) o
 primitive_element p (left_out x) t os a f o i = absurd cc

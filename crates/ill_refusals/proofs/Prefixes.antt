@@ -85,7 +85,7 @@ longer_form p path (sequence n) tag f k i at cut w y = longer_allowed at k _ _ (
 longer_form p path (list n) tag f k i at cut w y = longer_allowed at k _ _ (allows (list n) f) (longer_length p path (list n) tag f k i at cut w y)
 longer_form p path (wrapper c) tag f k i at cut w y = longer_allowed at k _ _ (allows (wrapper c) f) (longer_length p path (wrapper c) tag f k i at cut w y)
 longer_form p path (loose_wrapper c) tag f k i at cut w y = longer_allowed at k _ _ (allows (loose_wrapper c) f) (longer_length p path (loose_wrapper c) tag f k i at cut w y)
-longer_form p path segment tag f k i at cut w y = longer_length p path segment tag f k i at cut w y
+longer_form p path (segment u) tag f k i at cut w y = longer_length p path (segment u) tag f k i at cut w y
 longer_form p path (foreign n) tag f k i at cut w y = longer_length p path (foreign n) tag f k i at cut w y
 longer_form p path (left_out x) tag f k i at cut w y = inr refl
 

@@ -4,14 +4,13 @@ use Rattle.std.specs.Prelude.{nat_eq, nat_lt, nat_le, is_some}
 use Rattle.std.proofs.lemmas.Bool.{and_parts}
 use Rattle.std.proofs.lemmas.List.{take_all}
 use Rattle.ber_core.specs.Identifier.{Tag}
-use Rattle.ber_core.specs.Tree.{text_all}
 use Rattle.ber_leaf.specs.declared.fault.LeafFault.{LeafFault}
 use Rattle.ber_leaf.specs.Profile.{Profile}
 use Rattle.ill_schema.specs.declared.refusal.Cause.{Cause}
 use Rattle.ill_schema.specs.declared.part.PartId.{PartId}
 use Rattle.ill_schema.specs.Causes.{cause_of}
 use Rattle.ill_refusals.specs.Element.{Element, leaf, sequence, list, wrapper, loose_wrapper, segment, foreign, left_out}
-use Rattle.ill_refusals.specs.Fault.{Fault, fault, ends_at, is_indefinite, past_end, cut_fault, element_fault, is_deep}
+use Rattle.ill_refusals.specs.Fault.{Fault, fault, ends_at, is_indefinite, past_end, cut_fault, element_fault, string_fault, is_deep}
 use Rattle.ill_refusals.specs.code.Judge.{Judgement, faulty, closes, opens, reads, or_faulty, judge_end, judge_content, judge_size, judge_length, judge_form, judge_tag, judge_element, judge_mark, judge_octets, judge}
 use Rattle.ill_refusals.specs.Next.{Due, element_of, due, missing}
 use Rattle.ill_refusals.specs.Place.{Open, next_in, innermost_end, bound, allows}
@@ -62,10 +61,10 @@ end_cut W cut p (o ∷ path) k m = go (missing p (next_in p (o ∷ path)))
   where
     go : (x : Option PartId) → IsCut W cut (elim x as (λ _. Judgement) [
       | Some part ↦ faulty (fault (Cause.Missing part) k)
-      | None ↦ or_faulty (element_fault p o.element (text_all o.trees)) o.start (closes m)
+      | None ↦ or_faulty (string_fault p o.element o.trees) o.start (closes m)
     ])
     go (Some part) = inr (λ e. cc)
-    go None = or_cut W cut (element_fault p o.element (text_all o.trees)) o.start (closes m) tt
+    go None = or_cut W cut (string_fault p o.element o.trees) o.start (closes m) tt
 
 content_cut : (cut : Fault) (p : Profile) (e : Element) (tag : Tag) (k h n : ℕ) (w : List ℕ) → IsCut (length w < n) cut (judge_content p e tag k h cut n w)
 content_cut cut p e tag k h n w = go (nat_lt (length w) n) refl
@@ -119,7 +118,7 @@ form_cut cut p path (sequence n) tag f k i w = allowed_cut cut p path (sequence 
 form_cut cut p path (list n) tag f k i w = allowed_cut cut p path (list n) tag f k i w (allows (list n) f)
 form_cut cut p path (wrapper c) tag f k i w = allowed_cut cut p path (wrapper c) tag f k i w (allows (wrapper c) f)
 form_cut cut p path (loose_wrapper c) tag f k i w = allowed_cut cut p path (loose_wrapper c) tag f k i w (allows (loose_wrapper c) f)
-form_cut cut p path segment tag f k i w = length_cut cut p path segment tag f k i w
+form_cut cut p path (segment u) tag f k i w = length_cut cut p path (segment u) tag f k i w
 form_cut cut p path (foreign n) tag f k i w = length_cut cut p path (foreign n) tag f k i w
 form_cut cut p path (left_out x) tag f k i w = inr (λ e. cc)
 

@@ -3,7 +3,8 @@ use Rattle.std.proofs.Common.{◌≡◌, ◌⊎◌, ◌↔◌, ℕ, suc, ◌+◌
 use Rattle.std.specs.Prelude.{flat_map, nat_eq}
 use Rattle.ber_core.specs.Foreign.{is_foreign, foreign_levels}
 use Rattle.ber_core.specs.Identifier.{Tag}
-use Rattle.ber_core.specs.Tree.{Tree, Trees, constructed, none, more, tag_of, IsString, text}
+use Rattle.ber_core.specs.Tree.{Tree, Trees, constructed, none, more, tag_of, IsString}
+use Rattle.ber_leaf.specs.Segments.{leaf_content}
 use Rattle.ill_schema.specs.declared.node.Kind.{Kind}
 use Rattle.ill_schema.specs.declared.node.LeafKind.{LeafKind}
 use Rattle.ill_schema.specs.declared.node.NodeId.{NodeId}
@@ -28,21 +29,21 @@ use Rattle.ill_refusals.proofs.Rows.{same_tag-is, starting, two_cases}
 
 -- the tree is a whole element of this sort
 abbrev pub IsElement : Profile → Element → Tree → Type 0
-IsElement p (leaf l) T = IsLeaf l T × IsTrue (are_octets (text T)) × (content_fault p l (text T) ≡ None)
+IsElement p (leaf l) T = IsLeaf l T × IsTrue (are_octets (leaf_content l T)) × (content_fault p l (leaf_content l T) ≡ None)
 IsElement p (sequence node) T = (tag : Tag) × (ts : Trees) × (T ≡ constructed tag ts) × ((es : Entries) × Matches p es (rows_of node) ts)
 IsElement p (list node) T = (tag : Tag) × (ts : Trees) × (T ≡ constructed tag ts) × ((is : Items) × MatchItems p is (rows_of node) ts)
 IsElement p (wrapper c) T = (tag : Tag) × (U : Tree) × (T ≡ constructed tag (more U none)) × ((v : Content) × Means p v c.node untagged U)
 IsElement p (loose_wrapper c) T =
     ((tag : Tag) × (U : Tree) × (T ≡ constructed tag (more U none)) × ((v : Content) × Means p v c.node untagged U))
     ⊎ ((tag : Tag) × (ts : Trees) × (T ≡ constructed tag ts) × ((es : Entries) × Matches p es (rows_of c.node) ts))
-IsElement p segment T = IsString T
+IsElement p (segment tag) T = IsString tag T
 IsElement p (foreign n) T = IsTrue (is_foreign (suc n) T)
 IsElement p (left_out part) T = ⊥
 
 abbrev pub element_at : Kind → NodeId → ℕ → Element
 element_at Kind.Seq node n = sequence node
 element_at Kind.SeqOf node n = list node
-element_at Kind.Choice node n = segment
+element_at Kind.Choice node n = segment sequence_tag
 element_at Kind.Any node n = foreign (foreign_levels - 1)
 element_at kind node n = leaf (leaf_at kind n)
 
@@ -215,7 +216,7 @@ kind_value p node g T Kind.Choice e n lift h = absurd (n refl)
 kind_value p node g T Kind.Any e n lift h = (content.foreign T, (e, lift _ (refl, h)))
 kind_value p node g T Kind.IllString e n lift h =
     let l = leaf_at Kind.IllString (tag_of T).number in
-    (simple (value l (text T)), (l, ap (λ k. leaf_of k (value l (text T))) e ∙ leaf_value Kind.IllString (tag_of T).number (text T) (λ x. no_shape x), lift _ (refl, h.0, (h.1, h.2, refl))))
+    (simple (value l (leaf_content l T)), (l, ap (λ k. leaf_of k (value l (leaf_content l T))) e ∙ leaf_value Kind.IllString (tag_of T).number (leaf_content l T) (λ x. no_shape x), lift _ (refl, h.0, (h.1, h.2, refl))))
   where
     no_shape : (Kind.IllString ≡ Kind.Seq) ⊎ (Kind.IllString ≡ Kind.SeqOf) ⊎ (Kind.IllString ≡ Kind.Choice) ⊎ (Kind.IllString ≡ Kind.Any) → ⊥
     no_shape (inl x) = cc
@@ -224,7 +225,7 @@ kind_value p node g T Kind.IllString e n lift h =
     no_shape (inr (inr (inr x))) = cc
 kind_value p node g T (Kind.Leaf x) e n lift h =
     let l = leaf_at (Kind.Leaf x) (tag_of T).number in
-    (simple (value l (text T)), (l, ap (λ k. leaf_of k (value l (text T))) e ∙ leaf_value (Kind.Leaf x) (tag_of T).number (text T) (λ y. no_shape x y), lift _ (refl, h.0, (h.1, h.2, refl))))
+    (simple (value l (leaf_content l T)), (l, ap (λ k. leaf_of k (value l (leaf_content l T))) e ∙ leaf_value (Kind.Leaf x) (tag_of T).number (leaf_content l T) (λ y. no_shape x y), lift _ (refl, h.0, (h.1, h.2, refl))))
   where
     no_shape : (x : LeafKind) → (Kind.Leaf x ≡ Kind.Seq) ⊎ (Kind.Leaf x ≡ Kind.SeqOf) ⊎ (Kind.Leaf x ≡ Kind.Choice) ⊎ (Kind.Leaf x ≡ Kind.Any) → ⊥
     no_shape x (inl y) = cc
@@ -265,7 +266,7 @@ IsProper p (list node) = kind_of node ≡ Kind.SeqOf
 IsProper p (wrapper c) = (c.presence ≡ Presence.Must) × (c.tagging ≡ untagged)
 IsProper p (foreign n) = Unit {0}
 IsProper p (loose_wrapper c) = (c.presence ≡ Presence.Must) × (c.tagging ≡ untagged) × (kind_of c.node ≡ Kind.Seq)
-IsProper p segment = Unit {0}
+IsProper p (segment tag) = Unit {0}
 IsProper p (left_out part) = Unit {0}
 
 pub bare_kind : (t : Tag) (k : Kind) → IsTrue (is_proper (explicit_or_bare t) k) → k ≡ Kind.Seq

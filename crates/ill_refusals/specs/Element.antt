@@ -48,8 +48,8 @@ pub data Element : Type 0 where
   wrapper : Component → Element
   -- the same, which may also be round the components of its node
   loose_wrapper : Component → Element
-  -- an OCTET STRING in a string (8.7.3.2, 8.23.6)
-  segment : Element
+  -- an element of this tag in a string (8.6.4, 8.7.3.2, 8.23.6)
+  segment : Tag → Element
   -- an element of a foreign tree, in which so many levels may stand (8.15)
   foreign : ℕ → Element
   left_out : PartId → Element

@@ -1,10 +1,11 @@
 -- The fault at a place: the conditions in their order, of which the first that holds counts.
 use Rattle.std.specs.Prelude.{◌≡◌, ◌⊎◌, ℕ, ◌+◌, ◌-◌, ◌<◌, ◌≤◌, Bool, true, false, ◌&&◌, ◌||◌, nat_eq, nat_lt, nat_le, List, [], ◌∷◌, length, take, drop, Option, Some, None, is_some, if◌then◌else◌}
-use Rattle.ber_core.specs.Tree.{text_all}
+use Rattle.ber_core.specs.Tree.{Trees}
 use Rattle.ill_schema.specs.declared.refusal.Cause.{Cause}
 use Rattle.ill_schema.specs.declared.refusal.Refusal.{Refusal}
 use Rattle.ber_leaf.specs.declared.fault.LeafFault.{LeafFault}
 use Rattle.ber_leaf.specs.Leaf.{content_fault}
+use Rattle.ber_leaf.specs.Segments.{segments_content}
 use Rattle.ill_schema.specs.declared.part.PartId.{PartId}
 use Rattle.ill_schema.specs.Causes.{cause_of}
 use Rattle.ber_leaf.specs.Profile.{Profile}
@@ -45,9 +46,13 @@ cut_fault p path k rest =
     if nat_le (bound p path - k) (length rest) then fault (past_end path) k
     else fault Cause.Truncated (k + length rest)
 
--- the fault of an element's content
+-- the fault of a primitive element's content
 abbrev pub element_fault : Profile → Element → List ℕ → Option LeafFault
 element_fault p e octets = elim e as (λ _. Option LeafFault) [ leaf l ↦ content_fault p l octets | _ ↦ None ]
+
+-- the fault of a string in segments
+abbrev pub string_fault : Profile → Element → Trees → Option LeafFault
+string_fault p e trees = elim e as (λ _. Option LeafFault) [ leaf l ↦ content_fault p l (segments_content l trees) | _ ↦ None ]
 
 -- what a condition finds at a place
 pub data Finding : Type 0 where
@@ -74,7 +79,7 @@ ended None k None start = sound
 -- the innermost element ends at offset k
 abbrev pub innermost_ends : Profile → List Open → ℕ → Finding
 innermost_ends p [] k = sound
-innermost_ends p (o ∷ path) k = ended (missing p (next_in p (o ∷ path))) k (element_fault p o.element (text_all o.trees)) o.start
+innermost_ends p (o ∷ path) k = ended (missing p (next_in p (o ∷ path))) k (string_fault p o.element o.trees) o.start
 
 -- 1. the innermost element is definite, and its end is here
 abbrev pub definite_end : Profile → List Open → ℕ → Finding

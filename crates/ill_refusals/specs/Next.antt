@@ -1,10 +1,11 @@
--- What may come next in an open element (X.690, 8.7.3, 8.9, 8.10 and 8.15).
+-- What may come next in an open element (X.690, 8.6.4, 8.7.3, 8.9, 8.10 and 8.15).
 use Rattle.std.specs.Prelude.{◌≡◌, ℕ, zero, suc, ◌-◌, Bool, true, false, IsTrue, List, [], ◌∷◌, Option, Some, None, if◌then◌else◌, find}
 use Rattle.ber_core.specs.Identifier.{Tag}
 use Rattle.ber_core.specs.Foreign.{is_foreign, foreign_levels}
 use Rattle.ill_schema.specs.declared.node.Kind.{Kind}
 use Rattle.ill_schema.specs.Table.{kind_of}
-use Rattle.ber_core.specs.Tree.{Tree, Trees, none, more, tag_of, octet_string, IsString}
+use Rattle.ber_core.specs.Tree.{Tree, Trees, none, more, tag_of, IsString}
+use Rattle.ber_leaf.specs.Segments.{segment_tag}
 use Rattle.ill_schema.specs.declared.part.PartId.{PartId}
 use Rattle.ill_schema.specs.declared.part.Presence.{Presence}
 use Rattle.ill_schema.specs.Content.{Content}
@@ -22,8 +23,8 @@ pub data Next : Type 0 where
   items : Component → Next
   -- in a loose wrapper without elements: the component that is wrapped, or the components of its node
   either : Component → Next
-  -- OCTET STRINGs
-  segments : Next
+  -- segments of this tag
+  segments : Tag → Next
   -- the root of a foreign tree, in an explicit tag
   anything : Component → Next
   -- elements of a foreign tree, of which so many levels may follow
@@ -32,18 +33,19 @@ pub data Next : Type 0 where
 -- an element that is due: of which component, and what may come after it
 pub data Due : Type 0 where
   part : Component → Element → Next → Due
-  octets : Due
+  -- a segment of this tag
+  octets : Tag → Due
   -- an element of a foreign tree, in which so many levels may stand
   any : ℕ → Next → Due
 
 abbrev pub element_of : Due → Element
 element_of (part c e n) = e
-element_of octets = segment
+element_of (octets tag) = segment tag
 element_of (any n next) = foreign n
 
 abbrev pub next_of : Due → Next
 next_of (part c e n) = n
-next_of octets = segments
+next_of (octets tag) = segments tag
 next_of (any n next) = next
 
 -- the start of a component that has the tag
@@ -70,7 +72,7 @@ abbrev pub next_due : Bool → Tag → Next → Option Due
 next_due bare tag (rows cs) = due_by bare tag cs
 next_due bare tag (items c) = elim (start_by bare tag c) as (λ _. Option Due) [ Some s ↦ Some (part c s.element (items c)) | None ↦ None ]
 next_due bare tag (either c) = elim (same_tag tag sequence_tag) as (λ _. Option Due) [ true ↦ due_by bare tag (c ∷ []) | false ↦ due_by bare tag (node_components bare c.node) ]
-next_due bare tag segments = if same_tag tag octet_string then Some octets else None
+next_due bare tag (segments t) = if same_tag tag t then Some (octets t) else None
 next_due bare tag (anything c) = Some (any (foreign_levels - 1) (rows []))
 next_due bare tag (foreigns zero) = None
 next_due bare tag (foreigns (suc n)) = Some (any n (foreigns (suc n)))
@@ -88,7 +90,7 @@ abbrev pub next_missing : Bool → Next → Option PartId
 next_missing bare (rows cs) = first_mandatory cs
 next_missing bare (items c) = None
 next_missing bare (either c) = first_mandatory (node_components bare c.node)
-next_missing bare segments = None
+next_missing bare (segments t) = None
 next_missing bare (anything c) = Some c.part
 next_missing bare (foreigns n) = None
 
@@ -97,12 +99,12 @@ missing p n = next_missing p.bare n
 
 -- what may come in an element when it opens
 abbrev pub opening_by : Bool → Element → Next
-opening_by bare (leaf l) = segments
+opening_by bare (leaf l) = segments (segment_tag l)
 opening_by bare (sequence node) = rows (node_components bare node)
 opening_by bare (list node) = elim (node_components bare node) as (λ _. Next) [ [] ↦ rows [] | c ∷ _ ↦ items c ]
 opening_by bare (wrapper c) = elim (kind_of c.node) as (λ _. Next) [ Kind.Any ↦ anything c | _ ↦ rows (c ∷ []) ]
 opening_by bare (loose_wrapper c) = either c
-opening_by bare segment = segments
+opening_by bare (segment tag) = segments tag
 opening_by bare (foreign n) = foreigns n
 opening_by bare (left_out _) = rows []
 
@@ -125,7 +127,7 @@ next_after p n ts = after_by p.bare n ts
 -- a whole tree of the element that is due
 abbrev pub IsWhole : Profile → Due → Tree → Type 0
 IsWhole p (part c e n) T = IsCarried c.presence × ((v : Content) × Means p v c.node c.tagging T)
-IsWhole p octets T = IsString T
+IsWhole p (octets tag) T = IsString tag T
 IsWhole p (any n next) T = IsTrue (is_foreign (suc n) T)
 
 -- the trees may be there, one after another

@@ -41,7 +41,7 @@ bound p path = unwrap_or (innermost_end path) p.limit
 abbrev pub allows : Element → Bool → Bool
 allows (leaf l) true = is_string l
 allows (leaf l) false = true
-allows segment constructed = true
+allows (segment tag) constructed = true
 allows (foreign n) constructed = true
 allows (left_out part) constructed = false
 allows _ constructed = constructed

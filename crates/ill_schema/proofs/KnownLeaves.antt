@@ -1,6 +1,9 @@
 -- The leaves of profile 2: it has no NULL, OBJECT IDENTIFIER, OCTET STRING, BIT STRING and ObjectDescriptor.
-use Rattle.std.proofs.Common.{◌≡◌, Bool, true, false, Some, IsTrue, refl}
-use Rattle.ber_leaf.specs.Leaf.{Leaf}
+use Rattle.std.proofs.Common.{◌≡◌, Bool, true, false, Some, IsTrue, refl, subst}
+use Rattle.ber_core.specs.Tree.{Tree, primitive, constructed, text}
+use Rattle.ber_leaf.specs.Leaf.{Leaf, bit_string, Holds}
+use Rattle.ber_leaf.specs.Profile.{Profile}
+use Rattle.ber_leaf.specs.Segments.{leaf_content}
 use Rattle.ber_leaf.specs.Simple.{Simple, null, oid, binary, bits, descriptor}
 use Rattle.ill_schema.specs.declared.node.Kind.{Kind}
 use Rattle.ill_schema.specs.declared.node.LeafKind.{LeafKind}
@@ -50,3 +53,9 @@ known_by _ _ l h e = refl
 
 pub known_leaf : (node : NodeId) (v : Simple) (l : Leaf) → IsTrue (is_of_two node) → leaf_of (kind_of node) v ≡ Some l → IsTrue (is_known v)
 known_leaf node v l h e = known_by (kind_of node) v l (all_known node h) e
+
+-- the content of such a leaf is its text
+pub known_content : (p : Profile) (l : Leaf) (v : Simple) (T : Tree) → IsTrue (is_known v) → Holds p l v (leaf_content l T) → leaf_content l T ≡ text T
+known_content p l v (primitive tag octets) h e = refl
+known_content p bit_string v (constructed tag trees) h e = absurd (let q : false ≡ true = subst (λ w. IsTrue (is_known w)) e.2 h in cc)
+known_content p _ v (constructed tag trees) h e = refl

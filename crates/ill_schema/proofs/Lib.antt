@@ -6,6 +6,7 @@ pub mod Depths
 pub mod Encodings
 pub mod MeansFits
 pub mod Wider
+pub mod KnownLeaves
 pub mod Shorter
 pub mod Streams
 pub mod WorkedRows
@@ -17,7 +18,6 @@ pub mod Sizes
 pub mod Carried
 pub mod RowNames
 pub mod FitsProps
-pub mod KnownLeaves
 pub mod Twins
 pub mod Lifted
 pub mod BothProfiles

@@ -2,7 +2,8 @@
 use Rattle.std.proofs.Common.{◌≡◌, ℕ, ◌+◌, ℤ, pos, negsuc, Bool, true, false, nat_lt, List, [], ◌∷◌, Some, IsTrue, refl, sym, ap, subst, inl, inr, arith}
 use Rattle.std.specs.List.{list_all}
 use Rattle.ber_core.specs.Identifier.{Tag}
-use Rattle.ber_core.specs.Tree.{Tree, Trees, text}
+use Rattle.ber_core.specs.Tree.{Tree, Trees}
+use Rattle.ber_leaf.specs.Segments.{leaf_content}
 use Rattle.ill_schema.specs.declared.node.Kind.{Kind}
 use Rattle.ill_schema.specs.declared.node.LeafKind.{LeafKind}
 use Rattle.ill_schema.specs.declared.node.NodeId.{NodeId}
@@ -85,7 +86,7 @@ default_fits p c row h e =
 mutual
   pub means_fits : (p : Profile) (c : Content) (node : NodeId) (g : Tagging) (T : Tree) → Means p c node g T → Fits p c node
   means_fits p (simple v) node g T m =
-      let o : (o : List ℕ) × Holds p m.0 v o = inside g (leaf_tag m.0) (HoldsLeaf p m.0 v) T (λ t U x. (text U, x.2)) m.2 in
+      let o : (o : List ℕ) × Holds p m.0 v o = inside g (leaf_tag m.0) (HoldsLeaf p m.0 v) T (λ t U x. (leaf_content m.0 U, x.2)) m.2 in
       (m.0, m.1, normal_holds p m.0 v o.0 o.1)
   means_fits p (sequence es) node g T m =
       (m.0, inside g sequence_tag _ T (λ t U x. matches_fit p es (rows_of node) x.0 (all_held node) x.2) m.1)

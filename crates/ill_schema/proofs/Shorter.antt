@@ -1,6 +1,7 @@
 -- Without bare wrappers the normal form is no longer than a spelling.
 use Rattle.std.proofs.Common.{◌≡◌, ℕ, ◌+◌, ◌<◌, ◌≤◌, ◌^◌, Bool, true, false, nat_lt, List, [], ◌∷◌, ◌++◌, length, Option, Some, None, IsTrue, refl, sym, ap, subst, ◌∙◌, inl, inr, arith, length-append, lit≤, ltb-true, ltb-false}
 use Rattle.std.specs.Int.Digits.{digits_of, number_from_digits}
+use Rattle.std.proofs.lemmas.Bool.{and_parts}
 use Rattle.std.proofs.lemmas.Int.Digits.{number_lt, length-digits_of-le, all_below_base_digits_of, number_digits_of}
 use Rattle.ber_core.specs.declared.id.Class.{Class}
 use Rattle.ber_core.specs.Identifier.{Tag, identifier}
@@ -16,7 +17,7 @@ use Rattle.ill_schema.specs.declared.part.Row.{Row}
 use Rattle.ill_schema.specs.Apdu.{Apdu, MeansApdu, Encodes, SpellsApdu, choice_of, normal_form}
 use Rattle.ill_schema.specs.Content.{Content, simple, sequence, list, alternative, foreign, Entries, no_entries, absent, present, Items, no_items, item}
 use Rattle.ber_leaf.specs.Simple.{Simple}
-use Rattle.ber_leaf.specs.Leaf.{normal_content}
+use Rattle.ber_leaf.specs.Leaf.{Holds, normal_content}
 use Rattle.ber_leaf.specs.Profile.{profile_one, profile_two}
 use Rattle.ill_schema.specs.Tagging.{Tagging, untagged, implicit, explicit, explicit_or_bare, tagging, Tagged, tag_tree, sequence_tag, leaf_tag}
 use Rattle.ill_schema.specs.Presence.{is_default}
@@ -25,6 +26,9 @@ use Rattle.ill_schema.specs.Meaning.{Means, Matches, MatchItems, HoldsLeaf}
 use Rattle.ill_schema.specs.Normal.{normal_tree, normal_trees, normal_items}
 use Rattle.ber_core.specs.Der.{size, sizes, header_size}
 use Rattle.ill_schema.specs.Table.{rows_of}
+use Rattle.ill_schema.specs.TableFacts.{are_of_two, is_of_two}
+use Rattle.ill_schema.proofs.KnownLeaves.{known_content, known_leaf}
+use Rattle.ill_schema.proofs.Tags.{row_of_two, rows_of_two}
 use Rattle.ber_leaf.proofs.Leaves.{content_least}
 use Rattle.ill_schema.proofs.Normal.{same_tree}
 use Rattle.ber_core.proofs.Encodings.{length-encoding, three_parts}
@@ -157,11 +161,13 @@ tagged_least (explicit_or_bare t) own E f T ok least h = absurd ok
 constructed_least : (t : Tag) (us ts : Trees) (U : Tree) → U ≡ constructed t ts → sizes us ≤ sizes ts → size (constructed t us) ≤ size U
 constructed_least t us ts U e le = subst (λ V. size (constructed t us) ≤ size V) (sym e) (wrap_grows t true true (sizes us) (sizes ts) le)
 
-simple_least : (limit : ℕ) (v : Simple) (node : NodeId) (g : Tagging) (T : Tree) → IsPlain g → Means (profile_one limit) (simple v) node g T → size (normal_tree (simple v) node g) ≤ size T
-simple_least limit v node g T ok m =
+simple_least : (limit : ℕ) (v : Simple) (node : NodeId) (g : Tagging) (T : Tree) → IsTrue (is_of_two node) → IsPlain g → Means (profile_one limit) (simple v) node g T → size (normal_tree (simple v) node g) ≤ size T
+simple_least limit v node g T two ok m =
     subst (λ o. size (tag_tree g (elim o as (λ _. Tag) [ Some l ↦ leaf_tag l | None ↦ sequence_tag ]) (λ t. primitive t (normal_content v))) ≤ size T) (sym m.1)
     (tagged_least g (leaf_tag m.0) (HoldsLeaf (profile_one limit) m.0 v) (λ t. primitive t (normal_content v)) T ok
-    (λ t U x. joined_least t (length (normal_content v)) U x.0 (content_least (profile_one limit) m.0 v (text U) x.2)) m.2)
+    (λ t U x. joined_least t (length (normal_content v)) U x.0
+    (let same = known_content (profile_one limit) m.0 v U (known_leaf node v m.0 two m.1) x.2 in
+    content_least (profile_one limit) m.0 v (text U) (subst (λ o. Holds (profile_one limit) m.0 v o) same x.2))) m.2)
 
 -- an entry that is its row's default has no tree, and a tree of it only adds
 one_least : (c : Content) (row : Row) (es : Entries) (rows : List Row) (T : Tree) (us : Trees) → size (normal_tree c row.node (tagging profile_two row)) ≤ size T
@@ -176,53 +182,53 @@ none_least c row es rows n h true e = h
 none_least c row es rows n h false e = absurd cc
 
 mutual
-  normal_least : (limit : ℕ) (c : Content) (node : NodeId) (g : Tagging) (T : Tree) → IsPlain g → Means (profile_one limit) c node g T → size (normal_tree c node g) ≤ size T
-  normal_least limit (simple v) node g T ok m = simple_least limit v node g T ok m
-  normal_least limit (sequence es) node g T ok m =
+  normal_least : (limit : ℕ) (c : Content) (node : NodeId) (g : Tagging) (T : Tree) → IsTrue (is_of_two node) → IsPlain g → Means (profile_one limit) c node g T → size (normal_tree c node g) ≤ size T
+  normal_least limit (simple v) node g T two ok m = simple_least limit v node g T two ok m
+  normal_least limit (sequence es) node g T two ok m =
       tagged_least g sequence_tag _ (λ t. constructed t (normal_trees es (rows_of node))) T ok
-      (λ t U x. constructed_least t (normal_trees es (rows_of node)) x.0 U x.1 (matches_least limit es (rows_of node) x.0 x.2)) m.1
-  normal_least limit (list is) node g T ok m =
+      (λ t U x. constructed_least t (normal_trees es (rows_of node)) x.0 U x.1 (matches_least limit es (rows_of node) x.0 (rows_of_two node two) x.2)) m.1
+  normal_least limit (list is) node g T two ok m =
       tagged_least g sequence_tag _ (λ t. constructed t (normal_items is (rows_of node))) T ok
-      (λ t U x. constructed_least t (normal_items is (rows_of node)) x.0 U x.1 (items_least limit is (rows_of node) x.0 x.2)) m.1
-  normal_least limit (alternative n c) node g T ok m =
+      (λ t U x. constructed_least t (normal_items is (rows_of node)) x.0 U x.1 (items_least limit is (rows_of node) x.0 (rows_of_two node two) x.2)) m.1
+  normal_least limit (alternative n c) node g T two ok m =
       let row = m.0 in
       tagged_least g sequence_tag (λ _ U. Means (profile_one limit) c row.node (tagging (profile_one limit) row) U) _ T ok
       (λ t U x. subst (λ o. size (elim o as (λ _. Tree) [ Some r ↦ normal_tree c r.node (tagging profile_two r) | None ↦ constructed t none ]) ≤ size U) (sym m.1.1)
-      (subst (λ V. size V ≤ size U) (sym (same_tree (profile_one limit) c row)) (normal_least limit c row.node (tagging (profile_one limit) row) U (plain_row limit row) x))) m.2
-  normal_least limit (foreign V) node g T ok m =
+      (subst (λ V. size V ≤ size U) (sym (same_tree (profile_one limit) c row)) (normal_least limit c row.node (tagging (profile_one limit) row) U (row_of_two node n row two m.1.1) (plain_row limit row) x))) m.2
+  normal_least limit (foreign V) node g T two ok m =
       tagged_least g sequence_tag (λ _ U. (U ≡ V) × IsTrue (is_foreign foreign_levels U)) (λ _. V) T ok (λ t U x. let e = ap size x.0 in omega (arith, e)) m.1
 
-  matches_least : (limit : ℕ) (es : Entries) (rows : List Row) (ts : Trees) → Matches (profile_one limit) es rows ts → sizes (normal_trees es rows) ≤ sizes ts
-  matches_least limit no_entries rows ts m = omega arith
-  matches_least limit (absent es) [] ts m = absurd m
-  matches_least limit (absent es) (row ∷ rows) ts m = matches_least limit es rows ts m.1
-  matches_least limit (present c es) [] ts m = absurd m
-  matches_least limit (present c es) (row ∷ rows) ts m = elim m.1 [
+  matches_least : (limit : ℕ) (es : Entries) (rows : List Row) (ts : Trees) → IsTrue (are_of_two rows) → Matches (profile_one limit) es rows ts → sizes (normal_trees es rows) ≤ sizes ts
+  matches_least limit no_entries rows ts two m = omega arith
+  matches_least limit (absent es) [] ts two m = absurd m
+  matches_least limit (absent es) (row ∷ rows) ts two m = matches_least limit es rows ts ((and_parts _ _ two).1) m.1
+  matches_least limit (present c es) [] ts two m = absurd m
+  matches_least limit (present c es) (row ∷ rows) ts two m = (let parts = and_parts (is_of_two row.node) (are_of_two rows) two in elim m.1 [
     | inl x ↦
         subst (λ z. sizes (normal_trees (present c es) (row ∷ rows)) ≤ sizes z) (sym x.2)
         (one_least c row es rows x.0 x.1
-        (subst (λ V. size V ≤ size x.0) (sym (same_tree (profile_one limit) c row)) (normal_least limit c row.node (tagging (profile_one limit) row) x.0 (plain_row limit row) x.3))
-        (matches_least limit es rows x.1 x.4) (is_default row c))
-    | inr x ↦ none_least c row es rows (sizes ts) (matches_least limit es rows ts x.1) (is_default row c) x.0
-  ]
+        (subst (λ V. size V ≤ size x.0) (sym (same_tree (profile_one limit) c row)) (normal_least limit c row.node (tagging (profile_one limit) row) x.0 parts.0 (plain_row limit row) x.3))
+        (matches_least limit es rows x.1 parts.1 x.4) (is_default row c))
+    | inr x ↦ none_least c row es rows (sizes ts) (matches_least limit es rows ts parts.1 x.1) (is_default row c) x.0
+  ])
 
-  items_least : (limit : ℕ) (is : Items) (rows : List Row) (ts : Trees) → MatchItems (profile_one limit) is rows ts → sizes (normal_items is rows) ≤ sizes ts
-  items_least limit no_items rows ts m = omega arith
-  items_least limit (item c is) [] ts m = absurd (let e : None ≡ Some m.0 = m.3 in cc)
-  items_least limit (item c is) (row ∷ rows) ts m =
+  items_least : (limit : ℕ) (is : Items) (rows : List Row) (ts : Trees) → IsTrue (are_of_two rows) → MatchItems (profile_one limit) is rows ts → sizes (normal_items is rows) ≤ sizes ts
+  items_least limit no_items rows ts two m = omega arith
+  items_least limit (item c is) [] ts two m = absurd (let e : None ≡ Some m.0 = m.3 in cc)
+  items_least limit (item c is) (row ∷ rows) ts two m =
       let e : Some row ≡ Some m.0 = m.3 in
       let r : m.0 ≡ row = cc in
       let means : Means (profile_one limit) c row.node (tagging (profile_one limit) row) m.1 = subst (λ x. Means (profile_one limit) c x.node (tagging (profile_one limit) x) m.1) r m.5 in
       let first : size (normal_tree c row.node (tagging profile_two row)) ≤ size m.1 =
-      subst (λ V. size V ≤ size m.1) (sym (same_tree (profile_one limit) c row)) (normal_least limit c row.node (tagging (profile_one limit) row) m.1 (plain_row limit row) means) in
-      let rest : sizes (normal_items is (row ∷ rows)) ≤ sizes m.2 = items_least limit is (row ∷ rows) m.2 m.6 in
+      subst (λ V. size V ≤ size m.1) (sym (same_tree (profile_one limit) c row)) (normal_least limit c row.node (tagging (profile_one limit) row) m.1 ((and_parts _ _ two).0) (plain_row limit row) means) in
+      let rest : sizes (normal_items is (row ∷ rows)) ≤ sizes m.2 = items_least limit is (row ∷ rows) m.2 two m.6 in
       subst (λ z. sizes (normal_items (item c is) (row ∷ rows)) ≤ sizes z) (sym m.4) (omega arith)
 
 -- a normal form is no longer than an encoding of at most 65,535 octets
 pub normal_no_longer : (limit : ℕ) (a : Apdu) (T : Tree) (b : List ℕ) → MeansApdu (profile_one limit) a T → Spells T b → length b ≤ 65_535 → length (normal_form a) ≤ length b
 normal_no_longer limit a T b m s le =
     let x = length-encoding (normal_tree (choice_of a) IllApdu untagged) in
-    let y = normal_least limit (choice_of a) IllApdu untagged T tt m.1 in
+    let y = normal_least limit (choice_of a) IllApdu untagged T refl tt m.1 in
     let z = size_least T b s le in
     omega arith
 

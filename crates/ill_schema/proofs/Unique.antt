@@ -5,7 +5,8 @@ use Rattle.std.specs.List.{list_all}
 use Rattle.std.specs.Ordering.{int_eq}
 use Rattle.std.specs.Cmp.{signed_Decides}
 use Rattle.ber_core.specs.Identifier.{Tag}
-use Rattle.ber_core.specs.Tree.{Tree, Trees, constructed, none, more, tag_of, text}
+use Rattle.ber_core.specs.Tree.{Tree, Trees, constructed, none, more, tag_of}
+use Rattle.ber_leaf.specs.Segments.{leaf_content}
 use Rattle.ill_schema.specs.declared.node.Kind.{Kind}
 use Rattle.ill_schema.specs.declared.node.LeafKind.{LeafKind}
 use Rattle.ill_schema.specs.declared.node.NodeId.{NodeId}
@@ -113,7 +114,7 @@ no_any_leaf Kind.IllString v l e h = cc
 no_any_leaf (Kind.Leaf x) v l e h = cc
 
 held_same : (p : Profile) (l m : Leaf) (v w : Simple) (s t : Tag) (T : Tree) → l ≡ m → HoldsLeaf p l v s T → HoldsLeaf p m w t T → v ≡ w
-held_same p l m v w s t T e h k = h.2.2 ∙ ap (λ x. value x (text T)) e ∙ sym k.2.2
+held_same p l m v w s t T e h k = h.2.2 ∙ ap (λ x. value x (leaf_content x T)) e ∙ sym k.2.2
 
 simple_unique : (p : Profile) (v w : Simple) (node : NodeId) (g : Tagging) (T : Tree) → IsTrue (is_proper g (kind_of node))
     → MeansSimple p v node g T → MeansSimple p w node g T → v ≡ w

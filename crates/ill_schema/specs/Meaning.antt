@@ -1,24 +1,25 @@
--- What trees mean (X.690, 8.2 to 8.4, 8.7, 8.9, 8.10, 8.13, 8.14 and 8.23; the types are those of ISO 10161-1).
+-- What trees mean (X.690, 8.2 to 8.4, 8.6, 8.7, 8.9, 8.10, 8.13, 8.14 and 8.23; the types are those of ISO 10161-1).
 use Rattle.std.specs.Prelude.{◌≡◌, ◌⊎◌, ℕ, List, [], ◌∷◌, Some, IsTrue, slice_get}
 use Rattle.ber_core.specs.Identifier.{Tag}
-use Rattle.ber_core.specs.Tree.{Tree, Trees, primitive, constructed, none, more, tag_of, IsString, text}
+use Rattle.ber_core.specs.Tree.{Tree, Trees, primitive, constructed, none, more, tag_of, AreSegments}
 use Rattle.ill_schema.specs.declared.{node.Kind.Kind, node.NodeId.NodeId, part.Row.Row}
 use Rattle.ill_schema.specs.Content.{Content, simple, sequence, list, alternative, foreign, Entries, no_entries, absent, present, Items, no_items, item}
 use Rattle.ber_leaf.specs.{Simple.Simple, Profile.Profile}
 use Rattle.ber_leaf.specs.Leaf.{Leaf, is_string, Holds}
+use Rattle.ber_leaf.specs.Segments.{segment_tag, leaf_content}
 use Rattle.ill_schema.specs.Tagging.{Tagging, tagging, Tagged, leaf_tag, leaf_of, sequence_tag}
 use Rattle.ber_core.specs.Foreign.{is_foreign, foreign_levels}
 use Rattle.ill_schema.specs.Presence.{IsCarried, MayLack, is_default}
 use Rattle.ill_schema.specs.Table.{kind_of, rows_of}
 
--- a primitive tree may be any leaf (8.2.1, 8.3.1, 8.4), a constructed one only a string in segments (8.7.3, 8.23)
+-- a primitive tree may be any leaf (8.2.1, 8.3.1, 8.4), a constructed one only a string in segments (8.6.4, 8.7.3, 8.23)
 abbrev pub IsLeaf : Leaf → Tree → Type 0
 IsLeaf leaf (primitive tag octets) = Unit {0}
-IsLeaf leaf (constructed tag trees) = IsTrue (is_string leaf) × IsString (constructed tag trees)
+IsLeaf leaf (constructed tag trees) = IsTrue (is_string leaf) × AreSegments (segment_tag leaf) trees
 
--- the tree has the tag, and its octets hold the value
+-- the tree has the tag, and its content holds the value
 abbrev pub HoldsLeaf : Profile → Leaf → Simple → Tag → Tree → Type 0
-HoldsLeaf p leaf v tag T = (tag_of T ≡ tag) × IsLeaf leaf T × Holds p leaf v (text T)
+HoldsLeaf p leaf v tag T = (tag_of T ≡ tag) × IsLeaf leaf T × Holds p leaf v (leaf_content leaf T)
 
 -- the tree is the leaf of the node's kind, under a tagging, and holds the value
 abbrev pub MeansSimple : Profile → Simple → NodeId → Tagging → Tree → Type 0

@@ -1,9 +1,12 @@
--- Messages of the module profile, and foreign trees.
-use Rattle.std.specs.Prelude.{◌≡◌, ℕ, zero, suc, false, List, [], ◌∷◌, codes}
+-- Messages of the module profile, foreign trees, and BIT STRINGs in segments.
+use Rattle.std.specs.Prelude.{◌≡◌, ℕ, zero, suc, false, List, [], ◌∷◌, codes, Option}
 use Rattle.ber_core.specs.Identifier.{Tag}
-use Rattle.ber_core.specs.Tree.{Tree, primitive, constructed, none, more}
+use Rattle.ber_core.specs.Tree.{Tree, Trees, primitive, constructed, none, more}
+use Rattle.ber_leaf.specs.declared.fault.LeafFault.{LeafFault}
+use Rattle.ber_leaf.specs.Leaf.{bit_string, content_fault, value}
 use Rattle.ber_leaf.specs.Profile.{profile_three}
-use Rattle.ber_leaf.specs.Simple.{flag, whole, date, general, null, oid, binary, bits}
+use Rattle.ber_leaf.specs.Segments.{leaf_content}
+use Rattle.ber_leaf.specs.Simple.{Simple, flag, whole, date, general, null, oid, binary, bits}
 use Rattle.ill_schema.specs.Apdu.{Apdu, normal_form_in, SpellsApdu}
 use Rattle.ill_schema.specs.Content.{Content, simple, sequence, list, alternative, foreign, Entries, no_entries, absent, present, no_items, item}
 use Rattle.ill_schema.specs.Tagging.{sequence_tag, universal}
@@ -68,3 +71,33 @@ proposed = answer 1 (alternative 0 (sequence (present (number 30) (absents 2 (pr
 -- the octets spell the APDU in the module profile, and are its normal form there
 abbrev pub IsModuleForm : Apdu → List ℕ → Type 0
 IsModuleForm a octets = SpellsApdu profile_three a octets × (normal_form_in profile_three a ≡ octets)
+
+-- a segment of a BIT STRING, and one that is itself in segments
+abbrev pub part : List ℕ → Tree
+part octets = primitive (universal 3) octets
+
+abbrev pub parts : Trees → Tree
+parts trees = constructed (universal 3) trees
+
+-- the bits of a BIT STRING, or why it has none
+abbrev pub joined : Tree → Simple
+joined T = value bit_string (leaf_content bit_string T)
+
+abbrev pub joined_fault : Tree → Option LeafFault
+joined_fault T = content_fault profile_three bit_string (leaf_content bit_string T)
+
+-- eight bits and four
+abbrev pub twelve_bits : Tree
+twelve_bits = parts (more (part (0x00 ∷ 0xA5 ∷ [])) (more (part (0x04 ∷ 0xF7 ∷ [])) none))
+
+-- none and eight, then no segments, then one bit
+abbrev pub nine_bits : Tree
+nine_bits = parts (more (parts (more (part (0x00 ∷ [])) (more (part (0x00 ∷ 0xA5 ∷ [])) none))) (more (parts none) (more (part (0x07 ∷ 0xFF ∷ [])) none)))
+
+-- four bits and eight
+abbrev pub short_first : Tree
+short_first = parts (more (part (0x04 ∷ 0xF0 ∷ [])) (more (part (0x00 ∷ 0xA5 ∷ [])) none))
+
+-- four bits in a segment of their own, and no segments
+abbrev pub short_inside : Tree
+short_inside = parts (more (parts (more (part (0x04 ∷ 0xF0 ∷ [])) none)) (more (parts none) none))

@@ -124,7 +124,7 @@ item_meant [] = []
 item_meant (c ∷ cs) = meant (starts profile_two c) slot.Item false false (component_choice c) (presence_default c.presence) ∷ []
 
 abbrev pub segment_meant : List Meant
-segment_meant = meant (start octet_string segment ∷ []) slot.Segment false false None None ∷ []
+segment_meant = meant (start octet_string (segment octet_string) ∷ []) slot.Segment false false None None ∷ []
 
 -- what the cells of a node of a kind are to say
 abbrev pub kind_meant : Kind → NodeId → List Meant

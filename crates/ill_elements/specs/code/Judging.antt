@@ -3,13 +3,12 @@ use Rattle.std.specs.Option.{ForSome}
 use Rattle.std.specs.Prelude.{◌≡◌, ℕ, ◌+◌, ◌-◌, ◌<◌, ◌≤◌, Bool, true, false, not, nat_eq, List, [], ◌∷◌, length, Option, Some, None, Result, Ok, Err, if◌then◌else◌, take, drop}
 use Rattle.ber_core.specs.Id.{tag_of_id, form_of_id}
 use Rattle.ber_core.specs.Identifier.{Tag}
-use Rattle.ber_core.specs.Tree.{text_all}
 use Rattle.ber_core.specs.declared.id.Id.{Id}
 use Rattle.ber_leaf.specs.Profile.{Profile, profile_two}
 use Rattle.ill_schema.specs.declared.refusal.Cause.{Cause}
 use Rattle.ill_schema.specs.declared.refusal.Refusal.{Refusal}
 use Rattle.ill_elements.specs.Elements.{element_is, found_is}
-use Rattle.ill_refusals.specs.Fault.{Fault, element_fault, fault, fault_of, is_deep}
+use Rattle.ill_refusals.specs.Fault.{Fault, element_fault, string_fault, fault, fault_of, is_deep}
 use Rattle.ill_refusals.specs.code.Judge.{Judgement, faulty, opens, or_faulty, reads, judge_end, judge_form, judge_tag, closes}
 use Rattle.ill_cells.specs.declared.at.Found.{Found}
 use Rattle.ill_cells.specs.declared.cell.What.{What}
@@ -33,7 +32,7 @@ pub record IsEnd (place : List Open) (marks : ℕ) (j : Judgement) : Type 0 wher
   pub outer : List Open
   pub is_path : place ≡ innermost ∷ outer
   pub complete : missing profile_two (next_in profile_two place) ≡ None
-  pub is : j ≡ or_faulty (element_fault profile_two innermost.element (text_all innermost.trees)) innermost.start (closes marks)
+  pub is : j ≡ or_faulty (string_fault profile_two innermost.element innermost.trees) innermost.start (closes marks)
 
 -- an element is due there and may have the form
 pub record IsBegin (frames : Frames) (place : List Open) (tag : Tag) (f : Found) (constructed : Bool) : Type 0 where

@@ -1,7 +1,6 @@
 -- What is done at a place: a machine that the decoder follows, and that proofs run through.
 use Rattle.std.specs.Prelude.{ℕ, ◌+◌, ◌-◌, Bool, true, false, ◌&&◌, nat_eq, nat_lt, List, [], ◌∷◌, length, take, Option, Some, None, if◌then◌else◌}
 use Rattle.ber_core.specs.Identifier.{Tag}
-use Rattle.ber_core.specs.Tree.{text_all}
 use Rattle.ill_schema.specs.declared.refusal.Cause.{Cause}
 use Rattle.ber_leaf.specs.declared.fault.LeafFault.{LeafFault}
 use Rattle.ill_schema.specs.Causes.{cause_of}
@@ -9,7 +8,7 @@ use Rattle.ber_leaf.specs.Profile.{Profile}
 use Rattle.ill_refusals.specs.Element.{Element, left_out}
 use Rattle.ill_refusals.specs.Next.{element_of, due, missing}
 use Rattle.ill_refusals.specs.Place.{Open, next_in, bound, allows}
-use Rattle.ill_refusals.specs.Fault.{Fault, fault, ends_at, is_indefinite, past_end, cut_fault, element_fault, is_deep}
+use Rattle.ill_refusals.specs.Fault.{Fault, fault, ends_at, is_indefinite, past_end, cut_fault, element_fault, string_fault, is_deep}
 use Rattle.ill_refusals.specs.Reading.{read_identifier, identified, part_identifier, no_identifier, read_length, definite, indefinite, part_length, no_length}
 
 -- what is done at a place
@@ -30,7 +29,7 @@ abbrev pub judge_end : Profile → List Open → ℕ → ℕ → Judgement
 judge_end p [] k marks = closes marks
 judge_end p (o ∷ path) k marks = elim (missing p (next_in p (o ∷ path))) as (λ _. Judgement) [
   | Some part ↦ faulty (fault (Cause.Missing part) k)
-  | None ↦ or_faulty (element_fault p o.element (text_all o.trees)) o.start (closes marks)
+  | None ↦ or_faulty (string_fault p o.element o.trees) o.start (closes marks)
 ]
 
 -- the contents of a primitive element

@@ -1,15 +1,39 @@
-//! What the definitions say of the module profile: worked messages, with their normal forms from outside, and foreign trees.
-ghost use Rattle.std.specs.Prelude.{◌≡◌, List, [], ℕ, codes, true, false};
+//! What the definitions say of the module profile: worked messages, with their normal forms from outside, foreign trees, and
+//! BIT STRINGs in segments.
+ghost use Rattle.std.specs.Prelude.{◌≡◌, List, [], ◌∷◌, ℕ, codes, true, false, Some, None};
 ghost use Rattle.ber_core.specs.declared.id.Class.{Class};
 ghost use Rattle.ber_core.specs.Foreign.{is_foreign, foreign_levels};
 ghost use Rattle.ber_core.specs.Identifier.{Tag};
 ghost use Rattle.ber_core.specs.Tree.{Tree, constructed, depth, more, none, primitive};
+ghost use Rattle.ber_leaf.specs.declared.fault.LeafFault.{LeafFault};
+ghost use Rattle.ber_leaf.specs.Leaf.{bit_string};
+ghost use Rattle.ber_leaf.specs.Profile.{profile_three};
+ghost use Rattle.ber_leaf.specs.Segments.{segment_tag};
+ghost use Rattle.ber_leaf.specs.Simple.{bits};
+ghost use Rattle.ill_refusals.specs.Next.{due, segments};
 ghost use Rattle.ill_schema.specs.Apdu.{choice_of};
 ghost use Rattle.ill_schema.specs.Content.{foreign};
 ghost use Rattle.ill_schema.specs.Normal.{normal_tree};
 ghost use Rattle.ill_schema.specs.Tagging.{explicit, universal, untagged};
 ghost use Rattle.ill_schema.specs.Worked.{hex};
-ghost use Rattle.test_messages.specs.Module.{IsModuleForm, arbitrary, damaged, extended, nested, octet_aligned, proposed, returned, supplied};
+ghost use Rattle.test_messages.specs.Module.{
+  IsModuleForm,
+  arbitrary,
+  damaged,
+  extended,
+  joined,
+  joined_fault,
+  nested,
+  nine_bits,
+  octet_aligned,
+  parts,
+  proposed,
+  returned,
+  short_first,
+  short_inside,
+  supplied,
+  twelve_bits,
+};
 
 use ill_schema::NodeId;
 
@@ -41,8 +65,20 @@ fn foreign_trees_stay_as_they_are()
     ensures stay { (tree : Tree) (tag : Tag) → normal_tree (foreign tree) NodeId.Any (explicit tag) ≡ constructed tag (more tree none) }
 {}
 
+/// The segments of a BIT STRING are BIT STRINGs; only the last one may have unused bits, at each level, and nothing follows it.
+fn bits_in_segments_are_joined()
+    ensures in_segments { joined twelve_bits ≡ bits 12 (0xA5 ∷ 0xF0 ∷ []) }
+    ensures in_nested_segments { joined nine_bits ≡ bits 9 (0xA5 ∷ 0x80 ∷ []) }
+    ensures no_segments { joined (parts none) ≡ bits 0 [] }
+    ensures sound { (joined_fault twelve_bits ≡ None) × (joined_fault nine_bits ≡ None) × (joined_fault (parts none) ≡ None) }
+    ensures short_first_segment { joined_fault short_first ≡ Some LeafFault.BadBits }
+    ensures segment_after_short_one { joined_fault short_inside ≡ Some LeafFault.BadBits }
+    ensures octet_segment { due profile_three (universal 4) (segments (segment_tag bit_string)) ≡ None }
+{}
+
 #[test]
 fn laws() {
     worked_messages_of_the_module();
     foreign_trees_stay_as_they_are();
+    bits_in_segments_are_joined();
 }
