@@ -443,7 +443,7 @@ pub fn cells_of(node: NodeId) -> &'static [Cell]
         NodeId::StatusQuery => &STATUS_QUERY,
         NodeId::Expired => &EXPIRED,
         NodeId::IllApdu => &ILL_APDU,
-        _ => &[],
+        _ => unreachable!(),
     }
 }
 
