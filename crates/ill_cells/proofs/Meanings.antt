@@ -1,6 +1,6 @@
 -- What the cells of a node say, one by one.
 use Rattle.std.proofs.lemmas.List.{append-nil}
-use Rattle.std.proofs.Common.{◌≡◌, ℕ, zero, suc, ◌≤◌, Bool, true, false, IsTrue, List, [], ◌∷◌, ◌++◌, drop, length, Option, Some, None, option_map, refl, sym, ap, subst, ◌∙◌, arith, slice_get}
+use Rattle.std.proofs.Common.{◌≡◌, ℕ, zero, suc, ◌≤◌, Bool, true, false, ◌||◌, IsTrue, List, [], ◌∷◌, ◌++◌, drop, length, Option, Some, None, option_map, refl, sym, ap, subst, ◌∙◌, arith, slice_get}
 use Rattle.std.specs.Prelude.{flat_map, is_some, if◌then◌else◌}
 use Rattle.ber_core.specs.Identifier.{Tag}
 use Rattle.ber_core.specs.Tree.{octet_string}
@@ -11,12 +11,13 @@ use Rattle.ill_schema.specs.declared.part.PartId.{PartId}
 use Rattle.ill_schema.specs.Table.{kind_of}
 use Rattle.ill_schema.specs.Tagging.{Tagging, untagged, implicit, explicit, explicit_or_bare, same_tag}
 use Rattle.ill_refusals.specs.Element.{Component, component_starts, components, Element, segment, Start, start, starts}
-use Rattle.ill_refusals.specs.Next.{first_mandatory}
-use Rattle.ill_cells.specs.Cells.{Begins, BeginsDue, due_at, due_item, due_row, due_segment, element_with, is_placed, node_choice, presence_default, wrapped}
+use Rattle.ill_refusals.specs.Next.{first_mandatory, octets, part, segments}
+use Rattle.ill_cells.specs.Cells.{Begins, BeginsDue, due_at, due_item, due_row, due_segment, element_with, is_placed, is_strict, node_choice, presence_default, segments_in, wrapped}
 use Rattle.ill_cells.specs.code.Meant.{Meant, cell_meant, cells_meant, component_choice, default_at, default_first, is_must, is_there, item_meant, kind_meant, meant, node_meant, node_starts, row_there, rows_meant, segment_meant}
 use Rattle.ill_cells.specs.code.Starts.{BeginsIn, IsBegun}
 use Rattle.ill_cells.specs.declared.cell.Cell.{Cell}
 use Rattle.ill_cells.specs.declared.cell.Slot.TheVariants as slot
+use Rattle.ill_schema.proofs.Tags.{same_tag-refl}
 use Rattle.ill_cells.proofs.Scanning.{drop-item, drop-none, drop-rows}
 
 -- what the cell at a position says, before those after it
@@ -113,50 +114,57 @@ said-item node (c ∷ cs) m ms e f =
       begins = λ t p a x b. subst (λ xs. BeginsDue t (due_item (wrapped p node) x xs) a) (sym e) (begins-component t c a x (record { is = b.is; by = b.by }));
     })
 
-segment-only : (b : Bool) (e : Element) → option_map (λ (s : Start). s.element) (if b then Some (start octet_string (segment octet_string)) else None) ≡ Some e → segment octet_string ≡ e
-segment-only true e h = cc
-segment-only false e h = absurd cc
+segment-only : (u : Tag) (b : Bool) (e : Element) → option_map (λ (s : Start). s.element) (if b then Some (start u (segment u)) else None) ≡ Some e → segment u ≡ e
+segment-only u true e h = cc
+segment-only u false e h = absurd cc
 
 no_alternative : (t : Tag) (a : Option ℕ) (e : Element) → BeginsIn t None a e → a ≡ None
 no_alternative t None e b = refl
 no_alternative t (Some n) e b = absurd b
 
-said-segment : (k : Kind) (node : NodeId) → IsTrue (is_placed k 1 slot.Segment) → IsSaid k node 1 (meant (start octet_string (segment octet_string) ∷ []) slot.Segment false false None None)
-said-segment k node h = record {
+said-segment : (k : Kind) (node : NodeId) (u : Tag) → segments_in (kind_of node) ≡ u → IsTrue (is_placed k 1 slot.Segment)
+    → IsSaid k node 1 (meant (start u (segment u) ∷ []) slot.Segment false false None None)
+said-segment k node u is h = record {
   opens = refl;
   placed = h;
   there = refl;
   default = refl;
   begins = λ t p a e b.
-      subst (λ x. BeginsDue t (due_segment (wrapped p node) x) a) (segment-only (same_tag octet_string t) e b.is) (no_alternative t a e b.by);
+      subst (λ x. BeginsDue t (due_segment (segments_in (kind_of node)) (wrapped p node) x) a) (segment-only u (same_tag u t) e b.is)
+      (subst (λ d. BeginsDue t d a) (sym (here p)) (no_alternative t a e b.by));
 }
+  where
+    here : (p : PartId) → due_segment (segments_in (kind_of node)) (wrapped p node) (segment u) ≡ octets u
+    here p =
+        ap (λ v. due_segment v (wrapped p node) (segment u)) is
+        ∙ ap (λ b. if b then octets u else part (wrapped p node) (segment u) (segments u)) (same_tag-refl u)
 
-said-string : (k : Kind) (node : NodeId) (position : ℕ) (m : Meant) (ms : List Meant) → IsTrue (is_placed k 1 slot.Segment)
-    → drop position (meant (node_starts node) slot.Inner true true (node_choice node) None ∷ segment_meant) ≡ m ∷ ms → IsSaid k node position m
-said-string k node zero m ms h f =
+said-string : (k : Kind) (node : NodeId) (u : Tag) (position : ℕ) (m : Meant) (ms : List Meant) → segments_in (kind_of node) ≡ u → IsTrue (is_placed k 1 slot.Segment)
+    → drop position (meant (node_starts node) slot.Inner true true (node_choice node) None ∷ segment_meant u) ≡ m ∷ ms → IsSaid k node position m
+said-string k node u zero m ms is h f =
     let g : meant (node_starts node) slot.Inner true true (node_choice node) None ≡ m = cc in subst (IsSaid k node zero) g (said-around k node true true)
-said-string k node (suc zero) m ms h f =
-    let g : meant (start octet_string (segment octet_string) ∷ []) slot.Segment false false None None ≡ m = cc in subst (IsSaid k node 1) g (said-segment k node h)
-said-string k node (suc (suc n)) m ms h f = absurd (let g : [] ≡ m ∷ ms = sym (drop-none n) ∙ f in cc)
+said-string k node u (suc zero) m ms is h f =
+    let g : meant (start u (segment u) ∷ []) slot.Segment false false None None ≡ m = cc in subst (IsSaid k node 1) g (said-segment k node u is h)
+said-string k node u (suc (suc n)) m ms is h f = absurd (let g : [] ≡ m ∷ ms = sym (drop-none n) ∙ f in cc)
 
-said-kind : (k : Kind) (node : NodeId) (position : ℕ) (m : Meant) (ms : List Meant) → drop position (kind_meant k node) ≡ m ∷ ms → IsSaid k node position m
-said-kind Kind.Seq node zero m ms f =
-    let g : meant (node_starts node) slot.Inner false (is_some (first_mandatory (components profile_two node))) (node_choice node) None ≡ m = cc in
+said-kind : (k : Kind) (node : NodeId) (position : ℕ) (m : Meant) (ms : List Meant) → kind_of node ≡ k → drop position (kind_meant k node) ≡ m ∷ ms → IsSaid k node position m
+said-kind Kind.Seq node zero m ms e f =
+    let g : meant (node_starts node) slot.Inner (is_strict node) (is_strict node || is_some (first_mandatory (components profile_two node))) (node_choice node) None ≡ m = cc in
     subst (IsSaid Kind.Seq node zero) g (said-around Kind.Seq node _ _)
-said-kind Kind.Seq node (suc row) m ms f =
+said-kind Kind.Seq node (suc row) m ms e f =
     said-row node row (drop row (components profile_two node)) m ms refl (sym (drop-rows row (components profile_two node)) ∙ f)
-said-kind Kind.SeqOf node zero m ms f =
+said-kind Kind.SeqOf node zero m ms e f =
     let g : meant (node_starts node) slot.Inner true true (node_choice node) None ≡ m = cc in subst (IsSaid Kind.SeqOf node zero) g (said-around Kind.SeqOf node true true)
-said-kind Kind.SeqOf node (suc zero) m ms f = said-item node (components profile_two node) m ms refl f
-said-kind Kind.SeqOf node (suc (suc n)) m ms f = absurd (let g : [] ≡ m ∷ ms = sym (drop-item n (components profile_two node)) ∙ f in cc)
-said-kind Kind.Choice node zero m ms f =
+said-kind Kind.SeqOf node (suc zero) m ms e f = said-item node (components profile_two node) m ms refl f
+said-kind Kind.SeqOf node (suc (suc n)) m ms e f = absurd (let g : [] ≡ m ∷ ms = sym (drop-item n (components profile_two node)) ∙ f in cc)
+said-kind Kind.Choice node zero m ms e f =
     let g : meant (node_starts node) slot.Inner true true (node_choice node) None ≡ m = cc in subst (IsSaid Kind.Choice node zero) g (said-around Kind.Choice node true true)
-said-kind Kind.Choice node (suc n) m ms f = absurd (let g : [] ≡ m ∷ ms = sym (drop-none n) ∙ f in cc)
-said-kind Kind.Any node zero m ms f =
+said-kind Kind.Choice node (suc n) m ms e f = absurd (let g : [] ≡ m ∷ ms = sym (drop-none n) ∙ f in cc)
+said-kind Kind.Any node zero m ms e f =
     let g : meant (node_starts node) slot.Inner true true (node_choice node) None ≡ m = cc in subst (IsSaid Kind.Any node zero) g (said-around Kind.Any node true true)
-said-kind Kind.Any node (suc n) m ms f = absurd (let g : [] ≡ m ∷ ms = sym (drop-none n) ∙ f in cc)
-said-kind (Kind.Leaf l) node position m ms f = said-string (Kind.Leaf l) node position m ms refl f
-said-kind Kind.IllString node position m ms f = said-string Kind.IllString node position m ms refl f
+said-kind Kind.Any node (suc n) m ms e f = absurd (let g : [] ≡ m ∷ ms = sym (drop-none n) ∙ f in cc)
+said-kind (Kind.Leaf l) node position m ms e f = said-string (Kind.Leaf l) node (segments_in (Kind.Leaf l)) position m ms (ap segments_in e) refl f
+said-kind Kind.IllString node position m ms e f = said-string Kind.IllString node octet_string position m ms (ap segments_in e) refl f
 
 pub said-node : (node : NodeId) (position : ℕ) (m : Meant) (ms : List Meant) → drop position (node_meant node) ≡ m ∷ ms → IsSaid (kind_of node) node position m
-said-node node position m ms f = said-kind (kind_of node) node position m ms f
+said-node node position m ms f = said-kind (kind_of node) node position m ms refl f

@@ -1,5 +1,5 @@
 -- The first mandatory part from a position on.
-use Rattle.std.proofs.Common.{◌≡◌, ℕ, zero, suc, ◌+◌, ◌≤◌, true, false, List, [], ◌∷◌, drop, length, Option, Some, None, refl, sym, ap, ◌∙◌, arith, slice_get}
+use Rattle.std.proofs.Common.{◌≡◌, ℕ, zero, suc, ◌+◌, ◌≤◌, Bool, true, false, List, [], ◌∷◌, drop, length, Option, Some, None, refl, sym, ap, ◌∙◌, arith, slice_get}
 use Rattle.std.specs.Prelude.{if◌then◌else◌}
 use Rattle.ber_leaf.specs.Profile.{profile_two}
 use Rattle.ill_schema.specs.declared.node.Kind.{Kind}
@@ -10,7 +10,7 @@ use Rattle.ill_schema.specs.declared.part.Row.{Row}
 use Rattle.ill_schema.specs.Table.{kind_of, rows_of}
 use Rattle.ill_refusals.specs.Element.{Component, components, components_from}
 use Rattle.ill_refusals.specs.Next.{Next, rows, items, first_mandatory, missing}
-use Rattle.ill_cells.specs.Cells.{next_from, next_of_kind, part_at}
+use Rattle.ill_cells.specs.Cells.{around, is_strict, next_from, next_of_kind, part_at, wrapped}
 use Rattle.ill_cells.specs.code.Meant.{Meant, cells_meant, is_must, item_meant, kind_meant, node_meant, rows_meant}
 use Rattle.ill_cells.specs.declared.cell.Cell.{Cell}
 use Rattle.ill_cells.specs.declared.cell.Slot.TheVariants as slot
@@ -59,7 +59,12 @@ needed-item p node (c ∷ cs) = refl
 
 needed-kind : (p : PartId) (node : NodeId) (position : ℕ) (k : Kind)
     → needed p node position (drop position (kind_meant k node)) ≡ missing profile_two (next_of_kind k p node position)
-needed-kind p node zero Kind.Seq = needed-rows p node zero (components profile_two node) refl
+needed-kind p node zero Kind.Seq = at (is_strict node)
+  where
+    at : (b : Bool) → (if b then Some (part_at p node zero slot.Inner) else needed p node 1 (rows_meant (components profile_two node)))
+        ≡ missing profile_two (around b (wrapped p node))
+    at true = refl
+    at false = needed-rows p node zero (components profile_two node) refl
 needed-kind p node (suc row) Kind.Seq =
     ap (needed p node (suc row)) (drop-rows row (components profile_two node)) ∙ needed-rows p node row (drop row (components profile_two node)) refl
 needed-kind p node zero Kind.SeqOf = refl

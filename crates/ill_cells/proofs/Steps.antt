@@ -1,5 +1,5 @@
 -- The steps of a search through the cells of a node.
-use Rattle.std.proofs.Common.{◌≡◌, ℕ, zero, suc, ◌+◌, ◌≤◌, true, false, List, ◌∷◌, drop, length, Option, Some, None, sym, ap, ◌∙◌, arith, slice_get}
+use Rattle.std.proofs.Common.{◌≡◌, ℕ, zero, suc, ◌+◌, ◌≤◌, true, false, ◌||◌, List, ◌∷◌, drop, length, Option, Some, None, sym, ap, ◌∙◌, arith, slice_get}
 use Rattle.std.specs.Prelude.{if◌then◌else◌, is_some}
 use Rattle.ber_core.specs.Identifier.{Tag}
 use Rattle.ber_leaf.specs.Profile.{profile_two}
@@ -8,8 +8,9 @@ use Rattle.ill_schema.specs.declared.node.NodeId.{NodeId}
 use Rattle.ill_schema.specs.declared.part.PartId.{PartId}
 use Rattle.ill_schema.specs.Table.{kind_of}
 use Rattle.ill_refusals.specs.Element.{components, Element}
-use Rattle.ill_refusals.specs.Next.{Due, due, first_mandatory, missing}
-use Rattle.ill_cells.specs.Cells.{due_at, element_with, next_from, node_choice}
+use Rattle.ill_refusals.specs.Next.{Due, first_mandatory, missing}
+use Rattle.ill_cells.specs.Cells.{due_at, element_with, is_strict, next_from, node_choice}
+use Rattle.ill_cells.specs.code.ByTag.{due_by_tag}
 use Rattle.ill_cells.specs.code.Meant.{Meant, cell_meant, cell_starts, cells_meant, kind_meant, meant, node_meant, node_starts}
 use Rattle.ill_cells.specs.declared.cell.Cell.{Cell}
 use Rattle.ill_cells.specs.declared.cell.Slot.TheVariants as slot
@@ -23,7 +24,7 @@ cell-said node i cs c e h = said-node node i _ _ (ap (drop i) (sym e) ∙ cells-
 
 -- all cells from a position on say what is due there
 pub scan-all : (t : Tag) (p : PartId) (node : NodeId) (i : ℕ) (cs : List Cell) → cells_meant cs ≡ node_meant node
-    → due profile_two t (next_from p node i) ≡ scan t p node i (drop i (cells_meant cs))
+    → due_by_tag t (next_from p node i) ≡ scan t p node i (drop i (cells_meant cs))
 scan-all t p node i cs e = sym (scan-node t p node i) ∙ ap (λ ms. scan t p node i (drop i ms)) (sym e)
 
 abbrev step_of : Tag → PartId → NodeId → ℕ → Cell → Option Due → Option Element → Option Due
@@ -71,7 +72,7 @@ pub passed-none : (t : Tag) (node : NodeId) (from : ℕ) → HasPassed t node fr
 passed-none t node from = record { later = omega arith; apart = λ z n. absurd (n z) }
 
 around : (k : Kind) (node : NodeId) (m : Meant) (ms : List Meant) → kind_meant k node ≡ m ∷ ms → m.starts ≡ node_starts node
-around Kind.Seq node m ms e = let g : meant (node_starts node) slot.Inner false (is_some (first_mandatory (components profile_two node))) (node_choice node) None ≡ m = cc in ap (λ x. x.starts) (sym g)
+around Kind.Seq node m ms e = let g : meant (node_starts node) slot.Inner (is_strict node) (is_strict node || is_some (first_mandatory (components profile_two node))) (node_choice node) None ≡ m = cc in ap (λ x. x.starts) (sym g)
 around Kind.SeqOf node m ms e = let g : meant (node_starts node) slot.Inner true true (node_choice node) None ≡ m = cc in ap (λ x. x.starts) (sym g)
 around Kind.Choice node m ms e = let g : meant (node_starts node) slot.Inner true true (node_choice node) None ≡ m = cc in ap (λ x. x.starts) (sym g)
 around Kind.Any node m ms e = let g : meant (node_starts node) slot.Inner true true (node_choice node) None ≡ m = cc in ap (λ x. x.starts) (sym g)

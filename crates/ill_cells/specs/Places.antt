@@ -1,14 +1,17 @@
 -- What an index and an element that is found stand for.
-use Rattle.std.specs.Prelude.{◌≡◌, ◌≤◌, ℕ, ◌+◌, List, ◌∷◌, drop, IsTrue, Option, Some, None}
+use Rattle.std.specs.Prelude.{◌≡◌, ◌≤◌, ℕ, ◌+◌, Bool, ◌&&◌, List, ◌∷◌, drop, IsTrue, Option, Some, None}
 use Rattle.ber_core.specs.Identifier.{Tag}
-use Rattle.ber_leaf.specs.Profile.{profile_two}
+use Rattle.ber_leaf.specs.Profile.{Profile, profile_two}
+use Rattle.ill_schema.specs.declared.node.Kind.{Kind}
 use Rattle.ill_schema.specs.declared.node.NodeId.{NodeId}
 use Rattle.ill_schema.specs.declared.node.NodeId.TheVariants.{Boolean, IllApdu}
 use Rattle.ill_schema.specs.declared.part.PartId.{PartId}
+use Rattle.ill_schema.specs.Apdu.{root}
 use Rattle.ill_schema.specs.Table.{kind_of}
+use Rattle.ill_schema.specs.TableFacts.{is_of_two}
 use Rattle.ill_refusals.specs.Element.{Component, components, Element, starts}
 use Rattle.ill_refusals.specs.Next.{Next, rows, Due, part, due, element_of}
-use Rattle.ill_cells.specs.Cells.{alternative_in, next_from, element_in, element_with, due_at, first_position, is_placed, row_before, wrapped, BeginsDue}
+use Rattle.ill_cells.specs.Cells.{alternative_in, is_two_cell, next_from, element_in, element_with, due_at, first_position, is_placed, row_before, wrapped, BeginsDue}
 use Rattle.ill_cells.specs.declared.cell.Slot.{Slot}
 use Rattle.ill_cells.specs.declared.cell.What.{What}
 use Rattle.ill_cells.specs.declared.cell.Slot.TheVariants as slot
@@ -71,6 +74,10 @@ first_place f = record { part = part_of f; node = node_of f; position = first_po
 abbrev pub top : Where
 top = record { part = record { node = IllApdu; row = 0 }; node = IllApdu; position = 0 }
 
+-- where a message of a profile begins
+abbrev pub top_in : Profile → Where
+top_in p = record { part = record { node = root p; row = 0 }; node = root p; position = 0 }
+
 -- where nothing may come
 abbrev pub nowhere : Where
 nowhere = record { part = record { node = Boolean; row = 0 }; node = Boolean; position = 2 }
@@ -81,6 +88,8 @@ place_after f slot.Row = record { part = part_in f.at; node = node_in f.at; posi
 place_after f slot.Inner = nowhere
 place_after f slot.Item = where_of f.at
 place_after f slot.Segment = where_of f.at
+place_after f slot.Root = nowhere
+place_after f slot.Foreign = where_of f.at
 
 -- the row at which it is due
 abbrev pub row_of : Found → ℕ
@@ -93,6 +102,10 @@ pub record IsAtRow (node : NodeId) (row : ℕ) (d : Due) : Type 0 where
   pub is_row : drop row (components profile_two node) ≡ component ∷ behind
   pub is_due : d ≡ part component (element_of d) (rows behind)
 
+-- what is found is of profile 2, and so is the node round it
+abbrev pub is_two : Found → Bool
+is_two f = is_of_two (node_in f.at) && is_two_cell f.begun.now
+
 -- what is due there with the tag
 pub record IsDue (t : Tag) (at : At) (f : Found) : Type 0 where
   pub is : due profile_two t (next_at at) ≡ Some (due_of f)
@@ -104,3 +117,5 @@ pub record IsDue (t : Tag) (at : At) (f : Found) : Type 0 where
   pub passed : at.position ≡ 0 → (f.at.position ≡ 0 → ⊥) → element_with t (starts profile_two (wrapped (part_in at) (node_in at))) ≡ None
   pub placed : IsTrue (is_placed (kind_of (node_round f)) f.at.position (slot_of f))
   pub row : slot_of f ≡ slot.Row → IsAtRow (node_round f) (row_of f) (due_of f)
+  -- in an open type no position is passed
+  pub stays : kind_of (node_in at) ≡ Kind.Any → where_of f.at ≡ where_of at

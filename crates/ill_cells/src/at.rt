@@ -1,30 +1,29 @@
 //! Places in a message, and the elements that are due there.
-ghost use Rattle.std.specs.Prelude.{◌≡◌, ◌<◌, IsTrue, true, MatchOption, None, Some, length, slice_get, is_some, option_map, [], pos};
+ghost use Rattle.std.specs.Prelude.{◌≡◌, ◌<◌, IsTrue, true, IfSome, MatchOption, None, Some, length, slice_get, is_some, option_map, [], pos};
 ghost use Rattle.std.proofs.Props.{props};
 ghost use Rattle.ber_core.specs.Id.{tag_of_id};
 ghost use Rattle.ber_leaf.specs.Profile.{profile_two};
 ghost use Rattle.ill_schema.specs.Table.{kind_of};
 ghost use Rattle.ill_schema.specs.TableFacts.{is_of_two};
 ghost use Rattle.ill_schema.specs.Tagging.{same_tag};
-ghost use Rattle.ill_cells.specs.Cells.{alternative_in, element_with, first_position, is_placed, node_choice, part_at};
-ghost use Rattle.ill_cells.specs.code.Meant.{cell_choice, cell_opens, cell_starts, default_at, node_starts, opens_in, opens_nested, row_there};
+ghost use Rattle.ill_cells.specs.Cells.{alternative_in, element_with, first_position, is_placed, is_two_cell, node_choice, part_at};
+ghost use Rattle.ill_cells.specs.code.Meant.{cell_choice, cell_opens, cell_starts, default_at, is_nested, node_starts, opens_in, row_there};
 ghost use Rattle.ill_refusals.specs.Element.{components};
 ghost use Rattle.ill_cells.specs.code.Starts.{IsBegunBy};
 
 use crate::cell::{Cell, Slot, What};
-use crate::runs::{MESSAGE, NOWHERE, alternatives_of, cells_of};
+use crate::runs::{MESSAGE, MODULE_MESSAGE, NOWHERE, alternatives_of, cells_of, foreign_in};
 use ber_core::Id;
-use ill_schema::{NodeId, PartId};
+use ill_schema::{Kind, NodeId, PartId, Profile, kind};
 
-/// A place where an element may begin: a position in the cells of a node of profile 2, at 0 in a wrapper round the node, from 1 on
-/// in the node itself.
+/// A place where an element may begin: a position in the cells of a node, at 0 in a wrapper round the node, from 1 on in the node
+/// itself.
 #[derive(Clone, Copy)]
 pub struct At {
     /// The cell of the node, or of the wrapper round it.
     round: &'static Cell,
     // As wide as the reference: so nothing is left unused in what holds a place, and it is copied by whole words.
     position: usize,
-    ghost of_two: { IsTrue (is_of_two round.now.node) },
     ghost few: { position < 28 },
 }
 
@@ -56,9 +55,10 @@ fn has_tag(cell: &Cell, id: Id) -> bool
 /// The cell of what a node with alternatives, or of two types, is by the tag.
 #[inline(always)]
 fn nested_start(node: NodeId, id: Id) -> Option<&'static Cell>
-    requires { opens_nested node ≡ true }
-    ensures { MatchOption result (element_with (tag_of_id id) (node_starts node) ≡ None)
+    requires { is_nested (kind_of node) ≡ true }
+    ensures begins { MatchOption result (element_with (tag_of_id id) (node_starts node) ≡ None)
         (λ begun. IsBegunBy (tag_of_id id) (node_starts node) (node_choice node) (option_map (λ _. begun.now.part.row) (node_choice node)) begun.now) }
+    ensures two { IsTrue (is_of_two node) → IfSome result (λ begun. IsTrue (is_two_cell begun.now)) }
 {
     let cells = alternatives_of(node);
     for row in 0..cells.len() {
@@ -73,11 +73,11 @@ fn nested_start(node: NodeId, id: Id) -> Option<&'static Cell>
 /// The number as that of an alternative, None where the node has two types instead.
 #[inline(always)]
 fn alternative_number(node: NodeId, number: u8) -> Option<u8>
-    requires { opens_nested node ≡ true }
+    requires { is_nested (kind_of node) ≡ true }
     ensures { result ≡ option_map (λ _. number) (node_choice node) }
 {
     match node {
-        NodeId::IllString => None,
+        NodeId::IllString | NodeId::Any => None,
         _ => Some(number),
     }
 }
@@ -120,8 +120,9 @@ fn part_at(at: At, position: usize, slot: Slot) -> PartId
 #[inline(always)]
 fn start(cell: &'static Cell, id: Id) -> Option<&'static Cell>
     requires { cell_opens cell.now ≡ true }
-    ensures { MatchOption result (element_with (tag_of_id id) (cell_starts cell.now) ≡ None)
+    ensures begins { MatchOption result (element_with (tag_of_id id) (cell_starts cell.now) ≡ None)
         (λ begun. IsBegunBy (tag_of_id id) (cell_starts cell.now) (cell_choice cell.now) (alternative_in cell.now begun.now) begun.now) }
+    ensures two { IsTrue (is_two_cell cell.now) → IfSome result (λ begun. IsTrue (is_two_cell begun.now)) }
 {
     if cell.nested {
         return nested_start(cell.node, id);
@@ -135,7 +136,11 @@ fn start(cell: &'static Cell, id: Id) -> Option<&'static Cell>
 impl At {
     ghost use Rattle.ill_refusals.specs.Next.{due, missing};
     ghost use Rattle.ill_refusals.specs.Place.{next_in};
-    ghost use Rattle.ill_cells.specs.Places.{IsDue, next_at, node_in, nowhere, part_in, position_in, top, where_of};
+    ghost use Rattle.ber_core.specs.Identifier.{Tag};
+    ghost use Rattle.ill_schema.specs.declared.node.Kind.{Kind};
+    ghost use Rattle.ill_schema.specs.Profiles.{profile_of};
+    ghost use Rattle.ill_cells.specs.Places.{IsDue, is_two, next_at, node_in, nowhere, part_in, position_in, top, top_in, where_of};
+    ghost use Rattle.ill_cells.specs.code.ByTag.{due_by_tag};
 
     /// Where a message begins.
     pub fn top() -> At
@@ -145,6 +150,20 @@ impl At {
         At {
             round: &MESSAGE,
             position: 0,
+        }
+    }
+
+    /// Where a message of the profile begins.
+    pub fn top_of(profile: Profile) -> At
+        ensures place { where_of result ≡ top_in (profile_of profile) }
+        ensures next { next_at result ≡ next_in (profile_of profile) [] }
+    {
+        match profile {
+            Profile::Two => At::top(),
+            Profile::Module => At {
+                round: &MODULE_MESSAGE,
+                position: 0,
+            },
         }
     }
 
@@ -182,8 +201,42 @@ impl At {
     /// What is due with the identifier's tag, None where nothing is.
     #[inline(always)]
     pub fn find(self, id: Id) -> Option<Found>
-        ensures { MatchOption result (due profile_two (tag_of_id id) (next_at self) ≡ None)
+        ensures due { MatchOption result (due profile_two (tag_of_id id) (next_at self) ≡ None)
             (λ found. IsDue (tag_of_id id) self found) }
+        ensures two { IsTrue (is_of_two (node_in self)) → IfSome result (λ found. IsTrue (is_two found)) }
+    {
+        match self.find_tag(id) {
+            Some(found) => Some(found),
+            None => self.find_any(),
+        }
+    }
+
+    /// What is due whatever its tag: an element of a foreign tree.
+    #[cold]
+    fn find_any(self) -> Option<Found>
+        ensures due { (t : Tag) → due_by_tag t (next_at self) ≡ None
+            → MatchOption result (due profile_two t (next_at self) ≡ None) (λ found. IsDue t self found) }
+        ensures open { IfSome result (λ _. kind_of (node_in self) ≡ Kind.Any) }
+    {
+        let depth = match (kind(self.round.node), self.position) {
+            (Kind::Any, 0) => 0,
+            (Kind::Any, 1) => self.round.part.row.saturating_add(1),
+            _ => return None,
+        };
+        let cell = foreign_in(depth)?;
+        Some(Found {
+            at: self,
+            cell,
+            begun: cell,
+        })
+    }
+
+    /// What is due because of the identifier's tag, None where nothing is.
+    #[inline(always)]
+    fn find_tag(self, id: Id) -> Option<Found>
+        ensures due { MatchOption result (due_by_tag (tag_of_id id) (next_at self) ≡ None)
+            (λ found. IsDue (tag_of_id id) self found) }
+        ensures two { IsTrue (is_of_two (node_in self)) → IfSome result (λ found. IsTrue (is_two found)) }
     {
         let cells = cells_of(self.round.node);
         for position in self.position..cells.len() {
@@ -282,8 +335,8 @@ impl Found {
                 round: self.at.round,
                 position: self.at.position + 1,
             },
-            Slot::Inner => At::nowhere(),
-            Slot::Item | Slot::Segment => self.at,
+            Slot::Inner | Slot::Root => At::nowhere(),
+            Slot::Item | Slot::Segment | Slot::Foreign => self.at,
         }
     }
 

@@ -1,4 +1,7 @@
 //! Cells: what one row of the tables says to a reader.
+ghost use Rattle.std.specs.Prelude.{◌≡◌};
+ghost use Rattle.ill_cells.specs.Cells.{is_strict, levels_in};
+
 use ber_core::Class;
 use ill_schema::{NodeId, PartId};
 
@@ -13,6 +16,11 @@ pub enum What {
     Printable,
     Date,
     Time,
+    Null,
+    ObjectIdentifier,
+    OctetString,
+    BitString,
+    ObjectDescriptor,
     Sequence,
     List,
     /// An explicit tag.
@@ -21,6 +29,10 @@ pub enum What {
     LooseWrapper,
     /// An OCTET STRING in a string.
     Segment,
+    /// A BIT STRING in a BIT STRING.
+    BitSegment,
+    /// An element of a foreign tree: the row of its part is the number of elements of the tree round it.
+    Foreign,
     /// The element of a row that is not read.
     LeftOut,
 }
@@ -32,6 +44,10 @@ pub enum Slot {
     Row,
     Item,
     Segment,
+    /// The root of a foreign tree, in an explicit tag.
+    Root,
+    /// An element in one of a foreign tree.
+    Foreign,
 }
 
 /// An element that may begin at a place.
@@ -52,4 +68,18 @@ pub struct Cell {
     /// This row or one after it is mandatory.
     pub lacks: bool,
     pub default: Option<u8>,
+}
+
+/// Whether the node is a sequence in an explicit tag that may not be bare. Every other sequence in one is an APDU or a result.
+pub fn is_strict(node: NodeId) -> bool
+    ensures { result ≡ is_strict node }
+{
+    matches!(node, NodeId::PostalAddress | NodeId::ElectronicDelivery)
+}
+
+/// How many levels may stand in an element of a foreign tree, which has this part.
+pub fn levels_in(part: PartId) -> u8
+    ensures { result ≡ levels_in part }
+{
+    19_u8.saturating_sub(part.row)
 }

@@ -11,4 +11,4 @@ mod cell;
 mod runs;
 
 pub use at::{At, Found};
-pub use cell::{Slot, What};
+pub use cell::{Slot, What, is_strict, levels_in};

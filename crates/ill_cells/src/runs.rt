@@ -1,8 +1,10 @@
-//! The cells of each node of profile 2: by what it may begin in a wrapper, and then what it may contain.
-ghost use Rattle.std.specs.Prelude.{◌≡◌, ◌≤◌, length, IsTrue};
+//! The cells of each node: by what it may begin in a wrapper, and then what it may contain.
+ghost use Rattle.std.specs.Prelude.{◌≡◌, ◌≤◌, ◌<◌, length, IsTrue, MatchOption};
+ghost use Rattle.std.specs.List.{list_all};
 ghost use Rattle.ill_schema.specs.Table.{kind_of};
 ghost use Rattle.ill_schema.specs.TableFacts.{is_of_two};
-ghost use Rattle.ill_cells.specs.code.Meant.{all_open, cells_meant, nested_starts, node_meant, starts_of_cells};
+ghost use Rattle.ill_cells.specs.Cells.{is_two_cell};
+ghost use Rattle.ill_cells.specs.code.Meant.{all_open, cells_meant, foreign_cell, nested_starts, node_meant, starts_of_cells};
 
 use crate::cell::{Cell, Slot, What};
 use ber_core::Class;
@@ -16,6 +18,11 @@ macro_rules! own_number {
     (IsoDate) => { 26 };
     (IsoTime) => { 26 };
     (PrintableString) => { 19 };
+    (Null) => { 5 };
+    (ObjectIdentifier) => { 6 };
+    (OctetString) => { 4 };
+    (BitString) => { 3 };
+    (ObjectDescriptor) => { 7 };
     ($node:ident) => { 16 };
 }
 
@@ -27,12 +34,22 @@ macro_rules! own_what {
     (IsoDate) => { What::Date };
     (IsoTime) => { What::Time };
     (PrintableString) => { What::Printable };
+    (Null) => { What::Null };
+    (ObjectIdentifier) => { What::ObjectIdentifier };
+    (OctetString) => { What::OctetString };
+    (BitString) => { What::BitString };
+    (ObjectDescriptor) => { What::ObjectDescriptor };
     (SendToList) => { What::List };
     (AlreadyTriedList) => { What::List };
     (UnitsPerMediumList) => { What::List };
     (IllServiceTypes) => { What::List };
     (SupplyMediumInfos) => { What::List };
     (Locs) => { What::List };
+    (Externals) => { What::List };
+    (Extensions) => { What::List };
+    (ElectronicDeliveries) => { What::List };
+    (SpecificUnits) => { What::List };
+    (ModuleUnitsPerMediumList) => { What::List };
     ($node:ident) => { What::Sequence };
 }
 
@@ -44,10 +61,22 @@ macro_rules! what {
     ($presence:ident, Implicit, $node:ident) => { own_what!($node) };
 }
 
-/// Whether the node is a choice that is in a sequence without a tag.
+/// Whether the node is a choice that is in a sequence or list without a tag.
 macro_rules! is_nested {
     (DeliveryService) => { true };
     (ShippedVia) => { true };
+    (ModuleDeliveryService) => { true };
+    (ModuleShippedVia) => { true };
+    (Encoding) => { true };
+    (TaggedExternal) => { true };
+    (DamagedPortion) => { true };
+    ($node:ident) => { false };
+}
+
+/// Whether the node is a sequence in an explicit tag that may not be bare.
+macro_rules! is_strict {
+    (PostalAddress) => { true };
+    (ElectronicDelivery) => { true };
     ($node:ident) => { false };
 }
 
@@ -110,7 +139,7 @@ macro_rules! row_cell {
 /// The cells of a sequence: its own, and one for each row.
 macro_rules! sequence {
     ($node:ident, $class:ident: $($row:tt),*) => {
-        sequence!(@ $class $node 0; [cell!(Inner, false, lacks!($($row)*), $class, $node, 0, (Must, untagged, $node))] $($row)*)
+        sequence!(@ $class $node 0; [cell!(Inner, is_strict!($node), is_strict!($node) || lacks!($($row)*), $class, $node, 0, (Must, untagged, $node))] $($row)*)
     };
     (@ $class:ident $node:ident $number:expr; [$($cell:expr),*]) => {
         [$($cell),*]
@@ -163,11 +192,12 @@ macro_rules! nested {
 
 /// The cell of a segment of a string.
 macro_rules! segment {
-    ($node:ident) => {
+    ($node:ident) => { segment!($node, 4, Segment) };
+    ($node:ident, $number:literal, $what:ident) => {
         Cell {
-            number: 4,
+            number: $number,
             class: Class::Universal,
-            what: What::Segment,
+            what: What::$what,
             part: PartId { node: NodeId::$node, row: 0 },
             node: NodeId::$node,
             slot: Slot::Segment,
@@ -186,8 +216,29 @@ macro_rules! leaf {
     };
 }
 
+/// The cell of an element of a foreign tree, with this number of elements round it.
+macro_rules! foreign {
+    ($slot:ident, $depth:literal) => {
+        Cell {
+            number: 0,
+            class: Class::Universal,
+            what: What::Foreign,
+            part: PartId { node: NodeId::Any, row: $depth },
+            node: NodeId::Any,
+            slot: Slot::$slot,
+            nested: false,
+            stops: false,
+            lacks: false,
+            default: None,
+        }
+    };
+}
+
 /// The cell that a message begins by.
 pub const MESSAGE: Cell = nested!(IllApdu);
+
+/// The cell that a message of the module profile begins by.
+pub const MODULE_MESSAGE: Cell = nested!(ModuleIllApdu);
 
 /// A cell for the place where nothing may come.
 pub const NOWHERE: Cell = segment!(Boolean);
@@ -324,6 +375,131 @@ const EXPIRED: [Cell; 7] = table!(Expired, sequence);
 
 const ILL_APDU: [Cell; 1] = [nested!(IllApdu)];
 
+const NULL: [Cell; 2] = leaf!(Null);
+
+const OBJECT_IDENTIFIER: [Cell; 2] = leaf!(ObjectIdentifier);
+
+const OCTET_STRING: [Cell; 2] = leaf!(OctetString);
+
+const BIT_STRING: [Cell; 2] = [
+    cell!(
+        Inner,
+        true,
+        true,
+        Universal,
+        BitString,
+        0,
+        (Must, untagged, BitString)
+    ),
+    segment!(BitString, 3, BitSegment),
+];
+
+const OBJECT_DESCRIPTOR: [Cell; 2] = leaf!(ObjectDescriptor);
+
+const ANY: [Cell; 1] = [nested!(Any)];
+
+const ENCODING: [Cell; 1] = [nested!(Encoding)];
+
+const EXTERNAL: [Cell; 5] = table!(External, sequence);
+
+const TAGGED_EXTERNAL: [Cell; 1] = [nested!(TaggedExternal)];
+
+const EXTERNALS: [Cell; 2] = table!(Externals, list);
+
+const EXTENSION: [Cell; 4] = table!(Extension, sequence);
+
+const EXTENSIONS: [Cell; 2] = table!(Extensions, list);
+
+const E_DELIVERY_SERVICE: [Cell; 3] = table!(EDeliveryService, sequence);
+
+const DOCUMENT_TYPE: [Cell; 3] = table!(DocumentType, sequence);
+
+const E_DELIVERY_DETAILS: [Cell; 1] = [nested!(EDeliveryDetails)];
+
+const ELECTRONIC_DELIVERY: [Cell; 7] = table!(ElectronicDelivery, sequence);
+
+const ELECTRONIC_DELIVERIES: [Cell; 2] = table!(ElectronicDeliveries, list);
+
+const SPECIFIC_UNITS: [Cell; 2] = table!(SpecificUnits, list);
+
+const DAMAGED_PORTION: [Cell; 1] = [nested!(DamagedPortion)];
+
+const DAMAGED_DETAILS: [Cell; 3] = table!(DamagedDetails, sequence);
+
+const HISTORY_REPORT: [Cell; 13] = table!(HistoryReport, sequence);
+
+const STATUS_REPORT: [Cell; 3] = table!(StatusReport, sequence);
+
+const ALREADY_FORWARDED: [Cell; 3] = table!(AlreadyForwarded, sequence);
+
+const USER_ERROR_REPORT: [Cell; 1] = [nested!(UserErrorReport)];
+
+const STATE_TRANSITION: [Cell; 3] = table!(StateTransition, sequence);
+
+const PROVIDER_ERROR_REPORT: [Cell; 1] = [nested!(ProviderErrorReport)];
+
+const ERROR_REPORT: [Cell; 5] = table!(ErrorReport, sequence);
+
+const FORWARD_NOTIFICATION: [Cell; 10] = table!(ForwardNotification, sequence);
+
+const STATUS_OR_ERROR_REPORT: [Cell; 11] = table!(StatusOrErrorReport, sequence);
+
+const MODULE_DELIVERY_SERVICE: [Cell; 1] = [nested!(ModuleDeliveryService)];
+
+const MODULE_SHIPPED_VIA: [Cell; 1] = [nested!(ModuleShippedVia)];
+
+const MODULE_ITEM_ID: [Cell; 24] = table!(ModuleItemId, sequence);
+
+const MODULE_UNITS_PER_MEDIUM: [Cell; 3] = table!(ModuleUnitsPerMedium, sequence);
+
+const MODULE_UNITS_PER_MEDIUM_LIST: [Cell; 2] = table!(ModuleUnitsPerMediumList, list);
+
+const MODULE_SUPPLY_DETAILS: [Cell; 10] = table!(ModuleSupplyDetails, sequence);
+
+const MODULE_ILL_REQUEST: [Cell; 27] = table!(ModuleIllRequest, sequence);
+
+const MODULE_SHIPPED: [Cell; 18] = table!(ModuleShipped, sequence);
+
+const MODULE_CONDITIONAL: [Cell; 5] = table!(ModuleConditional, sequence);
+
+const MODULE_WILL_SUPPLY: [Cell; 6] = table!(ModuleWillSupply, sequence);
+
+const MODULE_RESULTS: [Cell; 1] = [nested!(ModuleResults)];
+
+const MODULE_ILL_ANSWER: [Cell; 15] = table!(ModuleIllAnswer, sequence);
+
+const MODULE_CONDITIONAL_REPLY: [Cell; 9] = table!(ModuleConditionalReply, sequence);
+
+const MODULE_CANCEL: [Cell; 8] = table!(ModuleCancel, sequence);
+
+const MODULE_CANCEL_REPLY: [Cell; 9] = table!(ModuleCancelReply, sequence);
+
+const MODULE_RECEIVED: [Cell; 12] = table!(ModuleReceived, sequence);
+
+const MODULE_RECALL: [Cell; 8] = table!(ModuleRecall, sequence);
+
+const MODULE_RETURNED: [Cell; 12] = table!(ModuleReturned, sequence);
+
+const MODULE_CHECKED_IN: [Cell; 9] = table!(ModuleCheckedIn, sequence);
+
+const MODULE_OVERDUE: [Cell; 9] = table!(ModuleOverdue, sequence);
+
+const MODULE_RENEW: [Cell; 9] = table!(ModuleRenew, sequence);
+
+const MODULE_RENEW_ANSWER: [Cell; 10] = table!(ModuleRenewAnswer, sequence);
+
+const MODULE_LOST: [Cell; 8] = table!(ModuleLost, sequence);
+
+const MODULE_DAMAGED: [Cell; 9] = table!(ModuleDamaged, sequence);
+
+const MODULE_MESSAGE_APDU: [Cell; 8] = table!(ModuleMessageApdu, sequence);
+
+const MODULE_STATUS_QUERY: [Cell; 8] = table!(ModuleStatusQuery, sequence);
+
+const MODULE_EXPIRED: [Cell; 7] = table!(ModuleExpired, sequence);
+
+const MODULE_ILL_APDU: [Cell; 1] = [nested!(ModuleIllApdu)];
+
 const SYMBOL_ALTERNATIVES: [Cell; 2] = table!(Symbol, alternatives);
 
 const NAME_ALTERNATIVES: [Cell; 2] = table!(Name, alternatives);
@@ -335,6 +511,50 @@ const SHIPPED_VIA_ALTERNATIVES: [Cell; 2] = table!(ShippedVia, alternatives);
 const RESULTS_ALTERNATIVES: [Cell; 7] = table!(Results, alternatives);
 
 const ILL_APDU_ALTERNATIVES: [Cell; 20] = table!(IllApdu, alternatives);
+
+const ENCODING_ALTERNATIVES: [Cell; 3] = table!(Encoding, alternatives);
+
+const TAGGED_EXTERNAL_ALTERNATIVES: [Cell; 1] = table!(TaggedExternal, alternatives);
+
+const E_DELIVERY_DETAILS_ALTERNATIVES: [Cell; 2] = table!(EDeliveryDetails, alternatives);
+
+const DAMAGED_PORTION_ALTERNATIVES: [Cell; 2] = table!(DamagedPortion, alternatives);
+
+const USER_ERROR_REPORT_ALTERNATIVES: [Cell; 4] = table!(UserErrorReport, alternatives);
+
+const PROVIDER_ERROR_REPORT_ALTERNATIVES: [Cell; 3] = table!(ProviderErrorReport, alternatives);
+
+const MODULE_DELIVERY_SERVICE_ALTERNATIVES: [Cell; 2] = table!(ModuleDeliveryService, alternatives);
+
+const MODULE_SHIPPED_VIA_ALTERNATIVES: [Cell; 2] = table!(ModuleShippedVia, alternatives);
+
+const MODULE_RESULTS_ALTERNATIVES: [Cell; 7] = table!(ModuleResults, alternatives);
+
+const MODULE_ILL_APDU_ALTERNATIVES: [Cell; 20] = table!(ModuleIllApdu, alternatives);
+
+/// The cells of the elements of a foreign tree, by the number of elements round each.
+const FOREIGN: [Cell; 20] = [
+    foreign!(Root, 0),
+    foreign!(Foreign, 1),
+    foreign!(Foreign, 2),
+    foreign!(Foreign, 3),
+    foreign!(Foreign, 4),
+    foreign!(Foreign, 5),
+    foreign!(Foreign, 6),
+    foreign!(Foreign, 7),
+    foreign!(Foreign, 8),
+    foreign!(Foreign, 9),
+    foreign!(Foreign, 10),
+    foreign!(Foreign, 11),
+    foreign!(Foreign, 12),
+    foreign!(Foreign, 13),
+    foreign!(Foreign, 14),
+    foreign!(Foreign, 15),
+    foreign!(Foreign, 16),
+    foreign!(Foreign, 17),
+    foreign!(Foreign, 18),
+    foreign!(Foreign, 19),
+];
 
 const STRINGS: [Cell; 2] = [
     Cell {
@@ -372,9 +592,9 @@ const STRINGS: [Cell; 2] = [
 /// The cells of a node: those by which it begins, and those of what it may contain.
 #[inline(always)]
 pub fn cells_of(node: NodeId) -> &'static [Cell]
-    requires { IsTrue (is_of_two node) }
     ensures meant { cells_meant result.now ≡ node_meant node }
     ensures few { length result.now ≤ 27 }
+    ensures two { IsTrue (is_of_two node) → IsTrue (list_all is_two_cell result.now) }
 {
     match node {
         NodeId::Boolean => &BOOLEAN,
@@ -443,17 +663,73 @@ pub fn cells_of(node: NodeId) -> &'static [Cell]
         NodeId::StatusQuery => &STATUS_QUERY,
         NodeId::Expired => &EXPIRED,
         NodeId::IllApdu => &ILL_APDU,
-        _ => unreachable!(),
+        NodeId::Null => &NULL,
+        NodeId::ObjectIdentifier => &OBJECT_IDENTIFIER,
+        NodeId::OctetString => &OCTET_STRING,
+        NodeId::BitString => &BIT_STRING,
+        NodeId::ObjectDescriptor => &OBJECT_DESCRIPTOR,
+        NodeId::Any => &ANY,
+        NodeId::Encoding => &ENCODING,
+        NodeId::External => &EXTERNAL,
+        NodeId::TaggedExternal => &TAGGED_EXTERNAL,
+        NodeId::Externals => &EXTERNALS,
+        NodeId::Extension => &EXTENSION,
+        NodeId::Extensions => &EXTENSIONS,
+        NodeId::EDeliveryService => &E_DELIVERY_SERVICE,
+        NodeId::DocumentType => &DOCUMENT_TYPE,
+        NodeId::EDeliveryDetails => &E_DELIVERY_DETAILS,
+        NodeId::ElectronicDelivery => &ELECTRONIC_DELIVERY,
+        NodeId::ElectronicDeliveries => &ELECTRONIC_DELIVERIES,
+        NodeId::SpecificUnits => &SPECIFIC_UNITS,
+        NodeId::DamagedPortion => &DAMAGED_PORTION,
+        NodeId::DamagedDetails => &DAMAGED_DETAILS,
+        NodeId::HistoryReport => &HISTORY_REPORT,
+        NodeId::StatusReport => &STATUS_REPORT,
+        NodeId::AlreadyForwarded => &ALREADY_FORWARDED,
+        NodeId::UserErrorReport => &USER_ERROR_REPORT,
+        NodeId::StateTransition => &STATE_TRANSITION,
+        NodeId::ProviderErrorReport => &PROVIDER_ERROR_REPORT,
+        NodeId::ErrorReport => &ERROR_REPORT,
+        NodeId::ForwardNotification => &FORWARD_NOTIFICATION,
+        NodeId::StatusOrErrorReport => &STATUS_OR_ERROR_REPORT,
+        NodeId::ModuleDeliveryService => &MODULE_DELIVERY_SERVICE,
+        NodeId::ModuleShippedVia => &MODULE_SHIPPED_VIA,
+        NodeId::ModuleItemId => &MODULE_ITEM_ID,
+        NodeId::ModuleUnitsPerMedium => &MODULE_UNITS_PER_MEDIUM,
+        NodeId::ModuleUnitsPerMediumList => &MODULE_UNITS_PER_MEDIUM_LIST,
+        NodeId::ModuleSupplyDetails => &MODULE_SUPPLY_DETAILS,
+        NodeId::ModuleIllRequest => &MODULE_ILL_REQUEST,
+        NodeId::ModuleShipped => &MODULE_SHIPPED,
+        NodeId::ModuleConditional => &MODULE_CONDITIONAL,
+        NodeId::ModuleWillSupply => &MODULE_WILL_SUPPLY,
+        NodeId::ModuleResults => &MODULE_RESULTS,
+        NodeId::ModuleIllAnswer => &MODULE_ILL_ANSWER,
+        NodeId::ModuleConditionalReply => &MODULE_CONDITIONAL_REPLY,
+        NodeId::ModuleCancel => &MODULE_CANCEL,
+        NodeId::ModuleCancelReply => &MODULE_CANCEL_REPLY,
+        NodeId::ModuleReceived => &MODULE_RECEIVED,
+        NodeId::ModuleRecall => &MODULE_RECALL,
+        NodeId::ModuleReturned => &MODULE_RETURNED,
+        NodeId::ModuleCheckedIn => &MODULE_CHECKED_IN,
+        NodeId::ModuleOverdue => &MODULE_OVERDUE,
+        NodeId::ModuleRenew => &MODULE_RENEW,
+        NodeId::ModuleRenewAnswer => &MODULE_RENEW_ANSWER,
+        NodeId::ModuleLost => &MODULE_LOST,
+        NodeId::ModuleDamaged => &MODULE_DAMAGED,
+        NodeId::ModuleMessageApdu => &MODULE_MESSAGE_APDU,
+        NodeId::ModuleStatusQuery => &MODULE_STATUS_QUERY,
+        NodeId::ModuleExpired => &MODULE_EXPIRED,
+        NodeId::ModuleIllApdu => &MODULE_ILL_APDU,
     }
 }
 
 /// The cells by which a node begins that has alternatives, or two types.
 #[inline(always)]
 pub fn alternatives_of(node: NodeId) -> &'static [Cell]
-    requires { IsTrue (is_of_two node) }
     ensures meant { starts_of_cells result.now ≡ nested_starts (kind_of node) node }
     ensures open { IsTrue (all_open 0 result.now) }
     ensures few { length result.now ≤ 20 }
+    ensures two { IsTrue (is_of_two node) → IsTrue (list_all is_two_cell result.now) }
 {
     match node {
         NodeId::Symbol => &SYMBOL_ALTERNATIVES,
@@ -463,6 +739,25 @@ pub fn alternatives_of(node: NodeId) -> &'static [Cell]
         NodeId::Results => &RESULTS_ALTERNATIVES,
         NodeId::IllApdu => &ILL_APDU_ALTERNATIVES,
         NodeId::IllString => &STRINGS,
+        NodeId::Encoding => &ENCODING_ALTERNATIVES,
+        NodeId::TaggedExternal => &TAGGED_EXTERNAL_ALTERNATIVES,
+        NodeId::EDeliveryDetails => &E_DELIVERY_DETAILS_ALTERNATIVES,
+        NodeId::DamagedPortion => &DAMAGED_PORTION_ALTERNATIVES,
+        NodeId::UserErrorReport => &USER_ERROR_REPORT_ALTERNATIVES,
+        NodeId::ProviderErrorReport => &PROVIDER_ERROR_REPORT_ALTERNATIVES,
+        NodeId::ModuleDeliveryService => &MODULE_DELIVERY_SERVICE_ALTERNATIVES,
+        NodeId::ModuleShippedVia => &MODULE_SHIPPED_VIA_ALTERNATIVES,
+        NodeId::ModuleResults => &MODULE_RESULTS_ALTERNATIVES,
+        NodeId::ModuleIllApdu => &MODULE_ILL_APDU_ALTERNATIVES,
         _ => &[],
     }
+}
+
+/// The cell of an element of a foreign tree with this number of elements round it, None where the tree would have too many levels.
+#[cold]
+pub fn foreign_in(depth: u8) -> Option<&'static Cell>
+    ensures { MatchOption result (20 ≤ depth) (λ cell. (depth < 20) × (cell.now ≡ foreign_cell depth)) }
+{
+    let cells: &'static [Cell] = &FOREIGN;
+    cells.get(depth as usize)
 }

@@ -134,8 +134,8 @@ same_place f t (s ∷ rows) (suc m) zero q r d e g x y =
 same_place f t (s ∷ rows) (suc m) (suc n) q r d e g x y =
     let u = same_place f t rows m n q r (distinct-right (f s) (flat_map f rows) d) e g x y in (ap suc u.0, u.1)
 
--- what a row of a table has
-pub at_row : (test : Row → Bool) (rows : List Row) (n : ℕ) (row : Row) → IsTrue (list_all test rows) → slice_get rows n ≡ Some row → IsTrue (test row)
+-- what each of a list has, as the rows of a table
+pub at_row : {A : Type 0} (test : A → Bool) (rows : List A) (n : ℕ) (row : A) → IsTrue (list_all test rows) → slice_get rows n ≡ Some row → IsTrue (test row)
 at_row test [] n row h e = absurd cc
 at_row test (r ∷ rows) zero row h e = let g : r ≡ row = cc in subst (λ y. IsTrue (test y)) g ((and_parts (test r) (list_all test rows) h).0)
 at_row test (r ∷ rows) (suc n) row h e = at_row test rows n row ((and_parts (test r) (list_all test rows) h).1) e

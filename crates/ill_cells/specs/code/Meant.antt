@@ -1,16 +1,18 @@
 -- What the cells of a node are to say.
-use Rattle.std.specs.Prelude.{ℕ, ℤ, pos, drop, option_map, suc, Bool, true, false, ◌&&◌, List, [], ◌∷◌, Option, None, is_some, map, nat_eq, if◌then◌else◌}
+use Rattle.std.specs.Prelude.{ℕ, ℤ, zero, pos, drop, option_map, suc, Bool, true, false, ◌&&◌, ◌||◌, not, List, [], ◌∷◌, Option, None, is_some, map, nat_eq, if◌then◌else◌}
+use Rattle.ber_core.specs.Identifier.{Tag}
+use Rattle.ber_core.specs.declared.id.Class.{Class}
 use Rattle.ber_core.specs.Tree.{octet_string}
 use Rattle.ber_leaf.specs.Profile.{profile_two}
 use Rattle.ill_schema.specs.declared.node.Kind.{Kind}
 use Rattle.ill_schema.specs.declared.node.NodeId.{NodeId}
+use Rattle.ill_schema.specs.declared.node.NodeId.TheVariants.{Any}
 use Rattle.ill_schema.specs.declared.part.Presence.{Presence}
 use Rattle.ill_schema.specs.Table.{kind_of}
-use Rattle.ill_schema.specs.TableFacts.{is_of_two}
 use Rattle.ill_schema.specs.Tagging.{untagged}
 use Rattle.ill_refusals.specs.Element.{Component, components, component_starts, segment, Start, start, starts}
 use Rattle.ill_refusals.specs.Next.{first_mandatory}
-use Rattle.ill_cells.specs.Cells.{wrapped, element_in, is_leaf, is_list, is_sequence, node_choice, presence_default, row_before}
+use Rattle.ill_cells.specs.Cells.{wrapped, element_in, is_any, is_bits, is_leaf, is_list, is_sequence, is_strict, node_choice, presence_default, row_before, segments_in}
 use Rattle.ill_cells.specs.declared.cell.Cell.{Cell}
 use Rattle.ill_cells.specs.declared.cell.What.{What}
 use Rattle.ill_cells.specs.declared.cell.What.TheVariants as what
@@ -32,19 +34,22 @@ abbrev pub is_empty : Kind → List Component → Bool
 is_empty Kind.Seq [] = true
 is_empty _ _ = false
 
-abbrev pub is_other : Kind → Bool
-is_other Kind.Seq = false
-is_other Kind.Any = false
-is_other _ = true
+-- an explicit tag that may not be bare is round a node of this kind
+abbrev pub is_wrapped : Bool → Kind → Bool
+is_wrapped strict Kind.Seq = strict
+is_wrapped strict _ = true
 
 -- the element opens where a node of this kind is open
-abbrev pub opens : What → Kind → List Component → Bool
-opens what.Sequence k cs = is_sequence k
-opens what.List k cs = is_list k
-opens what.Wrapper k cs = is_other k
-opens what.LooseWrapper k cs = is_sequence k
-opens what.LeftOut k cs = is_empty k cs
-opens _ k cs = is_leaf k
+abbrev pub opens : What → Bool → Kind → List Component → Bool
+opens what.Sequence strict k cs = is_sequence k
+opens what.List strict k cs = is_list k
+opens what.Wrapper strict k cs = is_wrapped strict k
+opens what.LooseWrapper strict k cs = is_sequence k && not strict
+opens what.LeftOut strict k cs = is_empty k cs
+opens what.Foreign strict k cs = is_any k
+opens what.BitString strict k cs = is_bits k
+opens what.BitSegment strict k cs = is_bits k
+opens _ strict k cs = is_leaf k && not (is_bits k)
 
 -- a node of this kind begins by the tags of alternatives, by two of its own, or by none
 abbrev pub is_nested : Kind → Bool
@@ -73,15 +78,12 @@ default_at node position slot.Row = default_first (drop (row_before position) (c
 default_at node position slot.Item = default_first (components profile_two node)
 default_at node position _ = None
 
--- the element opens where the node, which is one of profile 2, is open
+-- the element opens where the node is open
 abbrev pub opens_in : What → NodeId → Bool
-opens_in w node = is_of_two node && opens w (kind_of node) (components profile_two node)
-
-abbrev pub opens_nested : NodeId → Bool
-opens_nested node = is_of_two node && is_nested (kind_of node)
+opens_in w node = opens w (is_strict node) (kind_of node) (components profile_two node)
 
 abbrev pub cell_opens : Cell → Bool
-cell_opens c = if c.nested then opens_nested c.node else opens_in c.what c.node
+cell_opens c = if c.nested then is_nested (kind_of c.node) else opens_in c.what c.node
 
 abbrev pub cell_choice : Cell → Option NodeId
 cell_choice c = if c.nested then node_choice c.node else None
@@ -123,18 +125,18 @@ abbrev pub item_meant : List Component → List Meant
 item_meant [] = []
 item_meant (c ∷ cs) = meant (starts profile_two c) slot.Item false false (component_choice c) (presence_default c.presence) ∷ []
 
-abbrev pub segment_meant : List Meant
-segment_meant = meant (start octet_string (segment octet_string) ∷ []) slot.Segment false false None None ∷ []
+abbrev pub segment_meant : Tag → List Meant
+segment_meant tag = meant (start tag (segment tag) ∷ []) slot.Segment false false None None ∷ []
 
 -- what the cells of a node of a kind are to say
 abbrev pub kind_meant : Kind → NodeId → List Meant
 kind_meant Kind.Seq node =
-    meant (node_starts node) slot.Inner false (is_some (first_mandatory (components profile_two node))) (node_choice node) None ∷ rows_meant (components profile_two node)
+    meant (node_starts node) slot.Inner (is_strict node) (is_strict node || is_some (first_mandatory (components profile_two node))) (node_choice node) None ∷ rows_meant (components profile_two node)
 kind_meant Kind.SeqOf node = meant (node_starts node) slot.Inner true true (node_choice node) None ∷ item_meant (components profile_two node)
 kind_meant Kind.Choice node = meant (node_starts node) slot.Inner true true (node_choice node) None ∷ []
 kind_meant Kind.Any node = meant (node_starts node) slot.Inner true true (node_choice node) None ∷ []
-kind_meant (Kind.Leaf _) node = meant (node_starts node) slot.Inner true true (node_choice node) None ∷ segment_meant
-kind_meant Kind.IllString node = meant (node_starts node) slot.Inner true true (node_choice node) None ∷ segment_meant
+kind_meant (Kind.Leaf l) node = meant (node_starts node) slot.Inner true true (node_choice node) None ∷ segment_meant (segments_in (Kind.Leaf l))
+kind_meant Kind.IllString node = meant (node_starts node) slot.Inner true true (node_choice node) None ∷ segment_meant octet_string
 
 abbrev pub node_meant : NodeId → List Meant
 node_meant node = kind_meant (kind_of node) node
@@ -157,3 +159,27 @@ nested_starts _ node = []
 abbrev pub all_open : ℕ → List Cell → Bool
 all_open row [] = true
 all_open row (c ∷ cs) = opens_in c.what c.node && (nat_eq row c.part.row && all_open (suc row) cs)
+
+abbrev pub foreign_slot : ℕ → Slot
+foreign_slot zero = slot.Root
+foreign_slot (suc depth) = slot.Foreign
+
+-- the cell of an element of a foreign tree, with this number of elements round it
+abbrev pub foreign_cell : ℕ → Cell
+foreign_cell depth = record {
+  number = 0;
+  class = Class.Universal;
+  what = what.Foreign;
+  part = record { node = Any; row = depth };
+  node = Any;
+  slot = foreign_slot depth;
+  nested = false;
+  stops = false;
+  lacks = false;
+  default = None;
+}
+
+-- so many of these cells, from a depth on
+abbrev pub foreign_cells : ℕ → ℕ → List Cell
+foreign_cells depth zero = []
+foreign_cells depth (suc n) = foreign_cell depth ∷ foreign_cells (suc depth) n

@@ -1,7 +1,7 @@
 use Rattle.std.proofs.Common.{◌≡◌, ℕ, ◌+◌, suc, drop, option_map, sym, ap, subst, ◌∙◌, arith}
-use Rattle.std.proofs.lemmas.Bool.{and_parts}
 use Rattle.ber_core.specs.Id.{tag_of_id}
-use Rattle.ill_cells.specs.Cells.{element_with, node_choice}
+use Rattle.ill_schema.proofs.Tags.{at_row}
+use Rattle.ill_cells.specs.Cells.{element_with, is_two_cell, node_choice}
 use Rattle.ill_cells.specs.code.Meant.{cell_start}
 use Rattle.ill_cells.specs.code.Starts.{BeginsIn}
 use Rattle.ill_cells.proofs.Alternatives.{begins-nested, drop-at, element_with-found, element_with-other, open-at, starts-nested, starts_from}
@@ -10,10 +10,10 @@ use Rattle.ill_cells.proofs.at.nested_start.Goals as goal
 pub loop-row-init : goal.loop-row-init
 loop-row-init c =
     let cells = c.alternatives_of-cells.result.now in
-    ap (element_with (tag_of_id c.args.id)) (starts-nested c.args.node cells (and_parts _ _ c.requires).1 c.alternatives_of-cells.ensures.meant)
+    ap (element_with (tag_of_id c.args.id)) (starts-nested c.args.node cells c.requires c.alternatives_of-cells.ensures.meant)
 
-pub returns-then-has_tag : goal.returns-then-has_tag
-returns-then-has_tag c =
+pub returns-then-has_tag-clause-begins : goal.returns-then-has_tag-clause-begins
+returns-then-has_tag-clause-begins c =
     let t = tag_of_id c.args.id in
     let cells = c.alternatives_of-cells.result.now in
     let row = c.loop-row.row in
@@ -26,7 +26,7 @@ returns-then-has_tag c =
         is = c.loop-row.invariant ∙ ap (λ cs. element_with t (starts_from cs)) (drop-at cells row cell c.cell_at-cell.ensures)
             ∙ element_with-found t (cell_start cell) _ same;
         by = subst (λ (n : ℕ). BeginsIn t (node_choice c.args.node) (option_map (λ _. n) (node_choice c.args.node)) (cell_start cell).element) (z ∙ own.1)
-            (begins-nested t c.args.node row cells cell (and_parts _ _ c.requires).1 c.alternatives_of-cells.ensures.meant c.cell_at-cell.ensures same);
+            (begins-nested t c.args.node row cells cell c.requires c.alternatives_of-cells.ensures.meant c.cell_at-cell.ensures same);
       };
       opens = own.0;
     }
@@ -42,3 +42,7 @@ loop-row-preserved c =
     c.loop-row.invariant ∙ ap (λ cs. element_with t (starts_from cs)) (drop-at cells row cell c.cell_at-cell.ensures)
     ∙ element_with-other t (cell_start cell) _ other
     ∙ ap (λ j. element_with t (starts_from (drop j cells))) z
+
+pub returns-then-has_tag-clause-two : goal.returns-then-has_tag-clause-two
+returns-then-has_tag-clause-two c two =
+    at_row is_two_cell c.alternatives_of-cells.result.now c.loop-row.row c.cell_at-cell.result.now (c.alternatives_of-cells.ensures.two two) c.cell_at-cell.ensures

@@ -1,67 +1,14 @@
-use Rattle.std.proofs.Common.{refl, ◌∙◌, arith}
-use Rattle.ber_core.specs.Id.{tag_of_id}
-use Rattle.ill_cells.proofs.AtRow.{row-of}
-use Rattle.ill_cells.proofs.Steps.{passed-next, passed-none, cell-said, scan-all, scan-end, scan-found, scan-skip, scan-stop}
+use Rattle.std.proofs.Common.{◌≡◌, Option, Some, None, IfSome, IsTrue}
+use Rattle.ill_schema.specs.Table.{kind_of}
+use Rattle.ill_schema.specs.declared.node.Kind.{Kind}
+use Rattle.ill_schema.proofs.Tags.{two_not_any}
+use Rattle.ill_cells.specs.Places.{is_two}
+use Rattle.ill_cells.specs.declared.at.Found.{Found}
 use Rattle.ill_cells.proofs.at.At.find.Goals as goal
 
-pub start-requires : goal.start-requires
-start-requires c = (cell-said c.args.self.round.now.node c.loop-position.position c.cells_of-cells.result.now c.cell_at-cell.result.now c.cells_of-cells.ensures.meant c.cell_at-cell.ensures).opens
-
-pub invariant_of-result-in-Some : goal.invariant_of-result-in-Some
-invariant_of-result-in-Some c = record {
-  opens = c.in-Some.ensures.opens;
-  placed = (cell-said c.args.self.round.now.node c.loop-position.position c.cells_of-cells.result.now c.cell_at-cell.result.now c.cells_of-cells.ensures.meant c.cell_at-cell.ensures).placed;
-  there = (cell-said c.args.self.round.now.node c.loop-position.position c.cells_of-cells.result.now c.cell_at-cell.result.now c.cells_of-cells.ensures.meant c.cell_at-cell.ensures).there;
-  default_is = (cell-said c.args.self.round.now.node c.loop-position.position c.cells_of-cells.result.now c.cell_at-cell.result.now c.cells_of-cells.ensures.meant c.cell_at-cell.ensures).default;
-  nested = (cell-said c.args.self.round.now.node c.loop-position.position c.cells_of-cells.result.now c.cell_at-cell.result.now c.cells_of-cells.ensures.meant c.cell_at-cell.ensures).opens;
-  few = omega (arith, c.cells_of-cells.ensures.few);
-}
-
-pub returns-in-Some : goal.returns-in-Some
-returns-in-Some c =
-    let s = c.args.self in
-    let t = tag_of_id c.args.id in
-    let i = c.loop-position.position in
-    let cells = c.cells_of-cells.result.now in
-    let cell = c.cell_at-cell.result.now in
-    let begun = c.in-Some.ensures.begun in
-    record {
-      is = scan-all t s.round.now.part s.round.now.node s.position cells c.cells_of-cells.ensures.meant ∙ c.loop-position.invariant.0
-          ∙ scan-found t s.round.now.part s.round.now.node i cells cell _ c.cell_at-cell.ensures begun.is;
-      begins = (cell-said s.round.now.node i cells cell c.cells_of-cells.ensures.meant c.cell_at-cell.ensures).begins t s.round.now.part _ _ (record { is = begun.is; by = begun.by });
-      round = refl;
-      later = c.loop-position.invariant.1.later;
-      passed = c.loop-position.invariant.1.apart;
-      placed = (cell-said s.round.now.node i cells cell c.cells_of-cells.ensures.meant c.cell_at-cell.ensures).placed;
-      row =
-          let said = cell-said s.round.now.node i cells cell c.cells_of-cells.ensures.meant c.cell_at-cell.ensures in
-          row-of s.round.now.part s.round.now.node i cell.slot _ said.placed said.there;
-    }
-
-pub returns-then-cell : goal.returns-then-cell
-returns-then-cell c =
-    let s = c.args.self in
-    let t = tag_of_id c.args.id in
-    let cells = c.cells_of-cells.result.now in
-    scan-all t s.round.now.part s.round.now.node s.position cells c.cells_of-cells.ensures.meant ∙ c.loop-position.invariant.0
-    ∙ scan-stop t s.round.now.part s.round.now.node c.loop-position.position cells c.cell_at-cell.result.now c.cell_at-cell.ensures c.in_default.ensures c.if-cell.true
-
-pub loop-position-init : goal.loop-position-init
-loop-position-init c = (refl, passed-none (tag_of_id c.args.id) c.args.self.round.now.node c.args.self.position)
-
-pub loop-position-preserved : goal.loop-position-preserved
-loop-position-preserved c =
-    let s = c.args.self in
-    let t = tag_of_id c.args.id in
-    let cells = c.cells_of-cells.result.now in (
-      c.loop-position.invariant.0 ∙ scan-skip t s.round.now.part s.round.now.node c.loop-position.position cells c.cell_at-cell.result.now c.cell_at-cell.ensures c.in_default.ensures c.if-cell.false,
-      passed-next t s.round.now.node s.position c.loop-position.position cells c.cell_at-cell.result.now c.cells_of-cells.ensures.meant c.cell_at-cell.ensures c.in_default.ensures c.loop-position.invariant.1,
-    )
-
-pub returns : goal.returns
-returns c =
-    let s = c.args.self in
-    let t = tag_of_id c.args.id in
-    let cells = c.cells_of-cells.result.now in
-    scan-all t s.round.now.part s.round.now.node s.position cells c.cells_of-cells.ensures.meant ∙ c.loop-position.invariant.0
-    ∙ scan-end t s.round.now.part s.round.now.node c.loop-position.position cells (omega (arith, c.loop-position-test.false))
+pub returns-in-None-clause-two : goal.returns-in-None-clause-two
+returns-in-None-clause-two c two = go c.find_any.result c.find_any.ensures.open
+  where
+    go : (o : Option Found) → IfSome o (λ _. kind_of c.args.self.round.now.node ≡ Kind.Any) → IfSome o (λ found. IsTrue (is_two found))
+    go None h = tt
+    go (Some f) h = absurd (two_not_any c.args.self.round.now.node two h)

@@ -2,10 +2,10 @@ use Rattle.std.proofs.Common.{◌≡◌, sym, ap, subst, ◌∙◌, refl, rules,
 use Rattle.ill_schema.specs.Table.{kind_of}
 use Rattle.ill_refusals.specs.Next.{next_of}
 use Rattle.ill_cells.specs.Cells.{due_at, is_placed, next_from}
-use Rattle.ill_cells.specs.Places.{Where, due_of, element_found, node_of, part_of, place_after, slot_of, what_of}
+use Rattle.ill_cells.specs.Places.{Where, due_of, element_found, place_after, slot_of}
 use Rattle.ill_cells.specs.declared.at.Found.{Found}
 use Rattle.ill_cells.specs.declared.cell.Slot.{Slot}
-use Rattle.ill_cells.proofs.Going.{after-item, after-row, after-segment}
+use Rattle.ill_cells.proofs.Going.{after-foreign, after-item, after-root, after-row, after-segment}
 use Rattle.ill_cells.proofs.at.Found.after.Goals as goal
 
 -- the next of the place after what was found is what comes after it
@@ -20,7 +20,9 @@ after-slot f s e w h =
     go Slot.Row p = after-row f.at.round.now.part f.at.round.now.node f.at.position (element_found f) p
     go Slot.Inner p = refl
     go Slot.Item p = after-item f.at.round.now.part f.at.round.now.node f.at.position (element_found f) (kind_of f.at.round.now.node) refl p
-    go Slot.Segment p = after-segment f.at.round.now.part f.at.round.now.node f.at.position (part_of f) (node_of f) (what_of f) (kind_of f.at.round.now.node) refl p
+    go Slot.Segment p = after-segment f.at.round.now.part f.at.round.now.node f.at.position (element_found f) (kind_of f.at.round.now.node) refl p
+    go Slot.Root p = after-root f.at.round.now.part f.at.round.now.node f.at.position (element_found f)
+    go Slot.Foreign p = after-foreign f.at.round.now.part f.at.round.now.node f.at.position (element_found f) (kind_of f.at.round.now.node) refl p
 
 pub returns-clause-next : goal.returns-clause-next
 returns-clause-next c =

@@ -3,7 +3,7 @@ use Rattle.ber_core.specs.Id.{tag_of_id}
 use Rattle.ill_cells.specs.code.Meant.{cells_meant}
 use Rattle.ill_cells.proofs.Scanning.{scan}
 use Rattle.ill_cells.proofs.Steps.{HasPassed}
-use Rattle.ill_cells.proofs.at.At.find.Given as goal
+use Rattle.ill_cells.proofs.at.At.find_tag.Given as goal
 
 abbrev pub invariant-loop-position : goal.invariant-loop-position
 invariant-loop-position l =
