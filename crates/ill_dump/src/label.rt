@@ -34,7 +34,7 @@ pub fn label_of(found: Found, round: NodeId, items: usize) -> Label {
             Some(_) => Label::Row(part),
             None => Label::Type(type_name(found.what())),
         },
-        Slot::Segment => Label::Type("OCTET STRING"),
+        Slot::Segment | Slot::Root | Slot::Foreign => Label::Type(type_name(found.what())),
     }
 }
 
@@ -47,7 +47,12 @@ fn type_name(what: What) -> &'static str {
         What::General => "GeneralString",
         What::Visible | What::Date | What::Time => "VisibleString",
         What::Printable => "PrintableString",
-        What::Segment => "OCTET STRING",
+        What::Null => "NULL",
+        What::ObjectIdentifier => "OBJECT IDENTIFIER",
+        What::OctetString | What::Segment => "OCTET STRING",
+        What::BitString | What::BitSegment => "BIT STRING",
+        What::ObjectDescriptor => "ObjectDescriptor",
+        What::Foreign => "ANY",
         What::Sequence | What::List | What::Wrapper | What::LooseWrapper | What::LeftOut => {
             "SEQUENCE"
         }

@@ -26,8 +26,8 @@ use Rattle.ill_elements.specs.Contents.{with_alternative}
 use Rattle.ill_elements.specs.Due.{due_with}
 use Rattle.ill_elements.specs.Written.{is_number, left_away}
 use Rattle.ill_elements.specs.declared.due.Next.{Next}
-use Rattle.ill_elements.specs.declared.due.Next.TheVariants.{Rows, Inner, Items, Either, Segments, Nothing}
-use Rattle.ill_elements.specs.declared.due.Slot.TheVariants.{Row as AtRow, Item, Inner as Inside, Segment as InString}
+use Rattle.ill_elements.specs.declared.due.Next.TheVariants.{Rows, Inner, Items, Either, Segments, BitSegments, Root, Foreigns, Nothing}
+use Rattle.ill_elements.specs.declared.due.Slot.TheVariants.{Row as AtRow, Item, Inner as Inside, Segment as InString, Foreign as InForeign}
 use Rattle.ill_elements.specs.declared.element.Element.TheVariants.{Leaf as LeafElement}
 use Rattle.ill_elements.specs.declared.leaf_type.LeafType.{LeafType}
 use Rattle.ill_elements.proofs.DueElements.{components-at}
@@ -61,6 +61,8 @@ round_of k p round node position r h = go k position (let z : position + 1 ≡ s
     go : (k : Kind) (position : ℕ) → shape_of k p round (suc position) ≡ Rows node (r + 1) → round ≡ node
     go Kind.Seq position h = cc
     go Kind.Choice position h = absurd cc
+    go (Kind.Leaf LeafKind.BitString) zero h = absurd cc
+    go (Kind.Leaf _) zero h = absurd cc
     go _ zero h = absurd cc
     go _ (suc n) h = absurd cc
 
@@ -96,6 +98,10 @@ default_left f t n l o due after = go (slot_of f) refl n due after
     go cell.Row e (Inner w) due after = absurd (let q : AtRow (row_of f) ≡ Inside = due.slot in cc)
     go cell.Row e (Items node) due after = absurd (let q : AtRow (row_of f) ≡ Item = due.slot in cc)
     go cell.Row e Segments due after = absurd (let q : AtRow (row_of f) ≡ InString = due.slot in cc)
+    go cell.Row e BitSegments due after = absurd (let q : AtRow (row_of f) ≡ InString = due.slot in cc)
+    go cell.Row e (Root w) due after = absurd (let q : AtRow (row_of f) ≡ Inside = due.1.slot in cc)
+    go cell.Row e (Foreigns zero) due after = absurd due
+    go cell.Row e (Foreigns (suc n)) due after = absurd (let q : AtRow (row_of f) ≡ InForeign = due.slot in cc)
     go cell.Row e Nothing due after = absurd due
     go _ e (Rows node k) due after = refl
     go _ e (Either w) due after = refl

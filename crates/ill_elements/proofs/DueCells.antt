@@ -1,11 +1,14 @@
 -- What the cells find is due by the decoder's words.
-use Rattle.std.proofs.Common.{◌≡◌, ◌⊎◌, ℕ, zero, suc, ◌+◌, ◌-◌, ◌≤◌, Bool, true, false, List, [], ◌∷◌, drop, IsTrue, Option, Some, None, option_map, refl, sym, ap, subst, ◌∙◌, inl, inr, arith, slice_get}
+use Rattle.std.proofs.Common.{◌≡◌, ◌⊎◌, ℕ, zero, suc, ◌+◌, ◌-◌, ◌≤◌, Bool, true, false, ◌&&◌, not, List, [], ◌∷◌, drop, IsTrue, Option, Some, None, option_map, refl, sym, ap, subst, ◌∙◌, inl, inr, arith, slice_get}
 use Rattle.std.specs.Prelude.{if◌then◌else◌, nat_eq}
-use Rattle.std.proofs.lemmas.Bool.{and_parts}
 use Rattle.ber_core.specs.Identifier.{Tag}
+use Rattle.ber_core.specs.Foreign.{foreign_levels}
 use Rattle.ber_core.specs.Tree.{octet_string}
+use Rattle.ber_leaf.specs.Leaf.{bit_string}
+use Rattle.ber_leaf.specs.Segments.{segment_tag}
 use Rattle.ber_leaf.specs.Profile.{profile_two}
 use Rattle.ill_schema.specs.declared.node.Kind.{Kind}
+use Rattle.ill_schema.specs.declared.node.LeafKind.{LeafKind}
 use Rattle.ill_schema.specs.declared.node.NodeId.{NodeId}
 use Rattle.ill_schema.specs.declared.part.PartId.{PartId}
 use Rattle.ill_schema.specs.declared.part.Presence.{Presence}
@@ -14,12 +17,12 @@ use Rattle.ill_schema.specs.Table.{kind_of, rows_of}
 use Rattle.ill_schema.specs.Tagging.{same_tag, sequence_tag}
 use Rattle.ill_refusals.specs.Element.{Component, Element, Start, component_starts, components, components_from, list, own_starts, sequence, start, starts}
 use Rattle.ill_refusals.specs.Next as next
-use Rattle.ill_refusals.specs.Next.{part, octets, rows, items, due, due_in, element_of, start_of}
+use Rattle.ill_refusals.specs.Next.{part, octets, any, rows, items, due, due_in, element_of, start_of}
 use Rattle.ill_refusals.proofs.Rows.{two_cases}
 use Rattle.ill_cells.specs.Cells as cells
-use Rattle.ill_cells.specs.Cells.{BeginsDue, IsAlternative, wrapped}
-use Rattle.ill_cells.specs.Places.{IsAtRow, IsDue, due_of, element_found, next_at, node_in, node_of, part_in, part_of, place_after, row_of, slot_of, what_of}
-use Rattle.ill_cells.specs.code.Meant.{is_other, opens_in}
+use Rattle.ill_cells.specs.Cells.{BeginsDue, IsAlternative, is_strict, levels_in, wrapped}
+use Rattle.ill_cells.specs.Places.{IsAtRow, IsDue, Where, due_of, element_found, next_at, node_in, node_of, part_in, part_of, place_after, row_of, slot_of, what_of}
+use Rattle.ill_cells.specs.code.Meant.{is_wrapped, opens_in}
 use Rattle.ill_cells.specs.declared.at.At.{At}
 use Rattle.ill_cells.specs.declared.at.Found.{Found as CellFound}
 use Rattle.ill_cells.specs.declared.cell.What.{What}
@@ -29,11 +32,12 @@ use Rattle.ill_cells.proofs.Scanning.{same_tag-swap, sequence_starts}
 use Rattle.ill_cells.specs.declared.cell.Slot.{Slot as CellSlot}
 use Rattle.ill_cells.specs.declared.cell.Slot.TheVariants as cell
 use Rattle.ill_elements.specs.Elements.{component_of, component_at, element_is, element_with, found_is}
-use Rattle.ill_elements.specs.Due.{Begins, BeginsAt, Due, IsComing, IsDueIn, IsDueInRows, IsItemDue, IsInnerDue, IsRowDue, IsSegmentDue, MayAllLack, behind, due_as, element_as, first_of, found_as, next_is, shape, shape_at, shape_of, slot_as}
+use Rattle.ill_elements.specs.Due.{Begins, BeginsAt, Due, IsComing, IsDueIn, IsDueInRows, IsForeignDue, IsItemDue, IsInnerDue, IsRowDue, IsSegmentDue, MayAllLack, behind, due_as, element_as, first_of, found_as, next_is, shape, shape_around, shape_at, shape_in, shape_of, slot_as}
 use Rattle.ill_elements.specs.declared.due.Next.{Next}
-use Rattle.ill_elements.specs.declared.due.Next.TheVariants.{Rows, Inner, Items, Either, Segments, Nothing}
+use Rattle.ill_elements.specs.declared.due.Next.TheVariants.{Rows, Inner, Items, Either, Segments, BitSegments, Root, Foreigns, Nothing}
 use Rattle.ill_elements.proofs.DueElements.{first_due}
-use Rattle.ill_elements.specs.declared.due.Slot.TheVariants.{Row as AtRow, Item, Inner as Inside, Segment as InString}
+use Rattle.ill_elements.specs.declared.due.Slot.{Slot}
+use Rattle.ill_elements.specs.declared.due.Slot.TheVariants.{Row as AtRow, Item, Inner as Inside, Segment as InString, Foreign as InForeign}
 use Rattle.ill_elements.specs.Found.{Found}
 use Rattle.ill_elements.specs.declared.element.Wrapped.{Wrapped}
 
@@ -207,12 +211,20 @@ item-due t node D d h b slot is = go (components profile_two node) refl h
     go (c ∷ cs) f k = item-start t node c cs D d (start_of profile_two t c) f refl k b slot is
 
 -- a segment that is due
-pub segment-due : (t : Tag) (D : next.Due) (d : Due) → due profile_two t (next.segments octet_string) ≡ Some D → d.slot ≡ InString → found_is d.found ≡ element_of D → IsSegmentDue t d
-segment-due t D d h slot is = at (same_tag t octet_string) refl h
+pub segment-due : (u t : Tag) (D : next.Due) (d : Due) → due profile_two t (next.segments u) ≡ Some D → d.slot ≡ InString → found_is d.found ≡ element_of D → IsSegmentDue u t d
+segment-due u t D d h slot is = at (same_tag t u) refl h
   where
-    at : (b : Bool) → same_tag t octet_string ≡ b → (if b then Some (octets octet_string) else None) ≡ Some D → IsSegmentDue t d
-    at true f k = record { slot = slot; tag = f; found = is ∙ ap element_of (let q : octets octet_string ≡ D = cc in sym q) }
+    at : (b : Bool) → same_tag t u ≡ b → (if b then Some (octets u) else None) ≡ Some D → IsSegmentDue u t d
+    at true f k = record { slot = slot; tag = f; found = is ∙ ap element_of (let q : octets u ≡ D = cc in sym q) }
     at false f k = absurd cc
+
+-- an element of a foreign tree that is due
+foreign-due : (t : Tag) (n : ℕ) (after : next.Next) (slot : Slot) (D : next.Due) (d : Due) → any n after ≡ D → BeginsDue t D d.alternative → d.slot ≡ slot → found_is d.found ≡ element_of D → IsForeignDue n slot d
+foreign-due t n after slot D d e b at is = record {
+  slot = at;
+  alternative = subst (λ x. BeginsDue t x d.alternative) (sym e) b;
+  found = is ∙ ap element_of (sym e);
+}
 
 -- what is due at a place with the tag, in its slot
 pub record IsPlaced (t : Tag) (k : Kind) (p : PartId) (node : NodeId) (position at row : ℕ) (s : CellSlot) (D : next.Due) : Type 0 where
@@ -223,13 +235,15 @@ pub record IsPlaced (t : Tag) (k : Kind) (p : PartId) (node : NodeId) (position 
   pub at_row : s ≡ cell.Row → IsAtRow node row D
   pub number : row ≡ cells.row_before at
   pub inner : s ≡ cell.Inner → (q : PartId) × (e : Element) × (D ≡ part (wrapped q node) e (rows []))
+  pub stays : k ≡ Kind.Any → at ≡ position
 
-around : (t : Tag) (p : PartId) (node : NodeId) (at row : ℕ) (k : Kind) (s : CellSlot) (D : next.Due) (d : Due) → due_in profile_two t (wrapped p node ∷ []) ≡ Some D
+around : (t : Tag) (p : PartId) (node : NodeId) (at row : ℕ) (k : Kind) (s : CellSlot) (D : next.Due) (d : Due) → cells.is_any k ≡ false → due_in profile_two t (wrapped p node ∷ []) ≡ Some D
     → ((at ≡ 0 → ⊥) → element_with t (starts profile_two (wrapped p node)) ≡ None) → cells.is_placed k at s ≡ true → d.slot ≡ slot_as row s → BeginsDue t D d.alternative → found_is d.found ≡ element_of D
     → IsInnerDue t (record { part = p; node = node }) d
-around t p node zero row k cell.Inner D d h passed placed slot b is = inner-due t (record { part = p; node = node }) D d h b slot is
-around t p node (suc at) row k s D d h passed placed slot b is = absurd (none-due t (wrapped p node) D refl (passed (λ z. cc)) h)
-around t p node zero row k _ D d h passed placed slot b is = absurd cc
+around t p node zero row k cell.Inner D d closed h passed placed slot b is = inner-due t (record { part = p; node = node }) D d h b slot is
+around t p node (suc at) row k s D d closed h passed placed slot b is = absurd (none-due t (wrapped p node) D refl (passed (λ z. cc)) h)
+around t p node zero row k cell.Root D d closed h passed placed slot b is = absurd (let q : false ≡ true = sym closed ∙ placed in cc)
+around t p node zero row k _ D d closed h passed placed slot b is = absurd cc
 
 -- in a list, from its first position on, there are items only
 only-item : (at : ℕ) (s : CellSlot) → 1 ≤ at → cells.is_placed Kind.SeqOf at s ≡ true → s ≡ cell.Item
@@ -244,6 +258,10 @@ only-segment k zero s l h p = absurd (omega (arith, h))
 only-segment k (suc n) cell.Segment l h p = refl
 only-segment k (suc n) cell.Inner l h p = absurd cc
 only-segment k (suc (suc n)) cell.Item l h p = absurd cc
+only-segment k (suc n) cell.Root l h p = absurd cc
+only-segment k (suc (suc n)) cell.Foreign l h p = absurd cc
+only-segment (Kind.Leaf x) (suc zero) cell.Foreign l h p = absurd cc
+only-segment _ (suc zero) cell.Foreign l h p = absurd cc
 only-segment (Kind.Leaf x) (suc n) cell.Row l h p = absurd cc
 only-segment _ (suc n) cell.Row l h p = absurd cc
 only-segment (Kind.Leaf x) (suc zero) cell.Item l h p = absurd cc
@@ -272,43 +290,77 @@ either-due : (t : Tag) (p : PartId) (node : NodeId) (b : Bool) (D : next.Due) �
 either-due t p node b D e h =
     ap (λ x. elim x as (λ _. Option next.Due) [ true ↦ due_in profile_two t (wrapped p node ∷ []) | false ↦ due_in profile_two t (components profile_two node) ]) (sym e) ∙ h
 
+-- in an explicit tag round a sequence
+round-sequence : (t : Tag) (p : PartId) (node : NodeId) (strict : Bool) (at row : ℕ) (s : CellSlot) (D : next.Due) (d : Due) → kind_of node ≡ Kind.Seq → is_strict node ≡ strict
+    → IsPlaced t Kind.Seq p node 0 at row s D → BeginsDue t D d.alternative → d.slot ≡ slot_as row s → found_is d.found ≡ element_of D → IsDueIn t (shape_around strict (record { part = p; node = node })) d
+round-sequence t p node true at row s D d e strict h b slot is =
+    around t p node at row Kind.Seq s D d refl (subst (λ x. due profile_two t (cells.around x (wrapped p node)) ≡ Some D) strict h.is) (h.passed refl) h.placed slot b is
+round-sequence t p node false zero row cell.Inner D d e strict h b slot is =
+    let due_there = subst (λ x. due profile_two t (cells.around x (wrapped p node)) ≡ Some D) strict h.is in
+    let i = h.inner refl in
+    let tag = sequence-due t i.0 node d.alternative i.1 e (let x = begins-due t (wrapped i.0 node) i.1 (rows []) D d.alternative i.2 b in subst (λ y. Begins t (wrapped i.0 node) d.alternative y) (ap element_of i.2) x) in
+    inl (tag, inner-due t (record { part = p; node = node }) D d (either-due t p node true D tag due_there) b slot is)
+round-sequence t p node false (suc r) row cell.Row D d e strict h b slot is =
+    let due_there = subst (λ x. due profile_two t (cells.around x (wrapped p node)) ≡ Some D) strict h.is in
+    let apart : element_with t (starts profile_two (wrapped p node)) ≡ None = h.passed refl (λ z. cc) in
+    let tag = sequence-with t node None (ap (element_with t) (sym (sequence_starts node e)) ∙ apart) in
+    inr (tag, in-row t node 0 row D d slot (either-due t p node false D tag due_there) (h.at_row refl) (omega arith) b is)
+round-sequence t p node false zero row _ D d e strict h b slot is = absurd (let z : false ≡ true = h.placed in cc)
+round-sequence t p node false (suc zero) row _ D d e strict h b slot is = absurd (let z : false ≡ true = h.placed in cc)
+round-sequence t p node false (suc (suc r)) row _ D d e strict h b slot is = absurd (let z : false ≡ true = h.placed in cc)
+
+-- round the root of a foreign tree, and in an element of one
+round-root : (t : Tag) (p : PartId) (node : NodeId) (at row : ℕ) (s : CellSlot) (D : next.Due) (d : Due) → kind_of node ≡ Kind.Any
+    → IsPlaced t Kind.Any p node 0 at row s D → BeginsDue t D d.alternative → d.slot ≡ slot_as row s → found_is d.found ≡ element_of D → IsDueIn t (Root (record { part = p; node = node })) d
+round-root t p node zero row cell.Root D d e h b slot is = (e, foreign-due t (foreign_levels - 1) (rows []) Inside D d (let q = h.is in cc) b slot is)
+round-root t p node zero row cell.Inner D d e h b slot is = (e, foreign-due t (foreign_levels - 1) (rows []) Inside D d (let q = h.is in cc) b slot is)
+round-root t p node zero row _ D d e h b slot is = absurd (let z : false ≡ true = h.placed in cc)
+round-root t p node (suc n) row s D d e h b slot is = absurd (let z : suc n ≡ 0 = h.stays refl in cc)
+
+in-foreign : (t : Tag) (p : PartId) (node : NodeId) (at row : ℕ) (s : CellSlot) (D : next.Due) (d : Due)
+    → IsPlaced t Kind.Any p node 1 at row s D → BeginsDue t D d.alternative → d.slot ≡ slot_as row s → found_is d.found ≡ element_of D → IsDueIn t (Foreigns (levels_in p)) d
+in-foreign t p node (suc zero) row cell.Foreign D d h b slot is = go (levels_in p) h.is
+  where
+    go : (n : ℕ) → due profile_two t (next.foreigns n) ≡ Some D → IsDueIn t (Foreigns n) d
+    go zero q = absurd (let z : None ≡ Some D = q in cc)
+    go (suc n) q = foreign-due t n (next.foreigns (suc n)) InForeign D d (let z : Some (any n (next.foreigns (suc n))) ≡ Some D = q in cc) b slot is
+in-foreign t p node (suc zero) row _ D d h b slot is = absurd (let z : false ≡ true = h.placed in cc)
+in-foreign t p node zero row s D d h b slot is = absurd (let z : 0 ≡ 1 = h.stays refl in cc)
+in-foreign t p node (suc (suc n)) row s D d h b slot is = absurd (let z : suc (suc n) ≡ 1 = h.stays refl in cc)
+
+in-leaf : (t : Tag) (l : LeafKind) (D : next.Due) (d : Due) → due profile_two t (next.segments (cells.segments_in (Kind.Leaf l))) ≡ Some D → d.slot ≡ InString → found_is d.found ≡ element_of D
+    → IsDueIn t (shape_in l) d
+in-leaf t LeafKind.BitString D d h slot is = segment-due (segment_tag bit_string) t D d h slot is
+in-leaf t _ D d h slot is = segment-due octet_string t D d h slot is
+
 -- what the cells find is due by the decoder's words
 pub placed-due : (t : Tag) (k : Kind) (p : PartId) (node : NodeId) (position at row : ℕ) (s : CellSlot) (D : next.Due) (d : Due) → kind_of node ≡ k → IsPlaced t k p node position at row s D
     → BeginsDue t D d.alternative → d.slot ≡ slot_as row s → found_is d.found ≡ element_of D → IsDueIn t (shape_of k p node position) d
-placed-due t Kind.Seq p node zero zero row cell.Inner D d e h b slot is =
-    let i = h.inner refl in
-    let tag = sequence-due t i.0 node d.alternative i.1 e (let x = begins-due t (wrapped i.0 node) i.1 (rows []) D d.alternative i.2 b in subst (λ y. Begins t (wrapped i.0 node) d.alternative y) (ap element_of i.2) x) in
-    inl (tag, inner-due t (record { part = p; node = node }) D d (either-due t p node true D tag h.is) b slot is)
-placed-due t Kind.Seq p node zero (suc r) row cell.Row D d e h b slot is =
-    let apart : element_with t (starts profile_two (wrapped p node)) ≡ None = h.passed refl (λ z. cc) in
-    let tag = sequence-with t node None (ap (element_with t) (sym (sequence_starts node e)) ∙ apart) in
-    inr (tag, in-row t node 0 row D d slot (either-due t p node false D tag h.is) (h.at_row refl) (omega arith) b is)
-placed-due t Kind.Seq p node zero (suc zero) row _ D d e h b slot is = absurd (let z : false ≡ true = h.placed in cc)
-placed-due t Kind.Seq p node zero (suc (suc r)) row _ D d e h b slot is = absurd (let z : false ≡ true = h.placed in cc)
+placed-due t Kind.Seq p node zero at row s D d e h b slot is = round-sequence t p node (is_strict node) at row s D d e refl h b slot is
 placed-due t Kind.Seq p node (suc n) zero row s D d e h b slot is = absurd (omega (arith, h.later))
 placed-due t Kind.Seq p node (suc n) (suc r) row cell.Row D d e h b slot is = in-row t node n row D d slot h.is (h.at_row refl) (omega (arith, h.later, h.number)) b is
 placed-due t Kind.Seq p node (suc n) (suc zero) row _ D d e h b slot is = absurd (let z : false ≡ true = h.placed in cc)
 placed-due t Kind.Seq p node (suc n) (suc (suc r)) row _ D d e h b slot is = absurd (let z : false ≡ true = h.placed in cc)
-placed-due t Kind.SeqOf p node zero at row s D d e h b slot is = around t p node at row Kind.SeqOf s D d h.is (h.passed refl) h.placed slot b is
-placed-due t Kind.Choice p node zero at row s D d e h b slot is = around t p node at row Kind.Choice s D d h.is (h.passed refl) h.placed slot b is
-placed-due t Kind.Any p node zero at row s D d e h b slot is = around t p node at row Kind.Any s D d h.is (h.passed refl) h.placed slot b is
-placed-due t (Kind.Leaf l) p node zero at row s D d e h b slot is = around t p node at row (Kind.Leaf l) s D d h.is (h.passed refl) h.placed slot b is
-placed-due t Kind.IllString p node zero at row s D d e h b slot is = around t p node at row Kind.IllString s D d h.is (h.passed refl) h.placed slot b is
+placed-due t Kind.SeqOf p node zero at row s D d e h b slot is = around t p node at row Kind.SeqOf s D d refl h.is (h.passed refl) h.placed slot b is
+placed-due t Kind.Choice p node zero at row s D d e h b slot is = around t p node at row Kind.Choice s D d refl h.is (h.passed refl) h.placed slot b is
+placed-due t (Kind.Leaf l) p node zero at row s D d e h b slot is = around t p node at row (Kind.Leaf l) s D d refl h.is (h.passed refl) h.placed slot b is
+placed-due t Kind.IllString p node zero at row s D d e h b slot is = around t p node at row Kind.IllString s D d refl h.is (h.passed refl) h.placed slot b is
+placed-due t Kind.Any p node zero at row s D d e h b slot is = round-root t p node at row s D d e h b slot is
 placed-due t Kind.SeqOf p node (suc zero) at row s D d e h b slot is = item-due t node D d h.is b (slot ∙ ap (slot_as row) (only-item at s h.later h.placed)) is
-placed-due t (Kind.Leaf l) p node (suc zero) at row s D d e h b slot is = segment-due t D d h.is (slot ∙ ap (slot_as row) (only-segment (Kind.Leaf l) at s refl h.later h.placed)) is
-placed-due t Kind.IllString p node (suc zero) at row s D d e h b slot is = segment-due t D d h.is (slot ∙ ap (slot_as row) (only-segment Kind.IllString at s refl h.later h.placed)) is
+placed-due t (Kind.Leaf l) p node (suc zero) at row s D d e h b slot is = in-leaf t l D d h.is (slot ∙ ap (slot_as row) (only-segment (Kind.Leaf l) at s refl h.later h.placed)) is
+placed-due t Kind.IllString p node (suc zero) at row s D d e h b slot is = segment-due octet_string t D d h.is (slot ∙ ap (slot_as row) (only-segment Kind.IllString at s refl h.later h.placed)) is
+placed-due t Kind.Any p node (suc zero) at row s D d e h b slot is = in-foreign t p node at row s D d h b slot is
 placed-due t Kind.Choice p node (suc zero) at row s D d e h b slot is = absurd (let z : None ≡ Some D = h.is in cc)
-placed-due t Kind.Any p node (suc zero) at row s D d e h b slot is = absurd (let z : None ≡ Some D = h.is in cc)
-placed-due t Kind.Seq p node zero zero row _ D d e h b slot is = absurd (let z : false ≡ true = h.placed in cc)
 placed-due t _ p node (suc (suc n)) at row s D d e h b slot is = absurd (let z : None ≡ Some D = h.is in cc)
 
 -- what may come after what is found
 abbrev after-shape : Kind → PartId → NodeId → ℕ → CellSlot → Next
-after-shape k q node at s = elim s as (λ _. Next) [ cell.Row ↦ shape_of k q node (at + 1) | cell.Inner ↦ Nothing | _ ↦ shape_of k q node at ]
+after-shape k q node at s = elim s as (λ _. Next) [ cell.Row ↦ shape_of k q node (at + 1) | cell.Inner ↦ Nothing | cell.Root ↦ Nothing | _ ↦ shape_of k q node at ]
 
 pub after-found : (f : CellFound) (s : CellSlot) (node : NodeId) → node_in f.at ≡ node → shape_at (place_after f s) ≡ after-shape (kind_of node) (part_in f.at) node f.at.position s
 after-found f cell.Row node e = ap (λ n. shape_of (kind_of n) (part_in f.at) n (f.at.position + 1)) e
 after-found f cell.Inner node e = refl
+after-found f cell.Root node e = refl
 after-found f _ node e = ap (λ n. shape_of (kind_of n) (part_in f.at) n f.at.position) e
 
 after-row : (q : PartId) (node : NodeId) (r row : ℕ) → row ≡ r → shape_of Kind.Seq q node (suc r + 1) ≡ Rows node (row + 1)
@@ -319,73 +371,116 @@ wrapper-only : (t : Tag) (p : PartId) (node : NodeId) (D : next.Due) (n : ℕ) �
     → ((suc n ≡ 0 → ⊥) → element_with t (starts profile_two (wrapped p node)) ≡ None) → ⊥
 wrapper-only t p node D n h passed = none-due t (wrapped p node) D refl (passed (λ z. cc)) h
 
-pub after-is : (t : Tag) (k : Kind) (p q : PartId) (node : NodeId) (position at row : ℕ) (s : CellSlot) (D : next.Due) → IsPlaced t k p node position at row s D
-    → after-shape k q node at s ≡ behind (shape_of k p node position) (slot_as row s)
-after-is t Kind.Seq p q node zero (suc r) row cell.Row D h = after-row q node r row h.number
-after-is t Kind.Seq p q node (suc n) (suc r) row cell.Row D h = after-row q node r row h.number
-after-is t k p q node position zero row cell.Row D h = absurd (let z : false ≡ true = h.placed in cc)
-after-is t k p q node (suc n) zero row cell.Inner D h = absurd (omega (arith, h.later))
-after-is t k p q node position (suc r) row cell.Inner D h = absurd (let z : false ≡ true = h.placed in cc)
-after-is t Kind.SeqOf p q node zero (suc zero) row cell.Item D h = absurd (wrapper-only t p node D 0 h.is (h.passed refl))
-after-is t Kind.SeqOf p q node (suc zero) (suc zero) row cell.Item D h = refl
-after-is t Kind.SeqOf p q node (suc (suc n)) (suc zero) row cell.Item D h = absurd (omega (arith, h.later))
-after-is t k p q node position zero row cell.Item D h = absurd (let z : false ≡ true = h.placed in cc)
-after-is t k p q node position (suc (suc n)) row cell.Item D h = absurd (let z : false ≡ true = h.placed in cc)
-after-is t (Kind.Leaf l) p q node zero (suc zero) row cell.Segment D h = absurd (wrapper-only t p node D 0 h.is (h.passed refl))
-after-is t (Kind.Leaf l) p q node (suc zero) (suc zero) row cell.Segment D h = refl
-after-is t (Kind.Leaf l) p q node (suc (suc n)) (suc zero) row cell.Segment D h = absurd (omega (arith, h.later))
-after-is t Kind.IllString p q node zero (suc zero) row cell.Segment D h = absurd (wrapper-only t p node D 0 h.is (h.passed refl))
-after-is t Kind.IllString p q node (suc zero) (suc zero) row cell.Segment D h = refl
-after-is t Kind.IllString p q node (suc (suc n)) (suc zero) row cell.Segment D h = absurd (omega (arith, h.later))
-after-is t k p q node position zero row cell.Segment D h = absurd (let z : false ≡ true = h.placed in cc)
-after-is t k p q node position (suc (suc n)) row cell.Segment D h = absurd (let z : false ≡ true = h.placed in cc)
-after-is t _ p q node position (suc r) row cell.Row D h = absurd (let z : false ≡ true = h.placed in cc)
-after-is t Kind.Seq p q node zero zero row cell.Inner D h = refl
-after-is t _ p q node zero zero row cell.Inner D h = refl
-after-is t _ p q node position (suc zero) row cell.Item D h = absurd (let z : false ≡ true = h.placed in cc)
-after-is t _ p q node position (suc zero) row cell.Segment D h = absurd (let z : false ≡ true = h.placed in cc)
+-- after what comes in an explicit tag round a sequence
+around-behind : (w : Wrapped) (strict : Bool) → behind (shape_around strict w) Inside ≡ Nothing
+around-behind w true = refl
+around-behind w false = refl
 
-leaf-shape : (p : PartId) (node : NodeId) (k : Kind) → cells.is_leaf k ≡ true → shape_of k p node 1 ≡ Segments
-leaf-shape p node (Kind.Leaf l) h = refl
+around-row : (t : Tag) (p q : PartId) (node : NodeId) (strict : Bool) (r row : ℕ) (D : next.Due) → is_strict node ≡ strict → IsPlaced t Kind.Seq p node 0 (suc r) row cell.Row D
+    → Rows node (row + 1) ≡ behind (shape_around strict (record { part = p; node = node })) (AtRow row)
+around-row t p q node true r row D strict h =
+    absurd (wrapper-only t p node D r (subst (λ x. due profile_two t (cells.around x (wrapped p node)) ≡ Some D) strict h.is) (h.passed refl))
+around-row t p q node false r row D strict h = refl
+
+-- more of the same comes in a leaf
+leaf-behind : (l : LeafKind) (s : Slot) → shape_in l ≡ behind (shape_in l) s
+leaf-behind LeafKind.BitString s = refl
+leaf-behind _ s = refl
+
+pub after-is : (t : Tag) (k : Kind) (p q : PartId) (node : NodeId) (position at row : ℕ) (s : CellSlot) (D : next.Due) → (k ≡ Kind.Any → q ≡ p) → IsPlaced t k p node position at row s D
+    → after-shape k q node at s ≡ behind (shape_of k p node position) (slot_as row s)
+after-is t Kind.Seq p q node zero (suc r) row cell.Row D same h = after-row q node r row h.number ∙ around-row t p q node (is_strict node) r row D refl h
+after-is t Kind.Seq p q node (suc n) (suc r) row cell.Row D same h = after-row q node r row h.number
+after-is t k p q node position zero row cell.Row D same h = absurd (let z : false ≡ true = h.placed in cc)
+after-is t k p q node (suc n) zero row cell.Inner D same h = absurd (omega (arith, h.later))
+after-is t k p q node position (suc r) row cell.Inner D same h = absurd (let z : false ≡ true = h.placed in cc)
+after-is t Kind.SeqOf p q node zero (suc zero) row cell.Item D same h = absurd (wrapper-only t p node D 0 h.is (h.passed refl))
+after-is t Kind.SeqOf p q node (suc zero) (suc zero) row cell.Item D same h = refl
+after-is t Kind.SeqOf p q node (suc (suc n)) (suc zero) row cell.Item D same h = absurd (omega (arith, h.later))
+after-is t k p q node position zero row cell.Item D same h = absurd (let z : false ≡ true = h.placed in cc)
+after-is t k p q node position (suc (suc n)) row cell.Item D same h = absurd (let z : false ≡ true = h.placed in cc)
+after-is t (Kind.Leaf l) p q node zero (suc zero) row cell.Segment D same h = absurd (wrapper-only t p node D 0 h.is (h.passed refl))
+after-is t (Kind.Leaf l) p q node (suc zero) (suc zero) row cell.Segment D same h = leaf-behind l InString
+after-is t (Kind.Leaf l) p q node (suc (suc n)) (suc zero) row cell.Segment D same h = absurd (omega (arith, h.later))
+after-is t Kind.IllString p q node zero (suc zero) row cell.Segment D same h = absurd (wrapper-only t p node D 0 h.is (h.passed refl))
+after-is t Kind.IllString p q node (suc zero) (suc zero) row cell.Segment D same h = refl
+after-is t Kind.IllString p q node (suc (suc n)) (suc zero) row cell.Segment D same h = absurd (omega (arith, h.later))
+after-is t k p q node position zero row cell.Segment D same h = absurd (let z : false ≡ true = h.placed in cc)
+after-is t k p q node position (suc (suc n)) row cell.Segment D same h = absurd (let z : false ≡ true = h.placed in cc)
+after-is t Kind.Any p q node zero zero row cell.Root D same h = refl
+after-is t Kind.Any p q node (suc n) zero row cell.Root D same h = absurd (omega (arith, h.later))
+after-is t k p q node position (suc r) row cell.Root D same h = absurd (let z : false ≡ true = h.placed in cc)
+after-is t Kind.Any p q node zero (suc zero) row cell.Foreign D same h = absurd (let z : 1 ≡ 0 = h.stays refl in cc)
+after-is t Kind.Any p q node (suc zero) (suc zero) row cell.Foreign D same h = ap (λ x. Foreigns (levels_in x)) (same refl)
+after-is t Kind.Any p q node (suc (suc n)) (suc zero) row cell.Foreign D same h = absurd (omega (arith, h.later))
+after-is t k p q node position zero row cell.Foreign D same h = absurd (let z : false ≡ true = h.placed in cc)
+after-is t k p q node position (suc (suc n)) row cell.Foreign D same h = absurd (let z : false ≡ true = h.placed in cc)
+after-is t _ p q node position (suc r) row cell.Row D same h = absurd (let z : false ≡ true = h.placed in cc)
+after-is t Kind.Seq p q node zero zero row cell.Inner D same h = sym (around-behind (record { part = p; node = node }) (is_strict node))
+after-is t _ p q node zero zero row cell.Inner D same h = refl
+after-is t _ p q node position (suc zero) row cell.Item D same h = absurd (let z : false ≡ true = h.placed in cc)
+after-is t _ p q node position (suc zero) row cell.Segment D same h = absurd (let z : false ≡ true = h.placed in cc)
+after-is t _ p q node position zero row cell.Root D same h = absurd (let z : false ≡ true = h.placed in cc)
+after-is t _ p q node position (suc zero) row cell.Foreign D same h = absurd (let z : false ≡ true = h.placed in cc)
+
+leaf-shape : (p : PartId) (node : NodeId) (k : Kind) → (cells.is_leaf k && not (cells.is_bits k)) ≡ true → shape_of k p node 1 ≡ Segments
+leaf-shape p node (Kind.Leaf LeafKind.BitString) h = absurd cc
+leaf-shape p node (Kind.Leaf _) h = refl
 leaf-shape p node Kind.IllString h = refl
 leaf-shape p node _ h = absurd cc
 
-sequence-shape : (p : PartId) (node : NodeId) (k : Kind) → cells.is_sequence k ≡ true → (shape_of k p node 1 ≡ Rows node 0) × (shape_of k p node 0 ≡ Either (record { part = p; node = node }))
-sequence-shape p node Kind.Seq h = (refl, refl)
+bits-shape : (p : PartId) (node : NodeId) (k : Kind) → cells.is_bits k ≡ true → shape_of k p node 1 ≡ BitSegments
+bits-shape p node (Kind.Leaf LeafKind.BitString) h = refl
+bits-shape p node (Kind.Leaf _) h = absurd cc
+bits-shape p node _ h = absurd cc
+
+any-shape : (p : PartId) (node : NodeId) (k : Kind) → cells.is_any k ≡ true → shape_of k p node 1 ≡ Foreigns (levels_in p)
+any-shape p node Kind.Any h = refl
+any-shape p node _ h = absurd cc
+
+sequence-shape : (p : PartId) (node : NodeId) (k : Kind) → cells.is_sequence k ≡ true → shape_of k p node 1 ≡ Rows node 0
+sequence-shape p node Kind.Seq h = refl
 sequence-shape p node _ h = absurd cc
+
+loose-shape : (p : PartId) (node : NodeId) (k : Kind) → (cells.is_sequence k && not (is_strict node)) ≡ true → shape_of k p node 0 ≡ Either (record { part = p; node = node })
+loose-shape p node Kind.Seq h = go (is_strict node) h
+  where
+    go : (b : Bool) → not b ≡ true → shape_around b (record { part = p; node = node }) ≡ Either (record { part = p; node = node })
+    go true h = absurd cc
+    go false h = refl
+loose-shape p node _ h = absurd cc
 
 list-shape : (p : PartId) (node : NodeId) (k : Kind) → cells.is_list k ≡ true → shape_of k p node 1 ≡ Items node
 list-shape p node Kind.SeqOf h = refl
 list-shape p node _ h = absurd cc
 
-wrapper-shape : (p : PartId) (node : NodeId) (k : Kind) → is_other k ≡ true → shape_of k p node 0 ≡ Inner (record { part = p; node = node })
-wrapper-shape p node Kind.Seq h = absurd cc
+abbrev first-round : Wrapped → Kind → Next
+first-round w k = elim k as (λ _. Next) [ Kind.Any ↦ Root w | _ ↦ Inner w ]
+
+wrapper-shape : (p : PartId) (node : NodeId) (k : Kind) → is_wrapped (is_strict node) k ≡ true → shape_of k p node 0 ≡ first-round (record { part = p; node = node }) k
+wrapper-shape p node Kind.Seq h = ap (λ b. shape_around b (record { part = p; node = node })) h
 wrapper-shape p node _ h = refl
 
 -- where what is found begins inside
 pub begins-at : (w : What) (p : PartId) (node : NodeId) → IsTrue (opens_in w node) → BeginsAt (found_as p node w) (record { part = p; node = node; position = cells.first_position w })
-begins-at what.Sequence p node h = (sequence-shape p node (kind_of node) (and_parts _ _ h).1).0
-begins-at what.LooseWrapper p node h = (sequence-shape p node (kind_of node) (and_parts _ _ h).1).1
-begins-at what.List p node h = list-shape p node (kind_of node) (and_parts _ _ h).1
-begins-at what.Wrapper p node h = wrapper-shape p node (kind_of node) (and_parts _ _ h).1
+begins-at what.Sequence p node h = sequence-shape p node (kind_of node) h
+begins-at what.LooseWrapper p node h = loose-shape p node (kind_of node) h
+begins-at what.List p node h = list-shape p node (kind_of node) h
+begins-at what.Wrapper p node h = wrapper-shape p node (kind_of node) h
 begins-at what.LeftOut p node h = tt
-begins-at _ p node h = leaf-shape p node (kind_of node) (and_parts _ _ h).1
+begins-at what.BitString p node h = bits-shape p node (kind_of node) h
+begins-at what.BitSegment p node h = bits-shape p node (kind_of node) h
+begins-at what.Foreign p node h = any-shape p node (kind_of node) h
+begins-at _ p node h = leaf-shape p node (kind_of node) h
 
--- what comes in what is found when it opens: an explicit tag that the cells know is round no open type
-pub opens-by : (w : What) (p : PartId) (node : NodeId) → IsTrue (opens_in w node) → next_is (first_of (element_as p node w)) ≡ next.opening profile_two (element_is (element_as p node w))
-opens-by what.Wrapper p node h = opened (kind_of node) refl (and_parts _ _ h).1
+-- what comes in what is found when it opens
+pub opens-by : (w : What) (p : PartId) (node : NodeId) → next_is (first_of (element_as p node w)) ≡ next.opening profile_two (element_is (element_as p node w))
+opens-by what.Wrapper p node = go (kind_of node)
   where
-    round : Kind → next.Next
-    round k = elim k as (λ _. next.Next) [ Kind.Any ↦ next.anything (wrapped p node) | _ ↦ rows (wrapped p node ∷ []) ]
-
-    opened : (k : Kind) → kind_of node ≡ k → is_other k ≡ true → rows (wrapped p node ∷ []) ≡ round (kind_of node)
-    opened Kind.SeqOf e h = sym (ap round e)
-    opened Kind.Choice e h = sym (ap round e)
-    opened Kind.IllString e h = sym (ap round e)
-    opened (Kind.Leaf l) e h = sym (ap round e)
-    opened Kind.Seq e h = absurd cc
-    opened Kind.Any e h = absurd cc
-opens-by _ p node h = refl
+    go : (k : Kind) → next_is (first-round (record { part = p; node = node }) k) ≡ elim k as (λ _. next.Next) [ Kind.Any ↦ next.anything (wrapped p node) | _ ↦ rows (wrapped p node ∷ []) ]
+    go Kind.Any = refl
+    go _ = refl
+opens-by _ p node = refl
 
 -- what is found, by the definitions
 pub found-means : (w : What) (p : PartId) (node : NodeId) → found_is (found_as p node w) ≡ cells.element_in p node w
@@ -406,15 +501,22 @@ found-placed t a f h = record {
     element_found f,
     ap (λ x. cells.due_at (part_in f.at) (node_in f.at) f.at.position x (element_found f)) s ∙ ap (λ n. part (wrapped (part_in f.at) n) (element_found f) (rows [])) h.round,
   );
+  stays = λ any. ap (λ (w : Where). w.position) (h.stays any);
 }
 
 -- what may come next by the cells may by the decoder's words
 pub shape-next : (a : At) → next_at a ≡ next_is (shape a)
 shape-next a = go (kind_of (node_in a)) a.position
   where
+    either : (b : Bool) → cells.around b (wrapped (part_in a) (node_in a)) ≡ next_is (shape_around b (record { part = part_in a; node = node_in a }))
+    either true = refl
+    either false = refl
+
     go : (k : Kind) (n : ℕ) → cells.next_of_kind k (part_in a) (node_in a) n ≡ next_is (shape_of k (part_in a) (node_in a) n)
-    go Kind.Seq zero = refl
+    go Kind.Seq zero = either (is_strict (node_in a))
     go Kind.Seq (suc row) = refl
+    go (Kind.Leaf LeafKind.BitString) (suc zero) = refl
+    go (Kind.Leaf _) (suc zero) = refl
     go _ zero = refl
     go _ (suc zero) = refl
     go _ (suc (suc n)) = refl
@@ -427,5 +529,5 @@ is-coming t a f h =
     let element = element-due (part_in f.at) (node_in f.at) f.at.position (slot_of f) (element_found f) in
     record {
       is_due = placed-due t k (part_in a) (node_in a) a.position f.at.position (row_of f) (slot_of f) (due_of f) (due_as f) refl placed h.begins refl (found-means (what_of f) (part_of f) (node_of f) ∙ sym element);
-      after = after-found f (slot_of f) (node_in a) h.round ∙ after-is t k (part_in a) (part_in f.at) (node_in a) a.position f.at.position (row_of f) (slot_of f) (due_of f) placed;
+      after = after-found f (slot_of f) (node_in a) h.round ∙ after-is t k (part_in a) (part_in f.at) (node_in a) a.position f.at.position (row_of f) (slot_of f) (due_of f) (λ any. ap (λ (w : Where). w.part) (h.stays any)) placed;
     }

@@ -1,7 +1,10 @@
 -- What is due by the decoder's words is due by the definitions.
-use Rattle.std.proofs.Common.{◌≡◌, ℕ, zero, suc, ◌+◌, Bool, true, false, List, [], ◌∷◌, drop, Option, Some, None, option_map, refl, sym, ap, ap₂, ◌∙◌, arith, inl, inr, if◌then◌else◌, slice_get}
+use Rattle.std.proofs.Common.{◌≡◌, ℕ, zero, suc, ◌+◌, ◌-◌, Bool, true, false, List, [], ◌∷◌, drop, Option, Some, None, option_map, refl, sym, ap, ap₂, ◌∙◌, arith, inl, inr, if◌then◌else◌, slice_get}
 use Rattle.ber_core.specs.Identifier.{Tag}
+use Rattle.ber_core.specs.Foreign.{foreign_levels}
 use Rattle.ber_core.specs.Tree.{octet_string}
+use Rattle.ber_leaf.specs.Leaf.{bit_string}
+use Rattle.ber_leaf.specs.Segments.{segment_tag}
 use Rattle.ber_leaf.specs.Profile.{profile_two}
 use Rattle.ill_schema.specs.declared.node.NodeId.{NodeId}
 use Rattle.ill_schema.specs.declared.part.Presence.{Presence}
@@ -9,14 +12,14 @@ use Rattle.ill_schema.specs.declared.part.Row.{Row}
 use Rattle.ill_schema.specs.Table.{rows_of}
 use Rattle.ill_refusals.specs.Element.{Component, Element, Start, components, components_from, list, starts}
 use Rattle.ill_refusals.specs.Next as next
-use Rattle.ill_refusals.specs.Next.{part, octets, rows, items, element_of, next_of, due, due_in, is_last, opening, start_of}
+use Rattle.ill_refusals.specs.Next.{part, octets, any, rows, items, foreigns, element_of, next_of, due, due_in, is_last, opening, start_of}
 use Rattle.ill_elements.specs.Elements.{component_of, component_at, element_with, found_is}
 use Rattle.ill_elements.specs.Due.{IsDueIn, IsDueInRows, IsRowDue, IsInnerDue, next_is, behind}
 use Rattle.ill_elements.specs.Due.{Due}
 use Rattle.ill_elements.specs.declared.due.Slot.{Slot}
 use Rattle.ill_elements.specs.declared.due.Slot.TheVariants.{Row as AtRow}
 use Rattle.ill_elements.specs.declared.due.Next.{Next}
-use Rattle.ill_elements.specs.declared.due.Next.TheVariants.{Rows, Inner, Items, Either, Segments, Nothing}
+use Rattle.ill_elements.specs.declared.due.Next.TheVariants.{Rows, Inner, Items, Either, Segments, BitSegments, Root, Foreigns, Nothing}
 use Rattle.ill_elements.specs.declared.element.Wrapped.{Wrapped}
 
 here : (node : NodeId) (k i : ℕ) (rs : List Row) (row : Row) → slice_get rs i ≡ Some row
@@ -59,14 +62,16 @@ due_in-found t c cs e h = at (start_of profile_two t c) h
 pub items-at : (node : NodeId) (row : Row) → slice_get (rows_of node) 0 ≡ Some row → opening profile_two (list node) ≡ items (component_at (record { node = node; row = 0 }) row)
 items-at node row h = ap (λ cs. elim cs as (λ _. next.Next) [ [] ↦ rows [] | c ∷ _ ↦ items c ]) (components-at node 0 row h)
 
--- what may come next by the code's words is never after the last level of a foreign tree
-pub none_last : (n : Next) → is_last (next_is n) ≡ false
-none_last (Items node) = at (components profile_two node)
+-- where something is due, more levels may follow in a foreign tree
+pub due_more : (t : Tag) (n : Next) (d : Due) → IsDueIn t n d → is_last (next_is n) ≡ false
+due_more t (Items node) d h = at (components profile_two node)
   where
     at : (cs : List Component) → is_last (elim cs as (λ _. next.Next) [ [] ↦ rows [] | c ∷ _ ↦ items c ]) ≡ false
     at [] = refl
     at (c ∷ cs) = refl
-none_last _ = refl
+due_more t (Foreigns zero) d h = absurd h
+due_more t (Foreigns (suc n)) d h = refl
+due_more t _ d h = refl
 
 -- an element that is due, and what may come after it
 abbrev Answer : Option next.Due → Element → next.Next → Type 0
@@ -114,4 +119,10 @@ due_element_is t (Either w) d (inr h) =
     (a.2.0, e ∙ a.2.1, a.2.2, a.2.3 ∙ ap (λ s. next_is (behind (Either w) s)) (sym a.1))
 due_element_is t Segments d h =
     (octets octet_string, ap (λ (b : Bool). if b then Some (octets octet_string) else None) h.tag, sym h.found, ap (λ s. next_is (behind Segments s)) (sym h.slot))
+due_element_is t BitSegments d h =
+    let u = segment_tag bit_string in
+    (octets u, ap (λ (b : Bool). if b then Some (octets u) else None) h.tag, sym h.found, ap (λ s. next_is (behind BitSegments s)) (sym h.slot))
+due_element_is t (Root w) d h = (any (foreign_levels - 1) (rows []), refl, sym h.1.found, ap (λ s. next_is (behind (Root w) s)) (sym h.1.slot))
+due_element_is t (Foreigns zero) d h = absurd h
+due_element_is t (Foreigns (suc n)) d h = (any n (foreigns (suc n)), refl, sym h.found, ap (λ s. next_is (behind (Foreigns (suc n)) s)) (sym h.slot))
 due_element_is t Nothing d h = absurd h

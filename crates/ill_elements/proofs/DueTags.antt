@@ -1,12 +1,14 @@
 -- What is due outside strings is no segment, and its tag no end mark's; rows with a default hold leaves that are no strings.
-use Rattle.std.proofs.Common.{◌≡◌, ◌⊎◌, ℕ, Bool, true, false, List, [], ◌∷◌, Option, Some, None, IsTrue, refl, sym, ap, subst, ◌∙◌, inl, inr, slice_get, not, ◌||◌, nat_lt}
+use Rattle.std.proofs.Common.{◌≡◌, ◌-◌, ℕ, zero, suc, Bool, true, false, List, [], ◌∷◌, Option, Some, None, IsTrue, true≢false, nat_eq, refl, sym, ap, subst, ◌∙◌, inl, inr, slice_get, not, ◌||◌, nat_lt}
 use Rattle.std.specs.List.{list_all}
 use Rattle.ber_core.specs.Identifier.{Tag}
 use Rattle.ber_core.specs.declared.id.Class.{Class}
 use Rattle.ber_core.specs.declared.id.Class.TheVariants.{Universal}
+use Rattle.ber_core.specs.Foreign.{foreign_levels}
 use Rattle.ber_core.specs.Tree.{octet_string}
-use Rattle.ber_leaf.specs.Leaf.{boolean, enumerated, integer, is_string}
+use Rattle.ber_leaf.specs.Leaf.{bit_string, boolean, enumerated, integer, is_string}
 use Rattle.ber_leaf.specs.Profile.{profile_two}
+use Rattle.ber_leaf.specs.Segments.{segment_tag}
 use Rattle.ill_schema.specs.Content.{Content}
 use Rattle.ill_schema.specs.Presence.{is_default, is_default_of}
 use Rattle.ill_schema.specs.Table.{kind_of, rows_of}
@@ -20,7 +22,7 @@ use Rattle.ill_schema.specs.declared.part.PartId.{PartId}
 use Rattle.ill_schema.specs.declared.part.Presence.{Presence}
 use Rattle.ill_schema.specs.declared.part.Row.{Row}
 use Rattle.ill_schema.proofs.Tags.{at_row}
-use Rattle.ill_refusals.specs.Element.{Component, Element, leaf, segment, Start, own_starts, retag, leave_out, tagged_starts, component_starts}
+use Rattle.ill_refusals.specs.Element.{Component, Element, foreign, leaf, segment, Start, own_starts, retag, leave_out, tagged_starts, component_starts}
 use Rattle.ill_refusals.proofs.Rows.{same_tag-is, two_cases}
 use Rattle.ill_elements.specs.Elements.{component_of, component_at, element_is, element_with, found_is}
 use Rattle.ill_elements.specs.Due.{Begins, Due, IsDueIn, IsDueInRows, IsRowDue}
@@ -28,7 +30,7 @@ use Rattle.ill_elements.specs.Contents.{with_alternative}
 use Rattle.ill_elements.specs.Due.{due_with}
 use Rattle.ill_elements.specs.Written.{left_away}
 use Rattle.ill_elements.specs.declared.due.Next.{Next}
-use Rattle.ill_elements.specs.declared.due.Next.TheVariants.{Rows, Inner, Items, Either, Segments, Nothing}
+use Rattle.ill_elements.specs.declared.due.Next.TheVariants.{Rows, Inner, Items, Either, Segments, BitSegments, Root, Foreigns, Nothing}
 use Rattle.ill_elements.specs.declared.due.Slot.{Slot}
 use Rattle.ill_elements.specs.declared.due.Slot.TheVariants.{Row as AtRow, Inner as Inside}
 use Rattle.ill_elements.specs.declared.element.Element.{Element as CodeElement}
@@ -53,20 +55,23 @@ retag_all : (P Q : Tag → Element → Type 0) (t : Tag) (ss : List Start) → (
 retag_all P Q t [] f h = tt
 retag_all P Q t (s ∷ ss) f h = (f s.tag s.element h.0, retag_all P Q t ss f h.1)
 
+abbrev IsSegment : Element → Type 0
+IsSegment e = (u : Tag) × (e ≡ segment u)
+
 -- no segment, and its tag is no end mark's
 abbrev IsStart : Tag → Element → Type 0
-IsStart t e = (e ≡ segment octet_string → ⊥) × (t.class ≡ Universal → t.number ≡ 0 → ⊥)
+IsStart t e = (IsSegment e → ⊥) × (t.class ≡ Universal → t.number ≡ 0 → ⊥)
 
 own_apart : (k : Kind) (node : NodeId) → AllStarts IsStart (own_starts k node)
 own_apart Kind.Choice node = tt
 own_apart Kind.Any node = tt
-own_apart Kind.IllString node = ((λ s. cc, λ c n. cc), ((λ s. cc, λ c n. cc), tt))
-own_apart (Kind.Leaf LeafKind.Boolean) node = ((λ s. cc, λ c n. cc), tt)
-own_apart _ node = ((λ s. cc, λ c n. cc), tt)
+own_apart Kind.IllString node = ((λ s. let q = s.1 in cc, λ c n. cc), ((λ s. let q = s.1 in cc, λ c n. cc), tt))
+own_apart (Kind.Leaf LeafKind.Boolean) node = ((λ s. let q = s.1 in cc, λ c n. cc), tt)
+own_apart _ node = ((λ s. let q = s.1 in cc, λ c n. cc), tt)
 
 left_apart : (part : PartId) (ss : List Start) → AllStarts IsStart ss → AllStarts IsStart (leave_out part ss)
 left_apart part [] h = tt
-left_apart part (s ∷ ss) h = ((λ e. cc, h.0.1), left_apart part ss h.1)
+left_apart part (s ∷ ss) h = ((λ e. let q = e.1 in cc, h.0.1), left_apart part ss h.1)
 
 abbrev TaggingApart : Tagging → Type 0
 TaggingApart untagged = Unit {0}
@@ -77,7 +82,7 @@ TaggingApart (explicit_or_bare t) = t.class ≡ Universal → t.number ≡ 0 →
 tagged_apart : (g : Tagging) (c : Component) → TaggingApart g → AllStarts IsStart (tagged_starts g c)
 tagged_apart untagged c h = own_apart (kind_of c.node) c.node
 tagged_apart (implicit t) c h = retag_all IsStart IsStart t _ (λ u e k. (k.0, h)) (own_apart (kind_of c.node) c.node)
-tagged_apart _ c h = ((λ s. cc, h), tt)
+tagged_apart _ c h = ((λ s. let q = s.1 in cc, h), tt)
 
 component_apart : (c : Component) → TaggingApart c.tagging → AllStarts IsStart (component_starts c)
 component_apart c h = go c.presence
@@ -139,26 +144,62 @@ rows_start t node n d h = go d.slot h
     go (AtRow r) k = begins_apart t _ d.alternative (found_is d.found) (at_apart node r k.row k.is_row) k.begins
     go _ k = absurd k
 
-due_start : (t : Tag) (n : Next) (d : Due) → IsDueIn t n d → (n ≡ Segments) ⊎ IsStart t (found_is d.found)
-due_start t (Rows node n) d h = inr (rows_start t node n d h)
-due_start t (Inner w) d h = inr (begins_apart t (component_of w) d.alternative (found_is d.found) tt h.begun.begins)
-due_start t (Items node) d h = inr (begins_apart t _ d.alternative (found_is d.found) (at_apart node 0 h.row h.is_row) h.begun.begins)
-due_start t (Either w) d (inl h) = inr (begins_apart t (component_of w) d.alternative (found_is d.found) tt h.1.begun.begins)
-due_start t (Either w) d (inr h) = inr (rows_start t w.node 0 d h.1)
-due_start t Segments d h = inl refl
-due_start t Nothing d h = absurd h
+-- what is due in a string, in an open type, or elsewhere
+data Place (t : Tag) (n : Next) (e : Element) : Type 0 where
+  in_string : n ≡ Segments → Place t n e
+  in_bits : n ≡ BitSegments → Place t n e
+  in_open : (k : ℕ) → e ≡ foreign k → Place t n e
+  elsewhere : IsStart t e → Place t n e
 
--- a segment is due in strings alone
-pub segment_due : (t : Tag) (n : Next) (d : Due) → IsDueIn t n d → found_is d.found ≡ segment octet_string → n ≡ Segments
-segment_due t n d h s = elim (due_start t n d h) [ inl e ↦ e | inr k ↦ absurd (k.0 s) ]
+due_start : (t : Tag) (n : Next) (d : Due) → IsDueIn t n d → Place t n (found_is d.found)
+due_start t (Rows node n) d h = elsewhere (rows_start t node n d h)
+due_start t (Inner w) d h = elsewhere (begins_apart t (component_of w) d.alternative (found_is d.found) tt h.begun.begins)
+due_start t (Items node) d h = elsewhere (begins_apart t _ d.alternative (found_is d.found) (at_apart node 0 h.row h.is_row) h.begun.begins)
+due_start t (Either w) d (inl h) = elsewhere (begins_apart t (component_of w) d.alternative (found_is d.found) tt h.1.begun.begins)
+due_start t (Either w) d (inr h) = elsewhere (rows_start t w.node 0 d h.1)
+due_start t Segments d h = in_string refl
+due_start t BitSegments d h = in_bits refl
+due_start t (Root w) d h = in_open (foreign_levels - 1) h.1.found
+due_start t (Foreigns zero) d h = absurd h
+due_start t (Foreigns (suc n)) d h = in_open n h.found
+due_start t Nothing d h = absurd h
 
 -- and what is due in a string is a segment
 pub due_segment : (t : Tag) (n : Next) (d : Due) → IsDueIn t n d → n ≡ Segments → found_is d.found ≡ segment octet_string
 due_segment t n d h e = (let k : IsDueIn t Segments d = subst (λ x. IsDueIn t x d) e h in k.found)
 
--- the tag of what is due, but of a segment
-pub due_apart : (t : Tag) (n : Next) (d : Due) → IsDueIn t n d → (found_is d.found ≡ segment octet_string → ⊥) → t.class ≡ Universal → t.number ≡ 0 → ⊥
-due_apart t n d h s = elim (due_start t n d h) [ inl e ↦ absurd (s (due_segment t n d h e)) | inr k ↦ k.1 ]
+pub due_bit_segment : (t : Tag) (n : Next) (d : Due) → IsDueIn t n d → n ≡ BitSegments → found_is d.found ≡ segment (segment_tag bit_string)
+due_bit_segment t n d h e = (let k : IsDueIn t BitSegments d = subst (λ x. IsDueIn t x d) e h in k.found)
+
+-- the segments of bits are no OCTET STRINGs
+pub bits_apart : segment octet_string ≡ segment (segment_tag bit_string) → ⊥
+bits_apart e = let q : octet_string ≡ segment_tag bit_string = cc in true≢false (ap (λ (t : Tag). nat_eq t.number 4) q)
+
+-- a segment is due in strings alone
+pub segment_due : (t : Tag) (n : Next) (d : Due) → IsDueIn t n d → found_is d.found ≡ segment octet_string → n ≡ Segments
+segment_due t n d h s = elim (due_start t n d h) [
+  | in_string e ↦ e
+  | in_bits e ↦ absurd (bits_apart (sym s ∙ due_bit_segment t n d h e))
+  | in_open k e ↦ absurd (let q : segment octet_string ≡ foreign k = sym s ∙ e in cc)
+  | elsewhere k ↦ absurd (k.0 (octet_string, s))
+]
+
+pub bit_segment_due : (t : Tag) (n : Next) (d : Due) → IsDueIn t n d → found_is d.found ≡ segment (segment_tag bit_string) → n ≡ BitSegments
+bit_segment_due t n d h s = elim (due_start t n d h) [
+  | in_string e ↦ absurd (bits_apart (sym (due_segment t n d h e) ∙ s))
+  | in_bits e ↦ e
+  | in_open k e ↦ absurd (let q : segment (segment_tag bit_string) ≡ foreign k = sym s ∙ e in cc)
+  | elsewhere k ↦ absurd (k.0 (segment_tag bit_string, s))
+]
+
+-- of what is due, but of a segment, only an element of a foreign tree may have the tag of an end mark
+pub due_apart : (t : Tag) (n : Next) (d : Due) → IsDueIn t n d → ((u : Tag) → found_is d.found ≡ segment u → ⊥) → t.class ≡ Universal → t.number ≡ 0 → (k : ℕ) × (found_is d.found ≡ foreign k)
+due_apart t n d h s c z = elim (due_start t n d h) [
+  | in_string e ↦ absurd (s octet_string (due_segment t n d h e))
+  | in_bits e ↦ absurd (s (segment_tag bit_string) (due_bit_segment t n d h e))
+  | in_open k e ↦ (k, e)
+  | elsewhere k ↦ absurd (k.1 c z)
+]
 
 -- an element that may be constructed
 abbrev pub MayOpen : Element → Type 0

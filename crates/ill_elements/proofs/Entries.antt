@@ -1,4 +1,6 @@
 -- The entries of a sequence grow row by row, the items of a list one by one.
+use Rattle.ill_schema.specs.Profiles.{profile_of}
+use Rattle.ill_schema.specs.declared.profile.Profile.{Profile as Named}
 use Rattle.std.proofs.Common.{◌≡◌, ℕ, zero, suc, ◌+◌, ◌<◌, ◌≤◌, List, [], ◌∷◌, ◌++◌, take, drop, map, Option, Some, None, refl, sym, ap, subst, ◌∙◌, inl, inr, arith, slice_get, append_assoc}
 use Rattle.std.proofs.lemmas.List.{take-append-drop}
 use Rattle.ber_core.specs.Tree.{Tree, Trees, none, more}
@@ -40,34 +42,34 @@ between (y ∷ ys) (suc n) (suc r) k x e =
     (let z = q.0 in omega arith, ap (slice_get (y ∷ ys)) m ∙ q.1)
 
 -- rows of which none is mandatory may have no elements
-lacking_matches : (rs : List Row) → ((k : ℕ) (row : Row) → slice_get rs k ≡ Some row → row.presence ≡ Presence.Must → ⊥) → Matches profile_two (entries_of (map absent_content rs)) rs none
-lacking_matches [] h = refl
-lacking_matches (row ∷ rs) h = one row.presence refl (lacking_matches rs (λ k. h (suc k)))
+lacking_matches : (p : Named) (rs : List Row) → ((k : ℕ) (row : Row) → slice_get rs k ≡ Some row → row.presence ≡ Presence.Must → ⊥) → Matches (profile_of p) (entries_of (map absent_content rs)) rs none
+lacking_matches p [] h = refl
+lacking_matches p (row ∷ rs) h = one row.presence refl (lacking_matches p rs (λ k. h (suc k)))
   where
-    one : (pr : Presence) → row.presence ≡ pr → Matches profile_two (entries_of (map absent_content rs)) rs none → Matches profile_two (entries_of (absent_content row ∷ map absent_content rs)) (row ∷ rs) none
+    one : (pr : Presence) → row.presence ≡ pr → Matches (profile_of p) (entries_of (map absent_content rs)) rs none → Matches (profile_of p) (entries_of (absent_content row ∷ map absent_content rs)) (row ∷ rs) none
     one Presence.Must e m = absurd (h 0 row refl e)
     one (Presence.Default d) e m = rw e (tt, inr (same_simple (kind_of row.node) d, m))
     one _ e m = rw e (tt, m)
 
-pub absent_matches : (node : NodeId) (from until : ℕ) → MayAllLack node from until
-    → Matches profile_two (entries_of (map absent_content (drop from (take until (rows_of node))))) (drop from (take until (rows_of node))) none
-absent_matches node from until h = lacking_matches (drop from (take until (rows_of node))) (λ k row e must.
+pub absent_matches : (p : Named) (node : NodeId) (from until : ℕ) → MayAllLack node from until
+    → Matches (profile_of p) (entries_of (map absent_content (drop from (take until (rows_of node))))) (drop from (take until (rows_of node))) none
+absent_matches p node from until h = lacking_matches p (drop from (take until (rows_of node))) (λ k row e must.
     let q = between (rows_of node) from until k row e in
     h (from + k) row (omega arith) q.0 q.1 must)
 
 -- entries after entries
-pub matches_joined : (xs ys : List (Option Content)) (rs ss : List Row) (ts us : Trees) → Matches profile_two (entries_of xs) rs ts → Matches profile_two (entries_of ys) ss us
-    → Matches profile_two (entries_of (xs ++ ys)) (rs ++ ss) (joined ts us)
-matches_joined [] ys [] ss ts us h k = subst (λ z. Matches profile_two (entries_of ys) ss (joined z us)) (sym h) k
-matches_joined [] ys (row ∷ rs) ss ts us h k = absurd h
-matches_joined (None ∷ xs) ys [] ss ts us h k = absurd h
-matches_joined (Some c ∷ xs) ys [] ss ts us h k = absurd h
-matches_joined (None ∷ xs) ys (row ∷ rs) ss ts us h k = (h.0, matches_joined xs ys rs ss ts us h.1 k)
-matches_joined (Some c ∷ xs) ys (row ∷ rs) ss ts us h k = (
+pub matches_joined : (p : Named) (xs ys : List (Option Content)) (rs ss : List Row) (ts us : Trees) → Matches (profile_of p) (entries_of xs) rs ts → Matches (profile_of p) (entries_of ys) ss us
+    → Matches (profile_of p) (entries_of (xs ++ ys)) (rs ++ ss) (joined ts us)
+matches_joined p [] ys [] ss ts us h k = subst (λ z. Matches (profile_of p) (entries_of ys) ss (joined z us)) (sym h) k
+matches_joined p [] ys (row ∷ rs) ss ts us h k = absurd h
+matches_joined p (None ∷ xs) ys [] ss ts us h k = absurd h
+matches_joined p (Some c ∷ xs) ys [] ss ts us h k = absurd h
+matches_joined p (None ∷ xs) ys (row ∷ rs) ss ts us h k = (h.0, matches_joined p xs ys rs ss ts us h.1 k)
+matches_joined p (Some c ∷ xs) ys (row ∷ rs) ss ts us h k = (
   h.0,
   elim h.1 [
-    | inl x ↦ inl (x.0, joined x.1 us, ap (λ z. joined z us) x.2, x.3, matches_joined xs ys rs ss x.1 us x.4 k)
-    | inr x ↦ inr (x.0, matches_joined xs ys rs ss ts us x.1 k)
+    | inl x ↦ inl (x.0, joined x.1 us, ap (λ z. joined z us) x.2, x.3, matches_joined p xs ys rs ss x.1 us x.4 k)
+    | inr x ↦ inr (x.0, matches_joined p xs ys rs ss ts us x.1 k)
   ],
 )
 
@@ -88,20 +90,20 @@ row_behind (y ∷ ys) zero x e = let q : y ≡ x = cc in ap (λ z. z ∷ []) q
 row_behind (y ∷ ys) (suc r) x e = ap (λ z. y ∷ z) (row_behind ys r x e)
 
 -- an element of a row, where those passed over may be absent
-pub row_added : (node : NodeId) (n r : ℕ) (row : Row) (held : List (Option Content)) (c : Content) (ts : Trees) (T : Tree) → n ≤ r → MayAllLack node n r
-    → slice_get (rows_of node) r ≡ Some row → IsCarried row.presence → Means profile_two c row.node (tagging profile_two row) T → Matches profile_two (entries_of held) (take n (rows_of node)) ts
-    → Matches profile_two (entries_of (held ++ (map absent_content (drop n (take r (rows_of node))) ++ Some c ∷ []))) (take (r + 1) (rows_of node)) (snoc ts T)
-row_added node n r row held c ts T le lack is carried m h =
+pub row_added : (p : Named) (node : NodeId) (n r : ℕ) (row : Row) (held : List (Option Content)) (c : Content) (ts : Trees) (T : Tree) → n ≤ r → MayAllLack node n r
+    → slice_get (rows_of node) r ≡ Some row → IsCarried row.presence → Means (profile_of p) c row.node (tagging profile_two row) T → Matches (profile_of p) (entries_of held) (take n (rows_of node)) ts
+    → Matches (profile_of p) (entries_of (held ++ (map absent_content (drop n (take r (rows_of node))) ++ Some c ∷ []))) (take (r + 1) (rows_of node)) (snoc ts T)
+row_added p node n r row held c ts T le lack is carried m h =
     let rs = rows_of node in
     let mid = drop n (take r rs) in
-    let first = matches_joined held (map absent_content mid) (take n rs) mid ts none h (absent_matches node n r lack) in
-    let one : Matches profile_two (entries_of (Some c ∷ [])) (row ∷ []) (more T none) = (carried, inl (T, none, refl, m, refl)) in
-    let all = matches_joined (held ++ map absent_content mid) (Some c ∷ []) (take n rs ++ mid) (row ∷ []) (joined ts none) (more T none) first one in
+    let first = matches_joined p held (map absent_content mid) (take n rs) mid ts none h (absent_matches p node n r lack) in
+    let one : Matches (profile_of p) (entries_of (Some c ∷ [])) (row ∷ []) (more T none) = (carried, inl (T, none, refl, m, refl)) in
+    let all = matches_joined p (held ++ map absent_content mid) (Some c ∷ []) (take n rs ++ mid) (row ∷ []) (joined ts none) (more T none) first one in
     let n1 : r + 1 ≡ suc r = omega arith in
     let upto : take (r + 1) rs ≡ (take n rs ++ mid) ++ row ∷ [] = ap (λ k. take k rs) n1 ∙ row_behind rs r row is ∙ ap (λ z. z ++ row ∷ []) (rows_before rs n r le) in
-    subst (λ es. Matches profile_two (entries_of es) (take (r + 1) rs) (snoc ts T)) (append_assoc held (map absent_content mid) (Some c ∷ []))
-    (subst (λ xs. Matches profile_two (entries_of ((held ++ map absent_content mid) ++ Some c ∷ [])) xs (snoc ts T)) (sym upto)
-    (subst (λ us. Matches profile_two (entries_of ((held ++ map absent_content mid) ++ Some c ∷ [])) ((take n rs ++ mid) ++ row ∷ []) us) (joined_one ts T) all))
+    subst (λ es. Matches (profile_of p) (entries_of es) (take (r + 1) rs) (snoc ts T)) (append_assoc held (map absent_content mid) (Some c ∷ []))
+    (subst (λ xs. Matches (profile_of p) (entries_of ((held ++ map absent_content mid) ++ Some c ∷ [])) xs (snoc ts T)) (sym upto)
+    (subst (λ us. Matches (profile_of p) (entries_of ((held ++ map absent_content mid) ++ Some c ∷ [])) ((take n rs ++ mid) ++ row ∷ []) us) (joined_one ts T) all))
 
 -- where nothing is missing, none of the rows left is mandatory
 none_missing : (node : NodeId) (k n : ℕ) (rs : List Row) → first_mandatory (drop n (components_from profile_two node k rs)) ≡ None
@@ -115,16 +117,16 @@ none_missing node k zero (r ∷ rs) h (suc i) row e must = none_missing node (k 
 none_missing node k (suc n) (r ∷ rs) h i row e must = none_missing node (k + 1) n rs h i row e must
 
 -- a sequence ends, where the rows left may be absent
-pub rows_ended : (node : NodeId) (n : ℕ) (held : List (Option Content)) (ts : Trees) → missing profile_two (rows (drop n (components profile_two node))) ≡ None
-    → Matches profile_two (entries_of held) (take n (rows_of node)) ts → Matches profile_two (entries_of (held ++ map absent_content (drop n (rows_of node)))) (rows_of node) ts
-rows_ended node n held ts none_left h =
+pub rows_ended : (p : Named) (node : NodeId) (n : ℕ) (held : List (Option Content)) (ts : Trees) → missing profile_two (rows (drop n (components profile_two node))) ≡ None
+    → Matches (profile_of p) (entries_of held) (take n (rows_of node)) ts → Matches (profile_of p) (entries_of (held ++ map absent_content (drop n (rows_of node)))) (rows_of node) ts
+rows_ended p node n held ts none_left h =
     let rest = drop n (rows_of node) in
-    let all = matches_joined held (map absent_content rest) (take n (rows_of node)) rest ts none h (lacking_matches rest (none_missing node 0 n (rows_of node) none_left)) in
-    subst (λ us. Matches profile_two (entries_of (held ++ map absent_content rest)) (rows_of node) us) (joined-none ts)
-    (subst (λ xs. Matches profile_two (entries_of (held ++ map absent_content rest)) xs (joined ts none)) (take-append-drop n (rows_of node)) all)
+    let all = matches_joined p held (map absent_content rest) (take n (rows_of node)) rest ts none h (lacking_matches p rest (none_missing node 0 n (rows_of node) none_left)) in
+    subst (λ us. Matches (profile_of p) (entries_of (held ++ map absent_content rest)) (rows_of node) us) (joined-none ts)
+    (subst (λ xs. Matches (profile_of p) (entries_of (held ++ map absent_content rest)) xs (joined ts none)) (take-append-drop n (rows_of node)) all)
 
 -- an item after others
-pub item_added : (cs : List Content) (c : Content) (rs : List Row) (row : Row) (ts : Trees) (T : Tree) → slice_get rs 0 ≡ Some row → Means profile_two c row.node (tagging profile_two row) T
-    → MatchItems profile_two (items_of cs) rs ts → MatchItems profile_two (items_of (cs ++ c ∷ [])) rs (snoc ts T)
-item_added [] c rs row ts T is m h = (row, T, none, is, ap (λ z. snoc z T) h, m, refl)
-item_added (d ∷ cs) c rs row ts T is m h = (h.0, h.1, snoc h.2 T, h.3, ap (λ z. snoc z T) h.4, h.5, item_added cs c rs row h.2 T is m h.6)
+pub item_added : (p : Named) (cs : List Content) (c : Content) (rs : List Row) (row : Row) (ts : Trees) (T : Tree) → slice_get rs 0 ≡ Some row → Means (profile_of p) c row.node (tagging profile_two row) T
+    → MatchItems (profile_of p) (items_of cs) rs ts → MatchItems (profile_of p) (items_of (cs ++ c ∷ [])) rs (snoc ts T)
+item_added p [] c rs row ts T is m h = (row, T, none, is, ap (λ z. snoc z T) h, m, refl)
+item_added p (d ∷ cs) c rs row ts T is m h = (h.0, h.1, snoc h.2 T, h.3, ap (λ z. snoc z T) h.4, h.5, item_added p cs c rs row h.2 T is m h.6)

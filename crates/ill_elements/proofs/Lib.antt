@@ -11,5 +11,6 @@ pub mod NormalElements
 pub mod NormalEntries
 pub mod HeadersRead
 pub mod OpenFrames
+pub mod OfTwo
 pub mod Judgements
 pub mod PlaceNeeds

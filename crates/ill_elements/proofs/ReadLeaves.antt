@@ -1,13 +1,11 @@
--- The leaves that the decoder reads: their segments are OCTET STRINGs, and their content is their text.
+-- The leaves of profile 2: their segments are OCTET STRINGs, and their content is their text.
 use Rattle.std.proofs.Common.{◌≡◌, refl}
 use Rattle.ber_core.specs.Tree.{Tree, Trees, primitive, constructed, octet_string, text, text_all}
 use Rattle.ber_leaf.specs.Profile.{profile_two}
 use Rattle.ber_leaf.specs.Segments.{leaf_content, segment_tag}
+use Rattle.ill_refusals.specs.Element.{leaf}
 use Rattle.ill_refusals.specs.Fault.{element_fault, string_fault}
-use Rattle.ill_elements.specs.Elements.{element_is}
 use Rattle.ill_elements.specs.LeafTypes.{leaf_is}
-use Rattle.ill_elements.specs.declared.element.Element.{Element as CodeElement}
-use Rattle.ill_elements.specs.declared.element.Element.TheVariants as code
 use Rattle.ill_elements.specs.declared.leaf_type.LeafType.{LeafType}
 use Rattle.ill_elements.specs.declared.leaf_type.LeafType.TheVariants.{Boolean, Integer, Enumerated, General, Visible, Printable, Date, Time}
 
@@ -32,18 +30,13 @@ read_content Printable (constructed tag ts) = refl
 read_content Date (constructed tag ts) = refl
 read_content Time (constructed tag ts) = refl
 
--- the fault of an element in segments is that of its text
-pub read_fault : (e : CodeElement) (ts : Trees) → string_fault profile_two (element_is e) ts ≡ element_fault profile_two (element_is e) (text_all ts)
-read_fault (code.Leaf Boolean) ts = refl
-read_fault (code.Leaf Integer) ts = refl
-read_fault (code.Leaf Enumerated) ts = refl
-read_fault (code.Leaf General) ts = refl
-read_fault (code.Leaf Visible) ts = refl
-read_fault (code.Leaf Printable) ts = refl
-read_fault (code.Leaf Date) ts = refl
-read_fault (code.Leaf Time) ts = refl
-read_fault (code.Sequence node) ts = refl
-read_fault (code.List node) ts = refl
-read_fault (code.Wrapper w) ts = refl
-read_fault (code.LooseWrapper w) ts = refl
-read_fault code.Segment ts = refl
+-- the fault of a leaf in segments is that of its text
+pub read_fault : (l : LeafType) (ts : Trees) → string_fault profile_two (leaf (leaf_is l)) ts ≡ element_fault profile_two (leaf (leaf_is l)) (text_all ts)
+read_fault Boolean ts = refl
+read_fault Integer ts = refl
+read_fault Enumerated ts = refl
+read_fault General ts = refl
+read_fault Visible ts = refl
+read_fault Printable ts = refl
+read_fault Date ts = refl
+read_fault Time ts = refl

@@ -1,16 +1,21 @@
 -- What is due, in the words of the code.
-use Rattle.std.specs.Prelude.{◌≡◌, ◌⊎◌, ℕ, zero, suc, ◌+◌, ◌<◌, ◌≤◌, true, false, [], ◌∷◌, drop, Option, Some, None, slice_get}
+use Rattle.std.specs.Prelude.{◌≡◌, ◌⊎◌, ℕ, zero, suc, ◌+◌, ◌-◌, ◌<◌, ◌≤◌, Bool, true, false, [], ◌∷◌, drop, Option, Some, None, slice_get}
 use Rattle.ber_core.specs.Identifier.{Tag}
+use Rattle.ber_core.specs.Foreign.{foreign_levels}
 use Rattle.ber_core.specs.Tree.{octet_string}
+use Rattle.ber_leaf.specs.Leaf.{bit_string}
+use Rattle.ber_leaf.specs.Segments.{segment_tag}
 use Rattle.ber_leaf.specs.Profile.{profile_two}
 use Rattle.ill_schema.specs.declared.node.Kind.{Kind}
+use Rattle.ill_schema.specs.declared.node.LeafKind.{LeafKind}
 use Rattle.ill_schema.specs.declared.node.NodeId.{NodeId}
 use Rattle.ill_schema.specs.declared.part.PartId.{PartId}
 use Rattle.ill_schema.specs.declared.part.Row.{Row}
 use Rattle.ill_schema.specs.Table.{kind_of, rows_of}
 use Rattle.ill_schema.specs.Tagging.{untagged, same_tag, sequence_tag}
-use Rattle.ill_refusals.specs.Element.{Component, Element, list, segment, components, component_starts, starts}
+use Rattle.ill_refusals.specs.Element.{Component, Element, foreign, list, segment, components, component_starts, starts}
 use Rattle.ill_refusals.specs.Next as next
+use Rattle.ill_cells.specs.Cells.{is_strict, levels_in}
 use Rattle.ill_cells.specs.Places.{Where, where_of, part_of, node_of, what_of, alternative_of, slot_of, row_of, place_after}
 use Rattle.ill_cells.specs.declared.at.At.{At}
 use Rattle.ill_cells.specs.declared.at.Found.{Found as CellFound}
@@ -20,24 +25,37 @@ use Rattle.ill_cells.specs.declared.cell.What.TheVariants as what
 use Rattle.ill_cells.specs.declared.cell.Slot.TheVariants as cell
 use Rattle.ill_elements.specs.Elements.{component_of, component_at, element_with, found_is}
 use Rattle.ill_schema.specs.declared.part.Presence.{Presence}
-use Rattle.ill_elements.specs.declared.due.Slot.TheVariants.{Row as AtRow, Item, Inner as Inside, Segment}
+use Rattle.ill_elements.specs.declared.due.Slot.TheVariants.{Row as AtRow, Item, Inner as Inside, Segment, Foreign as InForeign}
 use Rattle.ill_elements.specs.declared.due.Next.{Next}
-use Rattle.ill_elements.specs.declared.due.Next.TheVariants.{Rows, Inner, Items, Either, Segments, Nothing}
+use Rattle.ill_elements.specs.declared.due.Next.TheVariants.{Rows, Inner, Items, Either, Segments, BitSegments, Root, Foreigns, Nothing}
 use Rattle.ill_elements.specs.declared.due.Slot.{Slot}
 use Rattle.ill_elements.specs.declared.element.Element.{Element as CodeElement}
-use Rattle.ill_elements.specs.declared.element.Element.TheVariants.{Leaf, Sequence, List as ListOf, Wrapper, LooseWrapper, Segment as InString}
+use Rattle.ill_elements.specs.declared.element.Element.TheVariants.{Leaf, Sequence, List as ListOf, Wrapper, LooseWrapper, Segment as InString, ModuleLeaf, BitString, BitSegment as InBits, Foreign}
 use Rattle.ill_elements.specs.Found.{Found}
 use Rattle.ill_elements.specs.Found as found
 use Rattle.ill_elements.specs.declared.element.Wrapped.{Wrapped}
 use Rattle.ill_elements.specs.declared.leaf_type.LeafType.TheVariants as leaf
+use Rattle.ill_elements.specs.declared.leaf_type.ModuleLeaf.TheVariants as named
+
+-- what may come next in an explicit tag round a sequence
+abbrev pub shape_around : Bool → Wrapped → Next
+shape_around true w = Inner w
+shape_around false w = Either w
+
+-- what may come next in a leaf that is a string
+abbrev pub shape_in : LeafKind → Next
+shape_in LeafKind.BitString = BitSegments
+shape_in _ = Segments
 
 -- what may come next at a position of a node: at 0 in the wrapper of a part round it, from 1 on in the node itself
 abbrev pub shape_of : Kind → PartId → NodeId → ℕ → Next
-shape_of Kind.Seq p node zero = Either (record { part = p; node = node })
+shape_of Kind.Seq p node zero = shape_around (is_strict node) (record { part = p; node = node })
 shape_of Kind.Seq p node (suc row) = Rows node row
+shape_of Kind.Any p node zero = Root (record { part = p; node = node })
 shape_of _ p node zero = Inner (record { part = p; node = node })
 shape_of Kind.SeqOf p node (suc zero) = Items node
-shape_of (Kind.Leaf _) p node (suc zero) = Segments
+shape_of Kind.Any p node (suc zero) = Foreigns (levels_in p)
+shape_of (Kind.Leaf l) p node (suc zero) = shape_in l
 shape_of Kind.IllString p node (suc zero) = Segments
 shape_of _ p node (suc _) = Nothing
 
@@ -50,11 +68,15 @@ shape at = shape_at (where_of at)
 -- what may come in an element when it opens
 abbrev pub first_of : CodeElement → Next
 first_of (Leaf l) = Segments
+first_of (ModuleLeaf l) = Segments
 first_of (Sequence node) = Rows node 0
 first_of (ListOf node) = Items node
-first_of (Wrapper w) = Inner w
+first_of (Wrapper w) = elim (kind_of w.node) as (λ _. Next) [ Kind.Any ↦ Root w | _ ↦ Inner w ]
 first_of (LooseWrapper w) = Either w
 first_of InString = Segments
+first_of BitString = BitSegments
+first_of InBits = BitSegments
+first_of (Foreign n) = Foreigns n
 
 -- what is found, if it is an element, begins at this place inside
 abbrev pub BeginsAt : Found → Where → Type 0
@@ -75,7 +97,14 @@ element_as p node what.Sequence = Sequence node
 element_as p node what.List = ListOf node
 element_as p node what.Wrapper = Wrapper (record { part = p; node = node })
 element_as p node what.LooseWrapper = LooseWrapper (record { part = p; node = node })
+element_as p node what.Null = ModuleLeaf named.Null
+element_as p node what.ObjectIdentifier = ModuleLeaf named.ObjectIdentifier
+element_as p node what.OctetString = ModuleLeaf named.OctetString
+element_as p node what.ObjectDescriptor = ModuleLeaf named.ObjectDescriptor
 element_as p node what.Segment = InString
+element_as p node what.BitString = BitString
+element_as p node what.BitSegment = InBits
+element_as p node what.Foreign = Foreign (levels_in p)
 element_as p node what.LeftOut = ListOf node
 
 -- what a part with this node is
@@ -89,6 +118,8 @@ slot_as row cell.Row = AtRow row
 slot_as row cell.Inner = Inside
 slot_as row cell.Item = Item
 slot_as row cell.Segment = Segment
+slot_as row cell.Root = Inside
+slot_as row cell.Foreign = InForeign
 
 -- the same of what the cells find, with the place after it
 abbrev pub read_as : CellFound → CodeElement
@@ -122,6 +153,9 @@ next_is (Inner w) = next.rows (component_of w ∷ [])
 next_is (Items node) = next.opening profile_two (list node)
 next_is (Either w) = next.either (component_of w)
 next_is Segments = next.segments octet_string
+next_is BitSegments = next.segments (segment_tag bit_string)
+next_is (Root w) = next.anything (component_of w)
+next_is (Foreigns n) = next.foreigns n
 next_is Nothing = next.rows []
 
 -- the tag begins an element of the row of a choice
@@ -161,6 +195,8 @@ behind (Rows node n) (AtRow r) = Rows node (r + 1)
 behind (Either w) (AtRow r) = Rows w.node (r + 1)
 behind (Items node) _ = Items node
 behind Segments _ = Segments
+behind BitSegments _ = BitSegments
+behind (Foreigns n) _ = Foreigns n
 behind _ _ = Nothing
 
 -- the first item of a list
@@ -175,10 +211,17 @@ pub record IsInnerDue (t : Tag) (w : Wrapped) (d : Due) : Type 0 where
   pub slot : d.slot ≡ Inside
   pub begun : IsBegun t (component_of w) d.alternative d.found
 
-pub record IsSegmentDue (t : Tag) (d : Due) : Type 0 where
+-- a segment of a string whose segments have this tag
+pub record IsSegmentDue (u t : Tag) (d : Due) : Type 0 where
   pub slot : d.slot ≡ Segment
-  pub tag : same_tag t octet_string ≡ true
-  pub found : found_is d.found ≡ segment octet_string
+  pub tag : same_tag t u ≡ true
+  pub found : found_is d.found ≡ segment u
+
+-- an element of a foreign tree, in which so many levels may stand
+pub record IsForeignDue (n : ℕ) (there : Slot) (d : Due) : Type 0 where
+  pub slot : d.slot ≡ there
+  pub alternative : d.alternative ≡ None
+  pub found : found_is d.found ≡ foreign n
 
 -- what is due there with the tag
 abbrev pub IsDueIn : Tag → Next → Due → Type 0
@@ -186,7 +229,11 @@ IsDueIn t (Rows node n) d = IsDueInRows t node n d
 IsDueIn t (Inner w) d = IsInnerDue t w d
 IsDueIn t (Items node) d = IsItemDue t node d
 IsDueIn t (Either w) d = ((same_tag t sequence_tag ≡ true) × IsInnerDue t w d) ⊎ ((same_tag t sequence_tag ≡ false) × IsDueInRows t w.node 0 d)
-IsDueIn t Segments d = IsSegmentDue t d
+IsDueIn t Segments d = IsSegmentDue octet_string t d
+IsDueIn t BitSegments d = IsSegmentDue (segment_tag bit_string) t d
+IsDueIn t (Root w) d = (kind_of w.node ≡ Kind.Any) × IsForeignDue (foreign_levels - 1) Inside d
+IsDueIn t (Foreigns zero) d = ⊥
+IsDueIn t (Foreigns (suc n)) d = IsForeignDue n InForeign d
 IsDueIn t Nothing d = ⊥
 
 -- what the cells find is due there, and is left at the place after it

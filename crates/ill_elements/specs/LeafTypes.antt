@@ -1,7 +1,9 @@
 -- The leaves that the code names.
-use Rattle.ber_leaf.specs.Leaf.{Leaf, boolean, integer, enumerated, general_string, visible_string, printable_string, iso_date, iso_time}
+use Rattle.ber_leaf.specs.Leaf.{Leaf, boolean, integer, enumerated, general_string, visible_string, printable_string, iso_date, iso_time, null_type, object_identifier, octet_string, object_descriptor}
 use Rattle.ill_elements.specs.declared.leaf_type.LeafType.{LeafType}
 use Rattle.ill_elements.specs.declared.leaf_type.LeafType.TheVariants as code
+use Rattle.ill_elements.specs.declared.leaf_type.ModuleLeaf.{ModuleLeaf}
+use Rattle.ill_elements.specs.declared.leaf_type.ModuleLeaf.TheVariants as named
 
 abbrev pub leaf_is : LeafType → Leaf
 leaf_is code.Boolean = boolean
@@ -12,3 +14,9 @@ leaf_is code.Visible = visible_string
 leaf_is code.Printable = printable_string
 leaf_is code.Date = iso_date
 leaf_is code.Time = iso_time
+
+abbrev pub module_leaf_is : ModuleLeaf → Leaf
+module_leaf_is named.Null = null_type
+module_leaf_is named.ObjectIdentifier = object_identifier
+module_leaf_is named.OctetString = octet_string
+module_leaf_is named.ObjectDescriptor = object_descriptor

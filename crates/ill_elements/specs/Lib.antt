@@ -5,6 +5,7 @@ pub mod Due
 pub mod Contents
 pub mod Written
 pub mod HeaderCode
+pub mod Two
 pub mod Standing
 pub mod code
 pub mod Need

@@ -1,6 +1,8 @@
 -- How many octets at least still belong to a message.
+use Rattle.ill_schema.specs.Profiles.{profile_of}
+use Rattle.ill_schema.specs.declared.profile.Profile.{Profile as Named}
+use Rattle.ill_schema.specs.declared.profile.Profile.TheVariants.{Two}
 use Rattle.std.specs.Prelude.{◌≡◌, ℕ, ◌+◌, Bool, true, false, ◌&&◌, nat_eq, List, [], ◌∷◌, ◌++◌, length, Option, Some, None}
-use Rattle.ber_leaf.specs.Profile.{profile_two}
 use Rattle.ill_schema.specs.declared.refusal.Cause.{Cause}
 use Rattle.ill_refusals.specs.Fault.{fault, is_indefinite, fault_at}
 use Rattle.ill_elements.specs.HeaderCode.{Lacks}
@@ -48,11 +50,15 @@ abbrev pub IsNeed : List Open → ℕ → List ℕ → ℕ → Type 0
 IsNeed place at octets n = NeedsBefore (outermost place) place at octets n
 
 -- what these octets need: some of them lead to a place, the rest of them end there too early, and this many are needed
-pub record NeedsAfter (fed : List ℕ) (n : ℕ) : Type 0 where
+pub record NeedsAfterIn (p : Named) (fed : List ℕ) (n : ℕ) : Type 0 where
   pub place : List Open
   pub before : List ℕ
   pub rest : List ℕ
   pub joined : fed ≡ before ++ rest
-  pub is_place : IsPlace profile_two before place
-  pub ends : fault_at profile_two place (length before) rest ≡ Some (fault Cause.Truncated (length fed))
+  pub is_place : IsPlace (profile_of p) before place
+  pub ends : fault_at (profile_of p) place (length before) rest ≡ Some (fault Cause.Truncated (length fed))
   pub needed : IsNeed place (length before) rest n
+
+-- the same in profile 2
+abbrev pub NeedsAfter : List ℕ → ℕ → Type 0
+NeedsAfter fed n = NeedsAfterIn Two fed n

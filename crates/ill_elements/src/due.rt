@@ -3,8 +3,8 @@ ghost use Rattle.std.specs.Prelude.{◌≡◌};
 ghost use Rattle.ill_elements.specs.Due.{shape, slot_in};
 
 use crate::element::Wrapped;
-use ill_cells::{At, Found};
-use ill_schema::{Kind, NodeId, kind};
+use ill_cells::{At, Found, is_strict, levels_in};
+use ill_schema::{Kind, LeafKind, NodeId, kind};
 
 /// What may come next in an open element.
 #[derive(Clone, Copy)]
@@ -19,6 +19,12 @@ pub enum Next {
     Either(Wrapped),
     /// OCTET STRINGs.
     Segments,
+    /// BIT STRINGs, in a BIT STRING.
+    BitSegments,
+    /// In the explicit tag of an open type without elements: the root of a foreign tree.
+    Root(Wrapped),
+    /// In an element of a foreign tree: elements that so many levels may stand in, less one.
+    Foreigns(u8),
     Nothing,
 }
 
@@ -29,6 +35,8 @@ pub enum Slot {
     Item,
     Inner,
     Segment,
+    /// In an element of a foreign tree.
+    Foreign,
 }
 
 impl Next {
@@ -44,18 +52,16 @@ impl Next {
             node,
         };
         match kind(node) {
-            Kind::Seq => {
-                if position == 0 {
-                    Next::Either(wrapped)
-                } else {
-                    Next::Rows(node, position - 1)
-                }
-            }
+            Kind::Seq if position == 0 && !is_strict(node) => Next::Either(wrapped),
+            Kind::Seq if position > 0 => Next::Rows(node, position - 1),
+            Kind::Any if position == 0 => Next::Root(wrapped),
             _ if position == 0 => Next::Inner(wrapped),
             _ if position > 1 => Next::Nothing,
             Kind::SeqOf => Next::Items(node),
+            Kind::Leaf(LeafKind::BitString) => Next::BitSegments,
             Kind::Leaf(_) | Kind::IllString => Next::Segments,
-            Kind::Choice | Kind::Any => Next::Nothing,
+            Kind::Any => Next::Foreigns(levels_in(place.part())),
+            Kind::Choice | Kind::Seq => Next::Nothing,
         }
     }
 }
@@ -68,9 +74,10 @@ impl Slot {
     {
         match found.slot() {
             ill_cells::Slot::Row => Slot::Row(found.row()),
-            ill_cells::Slot::Inner => Slot::Inner,
+            ill_cells::Slot::Inner | ill_cells::Slot::Root => Slot::Inner,
             ill_cells::Slot::Item => Slot::Item,
             ill_cells::Slot::Segment => Slot::Segment,
+            ill_cells::Slot::Foreign => Slot::Foreign,
         }
     }
 }

@@ -1,8 +1,9 @@
 //! The elements that an encoding may hold.
-ghost use Rattle.std.specs.Prelude.{◌≡◌};
+ghost use Rattle.std.specs.Prelude.{◌≡◌, IsTrue};
+ghost use Rattle.ill_cells.specs.Places.{is_two};
 
-use crate::leaf_type::LeafType;
-use ill_cells::{Found, What};
+use crate::leaf_type::{LeafType, ModuleLeaf};
+use ill_cells::{Found, What, levels_in};
 use ill_schema::{NodeId, PartId};
 
 /// An element, as what it is read.
@@ -17,15 +18,23 @@ pub enum Element {
     LooseWrapper(Wrapped),
     /// An OCTET STRING in a string.
     Segment,
+    ModuleLeaf(ModuleLeaf),
+    BitString,
+    /// A BIT STRING in a BIT STRING.
+    BitSegment,
+    /// An element of a foreign tree, in which so many levels may stand.
+    Foreign(u8),
 }
 
 impl Element {
     ghost use Rattle.ill_elements.specs.Due.{read_as};
+    ghost use Rattle.ill_elements.specs.Elements.{is_two_element};
 
     /// As what that which was found is read. What is left out never is.
     #[inline(always)]
     pub fn of(found: Found) -> Element
-        ensures { result ≡ read_as found }
+        ensures element { result ≡ read_as found }
+        ensures two { IsTrue (is_two found) → IsTrue (is_two_element result) }
     {
         let node = found.node();
         let wrapped = Wrapped {
@@ -45,7 +54,14 @@ impl Element {
             What::List | What::LeftOut => Element::List(node),
             What::Wrapper => Element::Wrapper(wrapped),
             What::LooseWrapper => Element::LooseWrapper(wrapped),
+            What::Null => Element::ModuleLeaf(ModuleLeaf::Null),
+            What::ObjectIdentifier => Element::ModuleLeaf(ModuleLeaf::ObjectIdentifier),
+            What::OctetString => Element::ModuleLeaf(ModuleLeaf::OctetString),
+            What::ObjectDescriptor => Element::ModuleLeaf(ModuleLeaf::ObjectDescriptor),
             What::Segment => Element::Segment,
+            What::BitString => Element::BitString,
+            What::BitSegment => Element::BitSegment,
+            What::Foreign => Element::Foreign(levels_in(found.part())),
         }
     }
 }

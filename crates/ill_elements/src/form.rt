@@ -19,7 +19,7 @@ pub fn form_fault(found: Found, constructed: bool) -> Option<Cause>
     }
 }
 
-/// Tells whether an element that is read so may have the form (X.690, 8.2 to 8.10, 8.14 and 8.23). One that is left out has none.
+/// Tells whether an element that is read so may have the form (X.690, 8.2 to 8.10, 8.14, 8.15, 8.19 and 8.23). One that is left out has none.
 #[inline(always)]
 fn has_form(what: What, constructed: bool) -> bool
     ensures { result ≡ has_form what constructed }
@@ -27,7 +27,12 @@ fn has_form(what: What, constructed: bool) -> bool
     if constructed {
         !matches!(
             what,
-            What::Boolean | What::Integer | What::Enumerated | What::LeftOut
+            What::Boolean
+                | What::Integer
+                | What::Enumerated
+                | What::Null
+                | What::ObjectIdentifier
+                | What::LeftOut
         )
     } else {
         !matches!(

@@ -1,11 +1,12 @@
 //! The open elements of a message, innermost last.
-ghost use Rattle.std.specs.Prelude.{◌≤◌, length};
+ghost use Rattle.std.specs.Prelude.{◌≤◌, length, IsTrue};
+ghost use Rattle.ill_elements.specs.Two.{are_of};
 
 use crate::due::Next;
 use crate::frame::Frame;
 use arrayvec::ArrayVec;
 use ill_cells::At;
-use ill_schema::{Cause, LIMIT};
+use ill_schema::{Cause, LIMIT, Profile};
 
 /// The number of elements that may be open at once.
 pub const MAX_DEPTH: usize = 32;
@@ -14,34 +15,41 @@ pub const MAX_DEPTH: usize = 32;
 #[derive(Drop)]
 pub struct Frames {
     pub open: ArrayVec<Frame, MAX_DEPTH>,
+    /// The profile that the message is read in.
+    pub profile: Profile,
     ghost few: { length open.items ≤ 32 },
+    ghost are_of: { IsTrue (are_of profile open.items) },
 }
 
 impl Frames {
-    ghost use Rattle.std.specs.Prelude.{◌≡◌, ◌+◌, ◌-◌, ◌<◌, ◌↔◌, ◌++◌, List, [], ◌∷◌, IsNone, IsTrue, Some, slice_get, take};
+    ghost use Rattle.std.specs.Prelude.{◌≡◌, ◌+◌, ◌-◌, ◌<◌, ◌↔◌, ◌++◌, List, [], ◌∷◌, IfSome, IsNone, Some, slice_get, take};
     ghost use Rattle.ill_elements.specs.Due.{shape};
     ghost use Rattle.ill_elements.specs.Standing.{next_at};
     ghost use Rattle.ill_elements.specs.declared.frame.Frame.{Frame};
-    ghost use Rattle.ber_leaf.specs.Profile.{profile_two};
+    ghost use Rattle.ill_schema.specs.Profiles.{profile_of};
+    ghost use Rattle.ill_elements.specs.Two.{is_place_of};
     ghost use Rattle.ill_refusals.specs.Fault.{ends_at, is_indefinite, past_end};
     ghost use Rattle.ill_refusals.specs.Place.{bound};
     ghost use Rattle.ill_elements.specs.code.Judging.{WhereItStands, outermost_end};
     ghost use Rattle.ill_elements.specs.Standing.{depth_of};
 
-    /// No open element.
+    /// No open element, of a message that is read in the profile.
     #[inline(always)]
-    pub fn new() -> Frames
-        ensures { result.open.items ≡ [] }
+    pub fn new(profile: Profile) -> Frames
+        ensures open { result.open.items ≡ [] }
+        ensures profile { result.profile ≡ profile }
     {
         Frames {
             open: ArrayVec::new(),
+            profile,
         }
     }
 
     /// Forgets all open elements.
     #[inline(always)]
     pub fn clear(&mut self)
-        ensures { self.new.open.items ≡ [] }
+        ensures open { self.new.open.items ≡ [] }
+        ensures profile { self.new.profile ≡ self.old.profile }
     {
         self.open.clear();
     }
@@ -49,9 +57,11 @@ impl Frames {
     /// Opens an element in the innermost one.
     #[inline(always)]
     pub fn push(&mut self, frame: Frame)
-        requires { depth_of self.old < 32 }
+        requires room { depth_of self.old < 32 }
+        requires is_of { IsTrue (are_of self.old.profile (frame ∷ [])) }
         ensures items { self.new.open.items ≡ self.old.open.items ++ frame ∷ [] }
         ensures depth { depth_of self.new ≡ depth_of self.old + 1 }
+        ensures profile { self.new.profile ≡ self.old.profile }
     {
         self.open.push(frame);
     }
@@ -63,6 +73,8 @@ impl Frames {
         ensures rest { self.new.open.items ≡ take (depth_of self.old - 1) self.old.open.items }
         ensures last { slice_get self.old.open.items (depth_of self.old - 1) ≡ Some result }
         ensures depth { depth_of self.new + 1 ≡ depth_of self.old }
+        ensures is_of { IsTrue (are_of self.old.profile (result ∷ [])) }
+        ensures profile { self.new.profile ≡ self.old.profile }
     {
         self.open.pop().unwrap()
     }
@@ -70,6 +82,7 @@ impl Frames {
     pub fn innermost(&self) -> Option<Frame>
         ensures none { IsNone result ↔ (depth_of self.now ≡ 0) }
         ensures last { result ≡ slice_get self.now.open.items (depth_of self.now - 1) }
+        ensures is_of { IfSome result (λ frame. IsTrue (are_of self.now.profile (frame ∷ []))) }
     {
         self.open.as_slice().last().copied()
     }
@@ -82,17 +95,18 @@ impl Frames {
 
     /// The place that has been reached in the innermost element, or that of a message.
     pub fn place(&self) -> At
-        ensures { shape result ≡ next_at self.now.open.items }
+        ensures shape { shape result ≡ next_at self.now.profile self.now.open.items }
+        ensures is_of { IsTrue (is_place_of self.now.profile result) }
     {
         match self.innermost() {
             Some(frame) => frame.place,
-            None => At::top(),
+            None => At::top_of(self.profile),
         }
     }
 
     /// The elements that may come next.
     pub fn next(&self) -> Next
-        ensures { result ≡ next_at self.now.open.items }
+        ensures { result ≡ next_at self.now.profile self.now.open.items }
     {
         Next::at(self.place())
     }
@@ -100,7 +114,7 @@ impl Frames {
     /// The offset that no octet may reach.
     pub fn bound(&self) -> u32
         ensures small { result ≤ 1_048_576 }
-        ensures exact { WhereItStands self.now (λ place. result ≡ bound profile_two place) }
+        ensures exact { WhereItStands self.now (λ place. result ≡ bound (profile_of self.now.profile) place) }
     {
         match self.innermost() {
             Some(frame) => frame.bound,
@@ -154,8 +168,10 @@ impl Frames {
 
     /// Goes to a place in the innermost element.
     pub fn advance(&mut self, place: At)
+        requires is_of { IsTrue (is_place_of self.old.profile place) }
         ensures frame { (outer : List Frame) (f : Frame) → self.old.open.items ≡ outer ++ f ∷ [] → self.new.open.items ≡ outer ++ record f { place = place } ∷ [] }
         ensures depth { depth_of self.new ≡ depth_of self.old }
+        ensures profile { self.new.profile ≡ self.old.profile }
     {
         let last = self.depth().saturating_sub(1);
         if let Some(frame) = self.open.get_mut(last) {

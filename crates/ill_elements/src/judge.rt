@@ -1,8 +1,9 @@
 //! What is judged of an element at a place: its tag, form and length, or whether something is missing where an element ends.
-ghost use Rattle.std.specs.Prelude.{◌≡◌, ◌≤◌, false, true, IfOk, length};
+ghost use Rattle.std.specs.Prelude.{◌≡◌, ◌≤◌, false, true, IfOk, IsTrue, length};
 ghost use Rattle.ber_core.specs.Id.{form_of_id};
 ghost use Rattle.std.specs.Option.{ForSome};
 
+use crate::due::Next;
 use crate::form::form_fault;
 use crate::frames::{Frames, MAX_DEPTH};
 use crate::header::LengthRead;
@@ -42,8 +43,8 @@ pub enum Extent {
 
 impl Frames {
     ghost use Rattle.std.specs.Prelude.{◌+◌, ◌<◌, ℕ, List, ◌++◌, min, drop};
-    ghost use Rattle.ill_elements.specs.Standing.{depth_of};
-    ghost use Rattle.ill_elements.specs.code.Judging.{HeaderIsIn};
+    ghost use Rattle.ill_elements.specs.Standing.{depth_of, next_at};
+    ghost use Rattle.ill_elements.specs.code.Judging.{HeaderIsIn, unexpected};
     ghost use Rattle.ill_refusals.specs.Fault.{fault_of, cut_fault};
     ghost use Rattle.ill_refusals.specs.code.Judge.{judge_length, judge_size};
     ghost use Rattle.ill_elements.specs.code.Judging.{WhereItStands, EndsAs, Fits, Reaches, IsIdentified, IsRoom};
@@ -52,12 +53,13 @@ impl Frames {
     ghost use Rattle.ill_elements.specs.Elements.{element_is};
     ghost use Rattle.ill_elements.specs.HeaderCode.{IsLengthRead};
     ghost use Rattle.ill_refusals.specs.Reading.{read_length};
-    ghost use Rattle.ber_leaf.specs.Profile.{profile_two};
+    ghost use Rattle.ill_schema.specs.Profiles.{profile_of};
+    ghost use Rattle.ill_elements.specs.Two.{is_found_of};
 
     /// The fault where an octet is missing: the bound comes first, or the input's end.
     #[cold]
     pub fn cut_fault(&self, at: u32, came: usize) -> Refusal
-        ensures { (rest : List ℕ) → length rest ≡ came → WhereItStands self.now (λ place. fault_of result ≡ cut_fault profile_two place at rest) }
+        ensures { (rest : List ℕ) → length rest ≡ came → WhereItStands self.now (λ place. fault_of result ≡ cut_fault (profile_of self.now.profile) place at rest) }
     {
         let room = self.bound().saturating_sub(at);
         if came >= room as usize {
@@ -77,7 +79,7 @@ impl Frames {
     #[inline(always)]
     pub fn end_fault(&self, at: u32) -> Option<Refusal>
         requires { 0 < depth_of self.now }
-        ensures { WhereItStands self.now (λ place. EndsAs place at result) }
+        ensures { WhereItStands self.now (λ place. EndsAs self.now.profile place at result) }
     {
         let place = self.place();
         if !place.is_missing() {
@@ -95,6 +97,7 @@ impl Frames {
     pub fn judge_tag(&self, at: u32, id: Id) -> Result<Found, Refusal>
         ensures exact { WhereItStands self.now (λ place. IsIdentified self.now place at id result) }
         ensures room { IfOk result (λ _. depth_of self.now < 32) }
+        ensures is_of { IfOk result (λ found. IsTrue (is_found_of self.now.profile found)) }
     {
         if self.depth() >= MAX_DEPTH {
             return Err(Refusal {
@@ -105,12 +108,23 @@ impl Frames {
         let Some(found) = self.place().find(id) else {
             return Err(Refusal {
                 at,
-                cause: Cause::UnexpectedTag,
+                cause: self.unexpected(),
             });
         };
         match form_fault(found, id.constructed()) {
             Some(cause) => Err(Refusal { at, cause }),
             None => Ok(found),
+        }
+    }
+
+    /// Why an element is not due: no more levels may follow in a foreign tree, or nothing has its tag.
+    #[cold]
+    fn unexpected(&self) -> Cause
+        ensures { result ≡ unexpected (next_at self.now.profile self.now.open.items) }
+    {
+        match self.next() {
+            Next::Foreigns(0) => Cause::TooDeep,
+            _ => Cause::UnexpectedTag,
         }
     }
 
@@ -130,7 +144,7 @@ impl Frames {
         requires form { (header : ℕ) → length_read ≡ LengthRead.Whole Len.Indefinite header → form_of_id id ≡ true }
         ensures exact { (rest front behind : List ℕ) → length rest ≡ came → window.now ≡ front ++ behind
             → IsLengthRead length_read (read_length (form_of_id id) behind) window.now → Reaches self.now id at room window.now result
-            (λ found place. judge_length profile_two place (element_is (read_as found)) (tag_of_id id) (form_of_id id) at (length front) (cut_fault profile_two place at rest) behind) }
+            (λ found place. judge_length (profile_of self.now.profile) place (element_is (read_as found)) (tag_of_id id) (form_of_id id) at (length front) (cut_fault (profile_of self.now.profile) place at rest) behind) }
         ensures fits { IfOk result (Fits id (length window.now)) }
     {
         match length_read {
@@ -161,7 +175,7 @@ impl Frames {
         requires fits { IsRoom at room window.now }
         requires header { (0 < header) × (header ≤ length window.now) }
         ensures exact { (rest : List ℕ) (n : ℕ) → length rest ≡ came → size ≡ min n 4_294_967_295 → Reaches self.now id at room window.now result
-            (λ found place. judge_size profile_two place (element_is (read_as found)) (tag_of_id id) (form_of_id id) at header (cut_fault profile_two place at rest) n (drop header window.now)) }
+            (λ found place. judge_size (profile_of self.now.profile) place (element_is (read_as found)) (tag_of_id id) (form_of_id id) at header (cut_fault (profile_of self.now.profile) place at rest) n (drop header window.now)) }
         ensures fits { IfOk result (Fits id (length window.now)) }
     {
         if size > room - header {

@@ -5,8 +5,8 @@ ghost use Rattle.ber_leaf.specs.Leaf.{content_fault, is_string, value};
 ghost use Rattle.ber_leaf.specs.Profile.{profile_two};
 
 use ber_leaf::{
-    DateText, Flag, GeneralText, IllString, Leaf, LeafFault, PrintableText, TimeText, VisibleText,
-    Whole,
+    DateText, Flag, GeneralText, IllString, Leaf, LeafFault, Null, ObjectDescriptor,
+    ObjectIdentifier, OctetString, PrintableText, TimeText, VisibleText, Whole,
 };
 use ill_schema::Value;
 
@@ -21,6 +21,15 @@ pub enum LeafType {
     Printable,
     Date,
     Time,
+}
+
+/// A type of leaf that only rows of the module profile have, but for BIT STRING, whose segments are joined in another way.
+#[derive(Clone, Copy)]
+pub enum ModuleLeaf {
+    Null,
+    ObjectIdentifier,
+    OctetString,
+    ObjectDescriptor,
 }
 
 impl LeafType {
@@ -84,6 +93,33 @@ impl LeafType {
             LeafType::Printable => Value::Print(PrintableText::of(octets)),
             LeafType::Date => Value::Date(DateText::of(octets)),
             LeafType::Time => Value::Time(TimeText::of(octets)),
+        }
+    }
+}
+
+impl ModuleLeaf {
+    ghost use Rattle.ill_elements.specs.LeafTypes.{module_leaf_is};
+
+    /// Whether it is a string, which may be spelled in segments (X.690, 8.7 and 8.25).
+    pub fn is_string(self) -> bool
+        ensures { result ≡ is_string (module_leaf_is self) }
+    {
+        matches!(
+            &self,
+            ModuleLeaf::OctetString | ModuleLeaf::ObjectDescriptor
+        )
+    }
+
+    /// Why the octets are no content of it, None exactly where they are.
+    pub fn fault(self, octets: &[u8]) -> Option<LeafFault>
+        ensures fault { result ≡ content_fault profile_two (module_leaf_is self) octets.now }
+        ensures none { IsNone result ↔ IsContent (module_leaf_is self) octets.now }
+    {
+        match self {
+            ModuleLeaf::Null => Null::check(octets),
+            ModuleLeaf::ObjectIdentifier => ObjectIdentifier::check(octets),
+            ModuleLeaf::OctetString => OctetString::check(octets),
+            ModuleLeaf::ObjectDescriptor => ObjectDescriptor::check(octets),
         }
     }
 }

@@ -27,5 +27,5 @@ pub use frame::Frame;
 pub use frames::{Frames, MAX_DEPTH};
 pub use header::{HeaderRead, LengthRead, first_identifier, length_after, read_any};
 pub use judge::{Extent, Opening, Reading};
-pub use leaf_type::LeafType;
+pub use leaf_type::{LeafType, ModuleLeaf};
 pub use need::need_at;

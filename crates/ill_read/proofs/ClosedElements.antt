@@ -1,6 +1,10 @@
 -- The innermost element closes.
+use Rattle.ill_elements.proofs.OfTwo.{last_two, read_two}
+use Rattle.ill_elements.specs.Two.{is_two_frame}
+use Rattle.std.specs.List.{list_all}
+use Rattle.ill_schema.specs.declared.profile.Profile.TheVariants.{Two}
 use Rattle.std.specs.Prelude.{⊤}
-use Rattle.std.proofs.Common.{◌≡◌, ℕ, ◌+◌, ◌-◌, List, [], ◌∷◌, ◌++◌, length, length-append, take, drop, Bool, false, Option, Some, None, Result, Ok, Err, refl, sym, ap, ap₂, subst, ◌∙◌, arith, slice_get}
+use Rattle.std.proofs.Common.{IsTrue, ◌≡◌, ℕ, ◌+◌, ◌-◌, List, [], ◌∷◌, ◌++◌, length, length-append, take, drop, Bool, false, Option, Some, None, Result, Ok, Err, refl, sym, ap, ap₂, subst, ◌∙◌, arith, slice_get}
 use Rattle.std.proofs.lemmas.List.{take_at}
 use Rattle.std.specs.Result.{IsErrAnd}
 use Rattle.ber_core.specs.Tree.{Trees, constructed, octet_string, text_all, AreSegments}
@@ -15,7 +19,7 @@ use Rattle.ill_refusals.specs.Place.{Open, next_in}
 use Rattle.ill_refusals.specs.code.Judge.{Judgement, closes, or_faulty}
 use Rattle.ill_refusals.specs.code.Step.{moved}
 use Rattle.ill_cells.specs.Places.{alternative_of, where_of}
-use Rattle.ill_elements.specs.Elements.{element_is}
+use Rattle.ill_elements.specs.Elements.{element_is, is_two_element}
 use Rattle.ill_read.specs.code.Drafts.{ChecksText, HasClosed, IsRightText, with_entry}
 use Rattle.ill_elements.specs.Due.{due_with}
 use Rattle.ill_elements.specs.code.Judging.{IsEnd}
@@ -27,7 +31,7 @@ use Rattle.ill_elements.specs.Contents.{with_alternative}
 use Rattle.ill_elements.specs.declared.due.Next.{Next}
 use Rattle.ill_elements.specs.declared.due.Next.TheVariants.{Segments}
 use Rattle.ill_elements.specs.declared.element.Element.{Element as CodeElement}
-use Rattle.ill_elements.specs.declared.element.Element.TheVariants.{Leaf, Segment}
+use Rattle.ill_elements.specs.declared.element.Element.TheVariants.{Leaf, Segment, ModuleLeaf, BitString}
 use Rattle.ill_read.specs.declared.failure.Failure.{Failure}
 use Rattle.ill_elements.specs.declared.frame.Frame.{Frame}
 use Rattle.ill_read.specs.declared.path.Path.{Path}
@@ -42,35 +46,37 @@ use Rattle.ill_cells.specs.declared.at.At.{At}
 use Rattle.ill_elements.specs.Due.{shape, shape_at, read_as, slot_in, next_place}
 
 -- the frames without the last one
-record IsPopped (levels : List Level) (frames : List Frame) (f : Frame) (o : Open) (path : List Open) : Type 0 where
+record IsPopped (levels : List Level) (old frames : List Frame) (f : Frame) (o : Open) (path : List Open) : Type 0 where
   pub below : List Level
   pub entries : List (Option Content)
   pub held : levels ≡ pushed (level_of f o.tag entries) below
-  pub framed : IsFrame f o path frames entries
-  pub outer : AreFrames path frames below
+  pub framed : IsFrame Two f o path frames entries
+  pub outer : AreFrames Two path frames below
+  pub whole : old ≡ frames ++ f ∷ []
 
-popped : (old frames : List Frame) (levels : List Level) (f : Frame) (o : Open) (path : List Open) → AreFrames (o ∷ path) old levels → frames ≡ take (length old - 1) old → slice_get old (length old - 1) ≡ Some f
-    → IsPopped levels frames f o path
+popped : (old frames : List Frame) (levels : List Level) (f : Frame) (o : Open) (path : List Open) → AreFrames Two (o ∷ path) old levels → frames ≡ take (length old - 1) old → slice_get old (length old - 1) ≡ Some f
+    → IsPopped levels old frames f o path
 popped old frames levels f o path a rest last =
-    let same : a.1 ≡ f = last_open o path old levels a f last in
+    let same : a.1 ≡ f = last_open Two o path old levels a f last in
     let n : length a.0 ≡ length old - 1 = omega (arith, ap length a.4, length-append a.0 (a.1 ∷ [])) in
     let outer : a.0 ≡ frames = sym (take_at a.0 (a.1 ∷ []) (length old - 1) n) ∙ ap (take (length old - 1)) (sym a.4) ∙ sym rest in
     record {
       below = a.2;
       entries = a.3;
       held = a.5 ∙ ap (λ (g : Frame). pushed (level_of g o.tag a.3) a.2) same;
-      framed = subst (λ g. IsFrame g o path frames a.3) same (subst (λ fs. IsFrame a.1 o path fs a.3) outer a.6);
-      outer = subst (λ fs. AreFrames path fs a.2) outer a.7;
+      framed = subst (λ g. IsFrame Two g o path frames a.3) same (subst (λ fs. IsFrame Two a.1 o path fs a.3) outer a.6);
+      outer = subst (λ fs. AreFrames Two path fs a.2) outer a.7;
+      whole = a.4 ∙ ap (λ fs. fs ++ a.1 ∷ []) outer ∙ ap (λ g. frames ++ g ∷ []) same;
     }
 
 -- the end that was judged, by the fault of its text
-ending : (place : List Open) (marks at : ℕ) (rest : List ℕ) (j : Judgement) (e : IsEnd place marks j) (x : Option LeafFault) → string_fault profile_two e.innermost.element e.innermost.trees ≡ x
+ending : (place : List Open) (marks at : ℕ) (rest : List ℕ) (j : Judgement) (e : IsEnd Two place marks j) (x : Option LeafFault) → string_fault profile_two e.innermost.element e.innermost.trees ≡ x
     → moved j place at rest ≡ moved (or_faulty x e.innermost.start (closes marks)) (e.innermost ∷ e.outer) at rest
 ending place marks at rest j e x h = ap₂ (λ y p. moved y p at rest) e.is e.is_path ∙ ap (λ y. moved (or_faulty y e.innermost.start (closes marks)) (e.innermost ∷ e.outer) at rest) h
 
 -- a segment closes
 pub segment_closed : {D : Type 0} (holds : D → List Level → List ℕ → Type 0) (old new : Path D) (f : Frame) (place : List Open) (marks at : ℕ) (rest : List ℕ) (j : Judgement) → HoldsAt holds old place
-    → IsEnd place marks j → new.frames.open.items ≡ take (length old.frames.open.items - 1) old.frames.open.items → slice_get old.frames.open.items (length old.frames.open.items - 1) ≡ Some f
+    → IsEnd Two place marks j → new.frames.open.items ≡ take (length old.frames.open.items - 1) old.frames.open.items → slice_get old.frames.open.items (length old.frames.open.items - 1) ≡ Some f
     → read_as f.found ≡ Segment → new.draft ≡ old.draft → IsStep holds new (Ok false) (moved j place at rest)
 segment_closed holds old new f place marks at rest j stands end frames last is draft =
     let o = end.innermost in
@@ -78,8 +84,8 @@ segment_closed holds old new f place marks at rest j stands end frames last is d
     let here : HoldsAt holds old (o ∷ path) = subst (HoldsAt holds old) end.is_path stands in
     let p = popped old.frames.open.items new.frames.open.items here.0 f o path here.1 frames last in
     let e : segment octet_string ≡ o.element = ap element_is (sym is) ∙ p.framed.element in
-    let string : next_at new.frames.open.items ≡ Segments = segment_due o.tag (next_at new.frames.open.items) (due_with (slot_in f.found) (alternative_of f.found) (read_as f.found)) p.framed.is_due (ap element_is is) in
-    let h = segment_holds (shape f.place) p.entries o.trees (subst (λ x. IsHeld x (shape f.place) p.entries o.trees) is p.framed.held) in
+    let string : next_at Two new.frames.open.items ≡ Segments = segment_due o.tag (next_at Two new.frames.open.items) (due_with (slot_in f.found) (alternative_of f.found) (read_as f.found)) p.framed.is_due (ap element_is is) in
+    let h = segment_holds (shape f.place) p.entries o.trees (subst (λ x. IsHeld Two x (shape f.place) p.entries o.trees) is p.framed.held) in
     let levels : here.0 ≡ p.below = p.held ∙ pushed_segment (level_of f o.tag p.entries) p.below is in
     let joined : text_so_far (o ∷ path) ≡ text_so_far path ++ text_all o.trees = sym (ap (λ x. text_with x (text_so_far path) o.trees) e) in
     let held = subst (λ t. holds new.draft p.below t) joined (subst (λ ls. holds new.draft ls (text_so_far (o ∷ path))) levels (subst (λ d. holds d here.0 (text_so_far (o ∷ path))) (sym draft) here.2)) in
@@ -87,31 +93,34 @@ segment_closed holds old new f place marks at rest j stands end frames last is d
     let none : string_fault profile_two o.element o.trees ≡ None = sym (ap (λ x. string_fault profile_two x o.trees) e) in
     subst (IsStep holds new (Ok false)) (sym (ending place marks at rest j end None none)) added
   where
-    segment_holds : (n : Next) (entries : List (Option Content)) (ts : Trees) → IsHeld Segment n entries ts → AreSegments octet_string ts
+    segment_holds : (n : Next) (entries : List (Option Content)) (ts : Trees) → IsHeld Two Segment n entries ts → AreSegments octet_string ts
     segment_holds Segments entries ts h = h.1
     segment_holds _ entries ts h = absurd h
 
-right_text : (e : CodeElement) (text : List ℕ) → IsRightText e text → element_fault profile_two (element_is e) text ≡ None
-right_text (Leaf l) text h = h.1
-right_text _ text h = refl
+right_text : (e : CodeElement) (text : List ℕ) → IsTrue (is_two_element e) → IsRightText e text → element_fault profile_two (element_is e) text ≡ None
+right_text (Leaf l) text two h = h.1
+right_text (ModuleLeaf l) text two h = absurd cc
+right_text BitString text two h = absurd cc
+right_text _ text two h = refl
 
 -- an element closes that is no segment, and its text is right
 pub element_closed : {D : Type 0} (holds : D → List Level → List ℕ → Type 0) (old : Path D) (shorter : List Frame) (f : Frame) (middle : D) (new : Path D) (place : List Open) (marks at : ℕ) (rest : List ℕ)
-    (j : Judgement) (result : Bool) → HoldsAt holds old place → IsEnd place marks j → shorter ≡ take (length old.frames.open.items - 1) old.frames.open.items
-    → slice_get old.frames.open.items (length old.frames.open.items - 1) ≡ Some f → (read_as f.found ≡ Segment → ⊥) → ((x : ⊤) → ChecksText holds old.draft f (Ok x)) → HasClosed holds old.draft f (next_at shorter) middle
+    (j : Judgement) (result : Bool) → IsTrue (list_all is_two_frame old.frames.open.items) → HoldsAt holds old place → IsEnd Two place marks j → shorter ≡ take (length old.frames.open.items - 1) old.frames.open.items
+    → slice_get old.frames.open.items (length old.frames.open.items - 1) ≡ Some f → (read_as f.found ≡ Segment → ⊥) → ((x : ⊤) → ChecksText holds old.draft f (Ok x)) → HasClosed holds old.draft f (next_at Two shorter) middle
     → (after : At) → where_of after ≡ next_place f.found → GoesOn after shorter new.frames.open.items result → new.draft ≡ middle → IsStep holds new (Ok result) (moved j place at rest)
-element_closed holds old shorter f middle new place marks at rest j result stands end frames last apart checks closed after there goes draft =
+element_closed holds old shorter f middle new place marks at rest j result two stands end frames last apart checks closed after there goes draft =
     let o = end.innermost in
     let path = end.outer in
     let here : HoldsAt holds old (o ∷ path) = subst (HoldsAt holds old) end.is_path stands in
     let p = popped old.frames.open.items shorter here.0 f o path here.1 frames last in
     let text = text_so_far (o ∷ path) in
-    let ends = frame_ended f o path shorter p.entries p.framed apart (ap (λ x. missing profile_two (next_in profile_two x)) (sym end.is_path) ∙ end.complete) in
-    let held = subst (λ ls. holds old.draft ls text) (p.held ∙ pushed_apart (level_of f o.tag p.entries) p.below apart) here.2 in
+    let kept = last_two old.frames.open.items shorter f p.whole two in
+    let ends = frame_ended f o path shorter p.entries kept.1 p.framed apart (ap (λ x. missing profile_two (next_in profile_two x)) (sym end.is_path) ∙ end.complete) in
+    let held = subst (λ ls. holds old.draft ls text) (p.held ∙ pushed_apart (level_of f o.tag p.entries) p.below (read_two f.found kept.1) apart) here.2 in
     let right = checks tt o.tag p.entries p.below text held in
     let none : string_fault profile_two o.element o.trees ≡ None =
-    ap (λ x. string_fault profile_two x o.trees) (sym p.framed.element) ∙ ends.fault ∙ right_text (read_as f.found) text right in
-    let added = entry_added holds shorter p.below new path (slot_in f.found) (alternative_of f.found) (read_as f.found) ends.content (constructed o.tag o.trees) (at + marks) (drop marks rest) result p.outer p.framed.is_due
+    ap (λ x. string_fault profile_two x o.trees) (sym p.framed.element) ∙ ends.fault ∙ right_text (read_as f.found) text (read_two f.found kept.1) right in
+    let added = entry_added holds shorter p.below new path (slot_in f.found) (alternative_of f.found) (read_as f.found) ends.content (constructed o.tag o.trees) (at + marks) (drop marks rest) result kept.0 p.outer p.framed.is_due
     (λ s. apart (only_segment (read_as f.found) s)) after (ap shape_at there ∙ p.framed.after) goes
     (λ l below e d. (
       ends.value right,
@@ -122,17 +131,18 @@ element_closed holds old shorter f middle new place marks at rest j result stand
 
 -- or its text is at fault, or memory runs out
 pub element_refused : {D : Type 0} (holds : D → List Level → List ℕ → Type 0) (old : Path D) (shorter : List Frame) (f : Frame) (new : Path D) (place : List Open) (marks at : ℕ) (rest : List ℕ)
-    (j : Judgement) (failure : Failure) → HoldsAt holds old place → IsEnd place marks j → shorter ≡ take (length old.frames.open.items - 1) old.frames.open.items
+    (j : Judgement) (failure : Failure) → IsTrue (list_all is_two_frame old.frames.open.items) → HoldsAt holds old place → IsEnd Two place marks j → shorter ≡ take (length old.frames.open.items - 1) old.frames.open.items
     → slice_get old.frames.open.items (length old.frames.open.items - 1) ≡ Some f → (read_as f.found ≡ Segment → ⊥) → ChecksText holds old.draft f (Err failure) → IsStep holds new (Err failure) (moved j place at rest)
-element_refused holds old shorter f new place marks at rest j Failure.OutOfMemory stands end frames last apart checks = tt
-element_refused holds old shorter f new place marks at rest j (Failure.Refused r) stands end frames last apart checks =
+element_refused holds old shorter f new place marks at rest j Failure.OutOfMemory two stands end frames last apart checks = tt
+element_refused holds old shorter f new place marks at rest j (Failure.Refused r) two stands end frames last apart checks =
     let o = end.innermost in
     let path = end.outer in
     let here : HoldsAt holds old (o ∷ path) = subst (HoldsAt holds old) end.is_path stands in
     let p = popped old.frames.open.items shorter here.0 f o path here.1 frames last in
     let text = text_so_far (o ∷ path) in
-    let ends = frame_ended f o path shorter p.entries p.framed apart (ap (λ x. missing profile_two (next_in profile_two x)) (sym end.is_path) ∙ end.complete) in
-    let held = subst (λ ls. holds old.draft ls text) (p.held ∙ pushed_apart (level_of f o.tag p.entries) p.below apart) here.2 in
+    let kept = last_two old.frames.open.items shorter f p.whole two in
+    let ends = frame_ended f o path shorter p.entries kept.1 p.framed apart (ap (λ x. missing profile_two (next_in profile_two x)) (sym end.is_path) ∙ end.complete) in
+    let held = subst (λ ls. holds old.draft ls text) (p.held ∙ pushed_apart (level_of f o.tag p.entries) p.below (read_two f.found kept.1) apart) here.2 in
     let wrong = checks o.tag p.entries p.below text held in
     let found : string_fault profile_two o.element o.trees ≡ Some wrong.0 =
     ap (λ x. string_fault profile_two x o.trees) (sym p.framed.element) ∙ ends.fault ∙ wrong.1 in

@@ -1,4 +1,5 @@
 -- Where the decoder is after a step.
+use Rattle.ill_schema.specs.declared.profile.Profile.TheVariants.{Two}
 use Rattle.std.proofs.Common.{◌≡◌, ℕ, ◌+◌, ◌-◌, ◌≤◌, List, [], ◌∷◌, ◌++◌, length, take, drop, Option, Some, None, Ok, Err, true, false, refl, sym, ap, subst, ◌∙◌, inl, arith}
 use Rattle.std.proofs.lemmas.List.{length-drop, length-take-le}
 use Rattle.ber_core.specs.Id.{tag_of_id}
@@ -80,7 +81,7 @@ record IsMade (at : ℕ) (s rest : List ℕ) (judgement : CodeJudgement) (st : S
   placed : Placed profile_two s st
   ends : EndsAt (at + size_of judgement) (drop (size_of judgement) rest) st
 
-made : (Stands : List Open → Type 0) (frames : Frames) (at : ℕ) (s rest : List ℕ) (judgement : CodeJudgement) → (b : StandsBefore Stands at s rest) → IsProgress (depth_of frames) (length rest) judgement
+made : (Stands : List Open → Type 0) (frames : Frames) (at : ℕ) (s rest : List ℕ) (judgement : CodeJudgement) → (b : StandsBefore Two Stands at s rest) → IsProgress (depth_of frames) (length rest) judgement
     → IsJudgement frames b.place at rest judgement (judge profile_two b.place at rest)
     → IsMade at s rest judgement (moved (judge profile_two b.place at rest) b.place at rest)
 made Stands frames at s rest judgement b p h = record {
@@ -89,13 +90,13 @@ made Stands frames at s rest judgement b p h = record {
 }
 
 -- it is at the next place
-pub goes_on : {D : Type 0} (holds : D → List Level → List ℕ → Type 0) (path new : Path D) (at : ℕ) (s rest : List ℕ) (judgement : CodeJudgement) → (b : StandsBefore (HoldsAt holds path) at s rest)
+pub goes_on : {D : Type 0} (holds : D → List Level → List ℕ → Type 0) (path new : Path D) (at : ℕ) (s rest : List ℕ) (judgement : CodeJudgement) → (b : StandsBefore Two (HoldsAt holds path) at s rest)
     → IsProgress (depth_of path.frames) (length rest) judgement → IsJudgement path.frames b.place at rest judgement (judge profile_two b.place at rest)
     → IsStep holds new (Ok false) (moved (judge profile_two b.place at rest) b.place at rest)
-    → StandsBefore (HoldsAt holds new) (at + size_of judgement) s (drop (size_of judgement) rest)
+    → StandsBefore Two (HoldsAt holds new) (at + size_of judgement) s (drop (size_of judgement) rest)
 goes_on holds path new at s rest judgement b p h is = go (moved (judge profile_two b.place at rest) b.place at rest) (made (HoldsAt holds path) path.frames at s rest judgement b p h) is
   where
-    go : (st : Step) → IsMade at s rest judgement st → IsStep holds new (Ok false) st → StandsBefore (HoldsAt holds new) (at + size_of judgement) s (drop (size_of judgement) rest)
+    go : (st : Step) → IsMade at s rest judgement st → IsStep holds new (Ok false) st → StandsBefore Two (HoldsAt holds new) (at + size_of judgement) s (drop (size_of judgement) rest)
     go (goes place l after) m i = record {
       place = place;
       before = m.placed.0;
@@ -108,7 +109,7 @@ goes_on holds path new at s rest judgement b p h is = go (moved (judge profile_t
     go _ m i = absurd i
 
 -- the message is whole: its octets encode what the draft holds
-pub is_whole : {D : Type 0} (holds : D → List Level → List ℕ → Type 0) (path new : Path D) (at : ℕ) (s rest : List ℕ) (judgement : CodeJudgement) → (b : StandsBefore (HoldsAt holds path) at s rest)
+pub is_whole : {D : Type 0} (holds : D → List Level → List ℕ → Type 0) (path new : Path D) (at : ℕ) (s rest : List ℕ) (judgement : CodeJudgement) → (b : StandsBefore Two (HoldsAt holds path) at s rest)
     → IsProgress (depth_of path.frames) (length rest) judgement → IsJudgement path.frames b.place at rest judgement (judge profile_two b.place at rest)
     → IsStep holds new (Ok true) (moved (judge profile_two b.place at rest) b.place at rest)
     → (at + size_of judgement ≤ length s) × ((a : Apdu) × HoldsApdu holds new.draft a (take (at + size_of judgement) s))
@@ -120,12 +121,12 @@ is_whole holds path new at s rest judgement b p h is = go (moved (judge profile_
         let apdu = means_apdu i.0 T i.2 in
         let message : IsMessage profile_two s T n = record m.placed { apdu = apdu.0; means = apdu.2 } in
         let encoded = subst (λ k. (k ≤ length s) × Encodes profile_two apdu.0 (take k s)) m.ends (message_encodes profile_two s T n message) in
-        (encoded.0, (apdu.0, (subst (λ c. holds new.draft (whole_level c ∷ []) []) apdu.1 i.1, apdu.2.0, encoded.1)))
+        (encoded.0, (apdu.0, (subst (λ c. holds new.draft (whole_level Two c ∷ []) []) apdu.1 i.1, apdu.2.0, encoded.1)))
     go _ m i = absurd i
 
 -- a text is at fault, or memory runs out
 pub is_refused : {D : Type 0} (holds : D → List Level → List ℕ → Type 0) (path new : Path D) (at : ℕ) (s rest : List ℕ) (judgement : CodeJudgement) (failure : Failure)
-    → (b : StandsBefore (HoldsAt holds path) at s rest) → IsProgress (depth_of path.frames) (length rest) judgement
+    → (b : StandsBefore Two (HoldsAt holds path) at s rest) → IsProgress (depth_of path.frames) (length rest) judgement
     → IsJudgement path.frames b.place at rest judgement (judge profile_two b.place at rest) → IsStep holds new (Err failure) (moved (judge profile_two b.place at rest) b.place at rest)
     → IsRefused s failure
 is_refused holds path new at s rest judgement failure b p h is = go failure (moved (judge profile_two b.place at rest) b.place at rest) (made (HoldsAt holds path) path.frames at s rest judgement b p h) is

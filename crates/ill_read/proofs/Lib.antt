@@ -8,6 +8,7 @@ pub mod Strings
 pub mod ClosedElements
 pub mod OpenedElements
 pub mod PrimitiveElements
+pub mod ProfileOfPath
 pub mod MovedOctets
 pub mod Bodies
 pub mod MessageEnds

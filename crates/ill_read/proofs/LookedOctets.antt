@@ -1,4 +1,5 @@
 -- Of octets that a source has at hand, those that are taken are what a decoder was fed.
+use Rattle.ill_schema.specs.declared.profile.Profile.TheVariants.{Two}
 use Rattle.std.proofs.Common.{◌≡◌, ℕ, ◌+◌, ◌-◌, ◌<◌, ◌≤◌, Bool, true, false, nat_le, min, List, [], ◌∷◌, ◌++◌, length, length-append, take, drop, Some, None, IsTrue, refl, sym, ap, ap₂, subst, ◌∙◌, inl, inr, arith, append-nil, append_assoc}
 use Rattle.std.specs.Prelude.{if◌then◌else◌}
 use Rattle.std.proofs.Math.Seq.{take-nil}
@@ -52,7 +53,7 @@ ends_here p path k rest f e c lt = go (definite_end p path k) refl
     go sound q = absurd (let none : None ≡ Some f = sym (first_when _ _ _ q) ∙ e in cc)
 
 -- a path that the octets at hand don't take further is at the end of those that were passed
-pub last_here : (Stands : List Open → Type 0) (at : ℕ) (s rest u : List ℕ) → s ≡ u ++ rest → StandsLast Stands at s rest → StandsLast Stands at u []
+pub last_here : (Stands : List Open → Type 0) (at : ℕ) (s rest u : List ℕ) → s ≡ u ++ rest → StandsLast Two Stands at s rest → StandsLast Two Stands at u []
 last_here Stands at s rest u e h =
     let b = h.0 in
     let same : u ≡ b.before = append_cancel_right u b.before rest (sym e ∙ b.joined) in
@@ -94,17 +95,17 @@ parts : (b octets : List ℕ) (n : ℕ) → b ++ octets ≡ (b ++ take n octets)
 parts b octets n = ap (λ z. b ++ z) (sym (take-append-drop n octets)) ∙ sym (append_assoc b (take n octets) (drop n octets))
 
 abbrev IsFedIn : {D : Type 0} → (D → List Level → List ℕ → Type 0) → (D → Apdu → ℕ → Type 0) → Reader D → List ℕ → State → Type 0
-IsFedIn holds has r s st = InState st s (HasRead has r s) (StandsLast (HoldsAt holds r.path) r.at s r.pending.items)
+IsFedIn holds has r s st = InState st s (HasRead has r s) (StandsLast Two (HoldsAt holds r.path) r.at s r.pending.items)
 
 pub looked_open : {D : Type 0} (holds : D → List Level → List ℕ → Type 0) (has : D → Apdu → ℕ → Type 0) (r : Reader D) (b octets : List ℕ) (n : ℕ) → r.state ≡ state.Open → r.pending.items ≡ [] → HasStopped holds has r (b ++ octets) (drop n octets)
     → HasLooked holds has r (b ++ take n octets)
 looked_open holds has r b octets n e none h =
     let u = b ++ take n octets in
-    let last = subst (λ st. InState st (b ++ octets) (HasRead has r (b ++ octets)) (StandsLast (HoldsAt holds r.path) r.at (b ++ octets) (drop n octets))) e h in
+    let last = subst (λ st. InState st (b ++ octets) (HasRead has r (b ++ octets)) (StandsLast Two (HoldsAt holds r.path) r.at (b ++ octets) (drop n octets))) e h in
     let here = last_here (HoldsAt holds r.path) r.at (b ++ octets) (drop n octets) u (parts b octets n) last in
     let part = stands_part (HoldsAt holds r.path) r.at u [] here in
     record {
-      fed = subst (IsFedIn holds has r u) (sym e) (subst (StandsLast (HoldsAt holds r.path) r.at u) (sym none) here);
+      fed = subst (IsFedIn holds has r u) (sym e) (subst (StandsLast Two (HoldsAt holds r.path) r.at u) (sym none) here);
       exact = λ a k accepted. absurd (part.2 a k accepted);
     }
 

@@ -1,4 +1,5 @@
 -- What a decoder knows at the end of a message, and of octets that follow.
+use Rattle.ill_schema.specs.declared.profile.Profile.TheVariants.{Two}
 use Rattle.std.proofs.Common.{◌≡◌, ◌≢◌, ℕ, ◌+◌, ◌<◌, ◌≤◌, List, [], ◌∷◌, ◌++◌, length, length-append, take, Some, None, Ok, Err, true, false, IsTrue, refl, sym, ap, subst, ◌∙◌, inl, inr, arith, append_assoc}
 use Rattle.std.proofs.lemmas.Bool.{cases_lt}
 use Rattle.std.proofs.lemmas.List.{nil_from_length, take-append-le, take_all}
@@ -68,8 +69,8 @@ ended_longer has r s x A B n h = go r.state n h
 pub running_longer : {D : Type 0} (holds : D → List Level → List ℕ → Type 0) (has : D → Apdu → ℕ → Type 0) (r : Reader D) (s rest x : List ℕ) → IsTrue (are_octets x) → HasStopped holds has r s rest → IsRunning holds has r (s ++ x) (rest ++ x)
 running_longer holds has r s rest x ok h = go r.state h
   where
-    go : (st : State) → InState st s (HasRead has r s) (StandsLast (HoldsAt holds r.path) r.at s rest)
-        → InState st (s ++ x) (HasRead has r (s ++ x)) (StandsBefore (HoldsAt holds r.path) r.at (s ++ x) (rest ++ x))
+    go : (st : State) → InState st s (HasRead has r s) (StandsLast Two (HoldsAt holds r.path) r.at s rest)
+        → InState st (s ++ x) (HasRead has r (s ++ x)) (StandsBefore Two (HoldsAt holds r.path) r.at (s ++ x) (rest ++ x))
     go state.Open h =
         let b = h.0 in
         record {
@@ -85,7 +86,7 @@ running_longer holds has r s rest x ok h = go r.state h
     go (state.Failed f) h = refused_longer s x f h
 
 -- a place whose next octets are missing: the input ends too early
-pub stands_part : (Stands : List Open → Type 0) (at : ℕ) (s rest : List ℕ) → StandsLast Stands at s rest → IsPart s
+pub stands_part : (Stands : List Open → Type 0) (at : ℕ) (s rest : List ℕ) → StandsLast Two Stands at s rest → IsPart s
 stands_part Stands at s rest h =
     let b = h.0 in
     subst (λ z. OnlyRefuses profile_two z (fault Cause.Truncated (length s))) (sym b.joined)
@@ -101,7 +102,7 @@ after_end has r s A h = go r.state h
     go _ h = h
 
 -- the refusal of the place where a path is
-pub stops_refused : (Stands : List Open → Type 0) (at : ℕ) (s rest : List ℕ) (r : Refusal) → (b : StandsBefore Stands at s rest) → judge profile_two b.place at rest ≡ faulty (fault_of r) → r.cause ≢ Cause.Truncated
+pub stops_refused : (Stands : List Open → Type 0) (at : ℕ) (s rest : List ℕ) (r : Refusal) → (b : StandsBefore Two Stands at s rest) → judge profile_two b.place at rest ≡ faulty (fault_of r) → r.cause ≢ Cause.Truncated
     → IsRefused s (Failure.Refused r)
 stops_refused Stands at s rest r b e n = (
   subst (λ z. OnlyRefuses profile_two z (fault_of r)) (sym b.joined)
@@ -110,15 +111,15 @@ stops_refused Stands at s rest r b e n = (
 )
 
 -- or the octets end
-pub stops_open : (Stands : List Open → Type 0) (at : ℕ) (s rest : List ℕ) (r : Refusal) → (b : StandsBefore Stands at s rest) → judge profile_two b.place at rest ≡ faulty (fault_of r) → r.cause ≡ Cause.Truncated
-    → StandsLast Stands at s rest
+pub stops_open : (Stands : List Open → Type 0) (at : ℕ) (s rest : List ℕ) (r : Refusal) → (b : StandsBefore Two Stands at s rest) → judge profile_two b.place at rest ≡ faulty (fault_of r) → r.cause ≡ Cause.Truncated
+    → StandsLast Two Stands at s rest
 stops_open Stands at s rest r b e c =
     let q = truncated_at profile_two b.place at rest (fault_of r) e c in
     let n : at + length rest ≡ length s = omega (arith, b.offset, ap length b.joined, length-append b.before rest) in
     (b, has_fault profile_two b.place at rest _ (e ∙ ap faulty (q.1 ∙ ap (fault Cause.Truncated) n)))
 
 -- the octets that lead to a place and those that wait there
-pub last_size : (Stands : List Open → Type 0) (at : ℕ) (s rest : List ℕ) → StandsLast Stands at s rest → (at + length rest ≡ length s) × (length s < 1_048_576)
+pub last_size : (Stands : List Open → Type 0) (at : ℕ) (s rest : List ℕ) → StandsLast Two Stands at s rest → (at + length rest ≡ length s) × (length s < 1_048_576)
 last_size Stands at s rest h =
     let b = h.0 in
     let n : at + length rest ≡ length s = omega (arith, b.offset, ap length b.joined, length-append b.before rest) in
@@ -143,20 +144,20 @@ failed_ends has r s Failure.OutOfMemory h = tt
 
 -- an open reader was fed its octets
 pub is_fed : {D : Type 0} (holds : D → List Level → List ℕ → Type 0) (has : D → Apdu → ℕ → Type 0) (r : Reader D) (fed : List ℕ) → IsOpenAt holds r fed → IsFed holds has r fed
-is_fed holds has r fed h = subst (λ st. InState st fed (HasRead has r fed) (StandsLast (HoldsAt holds r.path) r.at fed r.pending.items)) (sym h.0) h.1
+is_fed holds has r fed h = subst (λ st. InState st fed (HasRead has r fed) (StandsLast Two (HoldsAt holds r.path) r.at fed r.pending.items)) (sym h.0) h.1
 
 pub is_open : {D : Type 0} (holds : D → List Level → List ℕ → Type 0) (has : D → Apdu → ℕ → Type 0) (r : Reader D) (fed : List ℕ) → IsFed holds has r fed → r.state ≡ state.Open → IsOpenAt holds r fed
-is_open holds has r fed h e = (e, subst (λ st. InState st fed (HasRead has r fed) (StandsLast (HoldsAt holds r.path) r.at fed r.pending.items)) e h)
+is_open holds has r fed h e = (e, subst (λ st. InState st fed (HasRead has r fed) (StandsLast Two (HoldsAt holds r.path) r.at fed r.pending.items)) e h)
 
 pub open_stands : {D : Type 0} (holds : D → List Level → List ℕ → Type 0) (has : D → Apdu → ℕ → Type 0) (r : Reader D) (s rest : List ℕ) → HasStopped holds has r s rest → r.state ≡ state.Open
-    → StandsLast (HoldsAt holds r.path) r.at s rest
-open_stands holds has r s rest h e = subst (λ st. InState st s (HasRead has r s) (StandsLast (HoldsAt holds r.path) r.at s rest)) e h
+    → StandsLast Two (HoldsAt holds r.path) r.at s rest
+open_stands holds has r s rest h e = subst (λ st. InState st s (HasRead has r s) (StandsLast Two (HoldsAt holds r.path) r.at s rest)) e h
 
 pub is_whole : {D : Type 0} (holds : D → List Level → List ℕ → Type 0) (has : D → Apdu → ℕ → Type 0) (r : Reader D) (s rest : List ℕ) → HasStopped holds has r s rest → r.state ≡ state.Whole → HasRead has r s
-is_whole holds has r s rest h e = subst (λ st. InState st s (HasRead has r s) (StandsLast (HoldsAt holds r.path) r.at s rest)) e h
+is_whole holds has r s rest h e = subst (λ st. InState st s (HasRead has r s) (StandsLast Two (HoldsAt holds r.path) r.at s rest)) e h
 
 pub is_failed : {D : Type 0} (holds : D → List Level → List ℕ → Type 0) (has : D → Apdu → ℕ → Type 0) (r : Reader D) (s rest : List ℕ) (f : Failure) → HasStopped holds has r s rest → r.state ≡ state.Failed f → IsRefused s f
-is_failed holds has r s rest f h e = subst (λ st. InState st s (HasRead has r s) (StandsLast (HoldsAt holds r.path) r.at s rest)) e h
+is_failed holds has r s rest f h e = subst (λ st. InState st s (HasRead has r s) (StandsLast Two (HoldsAt holds r.path) r.at s rest)) e h
 
 -- a new reader can run through octets
 pub runs : {D : Type 0} (holds : D → List Level → List ℕ → Type 0) (has : D → Apdu → ℕ → Type 0) (r : Reader D) (w : List ℕ) → IsTrue (are_octets w) → IsOpenAt holds r [] → IsRunning holds has r w w

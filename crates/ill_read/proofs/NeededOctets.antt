@@ -1,4 +1,5 @@
 -- How many octets at least still belong to a message, at a place that the octets don't pass.
+use Rattle.ill_schema.specs.declared.profile.Profile.TheVariants.{Two}
 use Rattle.std.proofs.Common.{◌≡◌, ◌⊎◌, ℕ, ◌+◌, ◌<◌, ◌≤◌, min, Bool, true, false, ◌&&◌, List, [], ◌∷◌, ◌++◌, length, length-append, take, drop, Option, Some, None, IsTrue, refl, sym, ap, subst, ◌∙◌, inl, inr, arith, append_assoc, append-nil, nat_eq}
 use Rattle.std.specs.Prelude.{nat_le}
 use Rattle.std.proofs.lemmas.List.{take-append-drop, take-append-le, length-drop, nil_from_length}
@@ -200,7 +201,7 @@ mark_needs place k n (a ∷ w) more lt cut z one j r =
     let size : k + length (a ∷ w) + n ≡ k + 2 = omega (arith, ap length alone) in
     subst (λ z. Reaches z k j) (sym size) (mark_reaches profile_two place k (w ++ more) j lt (subst (λ (z : ℕ). Judged profile_two place k (z ∷ (w ++ more)) j) e r))
 
-element_reaches : (place : List Open) (k n : ℕ) (w more : List ℕ) → k < bound profile_two place → in_mark place w ≡ false → InElement place w → NeedsOfElement (read_identifier w) w n → ReachesNeed place k w more n
+element_reaches : (place : List Open) (k n : ℕ) (w more : List ℕ) → k < bound profile_two place → in_mark place w ≡ false → InElement Two place w → NeedsOfElement (read_identifier w) w n → ReachesNeed place k w more n
 element_reaches place k n w more lt m (inl q) need j r = header_end profile_two place k n w more j lt m (inl q) need r
 element_reaches place k n w more lt m (inr (tag, f, x, q, inl l)) need j r = header_end profile_two place k n w more j lt m (inr (tag, f, x, q, l)) need r
 element_reaches place k n w more lt m (inr (tag, f, x, q, inr (size, b, shut, l, less, le))) need j r =
@@ -211,10 +212,10 @@ element_reaches place k n w more lt m (inr (tag, f, x, q, inr (size, b, shut, l,
 
 inside_reaches : (place : List Open) (k n : ℕ) (w more : List ℕ) → k < bound profile_two place → IsCutShort profile_two place w → (b : Bool) → in_mark place w ≡ b → NeedsAfterMark b w n → ReachesNeed place k w more n
 inside_reaches place k n w more lt cut true m one = mark_needs place k n w more lt cut (and_parts (is_indefinite place) (begins_zero w) m).1 one
-inside_reaches place k n w more lt cut false m need = element_reaches place k n w more lt m (wants_element place w cut m) need
+inside_reaches place k n w more lt cut false m need = element_reaches place k n w more lt m (wants_element Two place w cut m) need
 
 -- what each judgement reaches, a message does
-reaches_at_least : (Stands : List Open → Type 0) (at : ℕ) (s octets : List ℕ) (l : StandsLast Stands at s octets) (n : ℕ) (more : List ℕ) → ReachesNeed l.0.place (length l.0.before) octets more n
+reaches_at_least : (Stands : List Open → Type 0) (at : ℕ) (s octets : List ℕ) (l : StandsLast Two Stands at s octets) (n : ℕ) (more : List ℕ) → ReachesNeed l.0.place (length l.0.before) octets more n
     → (a : Apdu) (m : ℕ) → IsTrue (are_octets (s ++ more)) → Accepts profile_two (s ++ more) a m → length s + n ≤ m
 reaches_at_least Stands at s octets l n more reaches a m ok h =
     let b = l.0 in
@@ -232,12 +233,12 @@ reaches_at_least Stands at s octets l n more reaches a m ok h =
     omega (arith, ap length b.joined, length-append u octets)
 
 -- at least this many octets still belong to the message
-pub need_at_least : (Stands : List Open → Type 0) (at : ℕ) (s octets : List ℕ) (l : StandsLast Stands at s octets) (n : ℕ) → IsNeed l.0.place at octets n
+pub need_at_least : (Stands : List Open → Type 0) (at : ℕ) (s octets : List ℕ) (l : StandsLast Two Stands at s octets) (n : ℕ) → IsNeed l.0.place at octets n
     → (more : List ℕ) (a : Apdu) (m : ℕ) → IsTrue (are_octets (s ++ more)) → Accepts profile_two (s ++ more) a m → length s + n ≤ m
 need_at_least Stands at s octets l n need more a m ok h =
     let b = l.0 in
     let u = b.before in
-    let near = short Stands at s octets l in
+    let near = short Two Stands at s octets l in
     let reach : (x : Option ℕ) → outermost b.place ≡ x → NeedsBefore x b.place at octets n → length s + n ≤ m = λ x. elim x as (λ x. outermost b.place ≡ x → NeedsBefore x b.place at octets n → length s + n ≤ m) [
       | Some e ↦ λ q is.
           let is_due : IsDue profile_two (s ++ more) (length u) b.place =
@@ -283,14 +284,14 @@ two_reach p path k rest (reads tag h content) lt r =
 -- The same of what these octets need, wherever a decoder keeps them.
 pub needed_at_least : (fed : List ℕ) (n : ℕ) → IsTrue (are_octets fed) → NeedsAfter fed n → (more : List ℕ) (a : Apdu) (m : ℕ) → IsTrue (are_octets (fed ++ more)) → Accepts profile_two (fed ++ more) a m → length fed + n ≤ m
 needed_at_least fed n ok x =
-    let last : StandsLast (λ _. Unit {0}) (length x.before) fed x.rest =
+    let last : StandsLast Two (λ _. Unit {0}) (length x.before) fed x.rest =
     (record { place = x.place; before = x.before; joined = x.joined; octets = ok; offset = refl; stands = tt; is_place = x.is_place }, x.ends) in
     need_at_least (λ _. Unit {0}) (length x.before) fed x.rest last n x.needed
 
 -- so two octets at least belong to the message where no definite element is open
-pub two_at_least : (Stands : List Open → Type 0) (at : ℕ) (s : List ℕ) (l : StandsLast Stands at s []) → (more : List ℕ) (a : Apdu) (m : ℕ) → IsTrue (are_octets (s ++ more)) → Accepts profile_two (s ++ more) a m → length s + 2 ≤ m
+pub two_at_least : (Stands : List Open → Type 0) (at : ℕ) (s : List ℕ) (l : StandsLast Two Stands at s []) → (more : List ℕ) (a : Apdu) (m : ℕ) → IsTrue (are_octets (s ++ more)) → Accepts profile_two (s ++ more) a m → length s + 2 ≤ m
 two_at_least Stands at s l more a m ok h =
-    let lt : length l.0.before < bound profile_two l.0.place = omega (arith, l.0.offset, (short Stands at s [] l).0) in
+    let lt : length l.0.before < bound profile_two l.0.place = omega (arith, l.0.offset, (short Two Stands at s [] l).0) in
     let size : length l.0.before + 2 ≡ length l.0.before + 0 + 2 = omega arith in
     reaches_at_least Stands at s [] l 2 more (λ j r. subst (λ z. Reaches z (length l.0.before) j) size (two_reach profile_two l.0.place (length l.0.before) more j lt r)) a m ok h
 
@@ -313,7 +314,7 @@ length_open place octets r f n (inl l) tag q h =
     ]
 
 -- and in the words of the octets alone
-pub needs_after : (Stands : List Open → Type 0) (at : ℕ) (fed octets : List ℕ) (l : StandsLast Stands at fed octets) (n : ℕ) → IsNeed l.0.place at octets n → NeedsAfter fed n
+pub needs_after : (Stands : List Open → Type 0) (at : ℕ) (fed octets : List ℕ) (l : StandsLast Two Stands at fed octets) (n : ℕ) → IsNeed l.0.place at octets n → NeedsAfter fed n
 needs_after Stands at fed octets l n need =
     let b = l.0 in
     record {
@@ -327,20 +328,20 @@ needs_after Stands at fed octets l n need =
     }
 
 -- and there are some
-pub need_open : (Stands : List Open → Type 0) (at : ℕ) (s octets : List ℕ) (l : StandsLast Stands at s octets) (n : ℕ) → IsNeed l.0.place at octets n → 0 < n
+pub need_open : (Stands : List Open → Type 0) (at : ℕ) (s octets : List ℕ) (l : StandsLast Two Stands at s octets) (n : ℕ) → IsNeed l.0.place at octets n → 0 < n
 need_open Stands at s octets l n need = go (outermost l.0.place) refl need
   where
-    element : InElement l.0.place octets → NeedsOfElement (read_identifier octets) octets n → 0 < n
+    element : InElement Two l.0.place octets → NeedsOfElement (read_identifier octets) octets n → 0 < n
     element (inl q) is = let one : n ≡ 1 = subst (λ x. NeedsOfElement x octets n) q is in omega arith
     element (inr w) is = length_open l.0.place octets w.2 w.1 n w.4 w.0 w.3 (subst (λ x. NeedsOfElement x octets n) w.3 is)
 
     inside : (b : Bool) → in_mark l.0.place octets ≡ b → NeedsAfterMark b octets n → 0 < n
     inside true m is = omega arith
-    inside false m is = element (wants_element l.0.place octets (short Stands at s octets l).1 m) is
+    inside false m is = element (wants_element Two l.0.place octets (short Two Stands at s octets l).1 m) is
 
     go : (x : Option ℕ) → outermost l.0.place ≡ x → NeedsBefore x l.0.place at octets n → 0 < n
     go (Some e) q is =
-        let near = (short Stands at s octets l).0 in
+        let near = (short Two Stands at s octets l).0 in
         let le = bound_before profile_two l.0.place l.0.before e l.0.is_place (has_outermost l.0.place e q) in
         omega arith
     go None q is = inside (in_mark l.0.place octets) refl is

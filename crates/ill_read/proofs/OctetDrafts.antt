@@ -1,4 +1,5 @@
 -- The octets that a draft holds, as elements open, are read and end.
+use Rattle.ill_schema.specs.declared.profile.Profile.TheVariants.{Two}
 use Rattle.std.proofs.Common.{◌≡◌, ℕ, Bool, true, false, List, [], ◌∷◌, ◌++◌, length, drop, append_assoc, append-nil, Option, None, IsTrue, refl, sym, ap, ap₂, subst, ◌∙◌}
 use Rattle.std.proofs.lemmas.List.{drop_at}
 use Rattle.ber_core.specs.Der.{encoding}
@@ -6,12 +7,11 @@ use Rattle.ber_core.specs.Id.{tag_of_id}
 use Rattle.ber_core.specs.Identifier.{Tag, identifier}
 use Rattle.ber_core.specs.Length.{shortest_length}
 use Rattle.ber_core.specs.Octets.{are_octets}
-use Rattle.ber_core.specs.Tree.{Tree, Trees, primitive, tag_of, octet_string}
+use Rattle.ber_core.specs.Tree.{Tree, Trees, primitive, tag_of}
 use Rattle.ber_leaf.specs.Leaf.{boolean, is_string, normal_content, value, content_fault}
 use Rattle.ber_leaf.specs.Profile.{profile_two}
 use Rattle.ill_schema.specs.Content.{Content, simple}
-use Rattle.ill_refusals.specs.Element.{segment}
-use Rattle.ill_cells.specs.Places.{alternative_of}
+use Rattle.ill_cells.specs.Places.{alternative_of, is_two}
 use Rattle.ill_elements.specs.Due.{IsDueIn, shape, first_of, read_as, slot_in}
 use Rattle.ill_elements.specs.Elements.{element_is}
 use Rattle.ill_elements.specs.LeafTypes.{leaf_is}
@@ -25,16 +25,16 @@ use Rattle.ill_elements.specs.declared.due.Next.{Next}
 use Rattle.ill_elements.specs.declared.due.Next.TheVariants.{Segments}
 use Rattle.ill_elements.specs.declared.due.Slot.{Slot}
 use Rattle.ill_elements.specs.declared.element.Element.{Element as CodeElement}
-use Rattle.ill_elements.specs.declared.element.Element.TheVariants.{Leaf as LeafElement, Sequence, List as ListOf, Wrapper, LooseWrapper, Segment}
+use Rattle.ill_elements.specs.declared.element.Element.TheVariants.{Leaf as LeafElement, Sequence, List as ListOf, Wrapper, LooseWrapper, Segment, ModuleLeaf, BitString, BitSegment, Foreign}
 use Rattle.ill_elements.specs.declared.frame.Frame.{Frame}
 use Rattle.ill_elements.specs.declared.judge.Opening.{Opening}
 use Rattle.ill_elements.specs.declared.judge.Reading.{Reading}
 use Rattle.ill_elements.specs.declared.leaf_type.LeafType.{LeafType}
 use Rattle.ill_read.specs.declared.octets.Octets.{Octets}
 use Rattle.ill_read.proofs.DeliveredEntries.{pushed_apart}
-use Rattle.ill_elements.proofs.DueTags.{MayOpen, due_apart, kept}
+use Rattle.ill_elements.proofs.OfTwo.{apart_two, read_two}
+use Rattle.ill_elements.proofs.DueTags.{MayOpen, kept}
 use Rattle.ill_elements.proofs.NormalLeaves.{no_bits, normal_as_read}
-use Rattle.ill_read.proofs.OpenedElements.{only_segment}
 use Rattle.ill_read.proofs.WrittenElements.{entry_written, ended_written}
 
 -- an element that opens has written nothing in it
@@ -42,9 +42,9 @@ written_first : (e : CodeElement) → written e (first_of e) [] ≡ []
 written_first (LeafElement l) = refl
 written_first _ = refl
 
-pub octets_opened : (old new : Octets) (next : Next) (o : Opening) (base : ℕ) (id : List ℕ) → (read_as o.found ≡ Segment → ⊥) → (IsApartAs o → id ≡ identifier (tag_of_id o.id) (form_of (read_as o.found)))
+pub octets_opened : (old new : Octets) (next : Next) (o : Opening) (base : ℕ) (id : List ℕ) → IsTrue (is_two o.found) → (read_as o.found ≡ Segment → ⊥) → (IsApartAs o → id ≡ identifier (tag_of_id o.id) (form_of (read_as o.found)))
     → new.octets ≡ old.octets ++ (id ++ 0 ∷ []) → base ≡ length new.octets → HasOpened AreOctets old next o base new
-octets_opened old new next o base id whole is e b levels text h opening = subst (λ ls. AreOctets new ls text) (sym (pushed_apart l levels whole)) (go levels h)
+octets_opened old new next o base id two whole is e b levels text h opening = subst (λ ls. AreOctets new ls text) (sym (pushed_apart l levels (read_two o.found two) whole)) (go levels h)
   where
     l : Level
     l = record { element = (read_as o.found); tag = tag_of_id o.id; next = first_of (read_as o.found); base = base; entries = [] }
@@ -93,7 +93,7 @@ pub leaf_added : (old new : Octets) (l : Level) (below : List Level) (next : Nex
 leaf_added old new l below next r leaf octets h due ok right e =
     let tag = tag_of_id r.id in
     let c = simple (value (leaf_is leaf) octets) in
-    let entry = entry_written l.element l.next l.entries due.trees (primitive tag octets) (slot_in r.found) (alternative_of r.found) (LeafElement leaf) c due.held due.is_due (tt, ok, right, refl) in
+    let entry = entry_written l.element l.next l.entries due.trees (primitive tag octets) (slot_in r.found) (alternative_of r.found) (LeafElement leaf) c refl due.held due.is_due (tt, ok, right, refl) in
     let front : old.octets ≡ h.front = h.joined ∙ append-nil h.front in
     let there = ap (λ n. unless_left n (slot_in r.found) (with_alternative (alternative_of r.found) c) (encoding (primitive tag (normal_content (value (leaf_is leaf) octets))))) (sym due.next) in
     added_octets new l below (slot_in r.found) (with_alternative (alternative_of r.found) c) h.front _ entry h.are (e ∙ ap₂ (λ x y. x ++ y) front there)
@@ -114,42 +114,49 @@ contents_of (LeafElement l) n octets text = text
 contents_of e n octets text = enclosed e n octets
 
 -- its octets are those of its normal form
-ended_octets : (e : CodeElement) (n : Next) (entries : List (Option Content)) (ts : Trees) (text : List ℕ) (c : Content) (tag : Tag) → IsHeld e n entries ts → IsRightText e text → IsContentOf e n entries text c
+ended_octets : (e : CodeElement) (n : Next) (entries : List (Option Content)) (ts : Trees) (text : List ℕ) (c : Content) (tag : Tag) → IsHeld Two e n entries ts → IsRightText e text → IsContentOf e n entries text c
     → let contents = contents_of e n (written e n entries) text in
     encoding (normal_element (element_is e) tag c) ≡ identifier tag (form_of e) ++ (shortest_length (length contents) ++ contents)
 ended_octets (LeafElement l) n entries ts text c tag h right k =
     ap (λ x. encoding (normal_element (element_is (LeafElement l)) tag x)) k
     ∙ ap (λ x. encoding (primitive tag x)) (normal_as_read profile_two (leaf_is l) text (no_boolean n h) (no_bits l) right.0 right.1)
   where
-    no_boolean : (n : Next) → IsHeld (LeafElement l) n entries ts → leaf_is l ≡ boolean → ⊥
+    no_boolean : (n : Next) → IsHeld Two (LeafElement l) n entries ts → leaf_is l ≡ boolean → ⊥
     no_boolean Segments h e = let q : is_string boolean ≡ true = subst (λ x. is_string x ≡ true) e h.0 in cc
     no_boolean _ h e = h
+ended_octets (ModuleLeaf l) n entries ts text c tag h right k = absurd k
+ended_octets BitString n entries ts text c tag h right k = absurd k
+ended_octets BitSegment n entries ts text c tag h right k = absurd k
+ended_octets (Foreign m) n entries ts text c tag h right k = absurd k
 ended_octets Segment n entries ts text c tag h right k = absurd k
 ended_octets (Sequence node) n entries ts text c tag h right k = ended_written (Sequence node) n entries ts text c tag h k (λ l e. cc)
 ended_octets (ListOf node) n entries ts text c tag h right k = ended_written (ListOf node) n entries ts text c tag h k (λ l e. cc)
 ended_octets (Wrapper w) n entries ts text c tag h right k = ended_written (Wrapper w) n entries ts text c tag h k (λ l e. cc)
 ended_octets (LooseWrapper w) n entries ts text c tag h right k = ended_written (LooseWrapper w) n entries ts text c tag h k (λ l e. cc)
 
-may_open : (e : CodeElement) (n : Next) (entries : List (Option Content)) (ts : Trees) → IsHeld e n entries ts → MayOpen (element_is e)
+may_open : (e : CodeElement) (n : Next) (entries : List (Option Content)) (ts : Trees) → IsHeld Two e n entries ts → MayOpen (element_is e)
 may_open (LeafElement l) Segments entries ts h = h.0
 may_open (LeafElement l) _ entries ts h = absurd h
+may_open (ModuleLeaf l) Segments entries ts h = h.0
+may_open (ModuleLeaf l) _ entries ts h = absurd h
+may_open BitString n entries ts h = refl
 may_open _ n entries ts h = tt
 
 -- an element ends: its contents are made, and then its length is set
-pub octets_closed : (old new : Octets) (middle : List ℕ) (f : Frame) (next : Next) (tag : Tag) (entries : List (Option Content)) (trees : Trees) (l : Level) (below : List Level) (text : List ℕ) (c : Content)
-    → AreOctets old (level_of f tag entries ∷ l ∷ below) text → IsHeld (read_as f.found) (shape f.place) entries trees → IsRightText (read_as f.found) text → IsContentOf (read_as f.found) (shape f.place) entries text c
-    → ((T : Tree) × (tag_of T ≡ tag) × IsValueOf (element_is (read_as f.found)) c T) → IsDueAt l next tag (slot_in f.found) (alternative_of f.found) (read_as f.found)
+pub octets_closed : (old new : Octets) (middle : List ℕ) (f : Frame) (two : IsTrue (is_two f.found)) (next : Next) (tag : Tag) (entries : List (Option Content)) (trees : Trees) (l : Level) (below : List Level) (text : List ℕ) (c : Content)
+    → AreOctets old (level_of f tag entries ∷ l ∷ below) text → IsHeld Two (read_as f.found) (shape f.place) entries trees → IsRightText (read_as f.found) text → IsContentOf (read_as f.found) (shape f.place) entries text c
+    → ((T : Tree) × (tag_of T ≡ tag) × IsValueOf Two (element_is (read_as f.found)) c T) → IsDueAt l next tag (slot_in f.found) (alternative_of f.found) (read_as f.found)
     → ((before : List ℕ) → old.octets ≡ before ++ (written (read_as f.found) (shape f.place) entries ++ text) → f.base ≡ length before → middle ≡ before ++ contents_of (read_as f.found) (shape f.place) (written (read_as f.found) (shape f.place) entries) text)
     → ((before body : List ℕ) (t : Tag) (form : Bool) (x : ℕ) → middle ≡ before ++ (identifier t form ++ x ∷ body) → f.base ≡ length (before ++ (identifier t form ++ x ∷ []))
     → new.octets ≡ before ++ (identifier t form ++ (shortest_length (length body) ++ body)))
     → AreOctets new (with_entry l (slot_in f.found) (with_alternative (alternative_of f.found) c) ∷ below) []
-octets_closed old new middle f next tag entries trees l below text c h held right is value due made closed =
+octets_closed old new middle f two next tag entries trees l below text c h held right is value due made closed =
     let a = h.are in
     let w = written (read_as f.found) (shape f.place) entries in
     let contents = contents_of (read_as f.found) (shape f.place) w text in
     let id = identifier tag (form_of (read_as f.found)) in
-    let apart : element_is (read_as f.found) ≡ segment octet_string → ⊥ = λ s. subst (λ x. IsContentOf x (shape f.place) entries text c) (only_segment (read_as f.found) s) is in
-    let header : a.1 ≡ id ++ 0 ∷ [] = a.4 (λ class number. absurd (due_apart tag l.next (due_with (slot_in f.found) (alternative_of f.found) (read_as f.found)) due.is_due apart class number)) in
+    let apart : read_as f.found ≡ Segment → ⊥ = λ s. subst (λ x. IsContentOf x (shape f.place) entries text c) s is in
+    let header : a.1 ≡ id ++ 0 ∷ [] = a.4 (λ class number. absurd (apart_two tag l.next (slot_in f.found) (alternative_of f.found) (read_as f.found) due.is_due (read_two f.found two) apart class number)) in
     let all : old.octets ≡ (a.0 ++ a.1) ++ (w ++ text) =
     h.joined ∙ ap (λ x. x ++ text) (a.2 ∙ sym (append_assoc a.0 a.1 w)) ∙ append_assoc (a.0 ++ a.1) w text in
     let middle_is : middle ≡ a.0 ++ (id ++ 0 ∷ contents) =
@@ -157,7 +164,7 @@ octets_closed old new middle f next tag entries trees l below text c h held righ
     let base : f.base ≡ length (a.0 ++ (id ++ 0 ∷ [])) = a.3 ∙ ap (λ x. length (a.0 ++ x)) header in
     let done = closed a.0 contents tag (form_of (read_as f.found)) 0 middle_is base ∙ ap (λ x. a.0 ++ x) (sym (ended_octets (read_as f.found) (shape f.place) entries trees text c tag held right is)) in
     let here = subst (λ t. IsDueIn t l.next (due_with (slot_in f.found) (alternative_of f.found) (read_as f.found))) (sym value.1) due.is_due in
-    let entry = entry_written l.element l.next l.entries due.trees value.0 (slot_in f.found) (alternative_of f.found) (read_as f.found) c due.held here value.2 in
+    let entry = entry_written l.element l.next l.entries due.trees value.0 (slot_in f.found) (alternative_of f.found) (read_as f.found) c (read_two f.found two) due.held here value.2 in
     let stays = kept tag l.next (slot_in f.found) (alternative_of f.found) (read_as f.found) c due.is_due (may_open (read_as f.found) (shape f.place) entries trees held) in
     let octets = encoding (normal_element (element_is (read_as f.found)) tag c) in
     let added : unless_left l.next (slot_in f.found) (with_alternative (alternative_of f.found) c) (encoding (normal_element (element_is (read_as f.found)) (tag_of value.0) c)) ≡ octets =
@@ -178,6 +185,10 @@ contents_other (Sequence node) n entries text c k leaf loose = ap (λ t. written
 contents_other (ListOf node) n entries text c k leaf loose = ap (λ t. written (ListOf node) n entries ++ t) k.0 ∙ append-nil _
 contents_other (Wrapper w) n entries text c k leaf loose = ap (λ t. written (Wrapper w) n entries ++ t) k.0 ∙ append-nil _
 contents_other (LooseWrapper w) n entries text c k leaf loose = absurd (loose w refl)
+contents_other (ModuleLeaf l) n entries text c k leaf loose = absurd k
+contents_other BitString n entries text c k leaf loose = absurd k
+contents_other BitSegment n entries text c k leaf loose = absurd k
+contents_other (Foreign m) n entries text c k leaf loose = absurd k
 contents_other Segment n entries text c k leaf loose = absurd k
 
 pub loose_text : (w : _) (n : Next) (entries : List (Option Content)) (text : List ℕ) (c : Content) → IsContentOf (LooseWrapper w) n entries text c → text ≡ []

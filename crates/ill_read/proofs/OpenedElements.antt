@@ -1,5 +1,10 @@
 -- An element opens.
-use Rattle.std.proofs.Common.{◌≡◌, ℕ, List, [], ◌∷◌, ◌++◌, append-nil, Option, Some, None, unwrap_or, true, refl, sym, ap, subst, ◌∙◌}
+use Rattle.ill_schema.specs.declared.node.Kind.{Kind}
+use Rattle.ill_schema.specs.Table.{kind_of}
+use Rattle.ill_elements.specs.Two.{is_two_frame}
+use Rattle.std.specs.List.{list_all}
+use Rattle.ill_schema.specs.declared.profile.Profile.TheVariants.{Two}
+use Rattle.std.proofs.Common.{◌≡◌, ℕ, List, [], ◌∷◌, ◌++◌, append-nil, Option, Some, None, unwrap_or, true, IsTrue, refl, sym, ap, subst, ◌∙◌}
 use Rattle.ber_core.specs.Id.{tag_of_id}
 use Rattle.ber_core.specs.Identifier.{Tag}
 use Rattle.ber_core.specs.Tree.{none, octet_string}
@@ -16,33 +21,43 @@ use Rattle.ill_refusals.specs.code.Step.{opened}
 use Rattle.ill_read.specs.code.Drafts.{HasOpened, IsOpeningIn}
 use Rattle.ill_elements.specs.Due.{due_with}
 use Rattle.ill_elements.specs.declared.due.Next.{Next}
-use Rattle.ill_elements.specs.declared.due.Next.TheVariants.{Segments}
+use Rattle.ill_elements.specs.declared.due.Next.TheVariants.{Inner, Root, Segments}
 use Rattle.ill_elements.specs.declared.element.Element.{Element as CodeElement}
-use Rattle.ill_elements.specs.declared.element.Element.TheVariants.{Leaf, Sequence, List as ListOf, Wrapper, LooseWrapper, Segment}
+use Rattle.ill_elements.specs.declared.element.Element.TheVariants.{Leaf, Sequence, List as ListOf, Wrapper, LooseWrapper, Segment, ModuleLeaf, BitString, BitSegment, Foreign}
 use Rattle.ill_elements.specs.declared.frame.Frame.{Frame}
 use Rattle.ill_elements.specs.declared.judge.Opening.{Opening}
 use Rattle.ill_read.specs.declared.path.Path.{Path}
 use Rattle.ill_read.proofs.DeliveredEntries.{innermost_level}
 use Rattle.ill_elements.proofs.DueCells.{opens-by}
-use Rattle.ill_elements.proofs.DueTags.{due_segment}
+use Rattle.ill_elements.proofs.DueTags.{bits_apart, due_segment}
 use Rattle.ill_read.proofs.Segments.{text_with, no_text}
 
 -- an element that opens holds nothing
-holds_none : (e : CodeElement) (n : Next) → n ≡ first_of e → allows (element_is e) true ≡ true → IsHeld e n [] none
-holds_none (Leaf l) n f a = subst (λ x. IsHeld (Leaf l) x [] none) (sym f) (a, refl, tt)
-holds_none (Sequence node) n f a = subst (λ x. IsHeld (Sequence node) x [] none) (sym f) (refl, refl)
-holds_none (ListOf node) n f a = subst (λ x. IsHeld (ListOf node) x [] none) (sym f) (refl, [], refl, refl)
-holds_none (Wrapper w) n f a = subst (λ x. IsHeld (Wrapper w) x [] none) (sym f) (refl, refl, refl)
-holds_none (LooseWrapper w) n f a = subst (λ x. IsHeld (LooseWrapper w) x [] none) (sym f) (refl, refl, refl)
-holds_none Segment n f a = subst (λ x. IsHeld Segment x [] none) (sym f) (refl, tt)
+holds_none : (e : CodeElement) (n : Next) → n ≡ first_of e → allows (element_is e) true ≡ true → IsHeld Two e n [] none
+holds_none (Leaf l) n f a = subst (λ x. IsHeld Two (Leaf l) x [] none) (sym f) (a, refl, tt)
+holds_none (Sequence node) n f a = subst (λ x. IsHeld Two (Sequence node) x [] none) (sym f) (refl, refl)
+holds_none (ListOf node) n f a = subst (λ x. IsHeld Two (ListOf node) x [] none) (sym f) (refl, [], refl, refl)
+holds_none (Wrapper w) n f a = go (kind_of w.node) f
+  where
+    go : (k : Kind) → n ≡ elim k as (λ _. Next) [ Kind.Any ↦ Root w | _ ↦ Inner w ] → IsHeld Two (Wrapper w) n [] none
+    go Kind.Any f = subst (λ x. IsHeld Two (Wrapper w) x [] none) (sym f) (refl, refl, refl)
+    go _ f = subst (λ x. IsHeld Two (Wrapper w) x [] none) (sym f) (refl, refl, refl)
+holds_none (LooseWrapper w) n f a = subst (λ x. IsHeld Two (LooseWrapper w) x [] none) (sym f) (refl, refl, refl)
+holds_none Segment n f a = subst (λ x. IsHeld Two Segment x [] none) (sym f) (refl, tt)
+holds_none (ModuleLeaf l) n f a = subst (λ x. IsHeld Two (ModuleLeaf l) x [] none) (sym f) (a, refl, tt)
+holds_none BitString n f a = subst (λ x. IsHeld Two BitString x [] none) (sym f) (refl, tt)
+holds_none BitSegment n f a = subst (λ x. IsHeld Two BitSegment x [] none) (sym f) (refl, tt)
+holds_none (Foreign k) n f a = subst (λ x. IsHeld Two (Foreign k) x [] none) (sym f) (refl, refl, refl)
 
 pub only_segment : (e : CodeElement) → element_is e ≡ segment octet_string → e ≡ Segment
 only_segment Segment s = refl
+only_segment BitSegment s = absurd (bits_apart (sym s))
 only_segment _ s = cc
 
 -- nor does it add text
 text_opened : (e : CodeElement) (before : List ℕ) → ((element_is e ≡ segment octet_string → ⊥) → before ≡ []) → before ≡ text_with (element_is e) before none
 text_opened Segment before h = sym (append-nil before)
+text_opened BitSegment before h = sym (append-nil before)
 text_opened _ before h = h (λ s. cc)
 
 -- the bound in an element
@@ -50,30 +65,30 @@ bound_opened : (end : Option ℕ) (round : ℕ) (e : CodeElement) (tag : Tag) (s
 bound_opened (Some n) round e tag start place h = refl
 bound_opened None round e tag start place h = h
 
-pub opens_at : {D : Type 0} (holds : D → List Level → List ℕ → Type 0) (old new : Path D) (opening : Opening) (f : Frame) (place : List Open) (round : ℕ) → HoldsAt holds old place
-    → IsDueIn (tag_of_id opening.id) (next_at old.frames.open.items) (due_with (slot_in f.found) (alternative_of f.found) (read_as f.found)) → shape_at (next_place f.found) ≡ behind (next_at old.frames.open.items) (slot_in f.found) → allows (element_is (read_as f.found)) true ≡ true → (shape f.place) ≡ first_of (read_as f.found)
-    → round ≡ bound profile_two place → f.bound ≡ unwrap_or f.end round → HasOpened holds old.draft (next_at old.frames.open.items) opening f.base new.draft → new.frames.open.items ≡ old.frames.open.items ++ f ∷ [] → f.found ≡ opening.found
+pub opens_at : {D : Type 0} (holds : D → List Level → List ℕ → Type 0) (old new : Path D) (opening : Opening) (f : Frame) (place : List Open) (round : ℕ) → IsTrue (list_all is_two_frame old.frames.open.items) → HoldsAt holds old place
+    → IsDueIn (tag_of_id opening.id) (next_at Two old.frames.open.items) (due_with (slot_in f.found) (alternative_of f.found) (read_as f.found)) → shape_at (next_place f.found) ≡ behind (next_at Two old.frames.open.items) (slot_in f.found) → allows (element_is (read_as f.found)) true ≡ true → (shape f.place) ≡ first_of (read_as f.found)
+    → round ≡ bound profile_two place → f.bound ≡ unwrap_or f.end round → HasOpened holds old.draft (next_at Two old.frames.open.items) opening f.base new.draft → new.frames.open.items ≡ old.frames.open.items ++ f ∷ [] → f.found ≡ opening.found
     → HoldsAt holds new (opened (element_is (read_as f.found)) (tag_of_id opening.id) f.start f.end ∷ place)
-opens_at holds old new opening f place round h due after allowed first r b has frames is =
+opens_at holds old new opening f place round two h due after allowed first r b has frames is =
     let tag = tag_of_id opening.id in
     let o : Open = opened (element_is (read_as f.found)) tag f.start f.end in
-    let framed : IsFrame f o place old.frames.open.items [] = record {
+    let framed : IsFrame Two f o place old.frames.open.items [] = record {
       element = refl;
       start = refl;
       end = refl;
       bound = b ∙ bound_opened f.end round (read_as f.found) tag f.start place r;
-      next = ap next_is first ∙ opens-by (what_of f.found) (part_of f.found) (node_of f.found) f.found.opens;
+      next = ap next_is first ∙ opens-by (what_of f.found) (part_of f.found) (node_of f.found);
       is_due = due;
       after = after;
       held = holds_none (read_as f.found) (shape f.place) first allowed;
       were_due = tt;
     } in
-    let next = next_at old.frames.open.items in
+    let next = next_at Two old.frames.open.items in
     let apart : (element_is (read_as f.found) ≡ segment octet_string → ⊥) → next ≡ Segments → ⊥ = λ n s. n (due_segment tag next (due_with (slot_in f.found) (alternative_of f.found) (read_as f.found)) due s) in
-    let none_before : (element_is (read_as f.found) ≡ segment octet_string → ⊥) → text_so_far place ≡ [] = λ n. no_text place old.frames.open.items h.0 h.1 (apart n) in
+    let none_before : (element_is (read_as f.found) ≡ segment octet_string → ⊥) → text_so_far place ≡ [] = λ n. no_text place old.frames.open.items h.0 two h.1 (apart n) in
     let opens_in : (read_as opening.found ≡ Segment → ⊥) → IsOpeningIn h.0 (text_so_far place) next opening = λ n.
     let other : element_is (read_as f.found) ≡ segment octet_string → ⊥ = λ s. n (ap read_as (sym is) ∙ only_segment (read_as f.found) s) in
-    let l = innermost_level place old.frames.open.items h.0 h.1 (apart other) in
+    let l = innermost_level place old.frames.open.items h.0 two h.1 (apart other) in
     record {
       none = none_before other;
       level = l.0;

@@ -1,5 +1,6 @@
 -- The marks that an outline has, as elements open, are read and end.
-use Rattle.std.proofs.Common.{◌≡◌, ℕ, List, [], ◌∷◌, ◌++◌, length, map, append_assoc, append-nil, Option, Some, None, refl, sym, ap, subst, ◌∙◌, inl, inr, true, false, Bool}
+use Rattle.ill_schema.specs.declared.profile.Profile.TheVariants.{Two}
+use Rattle.std.proofs.Common.{IsTrue, ◌≡◌, ℕ, List, [], ◌∷◌, ◌++◌, length, map, append_assoc, append-nil, Option, Some, None, refl, sym, ap, subst, ◌∙◌, inl, inr, true, false, Bool}
 use Rattle.std.proofs.lemmas.Option.{slice_get_cases}
 use Rattle.ber_core.specs.Id.{tag_of_id}
 use Rattle.ber_core.specs.Identifier.{Tag}
@@ -17,7 +18,7 @@ use Rattle.ill_schema.specs.declared.node.NodeId.{NodeId}
 use Rattle.ill_schema.specs.declared.part.PartId.{PartId}
 use Rattle.ill_schema.specs.declared.part.Presence.{Presence}
 use Rattle.ill_schema.specs.declared.part.Row.{Row}
-use Rattle.ill_cells.specs.Places.{alternative_of}
+use Rattle.ill_cells.specs.Places.{alternative_of, is_two}
 use Rattle.ill_elements.specs.Due.{IsDueIn, behind, shape, first_of, read_as, slot_in}
 use Rattle.ill_elements.specs.LeafTypes.{leaf_is}
 use Rattle.ill_read.specs.Outline.{AreEntries, AreItems, IsMarked, leaf_marks}
@@ -28,11 +29,11 @@ use Rattle.ill_elements.specs.Due.{due_with}
 use Rattle.ill_read.specs.code.OctetDrafts.{AreNormal, AreOctets}
 use Rattle.ill_read.specs.code.Outlines.{AreFronts, AreLed, AreOutlined, ArePassed, HasLed, HasOutline, HasPassed, HasRear, IsLed, alternative_marks, first_marks, last_marks, late_marks, start_marks}
 use Rattle.ill_elements.specs.declared.due.Next.{Next}
-use Rattle.ill_elements.specs.declared.due.Next.TheVariants.{Rows, Inner, Items, Either, Segments, Nothing}
+use Rattle.ill_elements.specs.declared.due.Next.TheVariants.{Rows, Inner, Items, Either, Segments, Nothing, Root}
 use Rattle.ill_elements.specs.declared.due.Slot.{Slot}
 use Rattle.ill_elements.specs.declared.due.Slot.TheVariants.{Row as AtRow}
 use Rattle.ill_elements.specs.declared.element.Element.{Element as CodeElement}
-use Rattle.ill_elements.specs.declared.element.Element.TheVariants.{Leaf, Sequence, List as ListOf, Wrapper, LooseWrapper, Segment}
+use Rattle.ill_elements.specs.declared.element.Element.TheVariants.{Leaf, Sequence, List as ListOf, Wrapper, LooseWrapper, Segment, ModuleLeaf, BitString, BitSegment, Foreign}
 use Rattle.ill_elements.specs.declared.element.Wrapped.{Wrapped}
 use Rattle.ill_elements.specs.declared.frame.Frame.{Frame}
 use Rattle.ill_elements.specs.declared.judge.Opening.{Opening}
@@ -42,6 +43,7 @@ use Rattle.ill_read.specs.declared.mark.Mark.{Mark}
 use Rattle.ill_read.specs.declared.mark.Mark.TheVariants as mark
 use Rattle.ill_read.specs.declared.outline.Outlining.{Outlining}
 use Rattle.ber_leaf.proofs.Leaves.{content as content_is}
+use Rattle.ill_elements.proofs.OfTwo.{read_two}
 use Rattle.ill_read.proofs.DeliveredEntries.{pushed_apart}
 use Rattle.ill_read.proofs.HeldEntries.{drop-take-more}
 use Rattle.ill_read.proofs.AddedEntries.{one_due}
@@ -162,7 +164,7 @@ late_marked w entries text c own rows none is held h k =
     (sequence_marked entries (rows_of w.node) [] c [] rows refl is (subst (AreEntries (entries_of entries)) own_none h) k))
 
 -- the marks of an element that has ended say its content
-pub ended_marked : (e : CodeElement) (n : Next) (entries : List (Option Content)) (ts : Trees) (text : List ℕ) (c : Content) (own rows : List Mark) → IsHeld e n entries ts → IsRightText e text
+pub ended_marked : (e : CodeElement) (n : Next) (entries : List (Option Content)) (ts : Trees) (text : List ℕ) (c : Content) (own rows : List Mark) → IsHeld Two e n entries ts → IsRightText e text
     → IsContentOf e n entries text c → AreEntries (entries_of entries) own → ArePassed (rows_left n) rows → IsMarked c (whole_marks n e own text rows)
 ended_marked (Leaf l) Segments entries ts text c own rows held right is h k = string_marked l entries text c own rows held.1 right is h k
 ended_marked (Sequence node) (Rows own_node m) entries ts text c own rows held right is h k = sequence_marked entries (rows_left (Rows own_node m)) text c own rows is.0 is.1 h k
@@ -172,17 +174,22 @@ ended_marked (Wrapper w) Nothing entries ts text c own rows held right is h k = 
 ended_marked (LooseWrapper w) Nothing entries ts text c own rows held right is h k = part_marked entries text c own rows is.0 is.1 h k
 ended_marked (LooseWrapper w) (Rows own_node m) entries ts text c own rows held right is h k = sequence_marked entries (rows_left (Rows own_node m)) text c own rows is.0 is.1 h k
 ended_marked (LooseWrapper w) (Either own_part) entries ts text c own rows held right is h k = late_marked own_part entries text c own rows is.0 is.1 held.1 h k
+ended_marked (Wrapper w) (Root own_part) entries ts text c own rows held right is h k = part_marked entries text c own rows is.0 is.1 h k
+ended_marked (ModuleLeaf l) n entries ts text c own rows held right is h k = absurd is
+ended_marked BitString n entries ts text c own rows held right is h k = absurd is
+ended_marked BitSegment n entries ts text c own rows held right is h k = absurd is
+ended_marked (Foreign m) n entries ts text c own rows held right is h k = absurd is
 ended_marked Segment n entries ts text c own rows held right is h k = absurd is
 ended_marked _ _ entries ts text c own rows held right is h k = absurd held
 
 -- ---- the draft
 
-none_held : (e : CodeElement) (w : Wrapped) (entries : List (Option Content)) (ts : Trees) → IsHeld e (Either w) entries ts → entries ≡ []
+none_held : (e : CodeElement) (w : Wrapped) (entries : List (Option Content)) (ts : Trees) → IsHeld Two e (Either w) entries ts → entries ≡ []
 none_held (LooseWrapper x) w entries ts h = h.1
 none_held _ w entries ts h = absurd h
 
 -- an entry more, and the marks that its element began with
-first_more : (n : Next) (e : CodeElement) (entries : List (Option Content)) (ts : Trees) (t : Tag) (slot : Slot) (alt : Option ℕ) (el : CodeElement) (own : List Mark) → IsHeld e n entries ts
+first_more : (n : Next) (e : CodeElement) (entries : List (Option Content)) (ts : Trees) (t : Tag) (slot : Slot) (alt : Option ℕ) (el : CodeElement) (own : List Mark) → IsHeld Two e n entries ts
     → IsDueIn t n (due_with slot alt el) → AreEntries (entries_of entries) own → (first_marks n e ++ own) ++ start_marks n slot ≡ first_marks (behind n slot) e ++ own
 first_more (Rows node k) e entries ts t (AtRow r) alt el own held d h = append-nil _
 first_more (Rows node k) e entries ts t _ alt el own held d h = absurd d
@@ -208,13 +215,13 @@ entry_marked l below next t slot alt el c old mid new y due h led e m =
     ∙ ap (λ ms. h.1 ++ ms) (sym (append_assoc (first ++ h.2) start x) ∙ ap (λ ms. ms ++ x) (first_more l.next l.element l.entries due.trees t slot alt el h.2 due.held due.is_due h.5) ∙ append_assoc (first_marks (behind l.next slot) l.element) h.2 x) in
     (h.0, h.1, h.2 ++ x, joined, h.4, entry_added l.entries (rows_before l.next slot) (with_alternative alt c) h.2 led.rows (alternative ++ y) h.5 led.are (chosen alt c y m), h.6)
 
-pub outline_opened : (old new : Outlining) (next : Next) (o : Opening) (base : ℕ) (mid : List Mark) → (read_as o.found ≡ Segment → ⊥) → HasOpened AreOctets old.octets next o base new.octets
+pub outline_opened : (old new : Outlining) (next : Next) (o : Opening) (base : ℕ) (mid : List Mark) → IsTrue (is_two o.found) → (read_as o.found ≡ Segment → ⊥) → HasOpened AreOctets old.octets next o base new.octets
     → HasLed next (slot_in o.found) (alternative_of o.found) old.marks.items mid → new.marks.items ≡ mid ++ first_marks (first_of (read_as o.found)) (read_as o.found) → HasOpened AreOutlined old next o base new
-outline_opened old new next o base mid whole octets led e levels text h opening = record {
+outline_opened old new next o base mid two whole octets led e levels text h opening = record {
   octets = octets levels text h.octets opening;
   front = new.marks.items;
   joined = sym (append-nil new.marks.items) ∙ ap (λ t. new.marks.items ++ map mark.Octet t) (sym i.none);
-  are = subst (λ ls. AreFronts ls new.marks.items) (sym (pushed_apart _ levels whole))
+  are = subst (λ ls. AreFronts ls new.marks.items) (sym (pushed_apart _ levels (read_two o.found two) whole))
       (h.front, mid, [], e ∙ ap (λ ms. mid ++ ms) (sym (append-nil _)), subst (λ ls. AreLed (tag_of_id o.id) (read_as o.found) ls h.front mid) (sym i.are) is_led, refl, h.are);
 }
   where

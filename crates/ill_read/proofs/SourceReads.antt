@@ -1,4 +1,5 @@
 -- A decoder that is fed from a source has what the source gave up, and no octet after a message.
+use Rattle.ill_schema.specs.declared.profile.Profile.TheVariants.{Two}
 use Rattle.std.proofs.Common.{◌≡◌, ◌≢◌, ◌⊎◌, ℕ, ◌+◌, ◌<◌, ◌≤◌, List, [], ◌∷◌, ◌++◌, length, length-append, Option, Some, None, Result, Ok, Err, IsTrue, refl, sym, ap, subst, ◌∙◌, inl, inr, arith, append-nil}
 use Rattle.std.specs.Prelude.{Bool, true, false, IfErr, IfNone, IfOk, IfSome}
 use Rattle.std.specs.Io.KnownBytes.{Appends, Consumes, IsAtEnd}
@@ -35,7 +36,7 @@ open_or_closed : (st : State) → (st ≡ state.Open) ⊎ (st ≢ state.Open)
 open_or_closed state.Open = inl refl
 open_or_closed _ = inr (λ e. cc)
 
-stands : {D : Type 0} (holds : D → List Level → List ℕ → Type 0) (has : D → Apdu → ℕ → Type 0) (d : Reader D) (s : List ℕ) → IsFed holds has d s → d.state ≡ state.Open → StandsLast (HoldsAt holds d.path) d.at s d.pending.items
+stands : {D : Type 0} (holds : D → List Level → List ℕ → Type 0) (has : D → Apdu → ℕ → Type 0) (d : Reader D) (s : List ℕ) → IsFed holds has d s → d.state ≡ state.Open → StandsLast Two (HoldsAt holds d.path) d.at s d.pending.items
 stands holds has d s h e = (is_open holds has d s h e).1
 
 -- no message ends before a piece of octets that are all needed

@@ -1,4 +1,5 @@
 -- The values that a draft holds, as elements open, are read and end.
+use Rattle.ill_schema.specs.declared.profile.Profile.TheVariants.{Two}
 use Rattle.std.proofs.Common.{◌≡◌, ℕ, List, [], ◌∷◌, ◌++◌, length, map, append_assoc, append-nil, Option, Some, None, Ok, IsTrue, refl, sym, ap, ap₂, subst, ◌∙◌, option_map}
 use Rattle.std.proofs.lemmas.List.{map-append}
 use Rattle.ber_core.specs.Id.{tag_of_id}
@@ -22,7 +23,7 @@ use Rattle.ill_elements.specs.declared.due.Next.{Next}
 use Rattle.ill_elements.specs.declared.due.Next.TheVariants.{Segments, Nothing}
 use Rattle.ill_elements.specs.declared.due.Slot.{Slot}
 use Rattle.ill_elements.specs.declared.element.Element.{Element as CodeElement}
-use Rattle.ill_elements.specs.declared.element.Element.TheVariants.{Leaf, List as ListOf, Wrapper, LooseWrapper, Segment}
+use Rattle.ill_elements.specs.declared.element.Element.TheVariants.{Leaf, List as ListOf, Wrapper, LooseWrapper, Segment, BitSegment}
 use Rattle.ill_elements.specs.declared.element.Wrapped.{Wrapped}
 use Rattle.ill_elements.specs.declared.frame.Frame.{Frame}
 use Rattle.ill_elements.specs.declared.judge.Opening.{Opening}
@@ -40,8 +41,9 @@ values_opened v next opening base e levels text h is = go (read_as opening.found
     more : AreValues v (l ∷ levels) text
     more = record { held = (v.held.entries.items, [], sym (append-nil v.held.entries.items), e, refl, h.held); text = h.text }
 
-    go : (x : CodeElement) → AreValues v (elim x as (λ _. List Level) [ Segment ↦ levels | _ ↦ l ∷ levels ]) text
+    go : (x : CodeElement) → AreValues v (elim x as (λ _. List Level) [ Segment ↦ levels | BitSegment ↦ levels | _ ↦ l ∷ levels ]) text
     go Segment = h
+    go BitSegment = h
     go _ = more
 
 -- an element's value is one entry more
@@ -82,7 +84,7 @@ all_there (Some v ∷ es) (c ∷ cs) e =
 pub list_ends : (old new : Values) (f : Frame) (v : Value) (node : NodeId) → read_as f.found ≡ ListOf node → IsList f.base v old.held.entries.items new.held.entries.items → new.text.items ≡ old.text.items
     → EndsExactly old f new (Ok (Some v))
 list_ends old new f v node is s same tag entries below text h =
-    subst (λ x. IsRightText x text × ((trees : Trees) (c : Content) → IsHeld x (shape f.place) entries trees → IsContentOf x (shape f.place) entries text c → IsFound (Some v) c × AreValues new below [])) (sym is) (
+    subst (λ x. IsRightText x text × ((trees : Trees) (c : Content) → IsHeld Two x (shape f.place) entries trees → IsContentOf x (shape f.place) entries text c → IsFound (Some v) c × AreValues new below [])) (sym is) (
       tt,
       λ trees c held k.
           let x = h.held in
@@ -109,13 +111,13 @@ last_left old new f tag entries below text found c h s same empty is =
 pub wrapper_ends : (old new : Values) (f : Frame) (found : Option Value) (w : Wrapped) → read_as f.found ≡ Wrapper w → IsLast found old.held.entries.items new.held.entries.items
     → new.text.items ≡ old.text.items → EndsExactly old f new (Ok found)
 wrapper_ends old new f found w is s same tag entries below text h =
-    subst (λ x. IsRightText x text × ((trees : Trees) (c : Content) → IsHeld x (shape f.place) entries trees → IsContentOf x (shape f.place) entries text c → IsFound found c × AreValues new below [])) (sym is)
+    subst (λ x. IsRightText x text × ((trees : Trees) (c : Content) → IsHeld Two x (shape f.place) entries trees → IsContentOf x (shape f.place) entries text c → IsFound found c × AreValues new below [])) (sym is)
     (tt, λ trees c held k. last_left old new f tag entries below text found c h s same k.0 k.1)
 
 pub loose_wrapper_ends : (old new : Values) (f : Frame) (found : Option Value) (w : Wrapped) → read_as f.found ≡ LooseWrapper w → (shape f.place) ≡ Nothing
     → IsLast found old.held.entries.items new.held.entries.items → new.text.items ≡ old.text.items → EndsExactly old f new (Ok found)
 loose_wrapper_ends old new f found w is nothing s same tag entries below text h =
-    subst (λ x. IsRightText x text × ((trees : Trees) (c : Content) → IsHeld x (shape f.place) entries trees → IsContentOf x (shape f.place) entries text c → IsFound found c × AreValues new below [])) (sym is) (
+    subst (λ x. IsRightText x text × ((trees : Trees) (c : Content) → IsHeld Two x (shape f.place) entries trees → IsContentOf x (shape f.place) entries text c → IsFound found c × AreValues new below [])) (sym is) (
       tt,
       λ trees c held k.
           let q : (text ≡ []) × (entries ≡ Some c ∷ []) = subst (λ n. IsContentOf (LooseWrapper w) n entries text c) nothing k in
@@ -123,7 +125,7 @@ loose_wrapper_ends old new f found w is nothing s same tag entries below text h 
     )
 
 -- a string has no entries
-string_none : (l : LeafType) (n : Next) (entries : List (Option Content)) (ts : Trees) → IsHeld (Leaf l) n entries ts → entries ≡ []
+string_none : (l : LeafType) (n : Next) (entries : List (Option Content)) (ts : Trees) → IsHeld Two (Leaf l) n entries ts → entries ≡ []
 string_none l Segments entries ts h = h.1
 string_none l _ entries ts h = absurd h
 
@@ -136,7 +138,7 @@ pub string_ends : (old new : Values) (f : Frame) (v : Value) (l : LeafType) (oct
     → EndsExactly old f new (Ok (Some v))
 string_ends old new f v l octets is same ok right value_is kept empty tag entries below text h =
     let joined : octets ≡ text = same ∙ h.text in
-    subst (λ x. IsRightText x text × ((trees : Trees) (c : Content) → IsHeld x (shape f.place) entries trees → IsContentOf x (shape f.place) entries text c → IsFound (Some v) c × AreValues new below [])) (sym is) (
+    subst (λ x. IsRightText x text × ((trees : Trees) (c : Content) → IsHeld Two x (shape f.place) entries trees → IsContentOf x (shape f.place) entries text c → IsFound (Some v) c × AreValues new below [])) (sym is) (
       (subst (λ o. IsTrue (are_octets o)) joined ok, subst (λ o. content_fault profile_two (leaf_is l) o ≡ None) joined right),
       λ trees c held k.
           let x = h.held in
@@ -145,7 +147,7 @@ string_ends old new f v l octets is same ok right value_is kept empty tag entrie
     )
 
 -- the value of a message
-pub body_there : (old new : Values) (found : Option Value) (c : Content) → AreValues old (whole_level c ∷ []) [] → IsLast found old.held.entries.items new.held.entries.items
+pub body_there : (old new : Values) (found : Option Value) (c : Content) → AreValues old (whole_level Two c ∷ []) [] → IsLast found old.held.entries.items new.held.entries.items
     → (v : Value) × (found ≡ Some v) × (content_of v ≡ c)
 body_there old new found c h s =
     let x = h.held in

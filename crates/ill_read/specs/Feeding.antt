@@ -1,4 +1,5 @@
 -- The three states of a decoder, of which no two hold at once, and what each call makes of them.
+use Rattle.ill_schema.specs.declared.profile.Profile.TheVariants.{Two}
 use Rattle.std.specs.Prelude.{◌≡◌, ◌≤◌, ℕ, List, [], ◌∷◌, length, Option, Some, None, Result, Ok, Err}
 use Rattle.ill_schema.specs.declared.message.Message.{Message}
 use Rattle.ill_schema.specs.declared.refusal.Cause.{Cause}
@@ -14,7 +15,7 @@ use Rattle.ill_read.specs.declared.failure.Failure.{Failure}
 
 -- a reader is open, and is at the last place of the octets that it was fed
 abbrev pub IsOpenAt : {D : Type 0} → (D → List Level → List ℕ → Type 0) → Reader D → List ℕ → Type 0
-IsOpenAt holds r fed = (r.state ≡ state.Open) × StandsLast (HoldsAt holds r.path) r.at fed r.pending.items
+IsOpenAt holds r fed = (r.state ≡ state.Open) × StandsLast Two (HoldsAt holds r.path) r.at fed r.pending.items
 
 -- open: these octets were fed, and more of them may still make a message (how the path stands for them is the code's business)
 abbrev pub IsOpenAfter : Decoder → List ℕ → Type 0

@@ -1,5 +1,6 @@
 //! What is made of a message while its elements are read.
-ghost use Rattle.std.specs.Prelude.{ℕ, List, IfOk, OnOk};
+ghost use Rattle.std.specs.Prelude.{ℕ, List, IfOk, IsTrue, OnOk};
+ghost use Rattle.ill_cells.specs.Places.{is_two};
 ghost use Rattle.ber_leaf.specs.Content.{IsContent};
 ghost use Rattle.ill_schema.specs.Apdu.{Apdu};
 ghost use Rattle.ill_elements.specs.Due.{shape};
@@ -22,6 +23,7 @@ pub trait Draft: Drop {
 
     /// An element opens, at this place. Returns where its contents begin.
     fn open(&mut self, place: At, opening: Opening) -> Result<usize, AllocError>
+        requires { IsTrue (is_two opening.found) }
         ensures { IfOk result (λ base. HasOpened holds self.old (shape place) opening base self.new) };
 
     /// More octets of the string that is open.
@@ -45,6 +47,7 @@ pub trait Draft: Drop {
     ///
     /// The fault of its text, at its start; or out of memory.
     fn close(&mut self, frame: Frame, place: At) -> Result<(), Failure>
+        requires { IsTrue (is_two frame.found) }
         ensures text { ChecksText holds self.old frame result }
         ensures closed { OnOk result (HasClosed holds self.old frame (shape place) self.new) };
 

@@ -23,6 +23,7 @@ mod outlined;
 mod path;
 mod read;
 mod reader;
+mod steps;
 mod values;
 mod whole;
 

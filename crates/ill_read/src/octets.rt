@@ -1,4 +1,5 @@
 //! The draft that is the message's normal form: each element is written as it is read.
+ghost use Rattle.ill_schema.specs.declared.profile.Profile.TheVariants.{Two};
 ghost use Rattle.std.specs.Prelude.{◌≡◌, ◌++◌, ℕ, List, [], ◌∷◌, length, drop, false, true, IfOk, OnOk};
 ghost use Rattle.ber_leaf.specs.Content.{IsContent};
 ghost use Rattle.ber_core.specs.Id.{id_octets, tag_of_id};
@@ -35,7 +36,7 @@ pub struct Octets {
 impl Octets {
     /// Holds nothing, in the memory of `room`, whose octets are forgotten.
     pub fn new(room: Vec<u8>) -> Octets
-        ensures { AreOctets result (top_level ∷ []) [] }
+        ensures { AreOctets result (top_level Two ∷ []) [] }
     {
         Octets {
             octets: DerBuffer::reusing(room),

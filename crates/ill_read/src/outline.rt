@@ -1,4 +1,5 @@
 //! The draft that is the outline of a message: marks that say what its value is, made while the message is read.
+ghost use Rattle.ill_schema.specs.declared.profile.Profile.TheVariants.{Two};
 ghost use Rattle.std.specs.Prelude.{◌≡◌, ◌++◌, [], ◌∷◌, map, take, drop, OnOk};
 ghost use Rattle.ill_cells.specs.Places.{alternative_of};
 ghost use Rattle.ill_schema.specs.Table.{rows_of};
@@ -54,7 +55,7 @@ pub struct Outlining {
 impl Outlining {
     /// Holds nothing, in the memory of `room`, whose marks are forgotten.
     pub fn new(room: Outline) -> Outlining
-        ensures { AreOutlined result (top_level ∷ []) [] }
+        ensures { AreOutlined result (top_level Two ∷ []) [] }
     {
         let Outline { mut marks, octets } = room;
         marks.clear();
@@ -92,7 +93,7 @@ fn begin(marks: &mut Vec<Mark>, element: Element) -> Result<(), AllocError>
         Element::Leaf(leaf) => marks.push(Mark::Leaf(leaf))?,
         Element::Sequence(_) => marks.push(Mark::Sequence)?,
         Element::List(_) => marks.push(Mark::List)?,
-        Element::Wrapper(_) | Element::LooseWrapper(_) | Element::Segment => {}
+        _ => {}
     }
     Ok(())
 }
@@ -151,7 +152,7 @@ fn pass_last(marks: &mut Vec<Mark>, next: Next) -> Result<(), AllocError>
 fn end(marks: &mut Vec<Mark>, next: Next) -> Result<(), AllocError>
     ensures { OnOk result (HasRear next marks.old.items marks.new.items) }
 {
-    if let Next::Inner(_) | Next::Nothing = next {
+    if let Next::Inner(_) | Next::Root(_) | Next::Nothing = next {
         return Ok(());
     }
     pass_last(marks, next)?;

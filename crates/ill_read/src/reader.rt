@@ -1,4 +1,5 @@
 //! Goes through a message that comes in pieces, and makes a draft of it.
+ghost use Rattle.ill_schema.specs.declared.profile.Profile.TheVariants.{Two};
 ghost use Rattle.std.specs.Prelude.{◌≤◌};
 
 use crate::draft::Draft;
@@ -52,6 +53,7 @@ impl<D: Draft> Reader<D> {
     ghost use Rattle.ill_read.specs.code.Filling.{HasLooked, NoneEndsWithin};
     ghost use Rattle.ill_read.specs.code.Judged.{IsJudgement, IsStep};
     ghost use Rattle.ill_elements.specs.code.Judging.{IsRoom};
+    ghost use Rattle.ill_cells.specs.Places.{is_two};
     ghost use Rattle.ill_read.specs.code.Progress.{Judgement, Closes, Opens, Reads, size_of, IsProgress};
     ghost use Rattle.ill_elements.specs.Standing.{depth_of};
     ghost use Rattle.ill_read.specs.code.ReaderCode.{CanRefuse, CanStep, HasAdvanced, HasClosed, HasOutcome, HasStopped, IsFed, IsRunning, LeadsOn, Progresses, Steps, ended};
@@ -59,7 +61,7 @@ impl<D: Draft> Reader<D> {
     /// Begins with nothing.
     #[inline(always)]
     pub fn new(alloc: Global, draft: D) -> Reader<D>
-        ensures { D.holds draft (top_level ∷ []) [] → IsOpenAt D.holds result [] }
+        ensures { D.holds draft (top_level Two ∷ []) [] → IsOpenAt D.holds result [] }
     {
         Reader {
             alloc,
@@ -73,7 +75,7 @@ impl<D: Draft> Reader<D> {
     /// Begins with nothing again, whatever was read before.
     #[inline(always)]
     pub fn restart(&mut self, draft: D)
-        ensures { D.holds draft (top_level ∷ []) [] → IsOpenAt D.holds self.new [] }
+        ensures { D.holds draft (top_level Two ∷ []) [] → IsOpenAt D.holds self.new [] }
     {
         self.path.restart(draft);
         self.at = 0;
@@ -86,7 +88,8 @@ impl<D: Draft> Reader<D> {
     pub fn exchange_draft(&mut self, draft: D) -> D
         ensures { result ≡ self.old.path.draft }
     {
-        mem::replace(&mut self.path.draft, draft)
+        let path = &mut self.path;
+        mem::replace(&mut path.draft, draft)
     }
 
     /// What was made.
@@ -413,6 +416,7 @@ impl<D: Draft> Reader<D> {
         requires open { self.old.state ≡ State.Open }
         requires room { depth_of self.old.path.frames < 32 }
         requires header { 0 < opening.header }
+        requires two { IsTrue (is_two opening.found) }
         requires fits { self.old.at + opening.header ≤ 1_048_576 }
         ensures pending { self.new.pending ≡ self.old.pending }
         ensures progress { Progresses opening.header self.old.path.frames self.new.path.frames result }
@@ -429,10 +433,11 @@ impl<D: Draft> Reader<D> {
     fn read(&mut self, reading: Reading, octets: &[u8]) -> Option<usize>
         requires open { self.old.state ≡ State.Open }
         requires header { (0 < reading.header) × (reading.header + reading.size ≤ length octets.now) }
+        requires two { IsTrue (is_two reading.found) }
         requires fits { self.old.at + length octets.now ≤ 1_048_576 }
         ensures pending { self.new.pending ≡ self.old.pending }
         ensures progress { Progresses (length octets.now) self.old.path.frames self.new.path.frames result }
-        ensures goes { (s rest more : List ℕ) (b : StandsBefore (HoldsAt D.holds self.old.path) self.old.at s rest) → rest ≡ octets.now ++ more
+        ensures goes { (s rest more : List ℕ) (b : StandsBefore Two (HoldsAt D.holds self.old.path) self.old.at s rest) → rest ≡ octets.now ++ more
             → IsJudgement self.old.path.frames b.place self.old.at octets.now (Reads reading) (judge profile_two b.place self.old.at rest)
             → HasAdvanced D.holds D.has self.new s rest result }
     {
@@ -468,7 +473,7 @@ impl<D: Draft> Reader<D> {
         ensures pending { self.new.pending ≡ self.old.pending }
         ensures frames { self.new.path.frames ≡ self.old.path.frames }
         ensures size { result ≡ Some size }
-        ensures goes { (path : Path D) (s rest : List ℕ) (judgement : Judgement) (b : StandsBefore (HoldsAt D.holds path) self.old.at s rest)
+        ensures goes { (path : Path D) (s rest : List ℕ) (judgement : Judgement) (b : StandsBefore Two (HoldsAt D.holds path) self.old.at s rest)
             → IsProgress (depth_of path.frames) (length rest) judgement → IsJudgement path.frames b.place self.old.at rest judgement (judge profile_two b.place self.old.at rest)
             → size ≡ size_of judgement → IsStep D.holds self.old.path (Ok whole) (moved (judge profile_two b.place self.old.at rest) b.place self.old.at rest)
             → HasAdvanced D.holds D.has self.new s rest result }
@@ -524,7 +529,8 @@ impl<D: Draft> Reader<D> {
         ensures ended { (s : List ℕ) (a : Apdu) → self.old.at ≤ length s → HoldsApdu D.holds self.old.path.draft a (take self.old.at s)
             → HasClosed D.has self.new s }
     {
-        self.state = if self.path.draft.end(self.at) {
+        let path = &mut self.path;
+        self.state = if path.draft.end(self.at) {
             State::Whole
         } else {
             State::Failed(Failure::refused(0, Cause::NormalTooLong))

@@ -1,5 +1,7 @@
 //! The draft that is the message's value: the values of the elements that have been read, until those round them are whole.
-ghost use Rattle.std.specs.Prelude.{◌≡◌, ℕ, List, [], ◌∷◌, IfOk};
+ghost use Rattle.ill_schema.specs.declared.profile.Profile.TheVariants.{Two};
+ghost use Rattle.std.specs.Prelude.{◌≡◌, ℕ, List, [], ◌∷◌, IfOk, IsTrue};
+ghost use Rattle.ill_cells.specs.Places.{is_two};
 ghost use Rattle.ill_schema.specs.Content.{Content};
 ghost use Rattle.ill_schema.specs.Value.{content_of};
 ghost use Rattle.ill_read.specs.code.Held.{EndsExactly, IsBodyOf};
@@ -40,7 +42,7 @@ pub struct Body {
 impl Values {
     /// Holds nothing.
     pub fn new(alloc: Global) -> Values
-        ensures { AreValues result (top_level ∷ []) [] }
+        ensures { AreValues result (top_level Two ∷ []) [] }
     {
         Values {
             alloc,
@@ -72,7 +74,7 @@ impl Values {
 
     /// The value of a message that is whole.
     fn body(&mut self) -> Option<Body>
-        ensures { (c : Content) → AreValues self.old (whole_level c ∷ []) [] → IsBodyOf result c }
+        ensures { (c : Content) → AreValues self.old (whole_level Two c ∷ []) [] → IsBodyOf result c }
     {
         match self.held.last()? {
             Value::Alt(row, value) => Some(Body {
@@ -92,6 +94,7 @@ impl Values {
 
     /// The value of an element that has ended.
     fn ended(&mut self, frame: Frame) -> Result<Option<Value>, Failure>
+        requires { IsTrue (is_two frame.found) }
         ensures { EndsExactly self.old frame self.new result }
     {
         match Element::of(frame.found) {
@@ -110,6 +113,10 @@ impl Values {
                 Next::Nothing => Ok(self.held.last()),
                 _ => Ok(Some(self.held.sequence(frame.next(), frame.base)?)),
             },
+            Element::ModuleLeaf(_)
+            | Element::BitString
+            | Element::BitSegment
+            | Element::Foreign(_) => unreachable!(),
         }
     }
 }

@@ -1,12 +1,11 @@
 -- Messages of the module profile, foreign trees, and BIT STRINGs in segments.
 use Rattle.std.specs.Prelude.{◌≡◌, ℕ, zero, suc, false, List, [], ◌∷◌, codes, Option}
-use Rattle.ber_core.specs.Identifier.{Tag}
 use Rattle.ber_core.specs.Tree.{Tree, Trees, primitive, constructed, none, more}
 use Rattle.ber_leaf.specs.declared.fault.LeafFault.{LeafFault}
 use Rattle.ber_leaf.specs.Leaf.{bit_string, content_fault, value}
 use Rattle.ber_leaf.specs.Profile.{profile_three}
 use Rattle.ber_leaf.specs.Segments.{leaf_content}
-use Rattle.ber_leaf.specs.Simple.{Simple, flag, whole, date, general, null, oid, binary, bits}
+use Rattle.ber_leaf.specs.Simple.{Simple, flag, date, general, null, oid, binary, bits}
 use Rattle.ill_schema.specs.Apdu.{Apdu, normal_form_in, SpellsApdu}
 use Rattle.ill_schema.specs.Content.{Content, simple, sequence, list, alternative, foreign, Entries, no_entries, absent, present, no_items, item}
 use Rattle.ill_schema.specs.Tagging.{sequence_tag, universal}

@@ -1,6 +1,8 @@
 -- What is judged of an element at a place where elements are open, in the words of the definitions.
+use Rattle.ill_schema.specs.Profiles.{profile_of}
+use Rattle.ill_schema.specs.declared.profile.Profile.{Profile as Named}
 use Rattle.std.specs.Option.{ForSome}
-use Rattle.std.specs.Prelude.{◌≡◌, ℕ, ◌+◌, ◌-◌, ◌<◌, ◌≤◌, Bool, true, false, not, nat_eq, List, [], ◌∷◌, length, Option, Some, None, Result, Ok, Err, if◌then◌else◌, take, drop}
+use Rattle.std.specs.Prelude.{◌≡◌, ℕ, zero, ◌+◌, ◌-◌, ◌<◌, ◌≤◌, Bool, true, false, not, nat_eq, List, [], ◌∷◌, length, Option, Some, None, Result, Ok, Err, if◌then◌else◌, take, drop}
 use Rattle.ber_core.specs.Id.{tag_of_id, form_of_id}
 use Rattle.ber_core.specs.Identifier.{Tag}
 use Rattle.ber_core.specs.declared.id.Id.{Id}
@@ -17,6 +19,8 @@ use Rattle.ill_elements.specs.Due.{found_in, read_as, IsDueIn, behind, first_of,
 use Rattle.ill_refusals.specs.Place.{Open, bound, allows, next_in}
 use Rattle.ill_elements.specs.Standing.{StandsAt, next_at}
 use Rattle.ill_elements.specs.Found as found
+use Rattle.ill_elements.specs.declared.due.Next.{Next}
+use Rattle.ill_elements.specs.declared.due.Next.TheVariants.{Foreigns}
 use Rattle.ill_elements.specs.declared.frame.Frame.{Frame}
 use Rattle.ill_elements.specs.declared.judge.Extent.{Extent}
 use Rattle.ill_elements.specs.declared.judge.Extent.TheVariants.{Opens, Reads}
@@ -27,18 +31,18 @@ use Rattle.ill_elements.specs.declared.header.LengthRead.{LengthRead}
 use Rattle.ill_elements.specs.declared.header.LengthRead.TheVariants.{Whole}
 
 -- the innermost element ends, and no part of it is missing
-pub record IsEnd (place : List Open) (marks : ℕ) (j : Judgement) : Type 0 where
+pub record IsEnd (p : Named) (place : List Open) (marks : ℕ) (j : Judgement) : Type 0 where
   pub innermost : Open
   pub outer : List Open
   pub is_path : place ≡ innermost ∷ outer
-  pub complete : missing profile_two (next_in profile_two place) ≡ None
-  pub is : j ≡ or_faulty (string_fault profile_two innermost.element innermost.trees) innermost.start (closes marks)
+  pub complete : missing profile_two (next_in (profile_of p) place) ≡ None
+  pub is : j ≡ or_faulty (string_fault (profile_of p) innermost.element innermost.trees) innermost.start (closes marks)
 
 -- an element is due there and may have the form
 pub record IsBegin (frames : Frames) (place : List Open) (tag : Tag) (f : Found) (constructed : Bool) : Type 0 where
-  pub is_due : IsDueIn tag (next_at frames.open.items) (read_due f)
+  pub is_due : IsDueIn tag (next_at frames.profile frames.open.items) (read_due f)
   pub begins : shape_at (first_place f) ≡ first_of (read_as f)
-  pub goes_on : shape_at (next_place f) ≡ behind (next_at frames.open.items) (slot_in f)
+  pub goes_on : shape_at (next_place f) ≡ behind (next_at frames.profile frames.open.items) (slot_in f)
   pub allowed : allows (element_is (read_as f)) constructed ≡ true
   pub shallow : length place < 32
 
@@ -60,9 +64,9 @@ abbrev pub end_at : Option ℕ → ℕ → Bool
 end_at end at = elim end as (λ _. Bool) [ Some e ↦ nat_eq e at | None ↦ false ]
 
 -- the innermost element ends there, or a part of it is missing
-abbrev pub EndsAs : List Open → ℕ → Option Refusal → Type 0
-EndsAs place at None = (marks : ℕ) → IsEnd place marks (judge_end profile_two place at marks)
-EndsAs place at (Some refusal) = (marks : ℕ) → judge_end profile_two place at marks ≡ faulty (fault_of refusal)
+abbrev pub EndsAs : Named → List Open → ℕ → Option Refusal → Type 0
+EndsAs p place at None = (marks : ℕ) → IsEnd p place marks (judge_end (profile_of p) place at marks)
+EndsAs p place at (Some refusal) = (marks : ℕ) → judge_end (profile_of p) place at marks ≡ faulty (fault_of refusal)
 
 -- the octets lie before the bound, up to which there is this room
 abbrev pub IsRoom : ℕ → ℕ → List ℕ → Type 0
@@ -78,7 +82,14 @@ has_form what.Visible constructed = true
 has_form what.Printable constructed = true
 has_form what.Date constructed = true
 has_form what.Time constructed = true
+has_form what.Null constructed = not constructed
+has_form what.ObjectIdentifier constructed = not constructed
+has_form what.OctetString constructed = true
+has_form what.BitString constructed = true
+has_form what.ObjectDescriptor constructed = true
 has_form what.Segment constructed = true
+has_form what.BitSegment constructed = true
+has_form what.Foreign constructed = true
 has_form what.LeftOut constructed = false
 has_form _ constructed = constructed
 
@@ -88,28 +99,33 @@ IsFormed f constructed None = (found_in f ≡ found.Element (read_as f)) × (all
 IsFormed f constructed (Some cause) =
     (p : Profile) (place : List Open) (tag : Tag) (at i : ℕ) (cut : Fault) (w : List ℕ) → judge_form p place (found_is (found_in f)) tag constructed at i cut w ≡ faulty (fault cause at)
 
+-- why nothing is due where this may come next
+abbrev pub unexpected : Next → Cause
+unexpected (Foreigns zero) = Cause.TooDeep
+unexpected _ = Cause.UnexpectedTag
+
 -- what is judged after an identifier of i octets
-abbrev pub judge_identified : List Open → Tag → Bool → ℕ → ℕ → Fault → List ℕ → Judgement
-judge_identified place tag constructed at i cut w =
-    if is_deep profile_two place then faulty (fault Cause.TooDeep at) else judge_tag profile_two place tag constructed at i cut w
+abbrev pub judge_identified : Named → List Open → Tag → Bool → ℕ → ℕ → Fault → List ℕ → Judgement
+judge_identified p place tag constructed at i cut w =
+    if is_deep (profile_of p) place then faulty (fault Cause.TooDeep at) else judge_tag (profile_of p) place tag constructed at i cut w
 
 -- an element with the identifier may begin there, or is at fault
 abbrev pub IsIdentified : Frames → List Open → ℕ → Id → Result Found Refusal → Type 0
 IsIdentified frames place at id (Ok f) = IsBegin frames place (tag_of_id id) f (form_of_id id)
 IsIdentified frames place at id (Err refusal) =
-    (i : ℕ) (cut : Fault) (w : List ℕ) → judge_identified place (tag_of_id id) (form_of_id id) at i cut w ≡ faulty (fault_of refusal)
+    (i : ℕ) (cut : Fault) (w : List ℕ) → judge_identified frames.profile place (tag_of_id id) (form_of_id id) at i cut w ≡ faulty (fault_of refusal)
 
 -- what is judged of an element of this extent, in these octets
-abbrev pub IsExtent : Found → Id → ℕ → List ℕ → Result Extent Refusal → Judgement → Type 0
-IsExtent f id at octets (Ok (Opens header end)) j = j ≡ opens (tag_of_id id) (element_is (read_as f)) header end
-IsExtent f id at octets (Ok (Reads header size)) j =
-    j ≡ or_faulty (element_fault profile_two (element_is (read_as f)) (content_in header size octets)) at (reads (tag_of_id id) header (content_in header size octets))
-IsExtent f id at octets (Err refusal) j = j ≡ faulty (fault_of refusal)
+abbrev pub IsExtent : Named → Found → Id → ℕ → List ℕ → Result Extent Refusal → Judgement → Type 0
+IsExtent p f id at octets (Ok (Opens header end)) j = j ≡ opens (tag_of_id id) (element_is (read_as f)) header end
+IsExtent p f id at octets (Ok (Reads header size)) j =
+    j ≡ or_faulty (element_fault (profile_of p) (element_is (read_as f)) (content_in header size octets)) at (reads (tag_of_id id) header (content_in header size octets))
+IsExtent p f id at octets (Err refusal) j = j ≡ faulty (fault_of refusal)
 
 -- the judgement is the definitions', of whatever element begins there, where there is this room before the bound
 abbrev pub Reaches : Frames → Id → ℕ → ℕ → List ℕ → Result Extent Refusal → (Found → List Open → Judgement) → Type 0
 Reaches frames id at room octets result judged =
-    (f : Found) (place : List Open) → StandsAt frames place → room ≡ bound profile_two place - at → IsExtent f id at octets result (judged f place)
+    (f : Found) (place : List Open) → StandsAt frames place → room ≡ bound profile_two place - at → IsExtent frames.profile f id at octets result (judged f place)
 
 -- the extent opens exactly where the identifier is a constructed element's, and what it takes lies within `size` octets
 abbrev pub Fits : Id → ℕ → Extent → Type 0

@@ -1,4 +1,5 @@
 -- What a draft holds of the elements that have been read, and what each call does to it.
+use Rattle.ill_schema.specs.declared.profile.Profile.TheVariants.{Two}
 use Rattle.std.specs.Prelude.{◌≡◌, ℕ, ◌<◌, ◌≤◌, Bool, true, false, length, List, [], ◌∷◌, ◌++◌, take, drop, map, Option, Some, None, Result, Ok, Err, ⊤, IsTrue}
 use Rattle.ber_core.specs.Id.{tag_of_id}
 use Rattle.ber_core.specs.Identifier.{Tag}
@@ -53,7 +54,7 @@ IsContentOf (ListOf node) n entries text c = (text ≡ []) × (items : List Cont
 IsContentOf (Wrapper w) n entries text c = (text ≡ []) × (entries ≡ Some c ∷ [])
 IsContentOf (LooseWrapper w) Nothing entries text c = (text ≡ []) × (entries ≡ Some c ∷ [])
 IsContentOf (LooseWrapper w) n entries text c = (text ≡ []) × (c ≡ content.sequence (entries_of (entries ++ map absent_content (rows_left n))))
-IsContentOf Segment n entries text c = ⊥
+IsContentOf _ n entries text c = ⊥
 
 -- the level with an entry more, of an element at the slot
 abbrev pub with_entry : Level → Slot → Content → Level
@@ -62,7 +63,7 @@ with_entry l slot c = record l { next = behind l.next slot; entries = l.entries 
 -- the element is due in the level
 pub record IsDueAt (l : Level) (expected : Next) (tag : Tag) (slot : Slot) (alternative : Option ℕ) (element : CodeElement) : Type 0 where
   pub trees : Trees
-  pub held : IsHeld l.element l.next l.entries trees
+  pub held : IsHeld Two l.element l.next l.entries trees
   pub next : l.next ≡ expected
   pub is_due : IsDueIn tag l.next (due_with slot alternative element)
 
@@ -111,13 +112,13 @@ ChecksText holds old f result = (tag : Tag) (entries : List (Option Content)) (b
 -- an element ended, and its content is in the level round it
 abbrev pub HasClosed : {D : Type 0} → (D → List Level → List ℕ → Type 0) → D → Frame → Next → D → Type 0
 HasClosed holds old f next new = (tag : Tag) (entries : List (Option Content)) (trees : Trees) (l : Level) (below : List Level) (text : List ℕ) (c : Content)
-    → holds old (level_of f tag entries ∷ l ∷ below) text → IsHeld (read_as f.found) (shape f.place) entries trees → IsRightText (read_as f.found) text → IsContentOf (read_as f.found) (shape f.place) entries text c
-    → ((T : Tree) × (tag_of T ≡ tag) × IsValueOf (element_is (read_as f.found)) c T)
+    → holds old (level_of f tag entries ∷ l ∷ below) text → IsHeld Two (read_as f.found) (shape f.place) entries trees → IsRightText (read_as f.found) text → IsContentOf (read_as f.found) (shape f.place) entries text c
+    → ((T : Tree) × (tag_of T ≡ tag) × IsValueOf Two (element_is (read_as f.found)) c T)
     → IsDueAt l next tag (slot_in f.found) (alternative_of f.found) (read_as f.found) → holds new (with_entry l (slot_in f.found) (with_alternative (alternative_of f.found) c) ∷ below) []
 
 -- the draft holds the whole APDU, whose octets these are
 abbrev pub HoldsApdu : {D : Type 0} → (D → List Level → List ℕ → Type 0) → D → Apdu → List ℕ → Type 0
-HoldsApdu holds draft a b = holds draft (whole_level (choice_of a) ∷ []) [] × (1 ≤ a.number) × Encodes profile_two a b
+HoldsApdu holds draft a b = holds draft (whole_level Two (choice_of a) ∷ []) [] × (1 ≤ a.number) × Encodes profile_two a b
 
 -- it has it, if the normal form is within the limit
 abbrev pub HasEnded : {D : Type 0} → (D → Apdu → ℕ → Type 0) → D → Apdu → ℕ → Bool → Type 0

@@ -1,4 +1,5 @@
 -- How the values that are held grow, and what is taken from them.
+use Rattle.ill_schema.specs.declared.profile.Profile.TheVariants.{Two}
 use Rattle.std.specs.Prelude.{◌≡◌, ℕ, List, [], ◌∷◌, ◌++◌, length, map, Option, Some, None, Result, Ok, Err, option_map}
 use Rattle.ber_core.specs.Identifier.{Tag}
 use Rattle.ber_core.specs.Tree.{Trees}
@@ -55,7 +56,7 @@ IsFound None c = ⊥
 -- the value of an element that has ended, with these levels round it, where its text is right
 abbrev pub IsEnded : Frame → List (Option Content) → List Level → List ℕ → Values → Result (Option Value) Failure → Type 0
 IsEnded f entries below text new (Ok found) = IsRightText (read_as f.found) text × ((trees : Trees) (c : Content)
-    → IsHeld (read_as f.found) (shape f.place) entries trees → IsContentOf (read_as f.found) (shape f.place) entries text c → IsFound found c × AreValues new below [])
+    → IsHeld Two (read_as f.found) (shape f.place) entries trees → IsContentOf (read_as f.found) (shape f.place) entries text c → IsFound found c × AreValues new below [])
 IsEnded f entries below text new (Err failure) = IsTextFault (read_as f.found) f.start text failure
 
 abbrev pub EndsExactly : Values → Frame → Values → Result (Option Value) Failure → Type 0

@@ -1,4 +1,5 @@
 -- What the decoder judges at a place, and where a step leads, in the words of the definitions.
+use Rattle.ill_schema.specs.declared.profile.Profile.TheVariants.{Two}
 use Rattle.std.specs.Prelude.{◌≡◌, ℕ, Bool, true, false, List, [], ◌∷◌, Result, Ok, Err}
 use Rattle.ber_core.specs.Id.{tag_of_id}
 use Rattle.ber_core.specs.Tree.{Tree}
@@ -24,7 +25,7 @@ use Rattle.ill_elements.specs.code.Judging.{IsBegin, IsEnd, content_in}
 
 -- the decoder's judgement is the one of the definitions, but for the fault of a text or a content
 abbrev pub IsJudgement : Frames → List Open → ℕ → List ℕ → CodeJudgement → Judgement → Type 0
-IsJudgement frames place at rest (code.Closes marks) j = IsEnd place marks j
+IsJudgement frames place at rest (code.Closes marks) j = IsEnd Two place marks j
 IsJudgement frames place at rest (code.Opens o) j =
     IsBegin frames place (tag_of_id o.id) o.found true × (j ≡ opens (tag_of_id o.id) (element_is (read_as o.found)) o.header o.end)
 IsJudgement frames place at rest (code.Reads r) j = IsBegin frames place (tag_of_id r.id) r.found false
@@ -32,7 +33,7 @@ IsJudgement frames place at rest (code.Reads r) j = IsBegin frames place (tag_of
 
 -- the draft holds the content of a whole message, which is what the tree means
 abbrev pub HoldsWhole : {D : Type 0} → (D → List Level → List ℕ → Type 0) → D → Tree → Type 0
-HoldsWhole holds draft T = (c : Content) × holds draft (whole_level c ∷ []) [] × Means profile_two c IllApdu untagged T
+HoldsWhole holds draft T = (c : Content) × holds draft (whole_level Two c ∷ []) [] × Means profile_two c IllApdu untagged T
 
 -- the path has made the step
 abbrev pub IsStep : {D : Type 0} → (D → List Level → List ℕ → Type 0) → Path D → Result Bool Failure → Step → Type 0

@@ -13,7 +13,7 @@ use Rattle.ill_read.specs.code.Drafts.{rows_before, rows_left}
 use Rattle.ill_elements.specs.Due.{due_with}
 use Rattle.ill_read.specs.code.OctetDrafts.{AreOctets}
 use Rattle.ill_elements.specs.declared.due.Next.{Next}
-use Rattle.ill_elements.specs.declared.due.Next.TheVariants.{Rows, Inner, Items, Either, Segments, Nothing}
+use Rattle.ill_elements.specs.declared.due.Next.TheVariants.{Rows, Inner, Items, Either, Segments, Nothing, Root}
 use Rattle.ill_elements.specs.declared.due.Slot.{Slot}
 use Rattle.ill_elements.specs.declared.due.Slot.TheVariants.{Row as AtRow}
 use Rattle.ill_elements.specs.declared.element.Element.{Element as CodeElement}
@@ -57,6 +57,7 @@ late_marks _ = []
 -- the mark that an element ends with
 abbrev pub last_marks : Next → List Mark
 last_marks (Inner w) = []
+last_marks (Root w) = []
 last_marks Nothing = []
 last_marks _ = mark.End ∷ []
 

@@ -1,4 +1,5 @@
 -- What a reader's functions say: how it stands for the octets that it has been fed.
+use Rattle.ill_schema.specs.declared.profile.Profile.TheVariants.{Two}
 use Rattle.std.specs.Prelude.{◌≡◌, ℕ, ◌+◌, ◌-◌, ◌*◌, ◌<◌, ◌≤◌, Bool, true, false, List, [], ◌∷◌, ◌++◌, length, drop, Option, Some, None, IfSome, Result, Ok, Err}
 use Rattle.ber_leaf.specs.Profile.{profile_two}
 use Rattle.ill_schema.specs.declared.message.Message.{Message}
@@ -37,10 +38,10 @@ abbrev pub HasRead : {D : Type 0} → (D → Apdu → ℕ → Type 0) → Reader
 HasRead has r s = (a : Apdu) × OnlyAccepts profile_two s a r.at × has r.path.draft a r.at
 
 abbrev pub IsRunning : {D : Type 0} → (D → List Level → List ℕ → Type 0) → (D → Apdu → ℕ → Type 0) → Reader D → List ℕ → List ℕ → Type 0
-IsRunning holds has r s rest = InState r.state s (HasRead has r s) (StandsBefore (HoldsAt holds r.path) r.at s rest)
+IsRunning holds has r s rest = InState r.state s (HasRead has r s) (StandsBefore Two (HoldsAt holds r.path) r.at s rest)
 
 abbrev pub HasStopped : {D : Type 0} → (D → List Level → List ℕ → Type 0) → (D → Apdu → ℕ → Type 0) → Reader D → List ℕ → List ℕ → Type 0
-HasStopped holds has r s rest = InState r.state s (HasRead has r s) (StandsLast (HoldsAt holds r.path) r.at s rest)
+HasStopped holds has r s rest = InState r.state s (HasRead has r s) (StandsLast Two (HoldsAt holds r.path) r.at s rest)
 
 -- the reader has been fed these octets
 abbrev pub IsFed : {D : Type 0} → (D → List Level → List ℕ → Type 0) → (D → Apdu → ℕ → Type 0) → Reader D → List ℕ → Type 0
@@ -49,11 +50,11 @@ IsFed holds has r s = HasStopped holds has r s r.pending.items
 -- the judgement is the definitions' one at its place
 abbrev pub CanStep : {D : Type 0} → (D → List Level → List ℕ → Type 0) → Reader D → List ℕ → List ℕ → Judgement → Type 0
 CanStep holds r s rest judgement =
-    (b : StandsBefore (HoldsAt holds r.path) r.at s rest) × IsJudgement r.path.frames b.place r.at rest judgement (judge profile_two b.place r.at rest)
+    (b : StandsBefore Two (HoldsAt holds r.path) r.at s rest) × IsJudgement r.path.frames b.place r.at rest judgement (judge profile_two b.place r.at rest)
 
 -- the refusal is the definitions' judgement there
 abbrev pub CanRefuse : {D : Type 0} → (D → List Level → List ℕ → Type 0) → Reader D → List ℕ → List ℕ → Refusal → Type 0
-CanRefuse holds r s rest refusal = (b : StandsBefore (HoldsAt holds r.path) r.at s rest) × (judge profile_two b.place r.at rest ≡ faulty (fault_of refusal))
+CanRefuse holds r s rest refusal = (b : StandsBefore Two (HoldsAt holds r.path) r.at s rest) × (judge profile_two b.place r.at rest ≡ faulty (fault_of refusal))
 
 -- it went on after `size` octets, or stopped
 abbrev pub HasAdvanced : {D : Type 0} → (D → List Level → List ℕ → Type 0) → (D → Apdu → ℕ → Type 0) → Reader D → List ℕ → List ℕ → Option ℕ → Type 0
@@ -67,7 +68,7 @@ Steps holds has old judgement new result = (s rest : List ℕ) → CanStep holds
 
 -- from the place it goes on, or fails, as is judged in the octets before the bound; `came` octets follow the place in all
 abbrev pub LeadsOn : {D : Type 0} → (D → List Level → List ℕ → Type 0) → (D → Apdu → ℕ → Type 0) → Reader D → List ℕ → ℕ → ℕ → Reader D → Option ℕ → (List Open → Fault → Judged) → Type 0
-LeadsOn holds has old window room came new result judged = (s rest more : List ℕ) (b : StandsBefore (HoldsAt holds old.path) old.at s rest) → length rest ≡ came
+LeadsOn holds has old window room came new result judged = (s rest more : List ℕ) (b : StandsBefore Two (HoldsAt holds old.path) old.at s rest) → length rest ≡ came
     → rest ≡ window ++ more → room ≡ bound profile_two b.place - old.at
     → judge profile_two b.place old.at rest ≡ judged b.place (cut_fault profile_two b.place old.at rest) → HasAdvanced holds has new s rest result
 

@@ -1,4 +1,5 @@
 -- What each part of a step does to the path.
+use Rattle.ill_schema.specs.declared.profile.Profile.TheVariants.{Two}
 use Rattle.std.specs.Prelude.{◌≡◌, ℕ, Bool, true, false, List, [], ◌∷◌, ◌++◌, Result}
 use Rattle.ber_core.specs.Id.{tag_of_id}
 use Rattle.ber_leaf.specs.Profile.{profile_two}
@@ -26,7 +27,7 @@ GoesOn after old new false = (old ≡ [] → ⊥)
     × ((outer : List Frame) (f : Frame) → old ≡ outer ++ f ∷ [] → new ≡ outer ++ record f { place = after } ∷ [])
 
 abbrev pub ClosesExactly : {D : Type 0} → (D → List Level → List ℕ → Type 0) → Path D → Path D → Result Bool Failure → Type 0
-ClosesExactly holds old new result = (place : List Open) (marks at : ℕ) (rest : List ℕ) (j : Judgement) → HoldsAt holds old place → IsEnd place marks j
+ClosesExactly holds old new result = (place : List Open) (marks at : ℕ) (rest : List ℕ) (j : Judgement) → HoldsAt holds old place → IsEnd Two place marks j
     → IsStep holds new result (moved j place at rest)
 
 abbrev pub OpensExactly : {D : Type 0} → (D → List Level → List ℕ → Type 0) → Path D → Opening → ℕ → Path D → Type 0

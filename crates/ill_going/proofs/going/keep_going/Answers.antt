@@ -1,4 +1,4 @@
-use Rattle.std.proofs.Common.{◌≡◌, ◌+◌, ℕ, [], ◌∷◌, length, Option, None, Some, is_some, IsTrue, refl, subst, ap, ◌∙◌, arith}
+use Rattle.std.proofs.Common.{◌≡◌, ◌+◌, ℕ, [], ◌∷◌, length, Option, is_some, IsTrue, refl, subst, ap, ◌∙◌, arith}
 use Rattle.std.specs.Prelude.{MatchOption}
 use Rattle.ber_frame.specs.Framed.{IsFrame}
 use Rattle.ill_normal.specs.Messages.{counted, position}

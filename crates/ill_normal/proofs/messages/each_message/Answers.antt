@@ -1,4 +1,4 @@
-use Rattle.std.proofs.Common.{◌+◌, refl, arith, rules}
+use Rattle.std.proofs.Common.{◌+◌, refl, arith}
 use Rattle.ill_normal.specs.Messages.{position}
 use Rattle.ill_normal.proofs.WrittenMessages.{ends_at_last, ends_reading, ends_writing, made_bound, one_bound, passes_all, reached_more, reached_none}
 use Rattle.ill_normal.proofs.messages.each_message.Goals as goal

@@ -2,6 +2,7 @@ use Rattle.std.proofs.Common.{◌≡◌, ◌<◌, ℕ, false, Option, Some, None
 use Rattle.std.specs.Prelude.{is_some}
 use Rattle.ill_schema.specs.declared.part.PartId.{PartId}
 use Rattle.ber_leaf.specs.Profile.{profile_two}
+use Rattle.ill_schema.specs.Profiles.{profile_of}
 use Rattle.ill_elements.specs.Due.{next_is}
 use Rattle.ill_refusals.specs.Next.{missing}
 use Rattle.ill_refusals.specs.Place.{next_in}
@@ -16,14 +17,16 @@ none-missing (Some p) h = absurd cc
 
 pub returns-then-not-is_missing : goal.returns-then-not-is_missing
 returns-then-not-is_missing c place h marks =
-    let n = next_open place _ _ h.1 in
-    let e : missing profile_two (next_in profile_two place) ≡ None =
-    ap (missing profile_two) (sym n ∙ ap next_is (sym c.place-place.ensures) ∙ sym (shape-next c.place-place.result)) ∙ none-missing _ (sym c.is_missing.ensures ∙ c.if-not-is_missing.true) in
-    end_complete place c.args.at marks (subst (λ (x : ℕ). 0 < x) (frames_open place _ _ h.1) c.requires) e
+    let p = c.args.self.now.profile in
+    let n = next_open p place _ _ h.1 in
+    let e : missing profile_two (next_in (profile_of p) place) ≡ None =
+    ap (missing profile_two) (sym n ∙ ap next_is (sym c.place-place.ensures.shape) ∙ sym (shape-next c.place-place.result)) ∙ none-missing _ (sym c.is_missing.ensures ∙ c.if-not-is_missing.true) in
+    end_complete p place c.args.at marks (subst (λ (x : ℕ). 0 < x) (frames_open p place _ _ h.1) c.requires) e
 
 pub returns : goal.returns
 returns c place h marks =
-    let n = next_open place _ _ h.1 in
-    let e : missing profile_two (next_in profile_two place) ≡ Some c.in_ok-part.part =
-    ap (missing profile_two) (sym n ∙ ap next_is (sym c.place-place.ensures) ∙ sym (shape-next c.place-place.result)) ∙ sym c.missing.ensures ∙ c.in_ok-part.was in
-    end_missing place c.args.at marks c.in_ok-part.part (subst (λ (x : ℕ). 0 < x) (frames_open place _ _ h.1) c.requires) e
+    let p = c.args.self.now.profile in
+    let n = next_open p place _ _ h.1 in
+    let e : missing profile_two (next_in (profile_of p) place) ≡ Some c.in_ok-part.part =
+    ap (missing profile_two) (sym n ∙ ap next_is (sym c.place-place.ensures.shape) ∙ sym (shape-next c.place-place.result)) ∙ sym c.missing.ensures ∙ c.in_ok-part.was in
+    end_missing p place c.args.at marks c.in_ok-part.part (subst (λ (x : ℕ). 0 < x) (frames_open p place _ _ h.1) c.requires) e

@@ -5,7 +5,7 @@ use Rattle.ber_core.specs.declared.header.Len.TheVariants.{Definite}
 use Rattle.ber_leaf.proofs.Leaves.{octets_fit}
 use Rattle.ill_elements.specs.Elements.{element_is}
 use Rattle.ill_elements.specs.HeaderCode.{IsLengthRead, IsWholeLength}
-use Rattle.ber_leaf.specs.Profile.{profile_two}
+use Rattle.ill_schema.specs.Profiles.{profile_of}
 use Rattle.ill_elements.specs.Due.{read_as}
 use Rattle.ill_refusals.specs.Fault.{cut_fault}
 use Rattle.ill_elements.specs.code.Judging.{IsExtent}
@@ -22,6 +22,7 @@ returns-in-Whole-Definite-default-clause-exact c rest front behind came spelled 
     let size = c.in-Whole-Definite-default.size in
     let id = c.args.id in
     let f = form_of_id id in
+    let p = c.args.self.now.profile in
     let e = element_is (read_as found) in
     let ok : IsTrue (are_octets w) = octets_fit w (λ k. let l : get_or w k 0 < 256 = omega (arith, c.type_inv.window k) in l) in
     let right = octets_right front behind (subst (λ x. IsTrue (are_octets x)) spelled ok) in
@@ -29,5 +30,5 @@ returns-in-Whole-Definite-default-clause-exact c rest front behind came spelled 
     let is : c.args.length_read ≡ Whole (Definite size) header = c.in-Whole-Definite-default.is ∙ ap (λ l. Whole l header) field in
     let whole = subst (λ l. IsLengthRead l (read_length f behind) w) is read in
     let length : IsWholeLength (read_length f behind) (Definite size) (drop header w) = whole.2 in
-    let same = definite_judged place e (tag_of_id id) f c.args.at (cut_fault profile_two place c.args.at rest) w front behind header length.0 right spelled whole.1 length.1 in
-    subst (IsExtent found id c.args.at w c.judge_size.result) (sym same) (c.judge_size.ensures.exact rest length.0 came length.2 found place h room)
+    let same = definite_judged p place e (tag_of_id id) f c.args.at (cut_fault (profile_of p) place c.args.at rest) w front behind header length.0 right spelled whole.1 length.1 in
+    subst (IsExtent p found id c.args.at w c.judge_size.result) (sym same) (c.judge_size.ensures.exact rest length.0 came length.2 found place h room)

@@ -15,35 +15,35 @@ returns-clause-text c tag entries below text h = elim c.match-of.branch [
   | in-Leaf+in_default-fault w ↦
       let l = w.in-Leaf.leaf in
       let right = content_holds (leaf_is l) w.written_from.result.now (w.in_default-fault.ensures.none.0 refl) in
-      let at = w.written_from.ensures ∙ text_at c.args.self.now _ below text h (ap (λ e. written e (shape c.args.frame.place) entries) (sym c.of.ensures ∙ w.in-Leaf.is)) in
-      subst (λ e. IsRightText e text) (sym (sym c.of.ensures ∙ w.in-Leaf.is)) (subst (IsRightText (Leaf l)) at (right.0, right.1))
-  | in-LooseWrapper+in_ok-enclose-in-LooseWrapper w ↦ subst (λ e. IsRightText e text) (sym (sym c.of.ensures ∙ w.in-LooseWrapper.is)) tt
-  | in_default w ↦ right_other (read_as c.args.frame.found) text (λ l e. w.in_default.not-Leaf l (c.of.ensures ∙ e))
+      let at = w.written_from.ensures ∙ text_at c.args.self.now _ below text h (ap (λ e. written e (shape c.args.frame.place) entries) (sym c.of.ensures.element ∙ w.in-Leaf.is)) in
+      subst (λ e. IsRightText e text) (sym (sym c.of.ensures.element ∙ w.in-Leaf.is)) (subst (IsRightText (Leaf l)) at (right.0, right.1))
+  | in-LooseWrapper+in_ok-enclose-in-LooseWrapper w ↦ subst (λ e. IsRightText e text) (sym (sym c.of.ensures.element ∙ w.in-LooseWrapper.is)) tt
+  | in_default w ↦ right_other (read_as c.args.frame.found) text (λ l e. w.in_default.not-Leaf l (c.of.ensures.element ∙ e))
 ]
 
 pub returns-clause-closed : goal.returns-clause-closed
 returns-clause-closed c tag entries trees l below text content h held right is value due = elim c.match-of.branch [
   | in-Leaf+in_default-fault w ↦
-      octets_closed c.args.self.now (record c.args.self.now { octets = c.close.new.self }) c.match-of.self.octets c.args.frame (shape c.args._place) tag entries trees l below text content h held right is value due
+      octets_closed c.args.self.now (record c.args.self.now { octets = c.close.new.self }) c.match-of.self.octets c.args.frame c.requires (shape c.args._place) tag entries trees l below text content h held right is value due
       (λ before all base.
       ap (λ (o : Octets). o.octets) w.self-is ∙ all
-      ∙ ap (λ e. before ++ (written e (shape c.args.frame.place) entries ++ text)) (sym c.of.ensures ∙ w.in-Leaf.is)
-      ∙ ap (λ e. before ++ contents_of e (shape c.args.frame.place) (written e (shape c.args.frame.place) entries) text) (sym (sym c.of.ensures ∙ w.in-Leaf.is)))
+      ∙ ap (λ e. before ++ (written e (shape c.args.frame.place) entries ++ text)) (sym c.of.ensures.element ∙ w.in-Leaf.is)
+      ∙ ap (λ e. before ++ contents_of e (shape c.args.frame.place) (written e (shape c.args.frame.place) entries) text) (sym (sym c.of.ensures.element ∙ w.in-Leaf.is)))
       (λ before body t form x joined base. c.in_ok-close.ensures.element before body t form x joined base)
   | in-LooseWrapper+in_ok-enclose-in-LooseWrapper w ↦
-      octets_closed c.args.self.now (record c.args.self.now { octets = c.close.new.self }) c.match-of.self.octets c.args.frame (shape c.args._place) tag entries trees l below text content h held right is value due
+      octets_closed c.args.self.now (record c.args.self.now { octets = c.close.new.self }) c.match-of.self.octets c.args.frame c.requires (shape c.args._place) tag entries trees l below text content h held right is value due
       (λ before all base.
-      let none = loose_text w.in-LooseWrapper.field-0 (shape c.args.frame.place) entries text content (subst (λ e. IsContentOf e (shape c.args.frame.place) entries text content) (sym c.of.ensures ∙ w.in-LooseWrapper.is) is) in
+      let none = loose_text w.in-LooseWrapper.field-0 (shape c.args.frame.place) entries text content (subst (λ e. IsContentOf e (shape c.args.frame.place) entries text content) (sym c.of.ensures.element ∙ w.in-LooseWrapper.is) is) in
       let octets = written (read_as c.args.frame.found) (shape c.args.frame.place) entries in
       let joined = all ∙ ap (λ x. before ++ x) (ap (λ y. octets ++ y) none ∙ append-nil octets) in
       ap (λ (o : Octets). o.octets) w.self-is ∙ w.in_ok-enclose-in-LooseWrapper.ensures w.in-LooseWrapper.field-0 before octets joined base
       ∙ ap (λ n. before ++ enclosed (LooseWrapper w.in-LooseWrapper.field-0) n octets) w.next.ensures
-      ∙ ap (λ e. before ++ contents_of e (shape c.args.frame.place) octets text) (sym (sym c.of.ensures ∙ w.in-LooseWrapper.is)))
+      ∙ ap (λ e. before ++ contents_of e (shape c.args.frame.place) octets text) (sym (sym c.of.ensures.element ∙ w.in-LooseWrapper.is)))
       (λ before body t form x joined base. c.in_ok-close.ensures.element before body t form x joined base)
   | in_default w ↦
-      octets_closed c.args.self.now (record c.args.self.now { octets = c.close.new.self }) c.match-of.self.octets c.args.frame (shape c.args._place) tag entries trees l below text content h held right is value due
+      octets_closed c.args.self.now (record c.args.self.now { octets = c.close.new.self }) c.match-of.self.octets c.args.frame c.requires (shape c.args._place) tag entries trees l below text content h held right is value due
       (λ before all base.
       ap (λ (o : Octets). o.octets) w.self-is ∙ all
-      ∙ ap (λ x. before ++ x) (contents_other (read_as c.args.frame.found) (shape c.args.frame.place) entries text content is (λ x e. w.in_default.not-Leaf x (c.of.ensures ∙ e)) (λ x e. w.in_default.not-LooseWrapper x (c.of.ensures ∙ e))))
+      ∙ ap (λ x. before ++ x) (contents_other (read_as c.args.frame.found) (shape c.args.frame.place) entries text content is (λ x e. w.in_default.not-Leaf x (c.of.ensures.element ∙ e)) (λ x e. w.in_default.not-LooseWrapper x (c.of.ensures.element ∙ e))))
       (λ before body t form x joined base. c.in_ok-close.ensures.element before body t form x joined base)
 ]

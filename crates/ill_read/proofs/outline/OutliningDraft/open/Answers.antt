@@ -7,7 +7,7 @@ use Rattle.ill_read.proofs.outline.OutliningDraft.open.Goals as goal
 
 pub returns : goal.returns
 returns c =
-    let e = c.in_ok-begin.ensures ∙ ap (λ x. c.lead.new.marks.items ++ first_marks (first_of x) x) c.of-element.ensures in
+    let e = c.in_ok-begin.ensures ∙ ap (λ x. c.lead.new.marks.items ++ first_marks (first_of x) x) c.of-element.ensures.element in
     IfOk-weaker c.open-2.result _ _
-    (λ base h. outline_opened c.args.self.now (record { octets = c.open-2.new.self; marks = c.begin.new.marks }) (shape c.args.place) c.args.opening base c.lead.new.marks.items (λ s. c.in_default.not-Segment (c.of-element.ensures ∙ s)) h c.in_ok-lead.ensures e)
+    (λ base h. outline_opened c.args.self.now (record { octets = c.open-2.new.self; marks = c.begin.new.marks }) (shape c.args.place) c.args.opening base c.lead.new.marks.items c.requires (λ s. c.in_default.not-Segment (c.of-element.ensures.element ∙ s)) h c.in_ok-lead.ensures e)
     c.open-2.ensures

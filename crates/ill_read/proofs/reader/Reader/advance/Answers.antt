@@ -1,4 +1,6 @@
+use Rattle.ill_read.proofs.ProfileOfPath.{stands_at}
 use Rattle.std.proofs.Common.{◌≡◌, ◌-◌, ◌++◌, ◌∙◌, ℕ, List, [], Bor, true, false, take, drop, length, refl, sym, ap, subst, arith, take_all, take-append-drop}
+use Rattle.ill_schema.specs.declared.profile.Profile.TheVariants.{Two}
 use Rattle.ber_leaf.specs.Profile.{profile_two}
 use Rattle.ill_refusals.specs.Place.{bound}
 use Rattle.ill_read.specs.Paths.{HoldsAt}
@@ -16,9 +18,9 @@ returns-then-ends_at-clause-goes g c s h =
       | in-Open w ↦ w.in-Open.is
       | in_default w ↦ absurd (let q : true ≡ false = sym c.if-not-matches.false ∙ w.matches-is in cc)
     ] in
-    let b = subst (λ st. InState st s (HasRead g.D.Draft.has d s) (StandsBefore (HoldsAt g.D.Draft.holds d.path) d.at s rest)) is_open h in
+    let b = subst (λ st. InState st s (HasRead g.D.Draft.has d s) (StandsBefore Two (HoldsAt g.D.Draft.holds d.path) d.at s rest)) is_open h in
     c.end_element.ensures.goes [] (bound profile_two b.place - d.at) (length rest) (omega arith) s rest rest b refl refl refl
-    (ended_judged b.place d.at rest (sym (c.ends_at.ensures.exact b.place (b.stands.0, b.stands.1)) ∙ c.if-ends_at.true))
+    (ended_judged Two b.place d.at rest (sym (c.ends_at.ensures.exact b.place (stands_at g.D.Draft.holds c.args.self.now.path b.place b.stands)) ∙ c.if-ends_at.true))
 
 pub returns-clause-goes : goal.returns-clause-goes
 returns-clause-goes g c s h =
@@ -27,8 +29,8 @@ returns-clause-goes g c s h =
       | in-Open w ↦ w.in-Open.is
       | in_default w ↦ absurd (let q : true ≡ false = sym c.if-not-matches.false ∙ w.matches-is in cc)
     ] in
-    let b = subst (λ st. InState st s (HasRead g.D.Draft.has d s) (StandsBefore (HoldsAt g.D.Draft.holds d.path) d.at s rest)) is_open h in
-    let stands : StandsAt c.args.self.now.path.frames b.place = (b.stands.0, b.stands.1) in
+    let b = subst (λ st. InState st s (HasRead g.D.Draft.has d s) (StandsBefore Two (HoldsAt g.D.Draft.holds d.path) d.at s rest)) is_open h in
+    let stands : StandsAt c.args.self.now.path.frames b.place = (stands_at g.D.Draft.holds c.args.self.now.path b.place b.stands) in
     let room = c.saturating_sub-room.result in
     let front : c.if-rest-room.window.now ≡ take room rest = elim c.if-rest-room.branch [
       | then-rest-room w ↦ ap (λ (x : Bor (List ℕ)). x.now) w.window-is ∙ sym (take_all room rest (omega (arith, w.if-rest-room.true)))
@@ -37,4 +39,4 @@ returns-clause-goes g c s h =
     let here : room ≡ bound profile_two b.place - d.at = c.saturating_sub-room.ensures ∙ ap (λ n. n - d.at) (c.bound.ensures.exact b.place stands) in
     let joined : rest ≡ c.if-rest-room.window.now ++ drop room rest = sym (ap (λ x. x ++ drop room rest) front ∙ take-append-drop room rest) in
     c.advance_within.ensures.goes s rest (drop room rest) b refl joined here
-    (within_judged b.place d.at rest c.if-rest-room.window.now (sym (c.ends_at.ensures.exact b.place stands) ∙ c.if-ends_at.false) (front ∙ ap (λ m. take m rest) here))
+    (within_judged Two b.place d.at rest c.if-rest-room.window.now (sym (c.ends_at.ensures.exact b.place stands) ∙ c.if-ends_at.false) (front ∙ ap (λ m. take m rest) here))

@@ -1,4 +1,5 @@
 use Rattle.std.proofs.Common.{◌≡◌, ℕ, [], true, Vec, Global, sym, subst, ◌∙◌, arith}
+use Rattle.ill_schema.specs.declared.profile.Profile.TheVariants.{Two}
 use Rattle.std.specs.Bool.{◌==◌}
 use Rattle.std.specs.Vec.{vec_len}
 use Rattle.std.proofs.lemmas.List.{nil_from_length}
@@ -16,7 +17,7 @@ returns-in-1-clause-at_least g c fed more a n is ok o h =
     let d = c.args.self.now in
     let none = none_left d.pending (sym c.is_empty.ensures ∙ c.if-is_empty.true) in
     let stands = (is_open g.D.Draft.holds g.D.Draft.has d fed is o).1 in
-    two_at_least (HoldsAt g.D.Draft.holds d.path) d.at fed (subst (StandsLast (HoldsAt g.D.Draft.holds d.path) d.at fed) none stands) more a n ok h
+    two_at_least (HoldsAt g.D.Draft.holds d.path) d.at fed (subst (StandsLast Two (HoldsAt g.D.Draft.holds d.path) d.at fed) none stands) more a n ok h
 
 pub returns-in_default-clause-at_least : goal.returns-in_default-clause-at_least
 returns-in_default-clause-at_least g c fed more a n is ok o h = c.need.ensures.at_least fed more a n (is_open g.D.Draft.holds g.D.Draft.has c.args.self.now fed is o) ok h

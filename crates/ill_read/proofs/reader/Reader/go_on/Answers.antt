@@ -1,4 +1,5 @@
 use Rattle.std.proofs.Common.{◌+◌, ◌≤◌, Ok, Some, drop, take, length, sym, subst}
+use Rattle.ill_schema.specs.declared.profile.Profile.TheVariants.{Two}
 use Rattle.ber_leaf.specs.Profile.{profile_two}
 use Rattle.ill_schema.specs.Apdu.{Apdu}
 use Rattle.ill_refusals.specs.Outcome.{OnlyAccepts}
@@ -29,8 +30,8 @@ returns-clause-goes g c path s rest judgement b progress judged size made =
       | else-whole w ↦
           let on = goes_on holds path d.path d.at s rest judgement b progress judged
           (subst (λ x. IsStep holds d.path (Ok x) (moved (judge profile_two b.place d.at rest) b.place d.at rest)) w.if-whole.false made) in
-          let here = subst (λ n. StandsBefore (HoldsAt holds d.path) (d.at + n) s (drop n rest)) (sym size) on in
+          let here = subst (λ n. StandsBefore Two (HoldsAt holds d.path) (d.at + n) s (drop n rest)) (sym size) on in
           subst (λ (r : Reader g.row.D.Denot). HasAdvanced holds g.D.Draft.has r s rest (Some c.args.size)) (sym w.self-is)
           (subst (λ st. InState st s ((a : Apdu) × OnlyAccepts profile_two s a (d.at + c.args.size) × g.D.Draft.has d.path.draft a (d.at + c.args.size))
-          (StandsBefore (HoldsAt holds d.path) (d.at + c.args.size) s (drop c.args.size rest))) (sym c.requires.open) here)
+          (StandsBefore Two (HoldsAt holds d.path) (d.at + c.args.size) s (drop c.args.size rest))) (sym c.requires.open) here)
     ]

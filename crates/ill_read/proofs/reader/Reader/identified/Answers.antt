@@ -1,4 +1,10 @@
+use Rattle.ill_refusals.specs.Fault.{fault_of}
+use Rattle.ill_refusals.specs.code.Judge.{faulty}
+use Rattle.ill_elements.specs.code.Judging.{judge_identified}
+use Rattle.ill_schema.specs.Profiles.{profile_of}
+use Rattle.ill_read.proofs.ProfileOfPath.{headed_two, in_two, stands_at}
 use Rattle.std.proofs.Common.{◌≡◌, ◌<◌, ◌++◌, ◌∙◌, get_or, length, Ok, IsTrue, ap, subst, arith, length-append}
+use Rattle.ill_schema.specs.declared.profile.Profile.TheVariants.{Two}
 use Rattle.ber_core.specs.Id.{tag_of_id, form_of_id}
 use Rattle.ber_core.specs.Identifier.{identifier}
 use Rattle.ber_core.specs.Octets.{are_octets}
@@ -12,7 +18,7 @@ use Rattle.ill_elements.specs.Due.{read_as}
 use Rattle.ill_elements.specs.Elements.{element_is}
 use Rattle.ill_elements.specs.code.Judging.{IsBegin}
 use Rattle.ill_elements.specs.code.Judging.{Fits, IsExtent}
-use Rattle.ill_elements.proofs.Judgements.{behind_identifier, headed_judged}
+use Rattle.ill_elements.proofs.Judgements.{behind_identifier}
 use Rattle.ill_read.proofs.reader.Reader.identified.Goals as goal
 
 pub returns-in-Err-clause-goes : goal.returns-in-Err-clause-goes
@@ -25,8 +31,8 @@ returns-in-Err-clause-goes g c s rest more b came joined bounded judged =
     let spelled : w ≡ front ++ read.0 = (read_is_identifier w (tag_of_id id) (form_of_id id) read.0 ok read.1).1 in
     c.refuse.ensures.goes s rest (
       b,
-      judged ∙ behind_identifier b.place at cut w front read.0 (tag_of_id id) (form_of_id id) spelled read.1
-          ∙ c.in-Err.ensures.exact b.place (b.stands.0, b.stands.1) (length front) cut read.0,
+      judged ∙ behind_identifier Two b.place at cut w front read.0 (tag_of_id id) (form_of_id id) spelled read.1
+          ∙ in_two c.args.self.now.path (λ q. judge_identified q b.place (tag_of_id id) (form_of_id id) at (length front) cut read.0 ≡ faulty (fault_of c.in-Err.refusal)) (c.in-Err.ensures.exact b.place (stands_at g.D.Draft.holds c.args.self.now.path b.place b.stands) (length front) cut read.0),
     )
 
 pub returns-in-Err-judge_length-clause-goes : goal.returns-in-Err-judge_length-clause-goes
@@ -36,9 +42,13 @@ returns-in-Err-judge_length-clause-goes g c s rest more b came joined bounded ju
     let read = c.requires.header in
     let front = identifier (tag_of_id id) (form_of_id id) in
     let spelled : w ≡ front ++ read.0 = (read_is_identifier w (tag_of_id id) (form_of_id id) read.0 ok read.1).1 in
-    let stands : StandsAt c.args.self.now.path.frames b.place = (b.stands.0, b.stands.1) in
-    let same = headed_judged c.args.self.now.path.frames b.place (tag_of_id id) c.in-Ok.found (form_of_id id) at (cut_fault profile_two b.place at rest) w front read.0 stands (c.in-Ok.ensures.exact b.place stands) spelled read.1 in
-    c.refuse-in-Err-judge_length.ensures.goes s rest (b, judged ∙ same ∙ c.in-Err-judge_length.ensures.exact rest front read.0 came spelled read.2 c.in-Ok.found b.place stands bounded)
+    let stands : StandsAt c.args.self.now.path.frames b.place = stands_at g.D.Draft.holds c.args.self.now.path b.place b.stands in
+    let same = headed_two c.args.self.now.path b.place (tag_of_id id) c.in-Ok.found (form_of_id id) at (cut_fault profile_two b.place at rest) w front read.0 stands (c.in-Ok.ensures.exact b.place stands) spelled read.1 in
+    c.refuse-in-Err-judge_length.ensures.goes s rest (
+      b,
+      judged ∙ same ∙ in_two c.args.self.now.path (λ q. judge_length (profile_of q) b.place (element_is (read_as c.in-Ok.found)) (tag_of_id id) (form_of_id id) at (length front) (cut_fault (profile_of q) b.place at rest) read.0 ≡ faulty (fault_of c.in-Err-judge_length.refusal))
+          (c.in-Err-judge_length.ensures.exact rest front read.0 came spelled read.2 c.in-Ok.found b.place stands bounded),
+    )
 
 pub returns-in-Opens-clause-goes : goal.returns-in-Opens-clause-goes
 returns-in-Opens-clause-goes g c s rest more b came joined bounded judged =
@@ -48,12 +58,13 @@ returns-in-Opens-clause-goes g c s rest more b came joined bounded judged =
     let read = c.requires.header in
     let front = identifier (tag_of_id id) (form_of_id id) in
     let spelled : w ≡ front ++ read.0 = (read_is_identifier w (tag_of_id id) (form_of_id id) read.0 ok read.1).1 in
-    let stands : StandsAt c.args.self.now.path.frames b.place = (b.stands.0, b.stands.1) in
+    let stands : StandsAt c.args.self.now.path.frames b.place = stands_at g.D.Draft.holds c.args.self.now.path b.place b.stands in
     let begun = c.in-Ok.ensures.exact b.place stands in
-    let same = headed_judged frames b.place (tag_of_id id) c.in-Ok.found (form_of_id id) at (cut_fault profile_two b.place at rest) w front read.0 stands begun spelled read.1 in
+    let same = headed_two c.args.self.now.path b.place (tag_of_id id) c.in-Ok.found (form_of_id id) at (cut_fault profile_two b.place at rest) w front read.0 stands begun spelled read.1 in
     let fits = subst (Fits id (length w)) c.in-Opens.is c.in-Ok-judge_length.ensures.fits in
-    let extent = subst (λ x. IsExtent c.in-Ok.found id at w (Ok x) (judge_length profile_two b.place (element_is (read_as c.in-Ok.found)) (tag_of_id id) (form_of_id id) at (length front) (cut_fault profile_two b.place at rest) read.0)) c.in-Opens.is
-    (c.in-Ok-judge_length.ensures.exact rest front read.0 came spelled read.2 c.in-Ok.found b.place stands bounded) in
+    let extent = subst (λ x. IsExtent Two c.in-Ok.found id at w (Ok x) (judge_length profile_two b.place (element_is (read_as c.in-Ok.found)) (tag_of_id id) (form_of_id id) at (length front) (cut_fault profile_two b.place at rest) read.0)) c.in-Opens.is
+    (in_two c.args.self.now.path (λ q. IsExtent q c.in-Ok.found id at w (Ok c.in-Ok-judge_length.extent) (judge_length (profile_of q) b.place (element_is (read_as c.in-Ok.found)) (tag_of_id id) (form_of_id id) at (length front) (cut_fault (profile_of q) b.place at rest) read.0))
+    (c.in-Ok-judge_length.ensures.exact rest front read.0 came spelled read.2 c.in-Ok.found b.place stands bounded)) in
     c.open.ensures.goes s rest (b, (subst (IsBegin frames b.place (tag_of_id id) c.in-Ok.found) fits.0 begun, judged ∙ same ∙ extent))
     (fits.1, omega (arith, fits.2, ap length joined, length-append w more))
 
@@ -65,10 +76,11 @@ returns-in-Reads-clause-goes g c s rest more b came joined bounded judged =
     let read = c.requires.header in
     let front = identifier (tag_of_id id) (form_of_id id) in
     let spelled : w ≡ front ++ read.0 = (read_is_identifier w (tag_of_id id) (form_of_id id) read.0 ok read.1).1 in
-    let stands : StandsAt c.args.self.now.path.frames b.place = (b.stands.0, b.stands.1) in
+    let stands : StandsAt c.args.self.now.path.frames b.place = stands_at g.D.Draft.holds c.args.self.now.path b.place b.stands in
     let begun = c.in-Ok.ensures.exact b.place stands in
-    let same = headed_judged frames b.place (tag_of_id id) c.in-Ok.found (form_of_id id) at (cut_fault profile_two b.place at rest) w front read.0 stands begun spelled read.1 in
+    let same = headed_two c.args.self.now.path b.place (tag_of_id id) c.in-Ok.found (form_of_id id) at (cut_fault profile_two b.place at rest) w front read.0 stands begun spelled read.1 in
     let fits = subst (Fits id (length w)) c.in-Reads.is c.in-Ok-judge_length.ensures.fits in
-    let extent = subst (λ x. IsExtent c.in-Ok.found id at w (Ok x) (judge_length profile_two b.place (element_is (read_as c.in-Ok.found)) (tag_of_id id) (form_of_id id) at (length front) (cut_fault profile_two b.place at rest) read.0)) c.in-Reads.is
-    (c.in-Ok-judge_length.ensures.exact rest front read.0 came spelled read.2 c.in-Ok.found b.place stands bounded) in
+    let extent = subst (λ x. IsExtent Two c.in-Ok.found id at w (Ok x) (judge_length profile_two b.place (element_is (read_as c.in-Ok.found)) (tag_of_id id) (form_of_id id) at (length front) (cut_fault profile_two b.place at rest) read.0)) c.in-Reads.is
+    (in_two c.args.self.now.path (λ q. IsExtent q c.in-Ok.found id at w (Ok c.in-Ok-judge_length.extent) (judge_length (profile_of q) b.place (element_is (read_as c.in-Ok.found)) (tag_of_id id) (form_of_id id) at (length front) (cut_fault (profile_of q) b.place at rest) read.0))
+    (c.in-Ok-judge_length.ensures.exact rest front read.0 came spelled read.2 c.in-Ok.found b.place stands bounded)) in
     c.read.ensures.goes s rest more b joined (subst (IsBegin frames b.place (tag_of_id id) c.in-Ok.found) fits.0 begun, judged ∙ same ∙ extent)

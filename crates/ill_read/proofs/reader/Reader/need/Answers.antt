@@ -1,4 +1,11 @@
+use Rattle.std.proofs.Common.{Some, sym, subst}
+use Rattle.ill_refusals.specs.Fault.{fault, fault_at}
+use Rattle.ill_refusals.specs.Place.{IsPlace}
+use Rattle.ill_schema.specs.Profiles.{profile_of}
+use Rattle.ill_schema.specs.declared.refusal.Cause.{Cause}
+use Rattle.ill_read.proofs.ProfileOfPath.{stands_at}
 use Rattle.std.proofs.Common.{◌≡◌, ◌≤◌, ℕ, List, length, take, ap, subst, ◌∙◌, arith}
+use Rattle.ill_schema.specs.declared.profile.Profile.TheVariants.{Two}
 use Rattle.std.proofs.lemmas.List.{take_all}
 use Rattle.ill_read.specs.Paths.{HoldsAt}
 use Rattle.ill_elements.specs.Standing.{Level, StandsAt, StandsLast}
@@ -10,20 +17,22 @@ use Rattle.ill_read.proofs.NeededOctets.{needs_after, need_open, need_at_least}
 use Rattle.ill_read.proofs.reader.Reader.need.Goals as goal
 
 -- The frames of a path are where it is.
-abbrev frames_stand : {D : Type 0} (holds : D → List Level → List ℕ → Type 0) (path : Path D) (at : ℕ) (s rest : List ℕ) → StandsLast (HoldsAt holds path) at s rest → StandsLast (StandsAt path.frames) at s rest
+abbrev frames_stand : {D : Type 0} (holds : D → List Level → List ℕ → Type 0) (path : Path D) (at : ℕ) (s rest : List ℕ) → StandsLast Two (HoldsAt holds path) at s rest → StandsLast path.frames.profile (StandsAt path.frames) at s rest
 frames_stand holds path at s rest l =
-    let b = l.0 in
-    (record { place = b.place; before = b.before; joined = b.joined; octets = b.octets; offset = b.offset; stands = (b.stands.0, b.stands.1); is_place = b.is_place }, l.1)
+    let b = l.0 in (
+      record { place = b.place; before = b.before; joined = b.joined; octets = b.octets; offset = b.offset; stands = stands_at holds path b.place b.stands; is_place = subst (λ q. IsPlace (profile_of q) b.before b.place) (sym path.two) b.is_place },
+      subst (λ q. fault_at (profile_of q) b.place at rest ≡ Some (fault Cause.Truncated (length s))) (sym path.two) l.1,
+    )
 
 -- The pending octets are few, so all of them are looked at.
 needed : {D : Type 0} (holds : D → List Level → List ℕ → Type 0) (d : Reader D) (fed front : List ℕ) (room result : ℕ) → (length d.pending.items ≤ 1_048_576 → length d.pending.items ≤ room) → front ≡ d.pending.items
-    → ((s : List ℕ) (stands : StandsLast (StandsAt d.path.frames) d.at s (take room front)) → IsNeed stands.0.place d.at (take room front) result)
-    → (stands : StandsLast (HoldsAt holds d.path) d.at fed d.pending.items) → IsNeed stands.0.place d.at d.pending.items result
+    → ((s : List ℕ) (stands : StandsLast d.path.frames.profile (StandsAt d.path.frames) d.at s (take room front)) → IsNeed stands.0.place d.at (take room front) result)
+    → (stands : StandsLast Two (HoldsAt holds d.path) d.at fed d.pending.items) → IsNeed stands.0.place d.at d.pending.items result
 needed holds d fed front room result fits is need stands =
     let items = d.pending.items in
-    let le = fits (few (HoldsAt holds d.path) d.at fed items stands) in
+    let le = fits (few Two (HoldsAt holds d.path) d.at fed items stands) in
     let whole : take room front ≡ items = ap (take room) is ∙ take_all room items le in
-    let P : List ℕ → Type 0 = λ z. (l : StandsLast (HoldsAt holds d.path) d.at fed z) → IsNeed l.0.place d.at z result in
+    let P : List ℕ → Type 0 = λ z. (l : StandsLast Two (HoldsAt holds d.path) d.at fed z) → IsNeed l.0.place d.at z result in
     subst P whole (λ l. need fed (frames_stand holds d.path d.at fed _ l)) stands
 
 pub returns-clause-exact : goal.returns-clause-exact

@@ -1,4 +1,5 @@
 use Rattle.std.proofs.Common.{◌≡◌, ◌≢◌, true, false, sym, subst, ◌∙◌}
+use Rattle.ill_schema.specs.declared.profile.Profile.TheVariants.{Two}
 use Rattle.ill_schema.specs.declared.refusal.Cause.{Cause}
 use Rattle.ill_read.specs.Paths.{HoldsAt}
 use Rattle.ill_elements.specs.Standing.{StandsLast}
@@ -23,4 +24,4 @@ returns-else-not-matches-clause-goes g c s rest can =
       | in-Truncated w ↦ w.in-Truncated.is
       | in_default w ↦ absurd (let q : true ≡ false = sym c.if-not-matches.false ∙ w.matches-is in cc)
     ] in
-    subst (λ st. InState st s (HasRead g.D.Draft.has d s) (StandsLast (HoldsAt g.D.Draft.holds d.path) d.at s rest)) (sym c.requires.open) (stops_open (HoldsAt g.D.Draft.holds d.path) d.at s rest c.args.refusal can.0 can.1 ends)
+    subst (λ st. InState st s (HasRead g.D.Draft.has d s) (StandsLast Two (HoldsAt g.D.Draft.holds d.path) d.at s rest)) (sym c.requires.open) (stops_open (HoldsAt g.D.Draft.holds d.path) d.at s rest c.args.refusal can.0 can.1 ends)
