@@ -12,5 +12,6 @@ pub mod NormalEntries
 pub mod HeadersRead
 pub mod OpenFrames
 pub mod OfTwo
+pub mod BitSegments
 pub mod Judgements
 pub mod PlaceNeeds

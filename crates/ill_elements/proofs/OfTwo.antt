@@ -122,3 +122,7 @@ pub found_two : (p : Named) (f : Frame) → p ≡ Two → IsTrue (are_of p (f �
 found_two p f e h =
     let frame = (and_parts (is_two_frame f) true (subst (λ q. IsTrue (are_of q (f ∷ []))) e h)).0 in
     (and_parts (is_of_two (node_in f.place)) _ frame).1
+
+-- nor is what is found in profile 2 a segment of a BIT STRING
+pub no_bit_segment : (f : CellFound) → IsTrue (is_two f) → read_as f ≡ code.BitSegment → ⊥
+no_bit_segment f two e = let q : IsTrue (is_two_element code.BitSegment) = subst (λ x. IsTrue (is_two_element x)) e (read_two f two) in cc

@@ -5,7 +5,9 @@ use Rattle.ber_leaf.specs.Profile.{profile_two}
 use Rattle.ber_leaf.specs.Segments.{leaf_content, segment_tag}
 use Rattle.ill_refusals.specs.Element.{leaf}
 use Rattle.ill_refusals.specs.Fault.{element_fault, string_fault}
-use Rattle.ill_elements.specs.LeafTypes.{leaf_is}
+use Rattle.ill_elements.specs.LeafTypes.{leaf_is, module_leaf_is}
+use Rattle.ill_elements.specs.declared.leaf_type.ModuleLeaf.{ModuleLeaf}
+use Rattle.ill_elements.specs.declared.leaf_type.ModuleLeaf.TheVariants as named
 use Rattle.ill_elements.specs.declared.leaf_type.LeafType.{LeafType}
 use Rattle.ill_elements.specs.declared.leaf_type.LeafType.TheVariants.{Boolean, Integer, Enumerated, General, Visible, Printable, Date, Time}
 
@@ -40,3 +42,17 @@ read_fault Visible ts = refl
 read_fault Printable ts = refl
 read_fault Date ts = refl
 read_fault Time ts = refl
+
+-- the same of the leaves of the module profile, of which only BIT STRINGs have bits
+pub module_segments : (l : ModuleLeaf) → segment_tag (module_leaf_is l) ≡ octet_string
+module_segments named.Null = refl
+module_segments named.ObjectIdentifier = refl
+module_segments named.OctetString = refl
+module_segments named.ObjectDescriptor = refl
+
+pub module_content : (l : ModuleLeaf) (T : Tree) → leaf_content (module_leaf_is l) T ≡ text T
+module_content l (primitive tag octets) = refl
+module_content named.Null (constructed tag ts) = refl
+module_content named.ObjectIdentifier (constructed tag ts) = refl
+module_content named.OctetString (constructed tag ts) = refl
+module_content named.ObjectDescriptor (constructed tag ts) = refl

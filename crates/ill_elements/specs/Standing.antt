@@ -1,11 +1,11 @@
 -- How frames stand for the elements that are open at a place.
 use Rattle.ill_schema.specs.Profiles.{profile_of}
 use Rattle.ill_schema.specs.declared.profile.Profile.{Profile as Named}
-use Rattle.std.specs.Prelude.{◌≡◌, ℕ, List, [], ◌∷◌, ◌++◌, length, take, map, Option, Some, IsTrue}
+use Rattle.std.specs.Prelude.{◌≡◌, true, ℕ, List, [], ◌∷◌, ◌++◌, length, take, map, Option, Some, IsTrue}
 use Rattle.ber_core.specs.Tree.{Tree, Trees, none, more, tag_of, AreSegments, octet_string}
 use Rattle.ber_core.specs.Identifier.{Tag}
 use Rattle.ber_core.specs.Octets.{are_octets}
-use Rattle.ber_core.specs.Foreign.{are_foreign}
+use Rattle.ber_core.specs.Foreign.{are_foreign, is_identified}
 use Rattle.ber_leaf.specs.Leaf.{bit_string, is_string}
 use Rattle.ber_leaf.specs.Segments.{segment_tag}
 use Rattle.ber_leaf.specs.Profile.{profile_two}
@@ -102,6 +102,7 @@ AreDue n (more T ts) = (d : following.Due) × (due profile_two (tag_of T) n ≡ 
 pub record IsFrame (p : Named) (f : Frame) (o : Open) (path : List Open) (outer : List Frame) (entries : List (Option Content)) : Type 0 where
   pub element : element_is (read_as f.found) ≡ o.element
   pub start : f.start ≡ o.start
+  pub identified : IsTrue (is_identified o.tag true)
   pub end : f.end ≡ o.end
   pub bound : f.bound ≡ bound profile_two (o ∷ path)
   pub next : next_is (shape f.place) ≡ next_in (profile_of p) (o ∷ path)
