@@ -1,5 +1,19 @@
 -- The innermost element closes.
-use Rattle.ill_elements.proofs.OfTwo.{last_two, read_two}
+use Rattle.ber_core.specs.Identifier.{Tag}
+use Rattle.ill_elements.specs.declared.element.Element.TheVariants.{BitSegment}
+use Rattle.ill_schema.specs.declared.profile.Profile.{Profile as Named}
+use Rattle.std.proofs.Common.{◌⊎◌, inl, inr}
+use Rattle.ber_leaf.specs.Leaf.{bit_string}
+use Rattle.ber_leaf.specs.Segments.{segment_tag}
+use Rattle.ill_refusals.specs.Element.{Element}
+use Rattle.ill_elements.specs.Due.{IsDueIn}
+use Rattle.ill_elements.specs.declared.due.Next.{Next}
+use Rattle.ill_elements.specs.declared.due.Next.TheVariants.{Segments, BitSegments}
+use Rattle.ill_elements.specs.declared.due.Slot.{Slot}
+use Rattle.ill_elements.proofs.BitSegments.{bits_joined}
+use Rattle.ill_elements.proofs.DueTags.{bit_segment_due, segment_due}
+use Rattle.ill_read.proofs.Strings.{IsSegmentOf, is_bit_segment}
+use Rattle.ill_elements.proofs.OfTwo.{no_bit_segment, last_two}
 use Rattle.ill_elements.specs.Two.{is_two_frame}
 use Rattle.std.specs.List.{list_all}
 use Rattle.ill_schema.specs.declared.profile.Profile.TheVariants.{Two}
@@ -7,19 +21,18 @@ use Rattle.std.specs.Prelude.{⊤}
 use Rattle.std.proofs.Common.{IsTrue, ◌≡◌, ℕ, ◌+◌, ◌-◌, List, [], ◌∷◌, ◌++◌, length, length-append, take, drop, Bool, false, Option, Some, None, Result, Ok, Err, refl, sym, ap, ap₂, subst, ◌∙◌, arith, slice_get}
 use Rattle.std.proofs.lemmas.List.{take_at}
 use Rattle.std.specs.Result.{IsErrAnd}
-use Rattle.ber_core.specs.Tree.{Trees, constructed, octet_string, text_all, AreSegments}
+use Rattle.ber_core.specs.Tree.{Trees, constructed, octet_string, AreSegments}
 use Rattle.ber_leaf.specs.Profile.{profile_two}
 use Rattle.ber_leaf.specs.declared.fault.LeafFault.{LeafFault}
 use Rattle.ill_schema.specs.Causes.{cause_of}
 use Rattle.ill_schema.specs.Content.{Content}
-use Rattle.ill_refusals.specs.Element.{segment}
 use Rattle.ill_refusals.specs.Next.{missing}
 use Rattle.ill_refusals.specs.Fault.{fault, element_fault, string_fault}
 use Rattle.ill_refusals.specs.Place.{Open, next_in}
 use Rattle.ill_refusals.specs.code.Judge.{Judgement, closes, or_faulty}
 use Rattle.ill_refusals.specs.code.Step.{moved}
 use Rattle.ill_cells.specs.Places.{alternative_of, where_of}
-use Rattle.ill_elements.specs.Elements.{element_is, is_two_element}
+use Rattle.ill_elements.specs.Elements.{element_is}
 use Rattle.ill_read.specs.code.Drafts.{ChecksText, HasClosed, IsRightText, with_entry}
 use Rattle.ill_elements.specs.Due.{due_with}
 use Rattle.ill_elements.specs.code.Judging.{IsEnd}
@@ -38,10 +51,9 @@ use Rattle.ill_read.specs.declared.path.Path.{Path}
 use Rattle.ill_read.proofs.EndedElements.{frame_ended}
 use Rattle.ill_read.proofs.DeliveredEntries.{entry_added, pushed_apart, pushed_segment}
 use Rattle.ill_elements.proofs.OpenFrames.{last_open}
-use Rattle.ill_read.proofs.OpenedElements.{only_segment}
 use Rattle.ill_elements.proofs.DueTags.{segment_due}
-use Rattle.ill_read.proofs.Segments.{text_with}
-use Rattle.ill_read.proofs.Strings.{segment_added}
+use Rattle.ill_read.proofs.Segments.{segments_alone, text_with}
+use Rattle.ill_read.proofs.Strings.{is_segment, segment_added, text_after}
 use Rattle.ill_cells.specs.declared.at.At.{At}
 use Rattle.ill_elements.specs.Due.{shape, shape_at, read_as, slot_in, next_place}
 
@@ -74,34 +86,60 @@ ending : (place : List Open) (marks at : ℕ) (rest : List ℕ) (j : Judgement) 
     → moved j place at rest ≡ moved (or_faulty x e.innermost.start (closes marks)) (e.innermost ∷ e.outer) at rest
 ending place marks at rest j e x h = ap₂ (λ y p. moved y p at rest) e.is e.is_path ∙ ap (λ y. moved (or_faulty y e.innermost.start (closes marks)) (e.innermost ∷ e.outer) at rest) h
 
+-- an open segment is one of the segments that are due round it, and its text is more of theirs
+pub record IsOpenSegment (e : CodeElement) (n : Next) (tag : Tag) (ts : Trees) (before : List ℕ) : Type 0 where
+  pub is : IsSegmentOf n (constructed tag ts)
+  pub text : text_with (element_is e) before ts ≡ text_after n before (constructed tag ts)
+  pub sound : string_fault profile_two (element_is e) ts ≡ None
+
+open_segment : (p : Named) (e : CodeElement) (n own : Next) (tag : Tag) (slot : Slot) (alt : Option ℕ) (entries : List (Option Content)) (ts : Trees) (before : List ℕ) → IsHeld p e own entries ts
+    → IsDueIn tag n (due_with slot alt e) → (e ≡ Segment) ⊎ (e ≡ BitSegment) → IsOpenSegment e n tag ts before
+open_segment p e n own tag slot alt entries ts before held due (inl s) =
+    let there : n ≡ Segments = segment_due tag n (due_with slot alt e) due (ap element_is s) in
+    record {
+      is = is_segment n (constructed tag ts) (due_with slot alt e) due there (segments own (subst (λ x. IsHeld p x own entries ts) s held));
+      text = ap (λ x. text_with (element_is x) before ts) s ∙ ap (λ x. text_after x before (constructed tag ts)) (sym there);
+      sound = ap (λ x. string_fault profile_two (element_is x) ts) s;
+    }
+  where
+    segments : (own : Next) → IsHeld p Segment own entries ts → AreSegments octet_string ts
+    segments Segments h = h.1
+    segments _ h = absurd h
+open_segment p e n own tag slot alt entries ts before held due (inr s) =
+    let there : n ≡ BitSegments = bit_segment_due tag n (due_with slot alt e) due (ap element_is s) in
+    record {
+      is = is_bit_segment n (constructed tag ts) (due_with slot alt e) due there (segments own (subst (λ x. IsHeld p x own entries ts) s held));
+      text = ap (λ x. text_with (element_is x) before ts) s ∙ sym (bits_joined before (0 ∷ []) ts) ∙ ap (λ x. text_after x before (constructed tag ts)) (sym there);
+      sound = ap (λ x. string_fault profile_two (element_is x) ts) s;
+    }
+  where
+    segments : (own : Next) → IsHeld p BitSegment own entries ts → AreSegments (segment_tag bit_string) ts
+    segments BitSegments h = h.1
+    segments _ h = absurd h
+
 -- a segment closes
 pub segment_closed : {D : Type 0} (holds : D → List Level → List ℕ → Type 0) (old new : Path D) (f : Frame) (place : List Open) (marks at : ℕ) (rest : List ℕ) (j : Judgement) → HoldsAt holds old place
     → IsEnd Two place marks j → new.frames.open.items ≡ take (length old.frames.open.items - 1) old.frames.open.items → slice_get old.frames.open.items (length old.frames.open.items - 1) ≡ Some f
-    → read_as f.found ≡ Segment → new.draft ≡ old.draft → IsStep holds new (Ok false) (moved j place at rest)
+    → (read_as f.found ≡ Segment) ⊎ (read_as f.found ≡ BitSegment) → new.draft ≡ old.draft → IsStep holds new (Ok false) (moved j place at rest)
 segment_closed holds old new f place marks at rest j stands end frames last is draft =
     let o = end.innermost in
     let path = end.outer in
     let here : HoldsAt holds old (o ∷ path) = subst (HoldsAt holds old) end.is_path stands in
     let p = popped old.frames.open.items new.frames.open.items here.0 f o path here.1 frames last in
-    let e : segment octet_string ≡ o.element = ap element_is (sym is) ∙ p.framed.element in
-    let string : next_at Two new.frames.open.items ≡ Segments = segment_due o.tag (next_at Two new.frames.open.items) (due_with (slot_in f.found) (alternative_of f.found) (read_as f.found)) p.framed.is_due (ap element_is is) in
-    let h = segment_holds (shape f.place) p.entries o.trees (subst (λ x. IsHeld Two x (shape f.place) p.entries o.trees) is p.framed.held) in
+    let d = due_with (slot_in f.found) (alternative_of f.found) (read_as f.found) in
+    let one = open_segment Two (read_as f.found) (next_at Two new.frames.open.items) (shape f.place) o.tag (slot_in f.found) (alternative_of f.found) p.entries o.trees (text_so_far path) p.framed.held p.framed.is_due is in
     let levels : here.0 ≡ p.below = p.held ∙ pushed_segment (level_of f o.tag p.entries) p.below is in
-    let joined : text_so_far (o ∷ path) ≡ text_so_far path ++ text_all o.trees = sym (ap (λ x. text_with x (text_so_far path) o.trees) e) in
-    let held = subst (λ t. holds new.draft p.below t) joined (subst (λ ls. holds new.draft ls (text_so_far (o ∷ path))) levels (subst (λ d. holds d here.0 (text_so_far (o ∷ path))) (sym draft) here.2)) in
-    let added = segment_added holds new path p.below (due_with (slot_in f.found) (alternative_of f.found) (read_as f.found)) (constructed o.tag o.trees) (at + marks) (drop marks rest) p.outer p.framed.is_due string h held in
-    let none : string_fault profile_two o.element o.trees ≡ None = sym (ap (λ x. string_fault profile_two x o.trees) e) in
-    subst (IsStep holds new (Ok false)) (sym (ending place marks at rest j end None none)) added
-  where
-    segment_holds : (n : Next) (entries : List (Option Content)) (ts : Trees) → IsHeld Two Segment n entries ts → AreSegments octet_string ts
-    segment_holds Segments entries ts h = h.1
-    segment_holds _ entries ts h = absurd h
+    let as_open = λ (P : Element → Type 0) (x : P (element_is (read_as f.found))). subst P p.framed.element x in
+    let joined = as_open (λ x. text_with x (text_so_far path) o.trees ≡ text_after (next_at Two new.frames.open.items) (text_so_far path) (constructed o.tag o.trees)) one.text in
+    let held = subst (λ t. holds new.draft p.below t) joined (subst (λ ls. holds new.draft ls (text_so_far (o ∷ path))) levels (subst (λ x. holds x here.0 (text_so_far (o ∷ path))) (sym draft) here.2)) in
+    let added = segment_added holds new path p.below d (constructed o.tag o.trees) (at + marks) (drop marks rest) p.outer p.framed.is_due one.is held in
+    subst (IsStep holds new (Ok false)) (sym (ending place marks at rest j end None (as_open (λ x. string_fault profile_two x o.trees ≡ None) one.sound))) added
 
-right_text : (e : CodeElement) (text : List ℕ) → IsTrue (is_two_element e) → IsRightText e text → element_fault profile_two (element_is e) text ≡ None
-right_text (Leaf l) text two h = h.1
-right_text (ModuleLeaf l) text two h = absurd cc
-right_text BitString text two h = absurd cc
-right_text _ text two h = refl
+right_text : (e : CodeElement) (text : List ℕ) → IsRightText e text → element_fault profile_two (element_is e) text ≡ None
+right_text (Leaf l) text h = h.1
+right_text (ModuleLeaf l) text h = h.1
+right_text BitString text h = h.1
+right_text _ text h = refl
 
 -- an element closes that is no segment, and its text is right
 pub element_closed : {D : Type 0} (holds : D → List Level → List ℕ → Type 0) (old : Path D) (shorter : List Frame) (f : Frame) (middle : D) (new : Path D) (place : List Open) (marks at : ℕ) (rest : List ℕ)
@@ -115,13 +153,13 @@ element_closed holds old shorter f middle new place marks at rest j result two s
     let p = popped old.frames.open.items shorter here.0 f o path here.1 frames last in
     let text = text_so_far (o ∷ path) in
     let kept = last_two old.frames.open.items shorter f p.whole two in
-    let ends = frame_ended f o path shorter p.entries kept.1 p.framed apart (ap (λ x. missing profile_two (next_in profile_two x)) (sym end.is_path) ∙ end.complete) in
-    let held = subst (λ ls. holds old.draft ls text) (p.held ∙ pushed_apart (level_of f o.tag p.entries) p.below (read_two f.found kept.1) apart) here.2 in
+    let ends = frame_ended f o path shorter p.entries p.framed apart (no_bit_segment f.found kept.1) (ap (λ x. missing profile_two (next_in profile_two x)) (sym end.is_path) ∙ end.complete) in
+    let held = subst (λ ls. holds old.draft ls text) (p.held ∙ pushed_apart (level_of f o.tag p.entries) p.below (apart, no_bit_segment f.found kept.1)) here.2 in
     let right = checks tt o.tag p.entries p.below text held in
     let none : string_fault profile_two o.element o.trees ≡ None =
-    ap (λ x. string_fault profile_two x o.trees) (sym p.framed.element) ∙ ends.fault ∙ right_text (read_as f.found) text (read_two f.found kept.1) right in
-    let added = entry_added holds shorter p.below new path (slot_in f.found) (alternative_of f.found) (read_as f.found) ends.content (constructed o.tag o.trees) (at + marks) (drop marks rest) result kept.0 p.outer p.framed.is_due
-    (λ s. apart (only_segment (read_as f.found) s)) after (ap shape_at there ∙ p.framed.after) goes
+    ap (λ x. string_fault profile_two x o.trees) (sym p.framed.element) ∙ ends.fault ∙ right_text (read_as f.found) text right in
+    let added = entry_added holds shorter p.below new path (slot_in f.found) (alternative_of f.found) (read_as f.found) ends.content (constructed o.tag o.trees) (at + marks) (drop marks rest) result p.outer p.framed.is_due
+    (λ u. segments_alone (read_as f.found) u (apart, no_bit_segment f.found kept.1)) after (ap shape_at there ∙ p.framed.after) goes
     (λ l below e d. (
       ends.value right,
       subst (λ x. holds x (with_entry l (slot_in f.found) (with_alternative (alternative_of f.found) ends.content) ∷ below) []) (sym draft)
@@ -141,8 +179,8 @@ element_refused holds old shorter f new place marks at rest j (Failure.Refused r
     let p = popped old.frames.open.items shorter here.0 f o path here.1 frames last in
     let text = text_so_far (o ∷ path) in
     let kept = last_two old.frames.open.items shorter f p.whole two in
-    let ends = frame_ended f o path shorter p.entries kept.1 p.framed apart (ap (λ x. missing profile_two (next_in profile_two x)) (sym end.is_path) ∙ end.complete) in
-    let held = subst (λ ls. holds old.draft ls text) (p.held ∙ pushed_apart (level_of f o.tag p.entries) p.below (read_two f.found kept.1) apart) here.2 in
+    let ends = frame_ended f o path shorter p.entries p.framed apart (no_bit_segment f.found kept.1) (ap (λ x. missing profile_two (next_in profile_two x)) (sym end.is_path) ∙ end.complete) in
+    let held = subst (λ ls. holds old.draft ls text) (p.held ∙ pushed_apart (level_of f o.tag p.entries) p.below (apart, no_bit_segment f.found kept.1)) here.2 in
     let wrong = checks o.tag p.entries p.below text held in
     let found : string_fault profile_two o.element o.trees ≡ Some wrong.0 =
     ap (λ x. string_fault profile_two x o.trees) (sym p.framed.element) ∙ ends.fault ∙ wrong.1 in

@@ -1,14 +1,11 @@
 -- The content of an element that has ended.
-use Rattle.ill_elements.proofs.OfTwo.{read_two}
-use Rattle.ill_cells.specs.Places.{is_two}
-use Rattle.ill_elements.specs.Elements.{is_two_element}
 use Rattle.ill_schema.specs.declared.profile.Profile.TheVariants.{Two}
-use Rattle.std.proofs.Common.{◌≡◌, ℕ, List, [], ◌∷◌, ◌++◌, take, map, Option, None, IsTrue, refl, sym, ap, subst, ◌∙◌, inl, inr}
-use Rattle.ber_core.specs.Octets.{are_octets}
-use Rattle.ber_core.specs.Tree.{AreSegments, Trees, constructed, none, text_all}
-use Rattle.ber_leaf.specs.Leaf.{content_fault, value}
+use Rattle.std.proofs.Common.{◌≡◌, ℕ, List, [], ◌∷◌, ◌++◌, take, map, Option, None, true, IsTrue, refl, sym, ap, subst, ◌∙◌, inl, inr}
+use Rattle.ber_core.specs.Foreign.{is_identified}
+use Rattle.ber_core.specs.Tree.{AreSegments, Trees, constructed, none}
+use Rattle.ber_leaf.specs.Leaf.{bit_string, value}
 use Rattle.ber_leaf.specs.Profile.{profile_two}
-use Rattle.ber_leaf.specs.Segments.{leaf_content}
+use Rattle.ber_leaf.specs.Segments.{segments_content}
 use Rattle.ill_schema.specs.Content.{Content, simple}
 use Rattle.ill_schema.specs.Content as content
 use Rattle.ill_schema.specs.Meaning.{Matches}
@@ -20,19 +17,19 @@ use Rattle.ill_refusals.specs.Next.{missing}
 use Rattle.ill_refusals.specs.Place.{Open, next_in}
 use Rattle.ill_elements.specs.Due.{next_is, shape, read_as}
 use Rattle.ill_elements.specs.Elements.{element_is}
-use Rattle.ill_elements.specs.LeafTypes.{leaf_is}
+use Rattle.ill_elements.specs.LeafTypes.{leaf_is, module_leaf_is}
 use Rattle.ill_read.specs.code.Drafts.{IsContentOf, IsRightText, rows_left}
 use Rattle.ill_read.specs.Paths.{text_so_far}
 use Rattle.ill_elements.specs.Standing.{IsHeld, IsFrame}
 use Rattle.ill_elements.specs.Contents.{absent_content, IsValueOf}
 use Rattle.ill_elements.specs.declared.due.Next.{Next}
-use Rattle.ill_elements.specs.declared.due.Next.TheVariants.{Rows, Inner, Items, Either, Segments, Root, Nothing}
+use Rattle.ill_elements.specs.declared.due.Next.TheVariants.{BitSegments, Foreigns, Rows, Inner, Items, Either, Segments, Root, Nothing}
 use Rattle.ill_elements.specs.declared.element.Element.{Element as CodeElement}
 use Rattle.ill_elements.specs.declared.element.Element.TheVariants.{Leaf, Sequence, List as ListOf, Wrapper, LooseWrapper, Segment, ModuleLeaf, BitString, BitSegment, Foreign}
 use Rattle.ill_elements.specs.declared.element.Wrapped.{Wrapped}
 use Rattle.ill_elements.specs.declared.frame.Frame.{Frame}
 use Rattle.ill_elements.proofs.Entries.{rows_ended}
-use Rattle.ill_elements.proofs.ReadLeaves.{read_content, read_fault, read_segments}
+use Rattle.ill_elements.proofs.ReadLeaves.{module_segments, read_segments}
 use Rattle.ill_read.proofs.Segments.{text_with}
 
 -- the rows of a node as the entries have them
@@ -49,48 +46,46 @@ pub record EndsWith (e : CodeElement) (n : Next) (entries : List (Option Content
   pub value : IsRightText e text → IsValueOf Two (element_is e) content (constructed o.tag o.trees)
   pub fault : string_fault profile_two (element_is e) o.trees ≡ element_fault profile_two (element_is e) text
 
-content_ended : (e : CodeElement) (n : Next) (entries : List (Option Content)) (o : Open) (before : List ℕ) → IsTrue (is_two_element e) → IsHeld Two e n entries o.trees → (e ≡ Segment → ⊥)
-    → missing profile_two (next_is n) ≡ None → EndsWith e n entries o (text_with (element_is e) before o.trees)
-content_ended (Leaf l) Segments entries o before two h apart m =
-    let c = simple (value (leaf_is l) (text_all o.trees)) in
-    record {
-      content = c;
-      is = refl;
-      value = λ right. (let held : IsTrue (are_octets (leaf_content (leaf_is l) (constructed o.tag o.trees))) × (content_fault profile_two (leaf_is l) (leaf_content (leaf_is l) (constructed o.tag o.trees)) ≡ None) × (c ≡ simple (value (leaf_is l) (leaf_content (leaf_is l) (constructed o.tag o.trees)))) =
-          subst (λ x. IsTrue (are_octets x) × (content_fault profile_two (leaf_is l) x ≡ None) × (c ≡ simple (value (leaf_is l) x))) (sym (read_content l (constructed o.tag o.trees))) (right.0, right.1, refl) in
-          ((h.0, subst (λ t. AreSegments t o.trees) (sym (read_segments l)) h.2), held.0, held.1, held.2));
-      fault = read_fault l o.trees;
-    }
-content_ended (Sequence node) (Rows own n) entries o before two h apart m =
+content_ended : (e : CodeElement) (n : Next) (entries : List (Option Content)) (o : Open) (before : List ℕ) → IsTrue (is_identified o.tag true) → IsHeld Two e n entries o.trees
+    → (e ≡ Segment → ⊥) → (e ≡ BitSegment → ⊥) → missing profile_two (next_is n) ≡ None → EndsWith e n entries o (text_with (element_is e) before o.trees)
+content_ended (Leaf l) Segments entries o before tagged h apart other m =
+    let c = simple (value (leaf_is l) (segments_content (leaf_is l) o.trees)) in
+    record { content = c; is = refl; value = λ right. ((h.0, subst (λ t. AreSegments t o.trees) (sym (read_segments l)) h.2), right.0, right.1, refl); fault = refl }
+content_ended (ModuleLeaf l) Segments entries o before tagged h apart other m =
+    let c = simple (value (module_leaf_is l) (segments_content (module_leaf_is l) o.trees)) in
+    record { content = c; is = refl; value = λ right. ((h.0, subst (λ t. AreSegments t o.trees) (sym (module_segments l)) h.2), right.0, right.1, refl); fault = refl }
+content_ended BitString BitSegments entries o before tagged h apart other m =
+    let c = simple (value bit_string (segments_content bit_string o.trees)) in
+    record { content = c; is = refl; value = λ right. ((refl, h.1), right.0, right.1, refl); fault = refl }
+content_ended (Foreign k) (Foreigns same) entries o before tagged h apart other m =
+    record { content = content.foreign (constructed o.tag o.trees); is = (refl, o.tag, o.trees, h.1, refl); value = λ right. (rw tagged h.2, refl); fault = refl }
+content_ended (Sequence node) (Rows own n) entries o before tagged h apart other m =
     let es = entries_of (entries ++ map absent_content (rows_left (Rows own n))) in
     record { content = content.sequence es; is = (refl, refl); value = λ right. (o.tag, o.trees, es, refl, refl, whole_rows node own n entries o.trees h.0 m h.1); fault = refl }
-content_ended (ListOf node) (Items own) entries o before two h apart m =
+content_ended (ListOf node) (Items own) entries o before tagged h apart other m =
     record { content = content.list (items_of h.1); is = (refl, h.1, h.2, refl); value = λ right. (o.tag, o.trees, items_of h.1, refl, refl, h.3); fault = refl }
-content_ended (Wrapper w) (Inner own) entries o before two h apart m = absurd cc
-content_ended (Wrapper w) (Root own) entries o before two h apart m = absurd cc
-content_ended (Wrapper w) Nothing entries o before two h apart m =
+content_ended (Wrapper w) (Inner own) entries o before tagged h apart other m = absurd cc
+content_ended (Wrapper w) (Root own) entries o before tagged h apart other m = absurd cc
+content_ended (Wrapper w) Nothing entries o before tagged h apart other m =
     record { content = h.0; is = (refl, h.2); value = λ right. (o.tag, h.1, ap (constructed o.tag) h.3, h.4); fault = refl }
-content_ended (LooseWrapper w) (Either own) entries o before two h apart m =
+content_ended (LooseWrapper w) (Either own) entries o before tagged h apart other m =
     let es = entries_of (entries ++ map absent_content (rows_left (Either own))) in
     let rows = whole_rows w.node own.node 0 [] none (ap (λ (x : Wrapped). x.node) h.0) m refl in
     let whole : Matches profile_two es (rows_of w.node) o.trees = subst (λ xs. Matches profile_two (entries_of (xs ++ map absent_content (rows_left (Either own)))) (rows_of w.node) o.trees) (sym h.1)
     (subst (λ us. Matches profile_two (entries_of (map absent_content (rows_left (Either own)))) (rows_of w.node) us) (sym h.2) rows) in
     record { content = content.sequence es; is = (refl, refl); value = λ right. inr (o.tag, o.trees, es, refl, refl, whole); fault = refl }
-content_ended (LooseWrapper w) (Rows own n) entries o before two h apart m =
+content_ended (LooseWrapper w) (Rows own n) entries o before tagged h apart other m =
     let es = entries_of (entries ++ map absent_content (rows_left (Rows own n))) in
     record { content = content.sequence es; is = (refl, refl); value = λ right. inr (o.tag, o.trees, es, refl, refl, whole_rows w.node own n entries o.trees h.0 m h.1); fault = refl }
-content_ended (LooseWrapper w) Nothing entries o before two h apart m =
+content_ended (LooseWrapper w) Nothing entries o before tagged h apart other m =
     record { content = h.0; is = (refl, h.2); value = λ right. inl (o.tag, h.1, ap (constructed o.tag) h.3, h.4); fault = refl }
-content_ended Segment n entries o before two h apart m = absurd (apart refl)
-content_ended (ModuleLeaf l) n entries o before two h apart m = absurd cc
-content_ended BitString n entries o before two h apart m = absurd cc
-content_ended BitSegment n entries o before two h apart m = absurd cc
-content_ended (Foreign k) n entries o before two h apart m = absurd cc
-content_ended _ _ entries o before two h apart m = absurd h
+content_ended Segment n entries o before tagged h apart other m = absurd (apart refl)
+content_ended BitSegment n entries o before tagged h apart other m = absurd (other refl)
+content_ended _ _ entries o before tagged h apart other m = absurd h
 
 -- of the innermost open element
-pub frame_ended : (f : Frame) (o : Open) (path : List Open) (outer : List Frame) (entries : List (Option Content)) → IsTrue (is_two f.found) → IsFrame Two f o path outer entries → (read_as f.found ≡ Segment → ⊥)
-    → missing profile_two (next_in profile_two (o ∷ path)) ≡ None → EndsWith (read_as f.found) (shape f.place) entries o (text_so_far (o ∷ path))
-frame_ended f o path outer entries two k apart m =
+pub frame_ended : (f : Frame) (o : Open) (path : List Open) (outer : List Frame) (entries : List (Option Content)) → IsFrame Two f o path outer entries → (read_as f.found ≡ Segment → ⊥)
+    → (read_as f.found ≡ BitSegment → ⊥) → missing profile_two (next_in profile_two (o ∷ path)) ≡ None → EndsWith (read_as f.found) (shape f.place) entries o (text_so_far (o ∷ path))
+frame_ended f o path outer entries k apart other m =
     subst (λ x. EndsWith (read_as f.found) (shape f.place) entries o (text_with x (text_so_far path) o.trees)) k.element
-    (content_ended (read_as f.found) (shape f.place) entries o (text_so_far path) (read_two f.found two) k.held apart (ap (missing profile_two) k.next ∙ m))
+    (content_ended (read_as f.found) (shape f.place) entries o (text_so_far path) k.identified k.held apart other (ap (missing profile_two) k.next ∙ m))

@@ -1,5 +1,5 @@
 -- An open element with one more tree in it.
-use Rattle.ill_schema.specs.declared.profile.Profile.TheVariants.{Two}
+use Rattle.ill_schema.specs.declared.profile.Profile.{Profile as Named}
 use Rattle.std.proofs.Common.{◌≡◌, List, Option, Some, sym, ap, subst, ◌∙◌}
 use Rattle.ber_core.specs.Tree.{Tree, Trees, none, more, tag_of}
 use Rattle.ber_leaf.specs.Profile.{profile_two}
@@ -28,21 +28,22 @@ abbrev pub with_one : Open → Tree → Open
 with_one o T = record o { trees = snoc o.trees T }
 
 -- the frame of an open element, after a tree that was due
-pub frame_added : (f : Frame) (o : Open) (path : List Open) (outer : List Frame) (entries new : List (Option Content)) (T : Tree) (d : Due) → IsFrame Two f o path outer entries
-    → IsDueIn (tag_of T) (shape f.place) d → (after : At) → shape after ≡ behind (shape f.place) d.slot → IsHeld Two (read_as f.found) (behind (shape f.place) d.slot) new (snoc o.trees T)
-    → IsFrame Two (record f { place = after }) (with_one o T) path outer new
-frame_added f o path outer entries new T d h is after goes held =
+pub frame_added : (p : Named) (f : Frame) (o : Open) (path : List Open) (outer : List Frame) (entries new : List (Option Content)) (T : Tree) (d : Due) → IsFrame p f o path outer entries
+    → IsDueIn (tag_of T) (shape f.place) d → (after : At) → shape after ≡ behind (shape f.place) d.slot → IsHeld p (read_as f.found) (behind (shape f.place) d.slot) new (snoc o.trees T)
+    → IsFrame p (record f { place = after }) (with_one o T) path outer new
+frame_added p f o path outer entries new T d h is after goes held =
     let D = due_element_is (tag_of T) (shape f.place) d is in
     let e : due profile_two (tag_of T) (next_after profile_two (opening profile_two o.element) o.trees) ≡ Some D.0 = ap (due profile_two (tag_of T)) (sym h.next) ∙ D.1 in
     let more = next-added (opening profile_two o.element) o.trees T D.0 h.were_due e in
     record {
       element = h.element;
       start = h.start;
+      identified = h.identified;
       end = h.end;
       bound = h.bound;
       next = ap next_is goes ∙ sym D.3 ∙ sym more.0;
       is_due = h.is_due;
       after = h.after;
-      held = subst (λ n. IsHeld Two (read_as f.found) n new (snoc o.trees T)) (sym goes) held;
+      held = subst (λ n. IsHeld p (read_as f.found) n new (snoc o.trees T)) (sym goes) held;
       were_due = more.1;
     }

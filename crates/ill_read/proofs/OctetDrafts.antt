@@ -13,11 +13,11 @@ use Rattle.ber_leaf.specs.Profile.{profile_two}
 use Rattle.ill_schema.specs.Content.{Content, simple}
 use Rattle.ill_cells.specs.Places.{alternative_of, is_two}
 use Rattle.ill_elements.specs.Due.{IsDueIn, shape, first_of, read_as, slot_in}
-use Rattle.ill_elements.specs.Elements.{element_is}
+use Rattle.ill_elements.specs.Elements.{element_is, is_two_element}
 use Rattle.ill_elements.specs.LeafTypes.{leaf_is}
 use Rattle.ill_elements.specs.Standing.{Level, level_of, IsHeld}
 use Rattle.ill_elements.specs.Contents.{with_alternative, IsValueOf}
-use Rattle.ill_read.specs.code.Drafts.{HasOpened, IsContentOf, IsDueAt, IsRightText, with_entry}
+use Rattle.ill_read.specs.code.Drafts.{IsNoSegment, HasOpened, IsContentOf, IsDueAt, IsRightText, with_entry}
 use Rattle.ill_elements.specs.Due.{due_with}
 use Rattle.ill_read.specs.code.OctetDrafts.{AreOctets, AreWritten, IsApartAs, enclosed, form_of, unless_left, written}
 use Rattle.ill_elements.specs.Written.{normal_element}
@@ -42,9 +42,9 @@ written_first : (e : CodeElement) → written e (first_of e) [] ≡ []
 written_first (LeafElement l) = refl
 written_first _ = refl
 
-pub octets_opened : (old new : Octets) (next : Next) (o : Opening) (base : ℕ) (id : List ℕ) → IsTrue (is_two o.found) → (read_as o.found ≡ Segment → ⊥) → (IsApartAs o → id ≡ identifier (tag_of_id o.id) (form_of (read_as o.found)))
+pub octets_opened : (old new : Octets) (next : Next) (o : Opening) (base : ℕ) (id : List ℕ) → IsNoSegment (read_as o.found) → (IsApartAs o → id ≡ identifier (tag_of_id o.id) (form_of (read_as o.found)))
     → new.octets ≡ old.octets ++ (id ++ 0 ∷ []) → base ≡ length new.octets → HasOpened AreOctets old next o base new
-octets_opened old new next o base id two whole is e b levels text h opening = subst (λ ls. AreOctets new ls text) (sym (pushed_apart l levels (read_two o.found two) whole)) (go levels h)
+octets_opened old new next o base id whole is e b levels text h opening = subst (λ ls. AreOctets new ls text) (sym (pushed_apart l levels whole)) (go levels h)
   where
     l : Level
     l = record { element = (read_as o.found); tag = tag_of_id o.id; next = first_of (read_as o.found); base = base; entries = [] }
@@ -93,7 +93,7 @@ pub leaf_added : (old new : Octets) (l : Level) (below : List Level) (next : Nex
 leaf_added old new l below next r leaf octets h due ok right e =
     let tag = tag_of_id r.id in
     let c = simple (value (leaf_is leaf) octets) in
-    let entry = entry_written l.element l.next l.entries due.trees (primitive tag octets) (slot_in r.found) (alternative_of r.found) (LeafElement leaf) c refl due.held due.is_due (tt, ok, right, refl) in
+    let entry = entry_written Two l.element l.next l.entries due.trees (primitive tag octets) (slot_in r.found) (alternative_of r.found) (LeafElement leaf) c due.held due.is_due (tt, ok, right, refl) in
     let front : old.octets ≡ h.front = h.joined ∙ append-nil h.front in
     let there = ap (λ n. unless_left n (slot_in r.found) (with_alternative (alternative_of r.found) c) (encoding (primitive tag (normal_content (value (leaf_is leaf) octets))))) (sym due.next) in
     added_octets new l below (slot_in r.found) (with_alternative (alternative_of r.found) c) h.front _ entry h.are (e ∙ ap₂ (λ x y. x ++ y) front there)
@@ -115,24 +115,24 @@ contents_of e n octets text = enclosed e n octets
 
 -- its octets are those of its normal form
 ended_octets : (e : CodeElement) (n : Next) (entries : List (Option Content)) (ts : Trees) (text : List ℕ) (c : Content) (tag : Tag) → IsHeld Two e n entries ts → IsRightText e text → IsContentOf e n entries text c
-    → let contents = contents_of e n (written e n entries) text in
+    → IsTrue (is_two_element e) → ((T : Tree) × (tag_of T ≡ tag) × IsValueOf Two (element_is e) c T) → let contents = contents_of e n (written e n entries) text in
     encoding (normal_element (element_is e) tag c) ≡ identifier tag (form_of e) ++ (shortest_length (length contents) ++ contents)
-ended_octets (LeafElement l) n entries ts text c tag h right k =
+ended_octets (LeafElement l) n entries ts text c tag h right k two v =
     ap (λ x. encoding (normal_element (element_is (LeafElement l)) tag x)) k
     ∙ ap (λ x. encoding (primitive tag x)) (normal_as_read profile_two (leaf_is l) text (no_boolean n h) (no_bits l) right.0 right.1)
   where
     no_boolean : (n : Next) → IsHeld Two (LeafElement l) n entries ts → leaf_is l ≡ boolean → ⊥
     no_boolean Segments h e = let q : is_string boolean ≡ true = subst (λ x. is_string x ≡ true) e h.0 in cc
     no_boolean _ h e = h
-ended_octets (ModuleLeaf l) n entries ts text c tag h right k = absurd k
-ended_octets BitString n entries ts text c tag h right k = absurd k
-ended_octets BitSegment n entries ts text c tag h right k = absurd k
-ended_octets (Foreign m) n entries ts text c tag h right k = absurd k
-ended_octets Segment n entries ts text c tag h right k = absurd k
-ended_octets (Sequence node) n entries ts text c tag h right k = ended_written (Sequence node) n entries ts text c tag h k (λ l e. cc)
-ended_octets (ListOf node) n entries ts text c tag h right k = ended_written (ListOf node) n entries ts text c tag h k (λ l e. cc)
-ended_octets (Wrapper w) n entries ts text c tag h right k = ended_written (Wrapper w) n entries ts text c tag h k (λ l e. cc)
-ended_octets (LooseWrapper w) n entries ts text c tag h right k = ended_written (LooseWrapper w) n entries ts text c tag h k (λ l e. cc)
+ended_octets (ModuleLeaf l) n entries ts text c tag h right k two v = absurd cc
+ended_octets BitString n entries ts text c tag h right k two v = absurd cc
+ended_octets BitSegment n entries ts text c tag h right k two v = absurd k
+ended_octets (Foreign m) n entries ts text c tag h right k two v = absurd cc
+ended_octets Segment n entries ts text c tag h right k two v = absurd k
+ended_octets (Sequence node) n entries ts text c tag h right k two v = ended_written Two (Sequence node) n entries ts text c tag h k refl v
+ended_octets (ListOf node) n entries ts text c tag h right k two v = ended_written Two (ListOf node) n entries ts text c tag h k refl v
+ended_octets (Wrapper w) n entries ts text c tag h right k two v = ended_written Two (Wrapper w) n entries ts text c tag h k refl v
+ended_octets (LooseWrapper w) n entries ts text c tag h right k two v = ended_written Two (LooseWrapper w) n entries ts text c tag h k refl v
 
 may_open : (e : CodeElement) (n : Next) (entries : List (Option Content)) (ts : Trees) → IsHeld Two e n entries ts → MayOpen (element_is e)
 may_open (LeafElement l) Segments entries ts h = h.0
@@ -162,9 +162,9 @@ octets_closed old new middle f two next tag entries trees l below text c h held 
     let middle_is : middle ≡ a.0 ++ (id ++ 0 ∷ contents) =
     made (a.0 ++ a.1) all a.3 ∙ append_assoc a.0 a.1 contents ∙ ap (λ x. a.0 ++ x) (ap (λ x. x ++ contents) header ∙ append_assoc id (0 ∷ []) contents) in
     let base : f.base ≡ length (a.0 ++ (id ++ 0 ∷ [])) = a.3 ∙ ap (λ x. length (a.0 ++ x)) header in
-    let done = closed a.0 contents tag (form_of (read_as f.found)) 0 middle_is base ∙ ap (λ x. a.0 ++ x) (sym (ended_octets (read_as f.found) (shape f.place) entries trees text c tag held right is)) in
+    let done = closed a.0 contents tag (form_of (read_as f.found)) 0 middle_is base ∙ ap (λ x. a.0 ++ x) (sym (ended_octets (read_as f.found) (shape f.place) entries trees text c tag held right is (read_two f.found two) value)) in
     let here = subst (λ t. IsDueIn t l.next (due_with (slot_in f.found) (alternative_of f.found) (read_as f.found))) (sym value.1) due.is_due in
-    let entry = entry_written l.element l.next l.entries due.trees value.0 (slot_in f.found) (alternative_of f.found) (read_as f.found) c (read_two f.found two) due.held here value.2 in
+    let entry = entry_written Two l.element l.next l.entries due.trees value.0 (slot_in f.found) (alternative_of f.found) (read_as f.found) c due.held here value.2 in
     let stays = kept tag l.next (slot_in f.found) (alternative_of f.found) (read_as f.found) c due.is_due (may_open (read_as f.found) (shape f.place) entries trees held) in
     let octets = encoding (normal_element (element_is (read_as f.found)) tag c) in
     let added : unless_left l.next (slot_in f.found) (with_alternative (alternative_of f.found) c) (encoding (normal_element (element_is (read_as f.found)) (tag_of value.0) c)) ≡ octets =
@@ -173,23 +173,25 @@ octets_closed old new middle f two next tag entries trees l below text c h held 
     added_octets new l below (slot_in f.found) (with_alternative (alternative_of f.found) c) a.0 octets (entry ∙ ap (λ x. written l.element l.next l.entries ++ x) added) a.5 done
 
 -- a text that isn't a leaf's is right
-pub right_other : (e : CodeElement) (text : List ℕ) → ((l : LeafType) → e ≡ LeafElement l → ⊥) → IsRightText e text
-right_other (LeafElement l) text h = absurd (h l refl)
-right_other _ text h = tt
+pub right_other : (e : CodeElement) (text : List ℕ) → IsTrue (is_two_element e) → ((l : LeafType) → e ≡ LeafElement l → ⊥) → IsRightText e text
+right_other (LeafElement l) text two h = absurd (h l refl)
+right_other (ModuleLeaf l) text two h = absurd cc
+right_other BitString text two h = absurd cc
+right_other _ text two h = tt
 
 -- what has no contents but its entries
-pub contents_other : (e : CodeElement) (n : Next) (entries : List (Option Content)) (text : List ℕ) (c : Content) → IsContentOf e n entries text c → ((l : LeafType) → e ≡ LeafElement l → ⊥)
+pub contents_other : (e : CodeElement) (n : Next) (entries : List (Option Content)) (text : List ℕ) (c : Content) → IsTrue (is_two_element e) → IsContentOf e n entries text c → ((l : LeafType) → e ≡ LeafElement l → ⊥)
     → ((w : _) → e ≡ LooseWrapper w → ⊥) → written e n entries ++ text ≡ contents_of e n (written e n entries) text
-contents_other (LeafElement l) n entries text c k leaf loose = absurd (leaf l refl)
-contents_other (Sequence node) n entries text c k leaf loose = ap (λ t. written (Sequence node) n entries ++ t) k.0 ∙ append-nil _
-contents_other (ListOf node) n entries text c k leaf loose = ap (λ t. written (ListOf node) n entries ++ t) k.0 ∙ append-nil _
-contents_other (Wrapper w) n entries text c k leaf loose = ap (λ t. written (Wrapper w) n entries ++ t) k.0 ∙ append-nil _
-contents_other (LooseWrapper w) n entries text c k leaf loose = absurd (loose w refl)
-contents_other (ModuleLeaf l) n entries text c k leaf loose = absurd k
-contents_other BitString n entries text c k leaf loose = absurd k
-contents_other BitSegment n entries text c k leaf loose = absurd k
-contents_other (Foreign m) n entries text c k leaf loose = absurd k
-contents_other Segment n entries text c k leaf loose = absurd k
+contents_other (LeafElement l) n entries text c two k leaf loose = absurd (leaf l refl)
+contents_other (Sequence node) n entries text c two k leaf loose = ap (λ t. written (Sequence node) n entries ++ t) k.0 ∙ append-nil _
+contents_other (ListOf node) n entries text c two k leaf loose = ap (λ t. written (ListOf node) n entries ++ t) k.0 ∙ append-nil _
+contents_other (Wrapper w) n entries text c two k leaf loose = ap (λ t. written (Wrapper w) n entries ++ t) k.0 ∙ append-nil _
+contents_other (LooseWrapper w) n entries text c two k leaf loose = absurd (loose w refl)
+contents_other (ModuleLeaf l) n entries text c two k leaf loose = absurd cc
+contents_other BitString n entries text c two k leaf loose = absurd cc
+contents_other BitSegment n entries text c two k leaf loose = absurd k
+contents_other (Foreign m) n entries text c two k leaf loose = absurd cc
+contents_other Segment n entries text c two k leaf loose = absurd k
 
 pub loose_text : (w : _) (n : Next) (entries : List (Option Content)) (text : List ℕ) (c : Content) → IsContentOf (LooseWrapper w) n entries text c → text ≡ []
 loose_text w n entries text c k = go n k

@@ -1,16 +1,14 @@
 -- An element opens.
 use Rattle.ill_schema.specs.declared.node.Kind.{Kind}
 use Rattle.ill_schema.specs.Table.{kind_of}
-use Rattle.ill_elements.specs.Two.{is_two_frame}
-use Rattle.std.specs.List.{list_all}
 use Rattle.ill_schema.specs.declared.profile.Profile.TheVariants.{Two}
 use Rattle.std.proofs.Common.{◌≡◌, ℕ, List, [], ◌∷◌, ◌++◌, append-nil, Option, Some, None, unwrap_or, true, IsTrue, refl, sym, ap, subst, ◌∙◌}
 use Rattle.ber_core.specs.Id.{tag_of_id}
 use Rattle.ber_core.specs.Identifier.{Tag}
-use Rattle.ber_core.specs.Tree.{none, octet_string}
+use Rattle.ber_core.specs.Tree.{constructed, none, octet_string}
 use Rattle.ber_leaf.specs.Profile.{profile_two}
-use Rattle.ill_cells.specs.Places.{alternative_of, node_of, part_of, what_of}
-use Rattle.ill_elements.specs.Elements.{element_is}
+use Rattle.ill_cells.specs.Places.{alternative_of, is_two, node_of, part_of, what_of}
+use Rattle.ill_elements.specs.Elements.{element_is, is_two_element}
 use Rattle.ill_elements.specs.Due.{IsDueIn, behind, first_of, next_is, shape, shape_at, read_as, slot_in, next_place}
 use Rattle.ill_refusals.specs.Element.{segment}
 use Rattle.ill_refusals.specs.Next.{opening}
@@ -18,19 +16,23 @@ use Rattle.ill_refusals.specs.Place.{Open, allows, bound}
 use Rattle.ill_elements.specs.Standing.{Level, level_of, pushed, next_at, IsHeld, IsFrame}
 use Rattle.ill_read.specs.Paths.{text_so_far, HoldsAt}
 use Rattle.ill_refusals.specs.code.Step.{opened}
-use Rattle.ill_read.specs.code.Drafts.{HasOpened, IsOpeningIn}
+use Rattle.ill_read.specs.code.Drafts.{HasOpened, IsNoSegment, IsOpeningIn}
 use Rattle.ill_elements.specs.Due.{due_with}
 use Rattle.ill_elements.specs.declared.due.Next.{Next}
-use Rattle.ill_elements.specs.declared.due.Next.TheVariants.{Inner, Root, Segments}
+use Rattle.ill_elements.specs.declared.due.Next.TheVariants.{Inner, Root}
 use Rattle.ill_elements.specs.declared.element.Element.{Element as CodeElement}
 use Rattle.ill_elements.specs.declared.element.Element.TheVariants.{Leaf, Sequence, List as ListOf, Wrapper, LooseWrapper, Segment, ModuleLeaf, BitString, BitSegment, Foreign}
 use Rattle.ill_elements.specs.declared.frame.Frame.{Frame}
 use Rattle.ill_elements.specs.declared.judge.Opening.{Opening}
 use Rattle.ill_read.specs.declared.path.Path.{Path}
 use Rattle.ill_read.proofs.DeliveredEntries.{innermost_level}
+use Rattle.ber_core.specs.Identifier.{HasIdentifier}
+use Rattle.ber_core.proofs.Foreign.{has_identified}
+use Rattle.ill_elements.proofs.OfTwo.{no_bit_segment, read_two}
+use Rattle.ill_elements.proofs.ReadLeaves.{read_content}
 use Rattle.ill_elements.proofs.DueCells.{opens-by}
-use Rattle.ill_elements.proofs.DueTags.{bits_apart, due_segment}
-use Rattle.ill_read.proofs.Segments.{text_with, no_text}
+use Rattle.ill_elements.proofs.DueTags.{bits_apart}
+use Rattle.ill_read.proofs.Segments.{IsOutside, due_outside, segments_alone, text_with, no_text}
 
 -- an element that opens holds nothing
 holds_none : (e : CodeElement) (n : Next) → n ≡ first_of e → allows (element_is e) true ≡ true → IsHeld Two e n [] none
@@ -55,26 +57,31 @@ only_segment BitSegment s = absurd (bits_apart (sym s))
 only_segment _ s = cc
 
 -- nor does it add text
-text_opened : (e : CodeElement) (before : List ℕ) → ((element_is e ≡ segment octet_string → ⊥) → before ≡ []) → before ≡ text_with (element_is e) before none
-text_opened Segment before h = sym (append-nil before)
-text_opened BitSegment before h = sym (append-nil before)
-text_opened _ before h = h (λ s. cc)
+text_opened : (e : CodeElement) (before : List ℕ) → IsTrue (is_two_element e) → ((element_is e ≡ segment octet_string → ⊥) → before ≡ []) → before ≡ text_with (element_is e) before none
+text_opened Segment before two h = sym (append-nil before)
+text_opened (Leaf l) before two h = h (λ s. cc) ∙ sym (read_content l (constructed octet_string none))
+text_opened (ModuleLeaf l) before two h = absurd cc
+text_opened BitString before two h = absurd cc
+text_opened BitSegment before two h = absurd cc
+text_opened (Foreign k) before two h = absurd cc
+text_opened _ before two h = h (λ s. cc)
 
 -- the bound in an element
 bound_opened : (end : Option ℕ) (round : ℕ) (e : CodeElement) (tag : Tag) (start : ℕ) (place : List Open) → round ≡ bound profile_two place → unwrap_or end round ≡ bound profile_two (opened (element_is e) tag start end ∷ place)
 bound_opened (Some n) round e tag start place h = refl
 bound_opened None round e tag start place h = h
 
-pub opens_at : {D : Type 0} (holds : D → List Level → List ℕ → Type 0) (old new : Path D) (opening : Opening) (f : Frame) (place : List Open) (round : ℕ) → IsTrue (list_all is_two_frame old.frames.open.items) → HoldsAt holds old place
+pub opens_at : {D : Type 0} (holds : D → List Level → List ℕ → Type 0) (old new : Path D) (opening : Opening) (f : Frame) (place : List Open) (round : ℕ) → IsTrue (is_two f.found) → HoldsAt holds old place
     → IsDueIn (tag_of_id opening.id) (next_at Two old.frames.open.items) (due_with (slot_in f.found) (alternative_of f.found) (read_as f.found)) → shape_at (next_place f.found) ≡ behind (next_at Two old.frames.open.items) (slot_in f.found) → allows (element_is (read_as f.found)) true ≡ true → (shape f.place) ≡ first_of (read_as f.found)
     → round ≡ bound profile_two place → f.bound ≡ unwrap_or f.end round → HasOpened holds old.draft (next_at Two old.frames.open.items) opening f.base new.draft → new.frames.open.items ≡ old.frames.open.items ++ f ∷ [] → f.found ≡ opening.found
     → HoldsAt holds new (opened (element_is (read_as f.found)) (tag_of_id opening.id) f.start f.end ∷ place)
-opens_at holds old new opening f place round two h due after allowed first r b has frames is =
+opens_at holds old new opening f place round found h due after allowed first r b has frames is =
     let tag = tag_of_id opening.id in
     let o : Open = opened (element_is (read_as f.found)) tag f.start f.end in
     let framed : IsFrame Two f o place old.frames.open.items [] = record {
       element = refl;
       start = refl;
+      identified = has_identified tag true (subst (HasIdentifier tag) opening.form opening.id.valid);
       end = refl;
       bound = b ∙ bound_opened f.end round (read_as f.found) tag f.start place r;
       next = ap next_is first ∙ opens-by (what_of f.found) (part_of f.found) (node_of f.found);
@@ -84,13 +91,14 @@ opens_at holds old new opening f place round two h due after allowed first r b h
       were_due = tt;
     } in
     let next = next_at Two old.frames.open.items in
-    let apart : (element_is (read_as f.found) ≡ segment octet_string → ⊥) → next ≡ Segments → ⊥ = λ n s. n (due_segment tag next (due_with (slot_in f.found) (alternative_of f.found) (read_as f.found)) due s) in
-    let none_before : (element_is (read_as f.found) ≡ segment octet_string → ⊥) → text_so_far place ≡ [] = λ n. no_text place old.frames.open.items h.0 two h.1 (apart n) in
-    let opens_in : (read_as opening.found ≡ Segment → ⊥) → IsOpeningIn h.0 (text_so_far place) next opening = λ n.
-    let other : element_is (read_as f.found) ≡ segment octet_string → ⊥ = λ s. n (ap read_as (sym is) ∙ only_segment (read_as f.found) s) in
-    let l = innermost_level place old.frames.open.items h.0 two h.1 (apart other) in
+    let due_here = due_with (slot_in f.found) (alternative_of f.found) (read_as f.found) in
+    let outside : IsNoSegment (read_as f.found) → IsOutside next = λ whole. due_outside tag next due_here due (λ u. segments_alone (read_as f.found) u whole) in
+    let none_before : (element_is (read_as f.found) ≡ segment octet_string → ⊥) → text_so_far place ≡ [] = λ n. no_text Two place old.frames.open.items h.0 h.1 (outside (λ s. n (ap element_is s), no_bit_segment f.found found)) in
+    let opens_in : IsNoSegment (read_as opening.found) → IsOpeningIn h.0 (text_so_far place) next opening = λ n.
+    let other : IsNoSegment (read_as f.found) = subst (λ x. IsNoSegment (read_as x)) (sym is) n in
+    let l = innermost_level Two place old.frames.open.items h.0 h.1 (outside other) in
     record {
-      none = none_before other;
+      none = no_text Two place old.frames.open.items h.0 h.1 (outside other);
       level = l.0;
       below = l.1;
       are = l.2;
@@ -103,5 +111,5 @@ opens_at holds old new opening f place round two h due after allowed first r b h
     ap opened_as (ap read_as (sym is)) ∙ ap (λ n. let l : Level = record { element = (read_as f.found); tag = tag; next = n; base = f.base; entries = [] } in l) (sym first) in (
       pushed (level_of f tag []) h.0,
       (old.frames.open.items, f, h.0, [], frames, refl, framed, h.1),
-      subst (holds new.draft (pushed (level_of f tag []) h.0)) (text_opened (read_as f.found) (text_so_far place) none_before) (subst (λ l. holds new.draft (pushed l h.0) (text_so_far place)) level kept),
+      subst (holds new.draft (pushed (level_of f tag []) h.0)) (text_opened (read_as f.found) (text_so_far place) (read_two f.found found) none_before) (subst (λ l. holds new.draft (pushed l h.0) (text_so_far place)) level kept),
     )

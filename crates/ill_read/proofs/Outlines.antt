@@ -1,4 +1,5 @@
 -- The marks that an outline has, as elements open, are read and end.
+use Rattle.ill_elements.specs.Elements.{is_two_element}
 use Rattle.ill_schema.specs.declared.profile.Profile.TheVariants.{Two}
 use Rattle.std.proofs.Common.{IsTrue, ◌≡◌, ℕ, List, [], ◌∷◌, ◌++◌, length, map, append_assoc, append-nil, Option, Some, None, refl, sym, ap, subst, ◌∙◌, inl, inr, true, false, Bool}
 use Rattle.std.proofs.lemmas.Option.{slice_get_cases}
@@ -24,7 +25,7 @@ use Rattle.ill_elements.specs.LeafTypes.{leaf_is}
 use Rattle.ill_read.specs.Outline.{AreEntries, AreItems, IsMarked, leaf_marks}
 use Rattle.ill_elements.specs.Standing.{Level, IsHeld}
 use Rattle.ill_elements.specs.Contents.{with_alternative, absent_content}
-use Rattle.ill_read.specs.code.Drafts.{HasOpened, HasClosed, HasLeaf, HoldsApdu, HasEnded, IsContentOf, IsDueAt, IsOpeningIn, IsRightText, rows_before, rows_left, with_entry}
+use Rattle.ill_read.specs.code.Drafts.{IsNoSegment, HasOpened, HasClosed, HasLeaf, HoldsApdu, HasEnded, IsContentOf, IsDueAt, IsOpeningIn, IsRightText, rows_before, rows_left, with_entry}
 use Rattle.ill_elements.specs.Due.{due_with}
 use Rattle.ill_read.specs.code.OctetDrafts.{AreNormal, AreOctets}
 use Rattle.ill_read.specs.code.Outlines.{AreFronts, AreLed, AreOutlined, ArePassed, HasLed, HasOutline, HasPassed, HasRear, IsLed, alternative_marks, first_marks, last_marks, late_marks, start_marks}
@@ -164,23 +165,23 @@ late_marked w entries text c own rows none is held h k =
     (sequence_marked entries (rows_of w.node) [] c [] rows refl is (subst (AreEntries (entries_of entries)) own_none h) k))
 
 -- the marks of an element that has ended say its content
-pub ended_marked : (e : CodeElement) (n : Next) (entries : List (Option Content)) (ts : Trees) (text : List ℕ) (c : Content) (own rows : List Mark) → IsHeld Two e n entries ts → IsRightText e text
+pub ended_marked : (e : CodeElement) (n : Next) (entries : List (Option Content)) (ts : Trees) (text : List ℕ) (c : Content) (own rows : List Mark) → IsTrue (is_two_element e) → IsHeld Two e n entries ts → IsRightText e text
     → IsContentOf e n entries text c → AreEntries (entries_of entries) own → ArePassed (rows_left n) rows → IsMarked c (whole_marks n e own text rows)
-ended_marked (Leaf l) Segments entries ts text c own rows held right is h k = string_marked l entries text c own rows held.1 right is h k
-ended_marked (Sequence node) (Rows own_node m) entries ts text c own rows held right is h k = sequence_marked entries (rows_left (Rows own_node m)) text c own rows is.0 is.1 h k
-ended_marked (ListOf node) (Items own_node) entries ts text c own rows held right is h k = list_marked entries is.1 text c own rows is.0 is.2 is.3 h k
-ended_marked (Wrapper w) (Inner own_part) entries ts text c own rows held right is h k = part_marked entries text c own rows is.0 is.1 h k
-ended_marked (Wrapper w) Nothing entries ts text c own rows held right is h k = part_marked entries text c own rows is.0 is.1 h k
-ended_marked (LooseWrapper w) Nothing entries ts text c own rows held right is h k = part_marked entries text c own rows is.0 is.1 h k
-ended_marked (LooseWrapper w) (Rows own_node m) entries ts text c own rows held right is h k = sequence_marked entries (rows_left (Rows own_node m)) text c own rows is.0 is.1 h k
-ended_marked (LooseWrapper w) (Either own_part) entries ts text c own rows held right is h k = late_marked own_part entries text c own rows is.0 is.1 held.1 h k
-ended_marked (Wrapper w) (Root own_part) entries ts text c own rows held right is h k = part_marked entries text c own rows is.0 is.1 h k
-ended_marked (ModuleLeaf l) n entries ts text c own rows held right is h k = absurd is
-ended_marked BitString n entries ts text c own rows held right is h k = absurd is
-ended_marked BitSegment n entries ts text c own rows held right is h k = absurd is
-ended_marked (Foreign m) n entries ts text c own rows held right is h k = absurd is
-ended_marked Segment n entries ts text c own rows held right is h k = absurd is
-ended_marked _ _ entries ts text c own rows held right is h k = absurd held
+ended_marked (Leaf l) Segments entries ts text c own rows two held right is h k = string_marked l entries text c own rows held.1 right is h k
+ended_marked (Sequence node) (Rows own_node m) entries ts text c own rows two held right is h k = sequence_marked entries (rows_left (Rows own_node m)) text c own rows is.0 is.1 h k
+ended_marked (ListOf node) (Items own_node) entries ts text c own rows two held right is h k = list_marked entries is.1 text c own rows is.0 is.2 is.3 h k
+ended_marked (Wrapper w) (Inner own_part) entries ts text c own rows two held right is h k = part_marked entries text c own rows is.0 is.1 h k
+ended_marked (Wrapper w) Nothing entries ts text c own rows two held right is h k = part_marked entries text c own rows is.0 is.1 h k
+ended_marked (LooseWrapper w) Nothing entries ts text c own rows two held right is h k = part_marked entries text c own rows is.0 is.1 h k
+ended_marked (LooseWrapper w) (Rows own_node m) entries ts text c own rows two held right is h k = sequence_marked entries (rows_left (Rows own_node m)) text c own rows is.0 is.1 h k
+ended_marked (LooseWrapper w) (Either own_part) entries ts text c own rows two held right is h k = late_marked own_part entries text c own rows is.0 is.1 held.1 h k
+ended_marked (Wrapper w) (Root own_part) entries ts text c own rows two held right is h k = part_marked entries text c own rows is.0 is.1 h k
+ended_marked (ModuleLeaf l) n entries ts text c own rows two held right is h k = absurd cc
+ended_marked BitString n entries ts text c own rows two held right is h k = absurd cc
+ended_marked BitSegment n entries ts text c own rows two held right is h k = absurd is
+ended_marked (Foreign m) n entries ts text c own rows two held right is h k = absurd cc
+ended_marked Segment n entries ts text c own rows two held right is h k = absurd is
+ended_marked _ _ entries ts text c own rows two held right is h k = absurd held
 
 -- ---- the draft
 
@@ -215,13 +216,13 @@ entry_marked l below next t slot alt el c old mid new y due h led e m =
     ∙ ap (λ ms. h.1 ++ ms) (sym (append_assoc (first ++ h.2) start x) ∙ ap (λ ms. ms ++ x) (first_more l.next l.element l.entries due.trees t slot alt el h.2 due.held due.is_due h.5) ∙ append_assoc (first_marks (behind l.next slot) l.element) h.2 x) in
     (h.0, h.1, h.2 ++ x, joined, h.4, entry_added l.entries (rows_before l.next slot) (with_alternative alt c) h.2 led.rows (alternative ++ y) h.5 led.are (chosen alt c y m), h.6)
 
-pub outline_opened : (old new : Outlining) (next : Next) (o : Opening) (base : ℕ) (mid : List Mark) → IsTrue (is_two o.found) → (read_as o.found ≡ Segment → ⊥) → HasOpened AreOctets old.octets next o base new.octets
+pub outline_opened : (old new : Outlining) (next : Next) (o : Opening) (base : ℕ) (mid : List Mark) → IsNoSegment (read_as o.found) → HasOpened AreOctets old.octets next o base new.octets
     → HasLed next (slot_in o.found) (alternative_of o.found) old.marks.items mid → new.marks.items ≡ mid ++ first_marks (first_of (read_as o.found)) (read_as o.found) → HasOpened AreOutlined old next o base new
-outline_opened old new next o base mid two whole octets led e levels text h opening = record {
+outline_opened old new next o base mid whole octets led e levels text h opening = record {
   octets = octets levels text h.octets opening;
   front = new.marks.items;
   joined = sym (append-nil new.marks.items) ∙ ap (λ t. new.marks.items ++ map mark.Octet t) (sym i.none);
-  are = subst (λ ls. AreFronts ls new.marks.items) (sym (pushed_apart _ levels (read_two o.found two) whole))
+  are = subst (λ ls. AreFronts ls new.marks.items) (sym (pushed_apart _ levels whole))
       (h.front, mid, [], e ∙ ap (λ ms. mid ++ ms) (sym (append-nil _)), subst (λ ls. AreLed (tag_of_id o.id) (read_as o.found) ls h.front mid) (sym i.are) is_led, refl, h.are);
 }
   where
@@ -248,8 +249,8 @@ outline_leaf old new next r leaf octets mid right has led e after l below h due 
     }
 
 -- an element ends: its last marks are put after its own
-pub outline_closed : (old new : Outlining) (f : Frame) (next : Next) → HasClosed AreOctets old.octets f next new.octets → HasRear (shape f.place) old.marks.items new.marks.items → HasClosed AreOutlined old f next new
-outline_closed old new f next has rear tag entries trees l below text c h held right is value due =
+pub outline_closed : (old new : Outlining) (f : Frame) (next : Next) → IsTrue (is_two f.found) → HasClosed AreOctets old.octets f next new.octets → HasRear (shape f.place) old.marks.items new.marks.items → HasClosed AreOutlined old f next new
+outline_closed old new f next two has rear tag entries trees l below text c h held right is value due =
     let a = h.are in
     let e = read_as f.found in
     let n = shape f.place in
@@ -259,9 +260,9 @@ outline_closed old new f next has rear tag entries trees l below text c h held r
     rear.added ∙ ap (λ ms. ms ++ last) (h.joined ∙ ap (λ ms. ms ++ map mark.Octet text) a.3) ∙ append_assoc (a.1 ++ (first ++ a.2)) (map mark.Octet text) last ∙ append_assoc a.1 (first ++ a.2) (map mark.Octet text ++ last)
     ∙ ap (λ ms. a.1 ++ ms) (append_assoc first a.2 (map mark.Octet text ++ last) ∙ ap (λ ms. first ++ ms) (sym (append_assoc a.2 (map mark.Octet text) last))) in
     let due_as : (s : Slot) (alt : Option ℕ) → IsDueIn tag l.next (due_with s alt e) → IsDueIn (tag_of value.0) l.next (due_with s alt e) = λ s alt. subst (λ t. IsDueIn t l.next (due_with s alt e)) (sym value.1) in
-    let one = one_due value.0 l.next a.4.slot (slot_in f.found) a.4.alternative (alternative_of f.found) e c (due_as _ _ a.4.is_due) (due_as _ _ due.is_due) value.2 in
+    let one = one_due Two value.0 l.next a.4.slot (slot_in f.found) a.4.alternative (alternative_of f.found) e c (due_as _ _ a.4.is_due) (due_as _ _ due.is_due) value.2 in
     let there = entry_marked l below next tag a.4.slot a.4.alternative e c a.0 a.1 new.marks.items _ (record { trees = due.trees; held = due.held; next = due.next; is_due = a.4.is_due }) a.6 a.4.led marks
-    (ended_marked e n entries trees text c a.2 rear.rows held right is a.5 rear.are) in
+    (ended_marked e n entries trees text c a.2 rear.rows (read_two f.found two) held right is a.5 rear.are) in
     record {
       octets = has tag entries trees l below text c h.octets held right is value due;
       front = new.marks.items;

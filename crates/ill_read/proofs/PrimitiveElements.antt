@@ -4,7 +4,7 @@ use Rattle.std.proofs.Common.{◌≡◌, ℕ, ◌+◌, List, [], ◌∷◌, leng
 use Rattle.ber_core.specs.Id.{tag_of_id}
 use Rattle.ber_core.specs.Identifier.{Tag}
 use Rattle.ber_core.specs.Octets.{are_octets}
-use Rattle.ber_core.specs.Tree.{primitive, octet_string}
+use Rattle.ber_core.specs.Tree.{primitive}
 use Rattle.ber_leaf.specs.Leaf.{value, content_fault}
 use Rattle.ber_leaf.specs.Profile.{profile_two}
 use Rattle.ill_schema.specs.Content.{simple}
@@ -33,11 +33,11 @@ use Rattle.ill_read.specs.code.Progress.{Reads}
 use Rattle.ill_elements.specs.declared.judge.Reading.{Reading}
 use Rattle.ill_elements.specs.declared.leaf_type.LeafType.{LeafType}
 use Rattle.ill_read.specs.declared.path.Path.{Path}
-use Rattle.ill_elements.proofs.OfTwo.{frames_two, read_two}
+use Rattle.ill_elements.proofs.OfTwo.{read_two}
 use Rattle.ill_read.proofs.DeliveredEntries.{entry_added}
-use Rattle.ill_elements.proofs.DueTags.{segment_due, due_segment}
-use Rattle.ill_read.proofs.Segments.{no_text}
-use Rattle.ill_read.proofs.Strings.{segment_added}
+use Rattle.ill_elements.proofs.DueTags.{segment_due}
+use Rattle.ill_read.proofs.Segments.{due_outside, no_text}
+use Rattle.ill_read.proofs.Strings.{is_segment, segment_added, text_after}
 
 -- where the contents that were read lead
 abbrev pub content_read : CodeElement → List Open → Tag → ℕ → List ℕ → ℕ → ℕ → List ℕ → Step
@@ -50,15 +50,14 @@ pub leaf_read : {D : Type 0} (holds : D → List Level → List ℕ → Type 0) 
     → (after : At) → where_of after ≡ next_place r.found → GoesOn after old.frames.open.items new.frames.open.items result → IsStep holds new (Ok result) (content_read (read_as r.found) place (tag_of_id r.id) header octets start at rest)
 leaf_read holds old new place r l start octets result header at rest two stands begin is ok right has after there goes =
     let tag = tag_of_id r.id in
-    let frames = frames_two old.frames old.two in
     let due : IsDueIn tag (next_at Two old.frames.open.items) (due_with (slot_in r.found) (alternative_of r.found) (Leaf l)) =
     subst₂ (λ q x. IsDueIn tag (next_at q old.frames.open.items) (due_with (slot_in r.found) (alternative_of r.found) x)) old.two is begin.is_due in
     let goes_on : shape_at (next_place r.found) ≡ behind (next_at Two old.frames.open.items) (slot_in r.found) =
     subst (λ q. shape_at (next_place r.found) ≡ behind (next_at q old.frames.open.items) (slot_in r.found)) old.two begin.goes_on in
-    let apart : element_is (Leaf l) ≡ segment octet_string → ⊥ = λ s. cc in
-    let no : text_so_far place ≡ [] = no_text place old.frames.open.items stands.0 frames stands.1 (λ s. apart (due_segment tag (next_at Two old.frames.open.items) (due_with (slot_in r.found) (alternative_of r.found) (Leaf l)) due s)) in
+    let apart : (u : Tag) → element_is (Leaf l) ≡ segment u → ⊥ = λ u s. cc in
+    let no : text_so_far place ≡ [] = no_text Two place old.frames.open.items stands.0 stands.1 (due_outside tag (next_at Two old.frames.open.items) (due_with (slot_in r.found) (alternative_of r.found) (Leaf l)) due apart) in
     let added = entry_added holds old.frames.open.items stands.0 new place (slot_in r.found) (alternative_of r.found) (Leaf l) (simple (value (leaf_is l) octets)) (primitive tag octets)
-    (at + header + length octets) (drop (header + length octets) rest) result frames stands.1 due apart after (ap shape_at there ∙ goes_on) goes
+    (at + header + length octets) (drop (header + length octets) rest) result stands.1 due apart after (ap shape_at there ∙ goes_on) goes
     (λ level below e d. ((tt, ok, right, refl), has goes_on level below (subst (λ t. holds old.draft (level ∷ below) t) no (subst (λ ls. holds old.draft ls (text_so_far place)) e stands.2)) d)) in
     let none : element_fault profile_two (element_is (read_as r.found)) octets ≡ None = ap (λ x. element_fault profile_two (element_is x) octets) is ∙ right in
     subst (λ f. IsStep holds new (Ok result) (moved (or_faulty f start (reads tag header octets)) place at rest)) (sym none) added
@@ -84,8 +83,8 @@ segment_read holds old new place r start octets header at rest two stands begin 
     subst₂ (λ q fs. IsDueIn tag (next_at q fs) (due_with (slot_in r.found) (alternative_of r.found) (read_as r.found))) old.two (sym frames) begin.is_due in
     let string : next_at Two new.frames.open.items ≡ Segments = segment_due tag (next_at Two new.frames.open.items) (due_with (slot_in r.found) (alternative_of r.found) (read_as r.found)) due (ap element_is is) in
     let outer : AreFrames Two place new.frames.open.items stands.0 = subst (λ fs. AreFrames Two place fs stands.0) (sym frames) stands.1 in
-    let added = segment_added holds new place stands.0 (due_with (slot_in r.found) (alternative_of r.found) (read_as r.found)) (primitive tag octets) (at + header + length octets) (drop (header + length octets) rest) outer due string tt
-    (has stands.0 (text_so_far place) stands.2) in
+    let added = segment_added holds new place stands.0 (due_with (slot_in r.found) (alternative_of r.found) (read_as r.found)) (primitive tag octets) (at + header + length octets) (drop (header + length octets) rest) outer due (is_segment (next_at Two new.frames.open.items) (primitive tag octets) (due_with (slot_in r.found) (alternative_of r.found) (read_as r.found)) due string tt)
+    (subst (λ n. holds new.draft stands.0 (text_after n (text_so_far place) (primitive tag octets))) (sym string) (has stands.0 (text_so_far place) stands.2)) in
     let none : element_fault profile_two (element_is (read_as r.found)) octets ≡ None = ap (λ x. element_fault profile_two (element_is x) octets) is in
     subst (λ f. IsStep holds new (Ok false) (moved (or_faulty f start (reads tag header octets)) place at rest)) (sym none) added
 

@@ -1,7 +1,10 @@
 -- What a path holds of the elements that are open at a place.
 use Rattle.ill_schema.specs.declared.profile.Profile.TheVariants.{Two}
-use Rattle.std.specs.Prelude.{◌≡◌, ℕ, List, [], ◌∷◌, ◌++◌, length, map, Option, Some, option_map}
-use Rattle.ber_core.specs.Tree.{text_all}
+use Rattle.std.specs.Prelude.{◌≡◌, ℕ, List, [], ◌∷◌, ◌++◌, length, map, Option, Some, option_map, if◌then◌else◌}
+use Rattle.ber_core.specs.Identifier.{Tag}
+use Rattle.ber_core.specs.Tree.{Trees, octet_string, text_all}
+use Rattle.ber_leaf.specs.Segments.{bits_after, join_bits, segments_content}
+use Rattle.ill_schema.specs.Tagging.{same_tag}
 use Rattle.ill_schema.specs.Apdu.{Apdu}
 use Rattle.ill_schema.specs.Message.{apdu_of, octets_of}
 use Rattle.ill_schema.specs.declared.message.Message.{Message}
@@ -13,12 +16,16 @@ use Rattle.ill_elements.specs.Standing.{Level, AreFrames}
 use Rattle.ill_read.specs.declared.path.Path.{Path}
 use Rattle.ill_read.specs.declared.values.Values.{Values}
 
+-- the text of the string that is open, after the text before a segment that is open in it
+abbrev pub segments_after : Tag → List ℕ → Trees → List ℕ
+segments_after t before trees = if same_tag t octet_string then before ++ text_all trees else bits_after (join_bits before (0 ∷ [])) trees
+
 -- the text of the string that is open, as far as it has been read
 abbrev pub text_so_far : List Open → List ℕ
 text_so_far [] = []
 text_so_far (o ∷ path) = elim o.element as (λ _. List ℕ) [
-  | leaf l ↦ text_all o.trees
-  | segment t ↦ text_so_far path ++ text_all o.trees
+  | leaf l ↦ segments_content l o.trees
+  | segment t ↦ segments_after t (text_so_far path) o.trees
   | _ ↦ []
 ]
 

@@ -4,8 +4,8 @@ use Rattle.std.specs.Prelude.{◌≡◌, ℕ, ◌<◌, ◌≤◌, Bool, true, fa
 use Rattle.ber_core.specs.Id.{tag_of_id}
 use Rattle.ber_core.specs.Identifier.{Tag}
 use Rattle.ber_core.specs.Octets.{are_octets}
-use Rattle.ber_core.specs.Tree.{Tree, Trees, tag_of}
-use Rattle.ber_leaf.specs.Leaf.{value, content_fault}
+use Rattle.ber_core.specs.Tree.{Tree, Trees, constructed, tag_of}
+use Rattle.ber_leaf.specs.Leaf.{bit_string, value, content_fault}
 use Rattle.ber_leaf.specs.Profile.{profile_two}
 use Rattle.ber_leaf.specs.declared.fault.LeafFault.{LeafFault}
 use Rattle.ill_schema.specs.Apdu.{Apdu, choice_of, Encodes, normal_form}
@@ -19,15 +19,15 @@ use Rattle.ill_refusals.specs.Fault.{fault, element_fault, fault_of}
 use Rattle.ill_cells.specs.Places.{alternative_of}
 use Rattle.ill_elements.specs.Due.{IsDueIn, behind, first_of, next_place, shape, shape_at, read_as, slot_in, due_with}
 use Rattle.ill_elements.specs.Elements.{element_is}
-use Rattle.ill_elements.specs.LeafTypes.{leaf_is}
-use Rattle.ill_elements.specs.Standing.{Level, IsHeld, level_of, pushed, whole_level}
+use Rattle.ill_elements.specs.LeafTypes.{leaf_is, module_leaf_is}
+use Rattle.ill_elements.specs.Standing.{Level, foreign_entries, IsHeld, level_of, pushed, whole_level}
 use Rattle.ill_elements.specs.Contents.{IsValueOf, absent_content, with_alternative}
 use Rattle.ill_elements.specs.declared.due.Next.{Next}
 use Rattle.ill_elements.specs.declared.due.Next.TheVariants.{Rows, Either, Nothing}
 use Rattle.ill_elements.specs.declared.due.Slot.{Slot}
 use Rattle.ill_elements.specs.declared.due.Slot.TheVariants.{Row as AtRow}
 use Rattle.ill_elements.specs.declared.element.Element.{Element as CodeElement}
-use Rattle.ill_elements.specs.declared.element.Element.TheVariants.{Leaf, Sequence, List as ListOf, Wrapper, LooseWrapper, Segment}
+use Rattle.ill_elements.specs.declared.element.Element.TheVariants.{Leaf, Sequence, List as ListOf, Wrapper, LooseWrapper, Segment, ModuleLeaf, BitString, BitSegment, Foreign}
 use Rattle.ill_read.specs.declared.failure.Failure.{Failure}
 use Rattle.ill_elements.specs.declared.frame.Frame.{Frame}
 use Rattle.ill_elements.specs.declared.judge.Opening.{Opening}
@@ -49,11 +49,14 @@ rows_left _ = []
 -- the content of an element that has ended, by what it had in it
 abbrev pub IsContentOf : CodeElement → Next → List (Option Content) → List ℕ → Content → Type 0
 IsContentOf (Leaf l) n entries text c = c ≡ simple (value (leaf_is l) text)
+IsContentOf (ModuleLeaf l) n entries text c = c ≡ simple (value (module_leaf_is l) text)
+IsContentOf BitString n entries text c = c ≡ simple (value bit_string text)
 IsContentOf (Sequence node) n entries text c = (text ≡ []) × (c ≡ content.sequence (entries_of (entries ++ map absent_content (rows_left n))))
 IsContentOf (ListOf node) n entries text c = (text ≡ []) × (items : List Content) × (entries ≡ map Some items) × (c ≡ content.list (items_of items))
 IsContentOf (Wrapper w) n entries text c = (text ≡ []) × (entries ≡ Some c ∷ [])
 IsContentOf (LooseWrapper w) Nothing entries text c = (text ≡ []) × (entries ≡ Some c ∷ [])
 IsContentOf (LooseWrapper w) n entries text c = (text ≡ []) × (c ≡ content.sequence (entries_of (entries ++ map absent_content (rows_left n))))
+IsContentOf (Foreign m) n entries text c = (text ≡ []) × (tag : Tag) × (ts : Trees) × (entries ≡ foreign_entries ts) × (c ≡ content.foreign (constructed tag ts))
 IsContentOf _ n entries text c = ⊥
 
 -- the level with an entry more, of an element at the slot
@@ -75,6 +78,8 @@ IsTextFault element start text Failure.OutOfMemory = Unit {0}
 -- the text is right, where the element is a leaf
 abbrev pub IsRightText : CodeElement → List ℕ → Type 0
 IsRightText (Leaf l) text = IsTrue (are_octets text) × (content_fault profile_two (leaf_is l) text ≡ None)
+IsRightText (ModuleLeaf l) text = IsTrue (are_octets text) × (content_fault profile_two (module_leaf_is l) text ≡ None)
+IsRightText BitString text = IsTrue (are_octets text) × (content_fault profile_two bit_string text ≡ None)
 IsRightText _ text = Unit {0}
 
 -- the text is right, or at fault, or there is no memory
@@ -91,9 +96,13 @@ pub record IsOpeningIn (levels : List Level) (text : List ℕ) (expected : Next)
   pub next : level.next ≡ expected
   pub is_due : IsDueIn (tag_of_id o.id) expected (due_with (slot_in o.found) (alternative_of o.found) (read_as o.found))
 
+-- the element is no segment of a string
+abbrev pub IsNoSegment : CodeElement → Type 0
+IsNoSegment e = (e ≡ Segment → ⊥) × (e ≡ BitSegment → ⊥)
+
 -- an element opened
 abbrev pub HasOpened : {D : Type 0} → (D → List Level → List ℕ → Type 0) → D → Next → Opening → ℕ → D → Type 0
-HasOpened holds old next o base new = (levels : List Level) (text : List ℕ) → holds old levels text → ((read_as o.found ≡ Segment → ⊥) → IsOpeningIn levels text next o)
+HasOpened holds old next o base new = (levels : List Level) (text : List ℕ) → holds old levels text → (IsNoSegment (read_as o.found) → IsOpeningIn levels text next o)
     → holds new (pushed (record { element = read_as o.found; tag = tag_of_id o.id; next = first_of (read_as o.found); base = base; entries = [] }) levels) text
 
 -- the text grew

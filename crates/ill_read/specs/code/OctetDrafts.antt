@@ -7,6 +7,7 @@ use Rattle.ber_core.specs.declared.id.Class.TheVariants.{Universal}
 use Rattle.ber_core.specs.Length.{shortest_length}
 use Rattle.ill_schema.specs.Apdu.{Apdu, normal_form}
 use Rattle.ill_schema.specs.Content.{Content}
+use Rattle.ill_schema.specs.Content as content
 use Rattle.ill_schema.specs.Normal.{normal_tree, normal_trees, normal_items}
 use Rattle.ill_schema.specs.Table.{rows_of}
 use Rattle.ill_schema.specs.Tagging.{untagged, sequence_tag}
@@ -18,7 +19,7 @@ use Rattle.ill_elements.specs.declared.due.Next.{Next}
 use Rattle.ill_elements.specs.declared.due.Next.TheVariants.{Rows, Nothing}
 use Rattle.ill_elements.specs.declared.due.Slot.{Slot}
 use Rattle.ill_elements.specs.declared.element.Element.{Element as CodeElement}
-use Rattle.ill_elements.specs.declared.element.Element.TheVariants.{Leaf, Sequence, List as ListOf, Wrapper, LooseWrapper}
+use Rattle.ill_elements.specs.declared.element.Element.TheVariants.{Leaf, Sequence, List as ListOf, Wrapper, LooseWrapper, Foreign}
 use Rattle.ill_elements.specs.declared.element.Wrapped.{Wrapped}
 use Rattle.ill_elements.specs.declared.judge.Opening.{Opening}
 use Rattle.ill_read.specs.declared.octets.Octets.{Octets}
@@ -35,6 +36,16 @@ part_octets w [] = []
 part_octets w (None ∷ es) = []
 part_octets w (Some c ∷ es) = encoding (normal_tree c w.node untagged)
 
+-- the octets of foreign trees, as they stand
+abbrev pub tree_octets : Content → List ℕ
+tree_octets (content.foreign T) = encoding T
+tree_octets _ = []
+
+abbrev pub foreign_octets : List (Option Content) → List ℕ
+foreign_octets [] = []
+foreign_octets (None ∷ es) = foreign_octets es
+foreign_octets (Some c ∷ es) = tree_octets c ++ foreign_octets es
+
 -- the octets of the entries in an element
 abbrev pub written : CodeElement → Next → List (Option Content) → List ℕ
 written (Sequence node) n es = encodings (normal_trees (entries_of es) (rows_of node))
@@ -42,6 +53,7 @@ written (ListOf node) n es = encodings (normal_items (items_of (items_in es)) (r
 written (Wrapper w) n es = part_octets w es
 written (LooseWrapper w) (Rows own k) es = encodings (normal_trees (entries_of es) (rows_of w.node))
 written (LooseWrapper w) n es = part_octets w es
+written (Foreign m) n es = foreign_octets es
 written _ n es = []
 
 abbrev pub unless_left : Next → Slot → Content → List ℕ → List ℕ

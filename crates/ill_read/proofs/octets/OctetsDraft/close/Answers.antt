@@ -5,6 +5,7 @@ use Rattle.ill_read.specs.code.Drafts.{IsContentOf, IsRightText}
 use Rattle.ill_read.specs.code.OctetDrafts.{enclosed, written}
 use Rattle.ill_elements.specs.declared.element.Element.TheVariants.{Leaf, LooseWrapper}
 use Rattle.ill_read.specs.declared.octets.Octets.{Octets}
+use Rattle.ill_elements.proofs.OfTwo.{read_two}
 use Rattle.ill_read.proofs.OctetDrafts.{contents_of, contents_other, loose_text, octets_closed, right_other, text_at}
 use Rattle.ill_read.proofs.octets.OctetsDraft.close.Goals as goal
 use Rattle.ill_read.proofs.octets.OctetsDraft.close.Goals.{in-Leaf+in_default-fault, in-LooseWrapper+in_ok-enclose-in-LooseWrapper, in_default}
@@ -18,7 +19,7 @@ returns-clause-text c tag entries below text h = elim c.match-of.branch [
       let at = w.written_from.ensures ∙ text_at c.args.self.now _ below text h (ap (λ e. written e (shape c.args.frame.place) entries) (sym c.of.ensures.element ∙ w.in-Leaf.is)) in
       subst (λ e. IsRightText e text) (sym (sym c.of.ensures.element ∙ w.in-Leaf.is)) (subst (IsRightText (Leaf l)) at (right.0, right.1))
   | in-LooseWrapper+in_ok-enclose-in-LooseWrapper w ↦ subst (λ e. IsRightText e text) (sym (sym c.of.ensures.element ∙ w.in-LooseWrapper.is)) tt
-  | in_default w ↦ right_other (read_as c.args.frame.found) text (λ l e. w.in_default.not-Leaf l (c.of.ensures.element ∙ e))
+  | in_default w ↦ right_other (read_as c.args.frame.found) text (read_two c.args.frame.found c.requires) (λ l e. w.in_default.not-Leaf l (c.of.ensures.element ∙ e))
 ]
 
 pub returns-clause-closed : goal.returns-clause-closed
@@ -44,6 +45,6 @@ returns-clause-closed c tag entries trees l below text content h held right is v
       octets_closed c.args.self.now (record c.args.self.now { octets = c.close.new.self }) c.match-of.self.octets c.args.frame c.requires (shape c.args._place) tag entries trees l below text content h held right is value due
       (λ before all base.
       ap (λ (o : Octets). o.octets) w.self-is ∙ all
-      ∙ ap (λ x. before ++ x) (contents_other (read_as c.args.frame.found) (shape c.args.frame.place) entries text content is (λ x e. w.in_default.not-Leaf x (c.of.ensures.element ∙ e)) (λ x e. w.in_default.not-LooseWrapper x (c.of.ensures.element ∙ e))))
+      ∙ ap (λ x. before ++ x) (contents_other (read_as c.args.frame.found) (shape c.args.frame.place) entries text content (read_two c.args.frame.found c.requires) is (λ x e. w.in_default.not-Leaf x (c.of.ensures.element ∙ e)) (λ x e. w.in_default.not-LooseWrapper x (c.of.ensures.element ∙ e))))
       (λ before body t form x joined base. c.in_ok-close.ensures.element before body t form x joined base)
 ]

@@ -7,6 +7,7 @@ use Rattle.ill_elements.specs.declared.element.Element.{Element as CodeElement}
 use Rattle.ill_elements.specs.declared.element.Element.TheVariants.{Leaf, Segment}
 use Rattle.ill_elements.specs.declared.leaf_type.LeafType.{LeafType}
 use Rattle.ill_read.proofs.OctetDrafts.{octets_opened}
+use Rattle.ill_elements.proofs.OfTwo.{no_bit_segment}
 use Rattle.ill_read.proofs.octets.OctetsDraft.open.Goals as goal
 
 constructed : (e : CodeElement) → ((l : LeafType) → e ≡ Leaf l → ⊥) → form_of e ≡ true
@@ -17,7 +18,7 @@ pub returns-in_ok-base-in-Leaf : goal.returns-in_ok-base-in-Leaf
 returns-in_ok-base-in-Leaf c =
     let o = c.args.opening in
     let is : read_as o.found ≡ Leaf c.in-Leaf.field-0 = sym c.of.ensures.element ∙ c.in-Leaf.is in
-    octets_opened c.args.self.now (record c.args.self.now { octets = c.open.new.self }) (shape c.args._place) o c.in_ok-base-in-Leaf.base (id_octets c.string_id.result) c.requires (λ s. let q : Leaf c.in-Leaf.field-0 ≡ Segment = sym is ∙ s in cc)
+    octets_opened c.args.self.now (record c.args.self.now { octets = c.open.new.self }) (shape c.args._place) o c.in_ok-base-in-Leaf.base (id_octets c.string_id.result) (λ s. (let q : Leaf c.in-Leaf.field-0 ≡ Segment = sym is ∙ s in cc), no_bit_segment o.found c.requires)
     (λ apart.
     let valid : HasIdentifier (tag_of_id o.id) false = record { number = o.id.valid.number; not_end = λ k n. subst (λ e. form_of e ≡ true) is (apart k n) } in
     c.string_id.ensures valid ∙ ap (λ e. identifier (tag_of_id o.id) (form_of e)) (sym is))
@@ -26,6 +27,6 @@ returns-in_ok-base-in-Leaf c =
 pub returns-in_ok-base-in_default : goal.returns-in_ok-base-in_default
 returns-in_ok-base-in_default c =
     let o = c.args.opening in
-    octets_opened c.args.self.now (record c.args.self.now { octets = c.open-in_default.new.self }) (shape c.args._place) o c.in_ok-base-in_default.base (id_octets o.id) c.requires (λ s. c.in_default.not-Segment (c.of.ensures.element ∙ s))
+    octets_opened c.args.self.now (record c.args.self.now { octets = c.open-in_default.new.self }) (shape c.args._place) o c.in_ok-base-in_default.base (id_octets o.id) (λ s. c.in_default.not-Segment (c.of.ensures.element ∙ s), no_bit_segment o.found c.requires)
     (λ apart. ap (identifier (tag_of_id o.id)) (o.form ∙ sym (constructed (read_as o.found) (λ l e. c.in_default.not-Leaf l (c.of.ensures.element ∙ e)))))
     c.in_ok-base-in_default.ensures.octets c.in_ok-base-in_default.ensures.base

@@ -15,5 +15,5 @@ returns-clause-text c tag entries below text h = c.in_ok-close.ensures.text tag 
 
 pub returns-clause-closed : goal.returns-clause-closed
 returns-clause-closed c =
-    outline_closed c.args.self.now (record { octets = c.close.new.self; marks = c.end.new.marks }) c.args.frame (shape c.args.place) c.in_ok-close.ensures.closed
+    outline_closed c.args.self.now (record { octets = c.close.new.self; marks = c.end.new.marks }) c.args.frame (shape c.args.place) c.requires c.in_ok-close.ensures.closed
     (subst (λ n. HasRear n c.args.self.now.marks.items c.end.new.marks.items) c.next.ensures c.in_ok-end.ensures)

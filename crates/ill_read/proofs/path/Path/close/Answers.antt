@@ -1,4 +1,4 @@
-use Rattle.std.proofs.Common.{ap, ◌∙◌, refl, sym, subst}
+use Rattle.std.proofs.Common.{inl, ap, ◌∙◌, refl, sym, subst}
 use Rattle.ill_refusals.specs.code.Step.{moved}
 use Rattle.ill_read.specs.code.Drafts.{HasClosed}
 use Rattle.ill_read.specs.code.Judged.{IsStep}
@@ -11,7 +11,7 @@ use Rattle.ill_read.proofs.path.Path.close.Goals as goal
 pub returns-in-Segment-clause-exact : goal.returns-in-Segment-clause-exact
 returns-in-Segment-clause-exact g c place marks at rest j stands end =
     segment_closed g.D.Draft.holds c.args.self.now (record { frames = c.pop-frame.new.self; draft = c.args.self.now.draft; two = c.pop-frame.ensures.profile ∙ c.args.self.now.two }) c.pop-frame.result place marks at rest j stands end c.pop-frame.ensures.rest
-    (c.pop-frame.ensures.last) (sym c.of.ensures.element ∙ c.in-Segment.is) refl
+    (c.pop-frame.ensures.last) (inl (sym c.of.ensures.element ∙ c.in-Segment.is)) refl
 
 pub returns-in_err-close-clause-exact : goal.returns-in_err-close-clause-exact
 returns-in_err-close-clause-exact g c place marks at rest j stands end =
