@@ -13,12 +13,12 @@ use Rattle.ill_elements.specs.declared.frame.Frame.{Frame}
 abbrev pub is_two_frame : Frame → Bool
 is_two_frame f = is_of_two (node_in f.place) && is_two f.found
 
--- each of the open elements is of the profile
+-- in profile 2 each of the open elements is of profile 2; of the module profile nothing is said
 abbrev pub are_of : Named → List Frame → Bool
 are_of Two frames = list_all is_two_frame frames
 are_of Module frames = true
 
--- the place is of the profile, and so is what is found
+-- the same of a place, and of what is found
 abbrev pub is_place_of : Named → At → Bool
 is_place_of Two at = is_of_two (node_in at)
 is_place_of Module at = true
