@@ -1,6 +1,6 @@
 """An encoder by the rules of X.690: the normal form of a value, and any spelling of it.
 
-Goes by the tables of crates/ill_schema/src/table.rt, and by nothing else of the crates.
+Goes by the tables of crates/ill_schema/src, and by nothing else of the crates.
 """
 from tables import CHOICES, LEAVES, LISTS, ROWS
 

@@ -18,7 +18,7 @@ Row = namedtuple("Row", "presence default tag mode node")
 
 def read_tables():
     """The rows of each node."""
-    source = (TOP / "crates/ill_schema/src/table.rt").read_text()
+    source = "".join((TOP / f"crates/ill_schema/src/{name}.rt").read_text() for name in ("node_rows", "module_rows", "table"))
     row = r"\((\w+)(?:\((\d+)\))?, (?:untagged|(\d+), (\w+)), (\w+)\)"
 
     def rows(text, class_of_tags):
@@ -28,7 +28,7 @@ def read_tables():
         ]
 
     head = rows(re.search(r"macro_rules! headed \{(.*?)\n\}", source, re.S).group(1), "context")
-    macro = re.search(r"macro_rules! table \{(.*?)\n\}", source, re.S).group(1)
+    macro = "".join(re.findall(r"macro_rules! (?:module_)?table \{(.*?)\n\}", source, re.S))
     rules = {
         name: (re.findall(r"\$(\w+):\w+", words)[2:], text)
         for name, words, text in re.findall(r"\(@(\w+) ([^)]*)\) => \{(.*?)\n    \};", macro, re.S)
