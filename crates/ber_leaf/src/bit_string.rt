@@ -111,7 +111,7 @@ impl Eq for BitString {
 }
 
 /// Tells whether the octets are a number of unused bits and octets that have these.
-fn is_bits(octets: &[u8]) -> bool
+pub fn is_bits(octets: &[u8]) -> bool
     ensures { result ≡ is_bits octets.now }
 {
     match octets {
@@ -122,7 +122,7 @@ fn is_bits(octets: &[u8]) -> bool
 }
 
 /// Sets the unused bits of a content to 0 (X.690, 11.2.1).
-fn clear_unused(content: &mut [u8])
+pub fn clear_unused(content: &mut [u8])
     requires { IsTrue (is_bits content.old) }
     ensures { content.new ≡ cleared_content content.old }
 {

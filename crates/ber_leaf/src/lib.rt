@@ -7,6 +7,7 @@
 //! ```
 #![tactic(auto)]
 
+mod bit_segments;
 mod bit_string;
 mod boolean;
 mod contents;
@@ -20,6 +21,7 @@ mod octet_string;
 mod segments;
 mod text;
 
+pub use bit_segments::BitSegments;
 pub use bit_string::BitString;
 pub use boolean::Flag;
 pub use contents::Leaf;

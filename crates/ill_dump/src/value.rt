@@ -2,7 +2,7 @@
 use crate::lines::Lines;
 use ill_cells::What;
 use ill_read::LeafType;
-use ill_schema::{PartId, Value, is_default, row};
+use ill_schema::{PartId, Profile, Value, is_default, row};
 use std::alloc::{AllocError, Global};
 
 /// The type of a leaf; None for what is no leaf.
@@ -51,7 +51,7 @@ fn put_value(
     part: PartId,
     content: &[u8],
 ) -> Result<bool, AllocError> {
-    if leaf.fault(content).is_some() {
+    if leaf.fault(Profile::Two, content).is_some() {
         lines.hex(content)?;
         return Ok(false);
     }

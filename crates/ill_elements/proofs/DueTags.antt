@@ -6,7 +6,7 @@ use Rattle.ber_core.specs.declared.id.Class.{Class}
 use Rattle.ber_core.specs.declared.id.Class.TheVariants.{Universal}
 use Rattle.ber_core.specs.Foreign.{foreign_levels}
 use Rattle.ber_core.specs.Tree.{octet_string}
-use Rattle.ber_leaf.specs.Leaf.{bit_string, boolean, enumerated, integer, is_string}
+use Rattle.ber_leaf.specs.Leaf.{bit_string, boolean, enumerated, integer}
 use Rattle.ber_leaf.specs.Profile.{profile_two}
 use Rattle.ber_leaf.specs.Segments.{segment_tag}
 use Rattle.ill_schema.specs.Content.{Content}
@@ -201,10 +201,12 @@ due_apart t n d h s c z = elim (due_start t n d h) [
   | elsewhere k ↦ absurd (k.1 c z)
 ]
 
--- an element that may be constructed
-abbrev pub MayOpen : Element → Type 0
-MayOpen (leaf l) = IsTrue (is_string l)
-MayOpen _ = Unit {0}
+-- an element whose value isn't a boolean or a number
+abbrev pub IsNoNumber : Element → Type 0
+IsNoNumber (leaf boolean) = ⊥
+IsNoNumber (leaf integer) = ⊥
+IsNoNumber (leaf enumerated) = ⊥
+IsNoNumber _ = Unit {0}
 
 -- is the leaf of the kind, which is one of those that have defaults
 abbrev pub PlainLeaf : Kind → Element → Type 0
@@ -219,11 +221,11 @@ plain_own (Kind.Leaf LeafKind.Integer) node h = (refl, tt)
 plain_own (Kind.Leaf LeafKind.Enumerated) node h = (refl, tt)
 plain_own _ node h = absurd cc
 
--- it may not be constructed
-plain_stays : (k : Kind) (e : Element) → PlainLeaf k e → MayOpen e → ⊥
-plain_stays (Kind.Leaf LeafKind.Boolean) e h m = (let n : IsTrue (is_string boolean) = subst MayOpen h m in cc)
-plain_stays (Kind.Leaf LeafKind.Integer) e h m = (let n : IsTrue (is_string integer) = subst MayOpen h m in cc)
-plain_stays (Kind.Leaf LeafKind.Enumerated) e h m = (let n : IsTrue (is_string enumerated) = subst MayOpen h m in cc)
+-- it is a boolean or a number
+plain_stays : (k : Kind) (e : Element) → PlainLeaf k e → IsNoNumber e → ⊥
+plain_stays (Kind.Leaf LeafKind.Boolean) e h m = subst IsNoNumber h m
+plain_stays (Kind.Leaf LeafKind.Integer) e h m = subst IsNoNumber h m
+plain_stays (Kind.Leaf LeafKind.Enumerated) e h m = subst IsNoNumber h m
 plain_stays _ e h m = absurd h
 
 plain_row : (tag : Option (Class × ℕ)) (m : Mode) (d : _) (node : NodeId) (part : PartId) → IsTrue (has_plain_default (record { tag = tag; mode = m; presence = Presence.Default d; node = node }))
@@ -243,8 +245,8 @@ default_leaf node r row t d e is q b =
     let here = subst (λ x. element_with t (component_starts (component_at (record { node = node; row = r }) x)) ≡ Some e) same b in
     found_start (λ u x. PlainLeaf (kind_of row.node) x) t _ e starts here
 
--- what may be constructed is no default
-row_kept : (node : NodeId) (r : ℕ) (row : Row) (t : Tag) (alt : Option ℕ) (e : Element) (c : Content) → slice_get (rows_of node) r ≡ Some row → Begins t (component_at (record { node = node; row = r }) row) alt e → MayOpen e
+-- what is no number is no default
+row_kept : (node : NodeId) (r : ℕ) (row : Row) (t : Tag) (alt : Option ℕ) (e : Element) (c : Content) → slice_get (rows_of node) r ≡ Some row → Begins t (component_at (record { node = node; row = r }) row) alt e → IsNoNumber e
     → (elim (slice_get (rows_of node) r) as (λ _. Bool) [ Some x ↦ is_default x (with_alternative alt c) | None ↦ false ]) ≡ false
 row_kept node r row t alt e c is b m = ap (λ o. elim o as (λ _. Bool) [ Some x ↦ is_default x (with_alternative alt c) | None ↦ false ]) is ∙ at alt b
   where
@@ -256,8 +258,8 @@ row_kept node r row t alt e c is b m = ap (λ o. elim o as (λ _. Bool) [ Some x
     at (Some n) k = alternative_kept row.presence (kind_of row.node) n c
     at None k = go row.presence refl k
 
--- what may be constructed has octets
-pub kept : (t : Tag) (n : Next) (slot : Slot) (alt : Option ℕ) (el : CodeElement) (c : Content) → IsDueIn t n (due_with slot alt el) → MayOpen (element_is el) → left_away n slot (with_alternative alt c) ≡ false
+-- and has octets
+pub kept : (t : Tag) (n : Next) (slot : Slot) (alt : Option ℕ) (el : CodeElement) (c : Content) → IsDueIn t n (due_with slot alt el) → IsNoNumber (element_is el) → left_away n slot (with_alternative alt c) ≡ false
 kept t (Rows node k) (AtRow r) alt el c d m = row_kept node r d.row t alt (element_is el) c d.is_row d.begins m
 kept t (Rows node k) _ alt el c d m = absurd d
 kept t (Either w) (AtRow r) alt el c (inr d) m = row_kept w.node r d.1.row t alt (element_is el) c d.1.is_row d.1.begins m

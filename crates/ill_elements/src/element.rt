@@ -3,8 +3,9 @@ ghost use Rattle.std.specs.Prelude.{◌≡◌, IsTrue};
 ghost use Rattle.ill_cells.specs.Places.{is_two};
 
 use crate::leaf_type::{LeafType, ModuleLeaf};
+use ber_leaf::{BitString, Leaf, LeafFault};
 use ill_cells::{Found, What, levels_in};
-use ill_schema::{NodeId, PartId};
+use ill_schema::{NodeId, PartId, Profile};
 
 /// An element, as what it is read.
 #[derive(Clone, Copy)]
@@ -28,7 +29,9 @@ pub enum Element {
 
 impl Element {
     ghost use Rattle.ill_elements.specs.Due.{read_as};
-    ghost use Rattle.ill_elements.specs.Elements.{is_two_element};
+    ghost use Rattle.ill_elements.specs.Elements.{element_is, is_two_element};
+    ghost use Rattle.ill_refusals.specs.Fault.{element_fault};
+    ghost use Rattle.ill_schema.specs.Profiles.{profile_of};
 
     /// As what that which was found is read. What is left out never is.
     #[inline(always)]
@@ -62,6 +65,18 @@ impl Element {
             What::BitString => Element::BitString,
             What::BitSegment => Element::BitSegment,
             What::Foreign => Element::Foreign(levels_in(found.part())),
+        }
+    }
+
+    /// Why the octets are no content of it in the profile: None exactly where they are, or where it has none of its own.
+    pub fn fault(self, profile: Profile, octets: &[u8]) -> Option<LeafFault>
+        ensures { result ≡ element_fault (profile_of profile) (element_is self) octets.now }
+    {
+        match self {
+            Element::Leaf(leaf) => leaf.fault(profile, octets),
+            Element::ModuleLeaf(leaf) => leaf.fault(octets),
+            Element::BitString => BitString::check(octets),
+            _ => None,
         }
     }
 }

@@ -45,13 +45,14 @@ impl Frames {
         }
     }
 
-    /// Forgets all open elements.
+    /// Forgets all open elements, and begins a message that is read in the profile.
     #[inline(always)]
-    pub fn clear(&mut self)
+    pub fn restart(&mut self, profile: Profile)
         ensures open { self.new.open.items ≡ [] }
-        ensures profile { self.new.profile ≡ self.old.profile }
+        ensures profile { self.new.profile ≡ profile }
     {
         self.open.clear();
+        self.profile = profile;
     }
 
     /// Opens an element in the innermost one.

@@ -1,14 +1,16 @@
 //! The types of leaves, and the values of their contents.
-ghost use Rattle.std.specs.Prelude.{◌≡◌, ◌↔◌, IsNone};
+ghost use Rattle.std.specs.Prelude.{◌≡◌, IsTrue};
+ghost use Rattle.ber_core.specs.Octets.{are_octets};
 ghost use Rattle.ber_leaf.specs.Content.{IsContent};
 ghost use Rattle.ber_leaf.specs.Leaf.{content_fault, is_string, value};
-ghost use Rattle.ber_leaf.specs.Profile.{profile_two};
+ghost use Rattle.ill_schema.specs.Profiles.{profile_of};
+ghost use Rattle.ill_schema.specs.declared.profile.Profile.{Profile as Named};
 
 use ber_leaf::{
     DateText, Flag, GeneralText, IllString, Leaf, LeafFault, Null, ObjectDescriptor,
     ObjectIdentifier, OctetString, PrintableText, TimeText, VisibleText, Whole,
 };
-use ill_schema::Value;
+use ill_schema::{Profile, Value};
 
 /// A type of leaf, with the two strings of an ILL-String apart.
 #[derive(Clone, Copy)]
@@ -35,7 +37,7 @@ pub enum ModuleLeaf {
 impl LeafType {
     ghost use Rattle.ill_schema.specs.Content.{simple};
     ghost use Rattle.ill_schema.specs.Value.{content_of};
-    ghost use Rattle.ill_elements.specs.LeafTypes.{leaf_is};
+    ghost use Rattle.ill_elements.specs.LeafTypes.{IsContentIn, leaf_is};
     ghost use Rattle.ill_elements.specs.Written.{is_number};
 
     /// Whether it is a string, which may be spelled in segments (X.690, 8.23).
@@ -48,16 +50,26 @@ impl LeafType {
         )
     }
 
-    /// Why the octets are no content of it, None exactly where they are.
-    pub fn fault(self, octets: &[u8]) -> Option<LeafFault>
-        ensures fault { result ≡ content_fault profile_two (leaf_is self) octets.now }
-        ensures none { IsNone result ↔ IsContent (leaf_is self) octets.now }
+    /// Why the octets are no content of it in the profile, None exactly where they are.
+    #[inline(always)]
+    pub fn fault(self, profile: Profile, octets: &[u8]) -> Option<LeafFault>
+        ensures fault { result ≡ content_fault (profile_of profile) (leaf_is self) octets.now }
+        ensures octets { IsTrue (are_octets octets.now) }
+    {
+        self.check(profile, octets)
+    }
+
+    fn check(self, profile: Profile, octets: &[u8]) -> Option<LeafFault>
+        ensures { result ≡ content_fault (profile_of profile) (leaf_is self) octets.now }
     {
         match self {
             LeafType::Boolean => Flag::check(octets),
             LeafType::Integer => Whole::check(octets),
             LeafType::Enumerated => Whole::check(octets),
-            LeafType::General => GeneralText::check(octets),
+            LeafType::General => match profile {
+                Profile::Two => GeneralText::check(octets),
+                Profile::Module => None,
+            },
             LeafType::Visible => VisibleText::check(octets),
             LeafType::Printable => PrintableText::check(octets),
             LeafType::Date => DateText::check(octets),
@@ -68,7 +80,7 @@ impl LeafType {
     /// Whether the octets hold the value that the number of a default stands for: of a BOOLEAN, 1 is TRUE. A string never does.
     #[inline(always)]
     pub fn is_number(self, number: i64, octets: &[u8]) -> bool
-        requires { IsContent (leaf_is self) octets.now }
+        requires { (p : Named) × IsContentIn p (leaf_is self) octets.now }
         ensures { result ≡ is_number (leaf_is self) number octets.now }
     {
         match self {
@@ -112,8 +124,14 @@ impl ModuleLeaf {
 
     /// Why the octets are no content of it, None exactly where they are.
     pub fn fault(self, octets: &[u8]) -> Option<LeafFault>
-        ensures fault { result ≡ content_fault profile_two (module_leaf_is self) octets.now }
-        ensures none { IsNone result ↔ IsContent (module_leaf_is self) octets.now }
+        ensures fault { (p : Named) → result ≡ content_fault (profile_of p) (module_leaf_is self) octets.now }
+        ensures octets { IsTrue (are_octets octets.now) }
+    {
+        self.check(octets)
+    }
+
+    fn check(self, octets: &[u8]) -> Option<LeafFault>
+        ensures { (p : Named) → result ≡ content_fault (profile_of p) (module_leaf_is self) octets.now }
     {
         match self {
             ModuleLeaf::Null => Null::check(octets),

@@ -1,12 +1,14 @@
 -- Where the decoder is after a step.
+use Rattle.ill_schema.specs.declared.profile.Profile.{Profile as Named}
+use Rattle.ill_schema.specs.Profiles.{profile_of}
 use Rattle.ill_schema.specs.declared.profile.Profile.TheVariants.{Two}
 use Rattle.std.proofs.Common.{◌≡◌, ℕ, ◌+◌, ◌-◌, ◌≤◌, List, [], ◌∷◌, ◌++◌, length, take, drop, Option, Some, None, Ok, Err, true, false, refl, sym, ap, subst, ◌∙◌, inl, arith}
 use Rattle.std.proofs.lemmas.List.{length-drop, length-take-le}
 use Rattle.ber_core.specs.Id.{tag_of_id}
 use Rattle.ber_core.specs.Tree.{Tree}
 use Rattle.ber_leaf.specs.declared.fault.LeafFault.{LeafFault}
-use Rattle.ber_leaf.specs.Profile.{profile_two}
-use Rattle.ill_schema.specs.declared.node.NodeId.TheVariants.{IllApdu}
+use Rattle.ill_schema.specs.Apdu.{root}
+use Rattle.ill_schema.specs.declared.profile.Profile.TheVariants.{Two, Module}
 use Rattle.ill_schema.specs.declared.refusal.Cause.{Cause}
 use Rattle.ill_schema.specs.Apdu.{Apdu, choice_of, Encodes, MeansApdu}
 use Rattle.ill_schema.specs.declared.node.Kind.{Kind}
@@ -16,7 +18,7 @@ use Rattle.ill_schema.specs.Meaning.{Means}
 use Rattle.ill_schema.specs.Tagging.{untagged}
 use Rattle.ill_refusals.specs.Fault.{Fault, fault_of}
 use Rattle.ill_refusals.specs.code.Judge.{Judgement, closes, reads, judge, or_faulty}
-use Rattle.ill_read.specs.Answers.{IsRefused}
+use Rattle.ill_read.specs.Answers.{IsRefusedIn}
 use Rattle.ill_elements.specs.Standing.{Level, whole_level, StandsBefore}
 use Rattle.ill_read.specs.Paths.{HoldsAt}
 use Rattle.ill_read.specs.code.Drafts.{HoldsApdu}
@@ -50,16 +52,16 @@ or_end : (c : Option LeafFault) (at : ℕ) (j : Judgement) (place : List Open) (
 or_end None at j place k l rest after h = h
 or_end (Some c) at j place k l rest after h = leaf_cause c
 
-moved_end : (frames : Frames) (place : List Open) (at : ℕ) (rest : List ℕ) (judgement : CodeJudgement) (j : Judgement) → IsProgress (depth_of frames) (length rest) judgement
-    → IsJudgement frames place at rest judgement j → EndsAt (at + size_of judgement) (drop (size_of judgement) rest) (moved j place at rest)
-moved_end frames place at rest (code.Closes m) j p h =
+moved_end : (p : Named) (frames : Frames) (place : List Open) (at : ℕ) (rest : List ℕ) (judgement : CodeJudgement) (j : Judgement) → IsProgress (depth_of frames) (length rest) judgement
+    → IsJudgement p frames place at rest judgement j → EndsAt (at + size_of judgement) (drop (size_of judgement) rest) (moved j place at rest)
+moved_end p frames place at rest (code.Closes m) j q h =
     subst (λ x. EndsAt (at + m) (drop m rest) (moved x place at rest)) (sym h.is)
     (or_end _ _ (closes m) place (at + m) at rest (drop m rest)
     (subst (λ x. EndsAt (at + m) (drop m rest) (close x (at + m) (drop m rest))) (sym h.is_path) (with_end h.outer _ (at + m) (at + m) (drop m rest) (drop m rest) refl refl)))
-moved_end frames place at rest (code.Opens o) j p h = subst (λ x. EndsAt (at + o.header) (drop o.header rest) (moved x place at rest)) (sym h.1) (refl, refl)
-moved_end frames place at rest (code.Reads r) j p h =
+moved_end p frames place at rest (code.Opens o) j q h = subst (λ x. EndsAt (at + o.header) (drop o.header rest) (moved x place at rest)) (sym h.1) (refl, refl)
+moved_end p frames place at rest (code.Reads r) j q h =
     let content = take r.size (drop r.header rest) in
-    let le = p.1 in
+    let le = q.1 in
     let n : length content ≡ r.size = length-take-le r.size (drop r.header rest) (omega (arith, length-drop r.header rest)) in
     subst (λ x. EndsAt (at + (r.header + r.size)) (drop (r.header + r.size) rest) (moved x place at rest)) (sym h.1)
     (or_end _ at (reads (tag_of_id r.id) r.header content) place (at + (r.header + r.size)) at rest (drop (r.header + r.size) rest)
@@ -67,36 +69,40 @@ moved_end frames place at rest (code.Reads r) j p h =
     (omega (arith, n)) (ap (λ k. drop (r.header + k) rest) n)))
 
 -- what means a value of ILL-APDU means an APDU
-means_apdu : (c : Content) (T : Tree) → Means profile_two c IllApdu untagged T → (a : Apdu) × (c ≡ choice_of a) × MeansApdu profile_two a T
-means_apdu (alternative n d) T h =
+means_apdu : (p : Named) (c : Content) (T : Tree) → Means (profile_of p) c (root (profile_of p)) untagged T → (a : Apdu) × (c ≡ choice_of a) × MeansApdu (profile_of p) a T
+means_apdu p (alternative n d) T h =
     let e : n ≡ n + 1 - 1 = omega arith in
-    (record { number = n + 1; body = d }, ap (λ m. alternative m d) e, (omega arith, subst (λ m. Means profile_two (alternative m d) IllApdu untagged T) e h))
-means_apdu (simple v) T h = absurd (let q : None ≡ Some h.0 = h.1 in cc)
-means_apdu (content.sequence es) T h = absurd (let q : Kind.Choice ≡ Kind.Seq = h.0 in cc)
-means_apdu (content.list is) T h = absurd (let q : Kind.Choice ≡ Kind.SeqOf = h.0 in cc)
-means_apdu (content.foreign V) T h = absurd (let q : Kind.Choice ≡ Kind.Any = h.0 in cc)
+    (record { number = n + 1; body = d }, ap (λ m. alternative m d) e, (omega arith, subst (λ m. Means (profile_of p) (alternative m d) (root (profile_of p)) untagged T) e h))
+means_apdu Two (simple v) T h = absurd (let q : None ≡ Some h.0 = h.1 in cc)
+means_apdu Module (simple v) T h = absurd (let q : None ≡ Some h.0 = h.1 in cc)
+means_apdu Two (content.sequence es) T h = absurd (let q : Kind.Choice ≡ Kind.Seq = h.0 in cc)
+means_apdu Module (content.sequence es) T h = absurd (let q : Kind.Choice ≡ Kind.Seq = h.0 in cc)
+means_apdu Two (content.list is) T h = absurd (let q : Kind.Choice ≡ Kind.SeqOf = h.0 in cc)
+means_apdu Module (content.list is) T h = absurd (let q : Kind.Choice ≡ Kind.SeqOf = h.0 in cc)
+means_apdu Two (content.foreign V) T h = absurd (let q : Kind.Choice ≡ Kind.Any = h.0 in cc)
+means_apdu Module (content.foreign V) T h = absurd (let q : Kind.Choice ≡ Kind.Any = h.0 in cc)
 
 -- the step of what is there
-record IsMade (at : ℕ) (s rest : List ℕ) (judgement : CodeJudgement) (st : Step) : Type 0 where
-  placed : Placed profile_two s st
+record IsMade (p : Named) (at : ℕ) (s rest : List ℕ) (judgement : CodeJudgement) (st : Step) : Type 0 where
+  placed : Placed (profile_of p) s st
   ends : EndsAt (at + size_of judgement) (drop (size_of judgement) rest) st
 
-made : (Stands : List Open → Type 0) (frames : Frames) (at : ℕ) (s rest : List ℕ) (judgement : CodeJudgement) → (b : StandsBefore Two Stands at s rest) → IsProgress (depth_of frames) (length rest) judgement
-    → IsJudgement frames b.place at rest judgement (judge profile_two b.place at rest)
-    → IsMade at s rest judgement (moved (judge profile_two b.place at rest) b.place at rest)
-made Stands frames at s rest judgement b p h = record {
-  placed = step_placed profile_two s b.place at rest b.octets (b.before, b.joined, b.offset, b.is_place);
-  ends = moved_end frames b.place at rest judgement (judge profile_two b.place at rest) p h;
+made : (p : Named) (Stands : List Open → Type 0) (frames : Frames) (at : ℕ) (s rest : List ℕ) (judgement : CodeJudgement) → (b : StandsBefore p Stands at s rest) → IsProgress (depth_of frames) (length rest) judgement
+    → IsJudgement p frames b.place at rest judgement (judge (profile_of p) b.place at rest)
+    → IsMade p at s rest judgement (moved (judge (profile_of p) b.place at rest) b.place at rest)
+made p Stands frames at s rest judgement b q h = record {
+  placed = step_placed (profile_of p) s b.place at rest b.octets (b.before, b.joined, b.offset, b.is_place);
+  ends = moved_end p frames b.place at rest judgement (judge (profile_of p) b.place at rest) q h;
 }
 
 -- it is at the next place
-pub goes_on : {D : Type 0} (holds : D → List Level → List ℕ → Type 0) (path new : Path D) (at : ℕ) (s rest : List ℕ) (judgement : CodeJudgement) → (b : StandsBefore Two (HoldsAt holds path) at s rest)
-    → IsProgress (depth_of path.frames) (length rest) judgement → IsJudgement path.frames b.place at rest judgement (judge profile_two b.place at rest)
-    → IsStep holds new (Ok false) (moved (judge profile_two b.place at rest) b.place at rest)
-    → StandsBefore Two (HoldsAt holds new) (at + size_of judgement) s (drop (size_of judgement) rest)
-goes_on holds path new at s rest judgement b p h is = go (moved (judge profile_two b.place at rest) b.place at rest) (made (HoldsAt holds path) path.frames at s rest judgement b p h) is
+pub goes_on : {D : Type 0} (p : Named) (holds : D → List Level → List ℕ → Type 0) (path new : Path D) (at : ℕ) (s rest : List ℕ) (judgement : CodeJudgement) → (b : StandsBefore p (HoldsAt p holds path) at s rest)
+    → IsProgress (depth_of path.frames) (length rest) judgement → IsJudgement p path.frames b.place at rest judgement (judge (profile_of p) b.place at rest)
+    → IsStep p holds new (Ok false) (moved (judge (profile_of p) b.place at rest) b.place at rest)
+    → StandsBefore p (HoldsAt p holds new) (at + size_of judgement) s (drop (size_of judgement) rest)
+goes_on p holds path new at s rest judgement b q h is = go (moved (judge (profile_of p) b.place at rest) b.place at rest) (made p (HoldsAt p holds path) path.frames at s rest judgement b q h) is
   where
-    go : (st : Step) → IsMade at s rest judgement st → IsStep holds new (Ok false) st → StandsBefore Two (HoldsAt holds new) (at + size_of judgement) s (drop (size_of judgement) rest)
+    go : (st : Step) → IsMade p at s rest judgement st → IsStep p holds new (Ok false) st → StandsBefore p (HoldsAt p holds new) (at + size_of judgement) s (drop (size_of judgement) rest)
     go (goes place l after) m i = record {
       place = place;
       before = m.placed.0;
@@ -109,30 +115,30 @@ goes_on holds path new at s rest judgement b p h is = go (moved (judge profile_t
     go _ m i = absurd i
 
 -- the message is whole: its octets encode what the draft holds
-pub is_whole : {D : Type 0} (holds : D → List Level → List ℕ → Type 0) (path new : Path D) (at : ℕ) (s rest : List ℕ) (judgement : CodeJudgement) → (b : StandsBefore Two (HoldsAt holds path) at s rest)
-    → IsProgress (depth_of path.frames) (length rest) judgement → IsJudgement path.frames b.place at rest judgement (judge profile_two b.place at rest)
-    → IsStep holds new (Ok true) (moved (judge profile_two b.place at rest) b.place at rest)
-    → (at + size_of judgement ≤ length s) × ((a : Apdu) × HoldsApdu holds new.draft a (take (at + size_of judgement) s))
-is_whole holds path new at s rest judgement b p h is = go (moved (judge profile_two b.place at rest) b.place at rest) (made (HoldsAt holds path) path.frames at s rest judgement b p h) is
+pub is_whole : {D : Type 0} (p : Named) (holds : D → List Level → List ℕ → Type 0) (path new : Path D) (at : ℕ) (s rest : List ℕ) (judgement : CodeJudgement) → (b : StandsBefore p (HoldsAt p holds path) at s rest)
+    → IsProgress (depth_of path.frames) (length rest) judgement → IsJudgement p path.frames b.place at rest judgement (judge (profile_of p) b.place at rest)
+    → IsStep p holds new (Ok true) (moved (judge (profile_of p) b.place at rest) b.place at rest)
+    → (at + size_of judgement ≤ length s) × ((a : Apdu) × HoldsApdu p holds new.draft a (take (at + size_of judgement) s))
+is_whole p holds path new at s rest judgement b q h is = go (moved (judge (profile_of p) b.place at rest) b.place at rest) (made p (HoldsAt p holds path) path.frames at s rest judgement b q h) is
   where
-    go : (st : Step) → IsMade at s rest judgement st → IsStep holds new (Ok true) st
-        → (at + size_of judgement ≤ length s) × ((a : Apdu) × HoldsApdu holds new.draft a (take (at + size_of judgement) s))
+    go : (st : Step) → IsMade p at s rest judgement st → IsStep p holds new (Ok true) st
+        → (at + size_of judgement ≤ length s) × ((a : Apdu) × HoldsApdu p holds new.draft a (take (at + size_of judgement) s))
     go (whole T n) m i =
-        let apdu = means_apdu i.0 T i.2 in
-        let message : IsMessage profile_two s T n = record m.placed { apdu = apdu.0; means = apdu.2 } in
-        let encoded = subst (λ k. (k ≤ length s) × Encodes profile_two apdu.0 (take k s)) m.ends (message_encodes profile_two s T n message) in
-        (encoded.0, (apdu.0, (subst (λ c. holds new.draft (whole_level Two c ∷ []) []) apdu.1 i.1, apdu.2.0, encoded.1)))
+        let apdu = means_apdu p i.0 T i.2 in
+        let message : IsMessage (profile_of p) s T n = record m.placed { apdu = apdu.0; means = apdu.2 } in
+        let encoded = subst (λ k. (k ≤ length s) × Encodes (profile_of p) apdu.0 (take k s)) m.ends (message_encodes (profile_of p) s T n message) in
+        (encoded.0, (apdu.0, (subst (λ c. holds new.draft (whole_level p c ∷ []) []) apdu.1 i.1, apdu.2.0, encoded.1)))
     go _ m i = absurd i
 
 -- a text is at fault, or memory runs out
-pub is_refused : {D : Type 0} (holds : D → List Level → List ℕ → Type 0) (path new : Path D) (at : ℕ) (s rest : List ℕ) (judgement : CodeJudgement) (failure : Failure)
-    → (b : StandsBefore Two (HoldsAt holds path) at s rest) → IsProgress (depth_of path.frames) (length rest) judgement
-    → IsJudgement path.frames b.place at rest judgement (judge profile_two b.place at rest) → IsStep holds new (Err failure) (moved (judge profile_two b.place at rest) b.place at rest)
-    → IsRefused s failure
-is_refused holds path new at s rest judgement failure b p h is = go failure (moved (judge profile_two b.place at rest) b.place at rest) (made (HoldsAt holds path) path.frames at s rest judgement b p h) is
+pub is_refused : {D : Type 0} (p : Named) (holds : D → List Level → List ℕ → Type 0) (path new : Path D) (at : ℕ) (s rest : List ℕ) (judgement : CodeJudgement) (failure : Failure)
+    → (b : StandsBefore p (HoldsAt p holds path) at s rest) → IsProgress (depth_of path.frames) (length rest) judgement
+    → IsJudgement p path.frames b.place at rest judgement (judge (profile_of p) b.place at rest) → IsStep p holds new (Err failure) (moved (judge (profile_of p) b.place at rest) b.place at rest)
+    → IsRefusedIn (profile_of p) s failure
+is_refused p holds path new at s rest judgement failure b q h is = go failure (moved (judge (profile_of p) b.place at rest) b.place at rest) (made p (HoldsAt p holds path) path.frames at s rest judgement b q h) is
   where
-    go : (failure : Failure) (st : Step) → IsMade at s rest judgement st → IsStep holds new (Err failure) st → IsRefused s failure
+    go : (failure : Failure) (st : Step) → IsMade p at s rest judgement st → IsStep p holds new (Err failure) st → IsRefusedIn (profile_of p) s failure
     go (Failure.Refused r) (refused f) m i =
-        (refuses_alone s (fault_of r) (inl (subst (λ (g : Fault). Placed profile_two s (refused g)) i m.placed)), subst (λ (g : Fault). g.cause ≡ Cause.Truncated → ⊥) i m.ends)
+        (refuses_alone p s (fault_of r) (inl (subst (λ (g : Fault). Placed (profile_of p) s (refused g)) i m.placed)), subst (λ (g : Fault). g.cause ≡ Cause.Truncated → ⊥) i m.ends)
     go (Failure.Refused r) _ m i = absurd i
     go Failure.OutOfMemory st m i = tt

@@ -3,6 +3,7 @@ use Rattle.std.proofs.Common.{◌≡◌, ◌++◌, ℕ, List, length, take, IsTr
 use Rattle.std.proofs.lemmas.List.{take_all}
 use Rattle.ber_core.specs.Octets.{are_octets}
 use Rattle.ber_leaf.specs.Profile.{profile_two}
+use Rattle.ill_schema.specs.declared.profile.Profile.TheVariants.{Two}
 use Rattle.ill_schema.specs.Apdu.{Apdu, Accepts, SpellsApdu}
 use Rattle.ill_schema.specs.Message.{apdu_of, octets_of}
 use Rattle.ill_schema.specs.declared.message.Message.{Message}
@@ -19,7 +20,7 @@ pub spelled_whole : (d : Decoder) (fed piece : List ℕ) (m : Message) → IsOpe
 spelled_whole d fed piece m is may ok read =
     let s = fed ++ piece in
     let octets = octets_join fed piece is.1.0.octets ok in
-    let least = needed_at_least fed may.0 is.1.0.octets (may.1.exact fed is) piece (apdu_of m) (octets_of m) octets read.0 in
+    let least = needed_at_least Two fed may.0 is.1.0.octets (may.1.exact fed is) piece (apdu_of m) (octets_of m) octets read.0 in
     let all : octets_of m ≡ length s = omega (arith, least, may.2, read.0.0, length-append fed piece) in
     let whole : take (octets_of m) s ≡ s = take_all (octets_of m) s (omega (arith, all)) in
     record { spells = subst (SpellsApdu profile_two (apdu_of m)) whole read.0.1; octets = all }

@@ -4,6 +4,7 @@ pub mod AddedEntries
 pub mod MoreTrees
 pub mod DeliveredEntries
 pub mod EndedElements
+pub mod StringLevels
 pub mod Strings
 pub mod ClosedElements
 pub mod OpenedElements

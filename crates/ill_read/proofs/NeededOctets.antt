@@ -1,5 +1,6 @@
 -- How many octets at least still belong to a message, at a place that the octets don't pass.
-use Rattle.ill_schema.specs.declared.profile.Profile.TheVariants.{Two}
+use Rattle.ill_schema.specs.declared.profile.Profile.{Profile as Named}
+use Rattle.ill_schema.specs.Profiles.{profile_of}
 use Rattle.std.proofs.Common.{◌≡◌, ◌⊎◌, ℕ, ◌+◌, ◌<◌, ◌≤◌, min, Bool, true, false, ◌&&◌, List, [], ◌∷◌, ◌++◌, length, length-append, take, drop, Option, Some, None, IsTrue, refl, sym, ap, subst, ◌∙◌, inl, inr, arith, append_assoc, append-nil, nat_eq}
 use Rattle.std.specs.Prelude.{nat_le}
 use Rattle.std.proofs.lemmas.List.{take-append-drop, take-append-le, length-drop, nil_from_length}
@@ -13,14 +14,14 @@ use Rattle.ber_core.specs.Identifier.{Tag, identifier, HasIdentifier}
 use Rattle.ber_core.specs.Length.{IsLength, short as short_form, long as long_form}
 use Rattle.ber_core.specs.Octets.{are_octets}
 use Rattle.ber_core.proofs.Identifiers.{IsEnd, identifier_no_end}
-use Rattle.ber_leaf.specs.Profile.{Profile, profile_two}
+use Rattle.ber_leaf.specs.Profile.{Profile}
 use Rattle.ill_schema.specs.declared.refusal.Cause.{Cause}
 use Rattle.ill_schema.specs.Apdu.{Apdu, Accepts}
 use Rattle.ill_refusals.specs.Fault.{fault, is_indefinite, fault_at}
 use Rattle.ill_refusals.specs.code.Judge.{Judgement, faulty, closes, opens, reads, judge}
 use Rattle.ill_elements.specs.Standing.{StandsLast}
 use Rattle.ill_elements.specs.HeaderCode.{Lacks, IsWholeLength}
-use Rattle.ill_elements.specs.Need.{NeedsAfter, outermost, begins_zero, in_mark, NeedsOfLength, NeedsOfElement, NeedsAfterMark, NeedsBefore, IsNeed}
+use Rattle.ill_elements.specs.Need.{NeedsAfterIn, outermost, begins_zero, in_mark, NeedsOfLength, NeedsOfElement, NeedsAfterMark, NeedsBefore, IsNeed}
 use Rattle.ill_refusals.specs.Place.{Open, bound, IsDue}
 use Rattle.ill_refusals.specs.Reading.{identified, part_identifier, no_identifier, read_identifier, definite, indefinite, part_length, read_length}
 use Rattle.ill_refusals.specs.code.Step.{close, moved}
@@ -185,12 +186,12 @@ content_end p path k n size tag w r b more (reads t h content) lt m q l need j =
     )
 
 -- what octets and those after them reach at a place, where no definite element is open
-abbrev ReachesNeed : List Open → ℕ → List ℕ → List ℕ → ℕ → Type 0
-ReachesNeed place k w more n = (j : Judgement) → Judged profile_two place k (w ++ more) j → Reaches (k + length w + n) k j
+abbrev ReachesNeed : Named → List Open → ℕ → List ℕ → List ℕ → ℕ → Type 0
+ReachesNeed p place k w more n = (j : Judgement) → Judged (profile_of p) place k (w ++ more) j → Reaches (k + length w + n) k j
 
-mark_needs : (place : List Open) (k n : ℕ) (w more : List ℕ) → k < bound profile_two place → IsCutShort profile_two place w → begins_zero w ≡ true → n ≡ 1 → ReachesNeed place k w more n
-mark_needs place k n [] more lt cut z one j r = absurd cc
-mark_needs place k n (a ∷ w) more lt cut z one j r =
+mark_needs : (p : Named) (place : List Open) (k n : ℕ) (w more : List ℕ) → k < bound (profile_of p) place → IsCutShort (profile_of p) place w → begins_zero w ≡ true → n ≡ 1 → ReachesNeed p place k w more n
+mark_needs p place k n [] more lt cut z one j r = absurd cc
+mark_needs p place k n (a ∷ w) more lt cut z one j r =
     let e : a ≡ 0 = grind (arith, z) in
     let none : read_identifier (a ∷ w) ≡ no_identifier = rw z refl in
     let alone : w ≡ [] = elim cut [
@@ -199,55 +200,55 @@ mark_needs place k n (a ∷ w) more lt cut z one j r =
       | in_element tag f x q y ↦ absurd (let d : no_identifier ≡ identified tag f x = sym none ∙ q in cc)
     ] in
     let size : k + length (a ∷ w) + n ≡ k + 2 = omega (arith, ap length alone) in
-    subst (λ z. Reaches z k j) (sym size) (mark_reaches profile_two place k (w ++ more) j lt (subst (λ (z : ℕ). Judged profile_two place k (z ∷ (w ++ more)) j) e r))
+    subst (λ z. Reaches z k j) (sym size) (mark_reaches (profile_of p) place k (w ++ more) j lt (subst (λ (z : ℕ). Judged (profile_of p) place k (z ∷ (w ++ more)) j) e r))
 
-element_reaches : (place : List Open) (k n : ℕ) (w more : List ℕ) → k < bound profile_two place → in_mark place w ≡ false → InElement Two place w → NeedsOfElement (read_identifier w) w n → ReachesNeed place k w more n
-element_reaches place k n w more lt m (inl q) need j r = header_end profile_two place k n w more j lt m (inl q) need r
-element_reaches place k n w more lt m (inr (tag, f, x, q, inl l)) need j r = header_end profile_two place k n w more j lt m (inr (tag, f, x, q, l)) need r
-element_reaches place k n w more lt m (inr (tag, f, x, q, inr (size, b, shut, l, less, le))) need j r =
+element_reaches : (p : Named) (place : List Open) (k n : ℕ) (w more : List ℕ) → k < bound (profile_of p) place → in_mark place w ≡ false → InElement p place w → NeedsOfElement (read_identifier w) w n → ReachesNeed p place k w more n
+element_reaches p place k n w more lt m (inl q) need j r = header_end (profile_of p) place k n w more j lt m (inl q) need r
+element_reaches p place k n w more lt m (inr (tag, f, x, q, inl l)) need j r = header_end (profile_of p) place k n w more j lt m (inr (tag, f, x, q, l)) need r
+element_reaches p place k n w more lt m (inr (tag, f, x, q, inr (size, b, shut, l, less, le))) need j r =
     let q2 : read_identifier w ≡ identified tag false x = q ∙ ap (λ g. identified tag g x) shut in
     let l2 : read_length false x ≡ definite size b = ap (λ g. read_length g x) (sym shut) ∙ l in
     let rest : size ≡ length b + n = subst (λ z. NeedsOfLength z w n) l2 (subst (λ z. NeedsOfElement z w n) q2 need) in
-    content_end profile_two place k n size tag w x b more j lt m q2 l2 rest r
+    content_end (profile_of p) place k n size tag w x b more j lt m q2 l2 rest r
 
-inside_reaches : (place : List Open) (k n : ℕ) (w more : List ℕ) → k < bound profile_two place → IsCutShort profile_two place w → (b : Bool) → in_mark place w ≡ b → NeedsAfterMark b w n → ReachesNeed place k w more n
-inside_reaches place k n w more lt cut true m one = mark_needs place k n w more lt cut (and_parts (is_indefinite place) (begins_zero w) m).1 one
-inside_reaches place k n w more lt cut false m need = element_reaches place k n w more lt m (wants_element Two place w cut m) need
+inside_reaches : (p : Named) (place : List Open) (k n : ℕ) (w more : List ℕ) → k < bound (profile_of p) place → IsCutShort (profile_of p) place w → (b : Bool) → in_mark place w ≡ b → NeedsAfterMark b w n → ReachesNeed p place k w more n
+inside_reaches p place k n w more lt cut true m one = mark_needs p place k n w more lt cut (and_parts (is_indefinite place) (begins_zero w) m).1 one
+inside_reaches p place k n w more lt cut false m need = element_reaches p place k n w more lt m (wants_element p place w cut m) need
 
 -- what each judgement reaches, a message does
-reaches_at_least : (Stands : List Open → Type 0) (at : ℕ) (s octets : List ℕ) (l : StandsLast Two Stands at s octets) (n : ℕ) (more : List ℕ) → ReachesNeed l.0.place (length l.0.before) octets more n
-    → (a : Apdu) (m : ℕ) → IsTrue (are_octets (s ++ more)) → Accepts profile_two (s ++ more) a m → length s + n ≤ m
-reaches_at_least Stands at s octets l n more reaches a m ok h =
+reaches_at_least : (p : Named) (Stands : List Open → Type 0) (at : ℕ) (s octets : List ℕ) (l : StandsLast p Stands at s octets) (n : ℕ) (more : List ℕ) → ReachesNeed p l.0.place (length l.0.before) octets more n
+    → (a : Apdu) (m : ℕ) → IsTrue (are_octets (s ++ more)) → Accepts (profile_of p) (s ++ more) a m → length s + n ≤ m
+reaches_at_least p Stands at s octets l n more reaches a m ok h =
     let b = l.0 in
     let u = b.before in
     let w = octets ++ more in
     let e : s ++ more ≡ u ++ w = ap (λ z. z ++ more) b.joined ∙ append_assoc u octets more in
-    let is_due : IsDue profile_two (s ++ more) (length u) b.place = subst (λ z. IsDue profile_two z (length u) b.place) (sym e) (due_at profile_two b.place u w b.is_place) in
+    let is_due : IsDue (profile_of p) (s ++ more) (length u) b.place = subst (λ z. IsDue (profile_of p) z (length u) b.place) (sym e) (due_at (profile_of p) b.place u w b.is_place) in
     let rest : drop (length u) (s ++ more) ≡ w = ap (drop (length u)) e ∙ drop-all u w in
     let octets_ok : IsTrue (are_octets w) = octets_right u w (subst (λ z. IsTrue (are_octets z)) e ok) in
-    let judgement = judge profile_two b.place (length u) w in
-    let j = judged profile_two b.place (length u) w octets_ok in
-    let keeps = reaches_keeps profile_two b.place (length u) (length u + length octets + n) w judgement j (reaches judgement j) in
-    let le = reads_before profile_two (s ++ more) b.place (length u) (length u + length octets + n) a m ok is_due
-    (subst (λ z. Keeps (length u + length octets + n) (step profile_two b.place (length u) z)) (sym rest) keeps) h.0 h.1.encodes in
+    let judgement = judge (profile_of p) b.place (length u) w in
+    let j = judged (profile_of p) b.place (length u) w octets_ok in
+    let keeps = reaches_keeps (profile_of p) b.place (length u) (length u + length octets + n) w judgement j (reaches judgement j) in
+    let le = reads_before (profile_of p) (s ++ more) b.place (length u) (length u + length octets + n) a m ok is_due
+    (subst (λ z. Keeps (length u + length octets + n) (step (profile_of p) b.place (length u) z)) (sym rest) keeps) h.0 h.1.encodes in
     omega (arith, ap length b.joined, length-append u octets)
 
 -- at least this many octets still belong to the message
-pub need_at_least : (Stands : List Open → Type 0) (at : ℕ) (s octets : List ℕ) (l : StandsLast Two Stands at s octets) (n : ℕ) → IsNeed l.0.place at octets n
-    → (more : List ℕ) (a : Apdu) (m : ℕ) → IsTrue (are_octets (s ++ more)) → Accepts profile_two (s ++ more) a m → length s + n ≤ m
-need_at_least Stands at s octets l n need more a m ok h =
+pub need_at_least : (p : Named) (Stands : List Open → Type 0) (at : ℕ) (s octets : List ℕ) (l : StandsLast p Stands at s octets) (n : ℕ) → IsNeed l.0.place at octets n
+    → (more : List ℕ) (a : Apdu) (m : ℕ) → IsTrue (are_octets (s ++ more)) → Accepts (profile_of p) (s ++ more) a m → length s + n ≤ m
+need_at_least p Stands at s octets l n need more a m ok h =
     let b = l.0 in
     let u = b.before in
-    let near = short Two Stands at s octets l in
+    let near = short p Stands at s octets l in
     let reach : (x : Option ℕ) → outermost b.place ≡ x → NeedsBefore x b.place at octets n → length s + n ≤ m = λ x. elim x as (λ x. outermost b.place ≡ x → NeedsBefore x b.place at octets n → length s + n ≤ m) [
       | Some e ↦ λ q is.
-          let is_due : IsDue profile_two (s ++ more) (length u) b.place =
-          subst (λ z. IsDue profile_two z (length u) b.place) (sym (ap (λ z. z ++ more) b.joined ∙ append_assoc u octets more)) (due_at profile_two b.place u (octets ++ more) b.is_place) in
-          let le = ends_before profile_two (s ++ more) b.place (length u) e a m ok is_due (has_outermost b.place e q) h.0 h.1.encodes in
+          let is_due : IsDue (profile_of p) (s ++ more) (length u) b.place =
+          subst (λ z. IsDue (profile_of p) z (length u) b.place) (sym (ap (λ z. z ++ more) b.joined ∙ append_assoc u octets more)) (due_at (profile_of p) b.place u (octets ++ more) b.is_place) in
+          let le = ends_before (profile_of p) (s ++ more) b.place (length u) e a m ok is_due (has_outermost b.place e q) h.0 h.1.encodes in
           omega (arith, b.offset, ap length b.joined, length-append u octets)
       | None ↦ λ q is.
-          let lt : length u < bound profile_two b.place = omega (arith, b.offset, near.0) in
-          reaches_at_least Stands at s octets l n more (inside_reaches b.place (length u) n octets more lt near.1 (in_mark b.place octets) refl is) a m ok h
+          let lt : length u < bound (profile_of p) b.place = omega (arith, b.offset, near.0) in
+          reaches_at_least p Stands at s octets l n more (inside_reaches p b.place (length u) n octets more lt near.1 (in_mark b.place octets) refl is) a m ok h
     ] in
     reach (outermost b.place) refl need
 
@@ -282,26 +283,26 @@ two_reach p path k rest (reads tag h content) lt r =
     omega (arith, length-append (identifier tag false) r.octets)
 
 -- The same of what these octets need, wherever a decoder keeps them.
-pub needed_at_least : (fed : List ℕ) (n : ℕ) → IsTrue (are_octets fed) → NeedsAfter fed n → (more : List ℕ) (a : Apdu) (m : ℕ) → IsTrue (are_octets (fed ++ more)) → Accepts profile_two (fed ++ more) a m → length fed + n ≤ m
-needed_at_least fed n ok x =
-    let last : StandsLast Two (λ _. Unit {0}) (length x.before) fed x.rest =
+pub needed_at_least : (p : Named) (fed : List ℕ) (n : ℕ) → IsTrue (are_octets fed) → NeedsAfterIn p fed n → (more : List ℕ) (a : Apdu) (m : ℕ) → IsTrue (are_octets (fed ++ more)) → Accepts (profile_of p) (fed ++ more) a m → length fed + n ≤ m
+needed_at_least p fed n ok x =
+    let last : StandsLast p (λ _. Unit {0}) (length x.before) fed x.rest =
     (record { place = x.place; before = x.before; joined = x.joined; octets = ok; offset = refl; stands = tt; is_place = x.is_place }, x.ends) in
-    need_at_least (λ _. Unit {0}) (length x.before) fed x.rest last n x.needed
+    need_at_least p (λ _. Unit {0}) (length x.before) fed x.rest last n x.needed
 
 -- so two octets at least belong to the message where no definite element is open
-pub two_at_least : (Stands : List Open → Type 0) (at : ℕ) (s : List ℕ) (l : StandsLast Two Stands at s []) → (more : List ℕ) (a : Apdu) (m : ℕ) → IsTrue (are_octets (s ++ more)) → Accepts profile_two (s ++ more) a m → length s + 2 ≤ m
-two_at_least Stands at s l more a m ok h =
-    let lt : length l.0.before < bound profile_two l.0.place = omega (arith, l.0.offset, (short Two Stands at s [] l).0) in
+pub two_at_least : (p : Named) (Stands : List Open → Type 0) (at : ℕ) (s : List ℕ) (l : StandsLast p Stands at s []) → (more : List ℕ) (a : Apdu) (m : ℕ) → IsTrue (are_octets (s ++ more)) → Accepts (profile_of p) (s ++ more) a m → length s + 2 ≤ m
+two_at_least p Stands at s l more a m ok h =
+    let lt : length l.0.before < bound (profile_of p) l.0.place = omega (arith, l.0.offset, (short p Stands at s [] l).0) in
     let size : length l.0.before + 2 ≡ length l.0.before + 0 + 2 = omega arith in
-    reaches_at_least Stands at s [] l 2 more (λ j r. subst (λ z. Reaches z (length l.0.before) j) size (two_reach profile_two l.0.place (length l.0.before) more j lt r)) a m ok h
+    reaches_at_least p Stands at s [] l 2 more (λ j r. subst (λ z. Reaches z (length l.0.before) j) size (two_reach (profile_of p) l.0.place (length l.0.before) more j lt r)) a m ok h
 
 -- of a part of a length, or of a content, octets are missing
-length_open : (place : List Open) (octets r : List ℕ) (f : Bool) (n : ℕ) → IsLengthCut profile_two place f r → (tag : Tag) → read_identifier octets ≡ identified tag f r → NeedsOfLength (read_length f r) octets n → 0 < n
-length_open place octets r f n (inr w) tag q h =
+length_open : (p : Named) (place : List Open) (octets r : List ℕ) (f : Bool) (n : ℕ) → IsLengthCut (profile_of p) place f r → (tag : Tag) → read_identifier octets ≡ identified tag f r → NeedsOfLength (read_length f r) octets n → 0 < n
+length_open p place octets r f n (inr w) tag q h =
     let size : w.0 ≡ length w.1 + n = subst (λ x. NeedsOfLength x octets n) w.3 h in
     let lt = w.4 in
     omega arith
-length_open place octets r f n (inl l) tag q h =
+length_open p place octets r f n (inl l) tag q h =
     let lacks : Lacks octets n = subst (λ x. NeedsOfLength x octets n) l h in
     let header = lacks.1.0 in
     let rest = lacks.1.1 in
@@ -314,8 +315,8 @@ length_open place octets r f n (inl l) tag q h =
     ]
 
 -- and in the words of the octets alone
-pub needs_after : (Stands : List Open → Type 0) (at : ℕ) (fed octets : List ℕ) (l : StandsLast Two Stands at fed octets) (n : ℕ) → IsNeed l.0.place at octets n → NeedsAfter fed n
-needs_after Stands at fed octets l n need =
+pub needs_after : (p : Named) (Stands : List Open → Type 0) (at : ℕ) (fed octets : List ℕ) (l : StandsLast p Stands at fed octets) (n : ℕ) → IsNeed l.0.place at octets n → NeedsAfterIn p fed n
+needs_after p Stands at fed octets l n need =
     let b = l.0 in
     record {
       place = b.place;
@@ -323,25 +324,25 @@ needs_after Stands at fed octets l n need =
       rest = octets;
       joined = b.joined;
       is_place = b.is_place;
-      ends = subst (λ k. fault_at profile_two b.place k octets ≡ Some (fault Cause.Truncated (length fed))) b.offset l.1;
+      ends = subst (λ k. fault_at (profile_of p) b.place k octets ≡ Some (fault Cause.Truncated (length fed))) b.offset l.1;
       needed = subst (λ k. IsNeed b.place k octets n) b.offset need;
     }
 
 -- and there are some
-pub need_open : (Stands : List Open → Type 0) (at : ℕ) (s octets : List ℕ) (l : StandsLast Two Stands at s octets) (n : ℕ) → IsNeed l.0.place at octets n → 0 < n
-need_open Stands at s octets l n need = go (outermost l.0.place) refl need
+pub need_open : (p : Named) (Stands : List Open → Type 0) (at : ℕ) (s octets : List ℕ) (l : StandsLast p Stands at s octets) (n : ℕ) → IsNeed l.0.place at octets n → 0 < n
+need_open p Stands at s octets l n need = go (outermost l.0.place) refl need
   where
-    element : InElement Two l.0.place octets → NeedsOfElement (read_identifier octets) octets n → 0 < n
+    element : InElement p l.0.place octets → NeedsOfElement (read_identifier octets) octets n → 0 < n
     element (inl q) is = let one : n ≡ 1 = subst (λ x. NeedsOfElement x octets n) q is in omega arith
-    element (inr w) is = length_open l.0.place octets w.2 w.1 n w.4 w.0 w.3 (subst (λ x. NeedsOfElement x octets n) w.3 is)
+    element (inr w) is = length_open p l.0.place octets w.2 w.1 n w.4 w.0 w.3 (subst (λ x. NeedsOfElement x octets n) w.3 is)
 
     inside : (b : Bool) → in_mark l.0.place octets ≡ b → NeedsAfterMark b octets n → 0 < n
     inside true m is = omega arith
-    inside false m is = element (wants_element Two l.0.place octets (short Two Stands at s octets l).1 m) is
+    inside false m is = element (wants_element p l.0.place octets (short p Stands at s octets l).1 m) is
 
     go : (x : Option ℕ) → outermost l.0.place ≡ x → NeedsBefore x l.0.place at octets n → 0 < n
     go (Some e) q is =
-        let near = (short Two Stands at s octets l).0 in
-        let le = bound_before profile_two l.0.place l.0.before e l.0.is_place (has_outermost l.0.place e q) in
+        let near = (short p Stands at s octets l).0 in
+        let le = bound_before (profile_of p) l.0.place l.0.before e l.0.is_place (has_outermost l.0.place e q) in
         omega arith
     go None q is = inside (in_mark l.0.place octets) refl is

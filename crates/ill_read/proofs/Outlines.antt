@@ -1,4 +1,6 @@
 -- The marks that an outline has, as elements open, are read and end.
+use Rattle.std.proofs.lemmas.List.{map-append}
+use Rattle.ill_read.proofs.OpenedElements.{opened_same}
 use Rattle.ill_elements.specs.Elements.{is_two_element}
 use Rattle.ill_schema.specs.declared.profile.Profile.TheVariants.{Two}
 use Rattle.std.proofs.Common.{IsTrue, ◌≡◌, ℕ, List, [], ◌∷◌, ◌++◌, length, map, append_assoc, append-nil, Option, Some, None, refl, sym, ap, subst, ◌∙◌, inl, inr, true, false, Bool}
@@ -25,7 +27,7 @@ use Rattle.ill_elements.specs.LeafTypes.{leaf_is}
 use Rattle.ill_read.specs.Outline.{AreEntries, AreItems, IsMarked, leaf_marks}
 use Rattle.ill_elements.specs.Standing.{Level, IsHeld}
 use Rattle.ill_elements.specs.Contents.{with_alternative, absent_content}
-use Rattle.ill_read.specs.code.Drafts.{IsNoSegment, HasOpened, HasClosed, HasLeaf, HoldsApdu, HasEnded, IsContentOf, IsDueAt, IsOpeningIn, IsRightText, rows_before, rows_left, with_entry}
+use Rattle.ill_read.specs.code.Drafts.{IsNoSegment, HasOpened, HasClosed, HasLeaf, HasText, HoldsApdu, HasEnded, IsContentOf, IsDueAt, IsOpeningIn, IsRightText, rows_before, rows_left, with_entry}
 use Rattle.ill_elements.specs.Due.{due_with}
 use Rattle.ill_read.specs.code.OctetDrafts.{AreNormal, AreOctets}
 use Rattle.ill_read.specs.code.Outlines.{AreFronts, AreLed, AreOutlined, ArePassed, HasLed, HasOutline, HasPassed, HasRear, IsLed, alternative_marks, first_marks, last_marks, late_marks, start_marks}
@@ -142,7 +144,7 @@ part_marked : (entries : List (Option Content)) (text : List ℕ) (c : Content) 
 part_marked entries text c own rows none es h k =
     subst (IsMarked c) (sym (joined_marks text own rows [] none ∙ append-nil (own ++ rows) ∙ ap (λ r. own ++ r) k ∙ append-nil own)) (only_entry c own (subst (λ xs. AreEntries (entries_of xs) own) es h))
 
-string_marked : (l : LeafType) (entries : List (Option Content)) (text : List ℕ) (c : Content) (own rows : List Mark) → entries ≡ [] → IsRightText (Leaf l) text
+string_marked : (l : LeafType) (entries : List (Option Content)) (text : List ℕ) (c : Content) (own rows : List Mark) → entries ≡ [] → IsRightText Two (Leaf l) text
     → c ≡ simple (value (leaf_is l) text) → AreEntries (entries_of entries) own → rows ≡ [] → IsMarked c (mark.Leaf l ∷ ((own ++ map mark.Octet text) ++ (rows ++ mark.End ∷ [])))
 string_marked l entries text c own rows none right is h k =
     let own_none : own ≡ [] = subst (λ xs. AreEntries (entries_of xs) own) none h in
@@ -165,7 +167,7 @@ late_marked w entries text c own rows none is held h k =
     (sequence_marked entries (rows_of w.node) [] c [] rows refl is (subst (AreEntries (entries_of entries)) own_none h) k))
 
 -- the marks of an element that has ended say its content
-pub ended_marked : (e : CodeElement) (n : Next) (entries : List (Option Content)) (ts : Trees) (text : List ℕ) (c : Content) (own rows : List Mark) → IsTrue (is_two_element e) → IsHeld Two e n entries ts → IsRightText e text
+pub ended_marked : (e : CodeElement) (n : Next) (entries : List (Option Content)) (ts : Trees) (text : List ℕ) (c : Content) (own rows : List Mark) → IsTrue (is_two_element e) → IsHeld Two e n entries ts → IsRightText Two e text
     → IsContentOf e n entries text c → AreEntries (entries_of entries) own → ArePassed (rows_left n) rows → IsMarked c (whole_marks n e own text rows)
 ended_marked (Leaf l) Segments entries ts text c own rows two held right is h k = string_marked l entries text c own rows held.1 right is h k
 ended_marked (Sequence node) (Rows own_node m) entries ts text c own rows two held right is h k = sequence_marked entries (rows_left (Rows own_node m)) text c own rows is.0 is.1 h k
@@ -203,7 +205,7 @@ first_more Nothing e entries ts t slot alt el own held d h = absurd d
 first_more _ e entries ts t slot alt el own held d h = append-nil _
 
 -- the marks of an element come after those of the elements before it
-entry_marked : (l : Level) (below : List Level) (next : Next) (t : Tag) (slot : Slot) (alt : Option ℕ) (el : CodeElement) (c : Content) (old mid new y : List Mark) → IsDueAt l next t slot alt el
+entry_marked : (l : Level) (below : List Level) (next : Next) (t : Tag) (slot : Slot) (alt : Option ℕ) (el : CodeElement) (c : Content) (old mid new y : List Mark) → IsDueAt Two l next t slot alt el
     → AreFronts (l ∷ below) old → HasLed l.next slot alt old mid → new ≡ mid ++ y → IsMarked c y → AreFronts (with_entry l slot (with_alternative alt c) ∷ below) new
 entry_marked l below next t slot alt el c old mid new y due h led e m =
     let start = start_marks l.next slot in
@@ -216,12 +218,12 @@ entry_marked l below next t slot alt el c old mid new y due h led e m =
     ∙ ap (λ ms. h.1 ++ ms) (sym (append_assoc (first ++ h.2) start x) ∙ ap (λ ms. ms ++ x) (first_more l.next l.element l.entries due.trees t slot alt el h.2 due.held due.is_due h.5) ∙ append_assoc (first_marks (behind l.next slot) l.element) h.2 x) in
     (h.0, h.1, h.2 ++ x, joined, h.4, entry_added l.entries (rows_before l.next slot) (with_alternative alt c) h.2 led.rows (alternative ++ y) h.5 led.are (chosen alt c y m), h.6)
 
-pub outline_opened : (old new : Outlining) (next : Next) (o : Opening) (base : ℕ) (mid : List Mark) → IsNoSegment (read_as o.found) → HasOpened AreOctets old.octets next o base new.octets
+pub outline_opened : (old new : Outlining) (next : Next) (o : Opening) (base : ℕ) (mid : List Mark) → IsNoSegment (read_as o.found) → IsTrue (is_two_element (read_as o.found)) → HasOpened AreOctets old.octets next o base new.octets
     → HasLed next (slot_in o.found) (alternative_of o.found) old.marks.items mid → new.marks.items ≡ mid ++ first_marks (first_of (read_as o.found)) (read_as o.found) → HasOpened AreOutlined old next o base new
-outline_opened old new next o base mid whole octets led e levels text h opening = record {
-  octets = octets levels text h.octets opening;
+outline_opened old new next o base mid whole two octets led e levels text h opening inside = record {
+  octets = octets levels text h.octets opening inside;
   front = new.marks.items;
-  joined = sym (append-nil new.marks.items) ∙ ap (λ t. new.marks.items ++ map mark.Octet t) (sym i.none);
+  joined = sym (append-nil new.marks.items) ∙ ap (λ t. new.marks.items ++ map mark.Octet t) (sym (opened_same (read_as o.found) text two ∙ i.none));
   are = subst (λ ls. AreFronts ls new.marks.items) (sym (pushed_apart _ levels whole))
       (h.front, mid, [], e ∙ ap (λ ms. mid ++ ms) (sym (append-nil _)), subst (λ ls. AreLed (tag_of_id o.id) (read_as o.found) ls h.front mid) (sym i.are) is_led, refl, h.are);
 }
@@ -236,8 +238,17 @@ outline_opened old new next o base mid whole octets led e levels text h opening 
     is_led = subst (λ n. IsLed (tag_of_id o.id) (read_as o.found) n h.front mid) (sym i.next)
         (record { slot = slot_in o.found; alternative = alternative_of o.found; is_due = i.is_due; led = subst (λ ms. HasLed next (slot_in o.found) (alternative_of o.found) ms mid) front led })
 
-pub outline_leaf : (old new : Outlining) (next : Next) (r : Reading) (leaf : LeafType) (octets : List ℕ) (mid : List Mark) → IsContent (leaf_is leaf) octets → HasLeaf AreOctets old.octets next r leaf octets new.octets
-    → HasLed next (slot_in r.found) (alternative_of r.found) old.marks.items mid → new.marks.items ≡ mid ++ leaf_marks leaf octets → HasLeaf AreOutlined old next r leaf octets new
+-- the text of a string grows
+pub outline_text : (old new : Outlining) (octets : List ℕ) → HasText AreOctets old.octets octets new.octets → new.marks.items ≡ old.marks.items ++ map mark.Octet octets → HasText AreOutlined old octets new
+outline_text old new octets has e l below text other h = record {
+  octets = has l below text other h.octets;
+  front = h.front;
+  joined = e ∙ ap (λ ms. ms ++ map mark.Octet octets) h.joined ∙ append_assoc h.front (map mark.Octet text) (map mark.Octet octets) ∙ ap (λ ms. h.front ++ ms) (sym (map-append mark.Octet text octets));
+  are = h.are;
+}
+
+pub outline_leaf : (old new : Outlining) (next : Next) (r : Reading) (leaf : LeafType) (octets : List ℕ) (mid : List Mark) → IsContent (leaf_is leaf) octets → HasLeaf Two AreOctets old.octets next r leaf octets new.octets
+    → HasLed next (slot_in r.found) (alternative_of r.found) old.marks.items mid → new.marks.items ≡ mid ++ leaf_marks leaf octets → HasLeaf Two AreOutlined old next r leaf octets new
 outline_leaf old new next r leaf octets mid right has led e after l below h due =
     let front = h.joined ∙ append-nil h.front in
     let here = subst (λ n. HasLed n (slot_in r.found) (alternative_of r.found) h.front mid) (sym due.next) (subst (λ ms. HasLed next (slot_in r.found) (alternative_of r.found) ms mid) front led) in
@@ -249,7 +260,7 @@ outline_leaf old new next r leaf octets mid right has led e after l below h due 
     }
 
 -- an element ends: its last marks are put after its own
-pub outline_closed : (old new : Outlining) (f : Frame) (next : Next) → IsTrue (is_two f.found) → HasClosed AreOctets old.octets f next new.octets → HasRear (shape f.place) old.marks.items new.marks.items → HasClosed AreOutlined old f next new
+pub outline_closed : (old new : Outlining) (f : Frame) (next : Next) → IsTrue (is_two f.found) → HasClosed Two AreOctets old.octets f next new.octets → HasRear (shape f.place) old.marks.items new.marks.items → HasClosed Two AreOutlined old f next new
 outline_closed old new f next two has rear tag entries trees l below text c h held right is value due =
     let a = h.are in
     let e = read_as f.found in
@@ -270,8 +281,8 @@ outline_closed old new f next two has rear tag entries trees l below text c h he
       are = subst (λ s. AreFronts (with_entry l s (with_alternative (alternative_of f.found) c) ∷ below) new.marks.items) one.0 (subst (λ x. AreFronts (with_entry l a.4.slot x ∷ below) new.marks.items) one.1 there);
     }
 
-pub outline_ended : (old new : Outlining) (a : Apdu) (b : List ℕ) (n : ℕ) (within : Bool) → HoldsApdu AreOutlined old a b → new.marks.items ≡ old.marks.items
-    → HasEnded AreNormal new.octets a n within → HasEnded (λ draft x m. HasOutline draft x) new a n within
+pub outline_ended : (old new : Outlining) (a : Apdu) (b : List ℕ) (n : ℕ) (within : Bool) → HoldsApdu Two AreOutlined old a b → new.marks.items ≡ old.marks.items
+    → HasEnded Two AreNormal new.octets a n within → HasEnded Two (λ p draft x m. HasOutline draft x) new a n within
 outline_ended old new a b n true h same has =
     let f = h.0.are in
     let marks = same ∙ h.0.joined ∙ append-nil h.0.front ∙ f.3 ∙ ap (λ ms. ms ++ f.2) (f.4 ∙ f.6) in

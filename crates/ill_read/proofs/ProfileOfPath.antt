@@ -1,12 +1,19 @@
 -- The profile that a path's message is read in.
-use Rattle.std.proofs.Common.{◌≡◌, ◌++◌, ℕ, Bool, List, length, sym, subst}
-use Rattle.ill_schema.specs.declared.profile.Profile.{Profile as Named}
+use Rattle.std.proofs.Common.{◌≡◌, ◌++◌, ℕ, Bool, List, IsTrue, length, refl, sym, subst}
+use Rattle.ber_leaf.specs.Content.{IsContent}
+use Rattle.ber_leaf.specs.Leaf.{Leaf, value}
+use Rattle.ill_cells.specs.Places.{is_two}
+use Rattle.ill_elements.specs.LeafTypes.{IsContentIn}
+use Rattle.ill_elements.specs.Two.{is_found_of}
+use Rattle.ill_elements.specs.declared.element.Element.{Element as CodeElement}
+use Rattle.ill_elements.specs.declared.element.Element.TheVariants.{BitString, Foreign, ModuleLeaf}
+use Rattle.ill_read.specs.code.Drafts.{IsModuleElement}
 use Rattle.ill_schema.specs.declared.profile.Profile.TheVariants.{Two}
+use Rattle.ill_schema.specs.declared.profile.Profile.{Profile as Named}
 use Rattle.ber_core.specs.Identifier.{Tag}
-use Rattle.ber_leaf.specs.Profile.{profile_two}
 use Rattle.ill_cells.specs.declared.at.Found.{Found}
 use Rattle.ill_elements.specs.Due.{read_as}
-use Rattle.ill_elements.specs.Elements.{element_is}
+use Rattle.ill_elements.specs.Elements.{element_is, is_two_element}
 use Rattle.ill_elements.specs.code.Judging.{IsBegin}
 use Rattle.ill_elements.proofs.Judgements.{headed_judged}
 use Rattle.ill_refusals.specs.Fault.{Fault}
@@ -18,18 +25,29 @@ use Rattle.ill_elements.specs.Standing.{AreFrames, Level, StandsAt}
 use Rattle.ill_read.specs.Paths.{HoldsAt}
 use Rattle.ill_read.specs.declared.path.Path.{Path}
 
--- what is true of the profile of the frames is true of profile 2
-pub in_two : {D : Type 0} (path : Path D) (P : Named → Type 0) → P path.frames.profile → P Two
-in_two path P x = subst P path.two x
-
 -- where a path holds what is open, its frames stand
-pub stands_at : {D : Type 0} (holds : D → List Level → List ℕ → Type 0) (path : Path D) (place : List Open) → HoldsAt holds path place → StandsAt path.frames place
-stands_at holds path place h = (h.0, subst (λ q. AreFrames q place path.frames.open.items h.0) (sym path.two) h.1)
+pub stands_at : {D : Type 0} (p : Named) (holds : D → List Level → List ℕ → Type 0) (path : Path D) (place : List Open) → HoldsAt p holds path place → StandsAt path.frames place
+stands_at p holds path place h = (h.0, subst (λ q. AreFrames q place path.frames.open.items h.0) (sym h.3) h.1)
 
 -- what is judged of an element that has begun, after its identifier
-pub headed_two : {D : Type 0} (path : Path D) (place : List Open) (tag : Tag) (found : Found) (f : Bool) (at : ℕ) (cut : Fault) (w front behind : List ℕ) → StandsAt path.frames place
+pub headed_in : {D : Type 0} (p : Named) (path : Path D) (place : List Open) (tag : Tag) (found : Found) (f : Bool) (at : ℕ) (cut : Fault) (w front behind : List ℕ) → path.frames.profile ≡ p → StandsAt path.frames place
     → IsBegin path.frames place tag found f → w ≡ front ++ behind → read_identifier w ≡ identified tag f behind
-    → judge_element profile_two place at cut w ≡ judge_length profile_two place (element_is (read_as found)) tag f at (length front) cut behind
-headed_two path place tag found f at cut w front behind stands begun spelled read =
-    in_two path (λ q. judge_element (profile_of q) place at cut w ≡ judge_length (profile_of q) place (element_is (read_as found)) tag f at (length front) cut behind)
+    → judge_element (profile_of p) place at cut w ≡ judge_length (profile_of p) place (element_is (read_as found)) tag f at (length front) cut behind
+headed_in p path place tag found f at cut w front behind is stands begun spelled read =
+    subst (λ q. judge_element (profile_of q) place at cut w ≡ judge_length (profile_of q) place (element_is (read_as found)) tag f at (length front) cut behind) is
     (headed_judged path.frames place tag found f at cut w front behind stands begun spelled read)
+
+-- what is found, and a content, of a message in profile 2
+pub found_two : (p : Named) (f : Found) → p ≡ Two → IsTrue (is_found_of p f) → IsTrue (is_two f)
+found_two p f e h = subst (λ q. IsTrue (is_found_of q f)) e h
+
+pub content_two : (p : Named) (l : Leaf) (octets : List ℕ) → p ≡ Two → IsContentIn p l octets → IsContent l octets
+unfolding IsContent
+content_two p l octets e h = let right = subst (λ q. IsContentIn q l octets) e h in (value l octets, (right.0, right.1, refl))
+
+-- no element of profile 2 is one that only the module profile has
+pub no_module_element : (e : CodeElement) → IsTrue (is_two_element e) → IsModuleElement e → ⊥
+no_module_element (ModuleLeaf l) two h = cc
+no_module_element BitString two h = cc
+no_module_element (Foreign m) two h = cc
+no_module_element _ two h = h

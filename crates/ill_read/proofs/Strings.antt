@@ -1,5 +1,4 @@
 -- Strings in segments: a segment more, read or closed.
-use Rattle.ill_schema.specs.declared.profile.Profile.TheVariants.{Two}
 use Rattle.std.proofs.Common.{◌≡◌, ℕ, List, [], ◌∷◌, ◌++◌, append_assoc, append-nil, Option, Some, Ok, false, sym, ap, ap₂, refl, subst, ◌∙◌}
 use Rattle.ber_core.specs.Identifier.{Tag}
 use Rattle.ber_core.specs.Tree.{Tree, Trees, constructed, none, more, tag_of, octet_string, IsString, text, text_all, AreSegments}
@@ -111,18 +110,18 @@ string_frame p f o path outer entries T d h is s =
     }
 
 -- a segment in the string round it
-pub segment_added : {D : Type 0} (holds : D → List Level → List ℕ → Type 0) (path : Path D) (place : List Open) (levels : List Level) (d : Due) (T : Tree) (at : ℕ) (rest : List ℕ)
-    → AreFrames Two place path.frames.open.items levels → IsDueIn (tag_of T) (next_at Two path.frames.open.items) d → IsSegmentOf (next_at Two path.frames.open.items) T
-    → holds path.draft levels (text_after (next_at Two path.frames.open.items) (text_so_far place) T) → IsStep holds path (Ok false) (with_tree place T at rest)
-segment_added holds path [] levels d T at rest h is s t = absurd (subst (λ fs. IsSegmentOf (next_at Two fs) T) h.0 s)
-segment_added holds path (o ∷ outside) levels d T at rest h is s t =
+pub segment_added : {D : Type 0} (p : Named) (holds : D → List Level → List ℕ → Type 0) (path : Path D) (place : List Open) (levels : List Level) (d : Due) (T : Tree) (at : ℕ) (rest : List ℕ)
+    → path.frames.profile ≡ p → AreFrames p place path.frames.open.items levels → IsDueIn (tag_of T) (next_at p path.frames.open.items) d → IsSegmentOf (next_at p path.frames.open.items) T
+    → holds path.draft levels (text_after (next_at p path.frames.open.items) (text_so_far place) T) → IsStep p holds path (Ok false) (with_tree place T at rest)
+segment_added p holds path [] levels d T at rest same h is s t = absurd (subst (λ fs. IsSegmentOf (next_at p fs) T) h.0 s)
+segment_added p holds path (o ∷ outside) levels d T at rest same h is s t =
     let f = h.1 in
-    let k : IsFrame Two f o outside h.0 h.3 = h.6 in
-    let here : next_at Two path.frames.open.items ≡ (shape f.place) = ap (next_at Two) h.4 ∙ next_behind Two h.0 f in
+    let k : IsFrame p f o outside h.0 h.3 = h.6 in
+    let here : next_at p path.frames.open.items ≡ (shape f.place) = ap (next_at p) h.4 ∙ next_behind p h.0 f in
     let due : IsDueIn (tag_of T) (shape f.place) d = subst (λ n. IsDueIn (tag_of T) n d) here is in
     let one : IsSegmentOf (shape f.place) T = subst (λ n. IsSegmentOf n T) here s in
-    let joined = string_text Two (read_as f.found) (shape f.place) h.3 o.trees T (text_so_far outside) k.held one in
+    let joined = string_text p (read_as f.found) (shape f.place) h.3 o.trees T (text_so_far outside) k.held one in
     let as_element = λ (us : Trees). ap (λ x. text_with x (text_so_far outside) us) k.element in
-    let text_is : text_after (next_at Two path.frames.open.items) (text_so_far (o ∷ outside)) T ≡ text_so_far (with_one o T ∷ outside) =
+    let text_is : text_after (next_at p path.frames.open.items) (text_so_far (o ∷ outside)) T ≡ text_so_far (with_one o T ∷ outside) =
     ap₂ (λ n x. text_after n x T) here (sym (as_element o.trees)) ∙ sym joined ∙ as_element (snoc o.trees T) in
-    (levels, (h.0, f, h.2, h.3, h.4, h.5, string_frame Two f o outside h.0 h.3 T d k due one, h.7), subst (λ x. holds path.draft levels x) text_is t)
+    (levels, (h.0, f, h.2, h.3, h.4, h.5, string_frame p f o outside h.0 h.3 T d k due one, h.7), subst (λ x. holds path.draft levels x) text_is t, same)

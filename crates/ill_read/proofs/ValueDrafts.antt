@@ -13,7 +13,9 @@ use Rattle.ill_schema.specs.Content as content
 use Rattle.ill_schema.specs.Value.{content_of, items_of}
 use Rattle.ill_schema.specs.declared.node.NodeId.{NodeId}
 use Rattle.ill_schema.specs.declared.value.Value.{Value}
+use Rattle.ill_elements.specs.Elements.{is_two_element}
 use Rattle.ill_elements.specs.LeafTypes.{leaf_is}
+use Rattle.ill_read.proofs.OpenedElements.{opened_same}
 use Rattle.ill_read.specs.code.Drafts.{HasOpened, IsContentOf, IsRightText, rows_before, with_entry}
 use Rattle.ill_read.specs.code.Held.{EndsExactly, HasAdded, IsFound, IsLast, IsList}
 use Rattle.ill_elements.specs.Standing.{Level, level_of, whole_level, IsHeld}
@@ -32,8 +34,9 @@ use Rattle.ill_read.specs.declared.values.Values.{Values}
 use Rattle.ill_elements.specs.Due.{shape, first_of, read_as}
 
 -- an element that opens has no entries
-pub values_opened : (v : Values) (next : Next) (opening : Opening) (base : ℕ) → base ≡ length v.held.entries.items → HasOpened AreValues v next opening base v
-values_opened v next opening base e levels text h is = go (read_as opening.found)
+pub values_opened : (v : Values) (next : Next) (opening : Opening) (base : ℕ) → IsTrue (is_two_element (read_as opening.found)) → base ≡ length v.held.entries.items → HasOpened AreValues v next opening base v
+values_opened v next opening base two e levels text h is inside =
+    subst (λ t. AreValues v (elim (read_as opening.found) as (λ _. List Level) [ Segment ↦ levels | BitSegment ↦ levels | _ ↦ l ∷ levels ]) t) (sym (opened_same (read_as opening.found) text two)) (go (read_as opening.found))
   where
     l : Level
     l = record { element = (read_as opening.found); tag = tag_of_id opening.id; next = first_of (read_as opening.found); base = base; entries = [] }
@@ -84,7 +87,7 @@ all_there (Some v ∷ es) (c ∷ cs) e =
 pub list_ends : (old new : Values) (f : Frame) (v : Value) (node : NodeId) → read_as f.found ≡ ListOf node → IsList f.base v old.held.entries.items new.held.entries.items → new.text.items ≡ old.text.items
     → EndsExactly old f new (Ok (Some v))
 list_ends old new f v node is s same tag entries below text h =
-    subst (λ x. IsRightText x text × ((trees : Trees) (c : Content) → IsHeld Two x (shape f.place) entries trees → IsContentOf x (shape f.place) entries text c → IsFound (Some v) c × AreValues new below [])) (sym is) (
+    subst (λ x. IsRightText Two x text × ((trees : Trees) (c : Content) → IsHeld Two x (shape f.place) entries trees → IsContentOf x (shape f.place) entries text c → IsFound (Some v) c × AreValues new below [])) (sym is) (
       tt,
       λ trees c held k.
           let x = h.held in
@@ -111,13 +114,13 @@ last_left old new f tag entries below text found c h s same empty is =
 pub wrapper_ends : (old new : Values) (f : Frame) (found : Option Value) (w : Wrapped) → read_as f.found ≡ Wrapper w → IsLast found old.held.entries.items new.held.entries.items
     → new.text.items ≡ old.text.items → EndsExactly old f new (Ok found)
 wrapper_ends old new f found w is s same tag entries below text h =
-    subst (λ x. IsRightText x text × ((trees : Trees) (c : Content) → IsHeld Two x (shape f.place) entries trees → IsContentOf x (shape f.place) entries text c → IsFound found c × AreValues new below [])) (sym is)
+    subst (λ x. IsRightText Two x text × ((trees : Trees) (c : Content) → IsHeld Two x (shape f.place) entries trees → IsContentOf x (shape f.place) entries text c → IsFound found c × AreValues new below [])) (sym is)
     (tt, λ trees c held k. last_left old new f tag entries below text found c h s same k.0 k.1)
 
 pub loose_wrapper_ends : (old new : Values) (f : Frame) (found : Option Value) (w : Wrapped) → read_as f.found ≡ LooseWrapper w → (shape f.place) ≡ Nothing
     → IsLast found old.held.entries.items new.held.entries.items → new.text.items ≡ old.text.items → EndsExactly old f new (Ok found)
 loose_wrapper_ends old new f found w is nothing s same tag entries below text h =
-    subst (λ x. IsRightText x text × ((trees : Trees) (c : Content) → IsHeld Two x (shape f.place) entries trees → IsContentOf x (shape f.place) entries text c → IsFound found c × AreValues new below [])) (sym is) (
+    subst (λ x. IsRightText Two x text × ((trees : Trees) (c : Content) → IsHeld Two x (shape f.place) entries trees → IsContentOf x (shape f.place) entries text c → IsFound found c × AreValues new below [])) (sym is) (
       tt,
       λ trees c held k.
           let q : (text ≡ []) × (entries ≡ Some c ∷ []) = subst (λ n. IsContentOf (LooseWrapper w) n entries text c) nothing k in
@@ -138,7 +141,7 @@ pub string_ends : (old new : Values) (f : Frame) (v : Value) (l : LeafType) (oct
     → EndsExactly old f new (Ok (Some v))
 string_ends old new f v l octets is same ok right value_is kept empty tag entries below text h =
     let joined : octets ≡ text = same ∙ h.text in
-    subst (λ x. IsRightText x text × ((trees : Trees) (c : Content) → IsHeld Two x (shape f.place) entries trees → IsContentOf x (shape f.place) entries text c → IsFound (Some v) c × AreValues new below [])) (sym is) (
+    subst (λ x. IsRightText Two x text × ((trees : Trees) (c : Content) → IsHeld Two x (shape f.place) entries trees → IsContentOf x (shape f.place) entries text c → IsFound (Some v) c × AreValues new below [])) (sym is) (
       (subst (λ o. IsTrue (are_octets o)) joined ok, subst (λ o. content_fault profile_two (leaf_is l) o ≡ None) joined right),
       λ trees c held k.
           let x = h.held in

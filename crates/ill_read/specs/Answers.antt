@@ -1,10 +1,10 @@
 -- What is returned for octets: fed in pieces, out of a source, or a whole slice.
 use Rattle.std.specs.Prelude.{◌≡◌, ◌≢◌, ◌⊎◌, ℕ, ◌<◌, ◌≤◌, Bool, List, [], length, Option, Some, None, Result, Ok, Err, IfOk, IfErr, IfSome, IfNone, IsTrue}
 use Rattle.std.specs.Io.KnownBytes.{Consumes, IsAtEnd}
-use Rattle.ber_leaf.specs.Profile.{profile_two}
+use Rattle.ber_leaf.specs.Profile.{Profile, profile_two}
 use Rattle.ill_schema.specs.declared.message.Message.{Message}
 use Rattle.ill_schema.specs.declared.refusal.Cause.{Cause}
-use Rattle.ill_schema.specs.Apdu.{Apdu, SpellsApdu, Accepts, normal_form}
+use Rattle.ill_schema.specs.Apdu.{Apdu, SpellsApdu, Accepts, normal_form_in}
 use Rattle.ill_schema.specs.Message.{apdu_of, octets_of}
 use Rattle.ill_refusals.specs.Fault.{Fault, fault, fault_of}
 use Rattle.ill_refusals.specs.Outcome.{OnlyAccepts, OnlyRefuses}
@@ -17,13 +17,19 @@ abbrev pub IsRead : List ℕ → Message → Type 0
 IsRead s m = OnlyAccepts profile_two s (apdu_of m) (octets_of m)
 
 -- the octets end too early, and are at no other fault
+abbrev pub IsPartIn : Profile → List ℕ → Type 0
+IsPartIn p s = OnlyRefuses p s (fault Cause.Truncated (length s))
+
 abbrev pub IsPart : List ℕ → Type 0
-IsPart s = OnlyRefuses profile_two s (fault Cause.Truncated (length s))
+IsPart s = IsPartIn profile_two s
 
 -- a refusal is the one fault of the octets, and more octets don't mend it; out of memory says nothing of them
+abbrev pub IsRefusedIn : Profile → List ℕ → Failure → Type 0
+IsRefusedIn p s (Failure.Refused refusal) = OnlyRefuses p s (fault_of refusal) × (refusal.cause ≢ Cause.Truncated)
+IsRefusedIn p s Failure.OutOfMemory = Unit {0}
+
 abbrev pub IsRefused : List ℕ → Failure → Type 0
-IsRefused s (Failure.Refused refusal) = OnlyRefuses profile_two s (fault_of refusal) × (refusal.cause ≢ Cause.Truncated)
-IsRefused s Failure.OutOfMemory = Unit {0}
+IsRefused s failure = IsRefusedIn profile_two s failure
 
 -- the octets spell the message's APDU, and the message says how many they are
 pub record IsSpelled (m : Message) (b : List ℕ) : Type 0 where
@@ -31,20 +37,29 @@ pub record IsSpelled (m : Message) (b : List ℕ) : Type 0 where
   pub octets : octets_of m ≡ length b
 
 -- the octets spell an APDU, and this is its normal form, and how many they are
+abbrev pub IsNormalIn : Profile → Normal → List ℕ → Type 0
+IsNormalIn p n b = (a : Apdu) × SpellsApdu p a b × (n.octets.items ≡ normal_form_in p a) × (n.read ≡ length b)
+
 abbrev pub IsNormalOf : Normal → List ℕ → Type 0
-IsNormalOf n b = (a : Apdu) × SpellsApdu profile_two a b × (n.octets.items ≡ normal_form a) × (n.read ≡ length b)
+IsNormalOf n b = IsNormalIn profile_two n b
 
 -- no message is at the front of the octets
+abbrev pub IsUnfinishedIn : Profile → List ℕ → Type 0
+IsUnfinishedIn p b = (a : Apdu) (n : ℕ) → Accepts p b a n → ⊥
+
 abbrev pub IsUnfinished : List ℕ → Type 0
-IsUnfinished b = (a : Apdu) (n : ℕ) → Accepts profile_two b a n → ⊥
+IsUnfinished b = IsUnfinishedIn profile_two b
 
 -- a front of what was left is gone, which is no longer than a message may be
 abbrev pub TakesFront : Option (List ℕ) → Option (List ℕ) → Type 0
 TakesFront old new = (b : List ℕ) × Consumes old new b × (length b ≤ 1_048_576)
 
 -- a front of what was left is gone, in which no message ends
+abbrev pub TakesNoMessageIn : Profile → Option (List ℕ) → Option (List ℕ) → Type 0
+TakesNoMessageIn p old new = (b : List ℕ) × Consumes old new b × IsUnfinishedIn p b
+
 abbrev pub TakesNoMessage : Option (List ℕ) → Option (List ℕ) → Type 0
-TakesNoMessage old new = (b : List ℕ) × Consumes old new b × IsUnfinished b
+TakesNoMessage old new = TakesNoMessageIn profile_two old new
 
 -- of a refusal this holds
 abbrev pub IfRefused : Failure → (Fault → Type 0) → Type 0
@@ -62,21 +77,28 @@ IfReadFault _ P = Unit {0}
 
 -- a call reads the next message of a source: what was left before and after it, whether the source was broken before and is after it, what Is
 -- says of the value that it returns and the octets that it took, and its result
-pub record ReadsNext {T : Type 0} (left left' : Option (List ℕ)) (broken broken' : Bool) (Is : T → List ℕ → Type 0) (result : Result (Option T) ReadFailure) : Type 0 where
+pub record ReadsNextIn (p : Profile) {T : Type 0} (left left' : Option (List ℕ)) (broken broken' : Bool) (Is : T → List ℕ → Type 0) (result : Result (Option T) ReadFailure) : Type 0 where
   pub message : IfOk result (λ found. IfSome found (λ x. (b : List ℕ) × Consumes left left' b × Is x b))
   pub none : IfOk result (λ found. IfNone found (Consumes left left' [] × IsAtEnd left'))
   -- the one fault of what was left
-  pub refused : IfErr result (λ e. IfReadRefused e (λ f. IfSome left (λ s. (0 < length s) × OnlyRefuses profile_two s f)))
+  pub refused : IfErr result (λ e. IfReadRefused e (λ f. IfSome left (λ s. (0 < length s) × OnlyRefuses p s f)))
   -- at most 1,048,576 octets are taken, whatever the result
   pub taken : TakesFront left left'
   -- a source that breaks after a message is not noticed
-  pub fault : IfErr result (λ e. IfReadFault e (IsTrue broken' × TakesNoMessage left left'))
+  pub fault : IfErr result (λ e. IfReadFault e (IsTrue broken' × TakesNoMessageIn p left left'))
   pub stays : IsTrue broken → IsTrue broken'
 
+-- the same in profile 2
+abbrev pub ReadsNext : {T : Type 0} → Option (List ℕ) → Option (List ℕ) → Bool → Bool → (T → List ℕ → Type 0) → Result (Option T) ReadFailure → Type 0
+ReadsNext left left' broken broken' Is result = ReadsNextIn profile_two left left' broken broken' Is result
+
 -- the fault of octets that are to be one message: theirs, or that of what follows the message at their front
+abbrev pub RefusesWholeIn : Profile → List ℕ → Fault → Type 0
+RefusesWholeIn p s f = OnlyRefuses p s f
+    ⊎ ((a : Apdu) × (n : ℕ) × Accepts p s a n × (n < length s) × (f ≡ fault Cause.TrailingBytes n))
+
 abbrev pub RefusesWhole : List ℕ → Fault → Type 0
-RefusesWhole s f = OnlyRefuses profile_two s f
-    ⊎ ((a : Apdu) × (n : ℕ) × Accepts profile_two s a n × (n < length s) × (f ≡ fault Cause.TrailingBytes n))
+RefusesWhole s f = RefusesWholeIn profile_two s f
 
 -- of octets that are to be one message
 abbrev pub DecodeAnswers : List ℕ → Result Message Failure → Type 0
@@ -84,10 +106,13 @@ DecodeAnswers s (Ok m) = IsSpelled m s
 DecodeAnswers s (Err (Failure.Refused refusal)) = RefusesWhole s (fault_of refusal)
 DecodeAnswers s (Err Failure.OutOfMemory) = Unit {0}
 
+abbrev pub NormalAnswersIn : Profile → List ℕ → Result Normal Failure → Type 0
+NormalAnswersIn p s (Ok n) = IsNormalIn p n s
+NormalAnswersIn p s (Err (Failure.Refused refusal)) = RefusesWholeIn p s (fault_of refusal)
+NormalAnswersIn p s (Err Failure.OutOfMemory) = Unit {0}
+
 abbrev pub NormalAnswers : List ℕ → Result Normal Failure → Type 0
-NormalAnswers s (Ok n) = IsNormalOf n s
-NormalAnswers s (Err (Failure.Refused refusal)) = RefusesWhole s (fault_of refusal)
-NormalAnswers s (Err Failure.OutOfMemory) = Unit {0}
+NormalAnswers s result = NormalAnswersIn profile_two s result
 
 -- memory or the source failed
 abbrev pub IsReadFault : ReadFailure → Type 0

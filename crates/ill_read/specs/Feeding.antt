@@ -1,4 +1,5 @@
 -- The three states of a decoder, of which no two hold at once, and what each call makes of them.
+use Rattle.ill_schema.specs.declared.profile.Profile.{Profile as Named}
 use Rattle.ill_schema.specs.declared.profile.Profile.TheVariants.{Two}
 use Rattle.std.specs.Prelude.{◌≡◌, ◌≤◌, ℕ, List, [], ◌∷◌, length, Option, Some, None, Result, Ok, Err}
 use Rattle.ill_schema.specs.declared.message.Message.{Message}
@@ -14,12 +15,12 @@ use Rattle.ill_read.specs.declared.reader.State.TheVariants as state
 use Rattle.ill_read.specs.declared.failure.Failure.{Failure}
 
 -- a reader is open, and is at the last place of the octets that it was fed
-abbrev pub IsOpenAt : {D : Type 0} → (D → List Level → List ℕ → Type 0) → Reader D → List ℕ → Type 0
-IsOpenAt holds r fed = (r.state ≡ state.Open) × StandsLast Two (HoldsAt holds r.path) r.at fed r.pending.items
+abbrev pub IsOpenAt : {D : Type 0} → Named → (D → List Level → List ℕ → Type 0) → Reader D → List ℕ → Type 0
+IsOpenAt p holds r fed = (r.state ≡ state.Open) × StandsLast p (HoldsAt p holds r.path) r.at fed r.pending.items
 
 -- open: these octets were fed, and more of them may still make a message (how the path stands for them is the code's business)
 abbrev pub IsOpenAfter : Decoder → List ℕ → Type 0
-IsOpenAfter d fed = IsOpenAt AreValues d.reader fed
+IsOpenAfter d fed = IsOpenAt Two AreValues d.reader fed
 
 -- whole, with this message
 abbrev pub IsWholeWith : Decoder → Message → Type 0

@@ -1,5 +1,5 @@
 -- What a path holds of the elements that are open at a place.
-use Rattle.ill_schema.specs.declared.profile.Profile.TheVariants.{Two}
+use Rattle.ill_schema.specs.declared.profile.Profile.{Profile as Named}
 use Rattle.std.specs.Prelude.{◌≡◌, ℕ, List, [], ◌∷◌, ◌++◌, length, map, Option, Some, option_map, if◌then◌else◌}
 use Rattle.ber_core.specs.Identifier.{Tag}
 use Rattle.ber_core.specs.Tree.{Trees, octet_string, text_all}
@@ -30,8 +30,9 @@ text_so_far (o ∷ path) = elim o.element as (λ _. List ℕ) [
 ]
 
 -- the frames of a path are the open elements, and its draft holds what is in them
-abbrev pub HoldsAt : {D : Type 0} → (D → List Level → List ℕ → Type 0) → Path D → List Open → Type 0
-HoldsAt holds path opens = (levels : List Level) × AreFrames Two opens path.frames.open.items levels × holds path.draft levels (text_so_far opens)
+abbrev pub HoldsAt : {D : Type 0} → Named → (D → List Level → List ℕ → Type 0) → Path D → List Open → Type 0
+HoldsAt p holds path opens = (levels : List Level) × AreFrames p opens path.frames.open.items levels × holds path.draft levels (text_so_far opens)
+    × (path.frames.profile ≡ p)
 
 -- the values of the levels, outermost first
 abbrev pub AreHeld : List Level → List (Option Value) → Type 0

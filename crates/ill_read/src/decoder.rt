@@ -1,9 +1,11 @@
 //! A message that comes in pieces.
+ghost use Rattle.std.specs.Prelude.{◌≡◌};
+ghost use Rattle.ill_schema.specs.declared.profile.Profile.{Profile};
 
 use crate::failure::Failure;
 use crate::reader::{Reader, State};
 use crate::values::Values;
-use ill_schema::Message;
+use ill_schema::{Message, Profile};
 use std::alloc::Global;
 use std::fmt;
 
@@ -18,6 +20,7 @@ pub enum Progress {
 #[derive(Drop)]
 pub struct Decoder {
     reader: Reader<Values>,
+    ghost two: { reader.path.frames.profile ≡ Profile.Two },
 }
 
 /// Shows how far the decoder is, and not what it holds.
@@ -46,7 +49,7 @@ impl Decoder {
         ensures few { open_in result ≤ 32 }
     {
         Decoder {
-            reader: Reader::new(alloc, Values::new(alloc)),
+            reader: Reader::new(alloc, Profile::Two, Values::new(alloc)),
         }
     }
 

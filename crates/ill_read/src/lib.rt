@@ -36,7 +36,8 @@ pub use ill_refusals::{
 pub use laws::decoders_are_apart;
 pub use mark::Mark;
 pub use normal::{
-    Normal, NormalReader, decode_normal, read_kept_normal_by, read_normal_by, read_normal_in,
+    Normal, NormalReader, decode_normal, decode_normal_as, read_kept_normal_by, read_normal_as,
+    read_normal_by, read_normal_in,
 };
 pub use outline::Outline;
 pub use outlined::{OutlineReader, Outlined, read_outline_in};

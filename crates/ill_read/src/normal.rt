@@ -1,7 +1,8 @@
 //! Messages as their normal forms.
 ghost use Rattle.std.specs.Prelude.{◌≡◌, ◌≤◌, ℕ, List, ◌++◌, length};
 ghost use Rattle.std.specs.Io.KnownBytes.{Appends};
-ghost use Rattle.ill_read.specs.Answers.{IsNormalOf, NormalAnswers, ReadsNext};
+ghost use Rattle.ill_schema.specs.Profiles.{profile_of};
+ghost use Rattle.ill_read.specs.Answers.{IsNormalIn, IsNormalOf, NormalAnswers, NormalAnswersIn, ReadsNext, ReadsNextIn};
 
 use crate::failure::{Failure, ReadFailure};
 use crate::keep::{Forget, Keep};
@@ -9,7 +10,7 @@ use crate::octets::Octets;
 use crate::read::read_draft;
 use crate::reader::Reader;
 use ber_core::{Look, Source};
-use ill_schema::Cause;
+use ill_schema::{Cause, Profile};
 use std::alloc::Global;
 
 /// The normal form of a message, in DER (X.690, 8 to 11). Two messages are of one APDU if and only if their normal forms are equal.
@@ -45,7 +46,7 @@ impl NormalReader {
     pub fn new(alloc: Global) -> NormalReader {
         NormalReader {
             alloc,
-            reader: Reader::new(alloc, Octets::new(Vec::new(alloc))),
+            reader: Reader::new(alloc, Profile::Two, Octets::new(alloc, Vec::new(alloc))),
         }
     }
 
@@ -64,7 +65,26 @@ impl NormalReader {
         ensures next { ReadsNext (R.left source.old) (R.left source.new) (R.is_broken source.old) (R.is_broken source.new) IsNormalOf result }
         ensures few { open_count self.new.reader ≤ 32 }
     {
-        self.read_into::<R, L, Forget>(source, room, &mut Forget)
+        self.read_as::<R, L>(Profile::Two, source, room)
+    }
+
+    /// Reads a normal form as [`NormalReader::read`] does, of a message in the profile.
+    ///
+    /// # Errors
+    ///
+    /// Those of [`read_message`](crate::read_message), in the profile.
+    #[inline(always)]
+    pub fn read_as<R: Source, L: Look<R>>(
+        &mut self,
+        profile: Profile,
+        source: &mut R,
+        room: Vec<u8>,
+    ) -> Result<Option<Normal>, ReadFailure>
+        ensures next { ReadsNextIn (profile_of profile) (R.left source.old) (R.left source.new) (R.is_broken source.old) (R.is_broken source.new)
+            (IsNormalIn (profile_of profile)) result }
+        ensures few { open_count self.new.reader ≤ 32 }
+    {
+        self.read_into::<R, L, Forget>(profile, source, room, &mut Forget)
     }
 
     /// Reads a normal form as [`NormalReader::read`] does, and keeps the octets that the message had at the end of `kept`.
@@ -83,22 +103,43 @@ impl NormalReader {
             (λ n octets. IsNormalOf n octets × (kept.new.items ≡ kept.old.items ++ octets)) result }
         ensures few { open_count self.new.reader ≤ 32 }
     {
-        self.read_into::<R, L, Vec<u8>>(source, room, kept)
+        self.read_kept_as::<R, L>(Profile::Two, source, room, kept)
+    }
+
+    /// Reads a normal form as [`NormalReader::read_kept`] does, of a message in the profile.
+    ///
+    /// # Errors
+    ///
+    /// Those of [`read_message`](crate::read_message), in the profile; some octets may have been kept then.
+    #[inline(always)]
+    pub fn read_kept_as<R: Source, L: Look<R>>(
+        &mut self,
+        profile: Profile,
+        source: &mut R,
+        room: Vec<u8>,
+        kept: &mut Vec<u8>,
+    ) -> Result<Option<Normal>, ReadFailure>
+        ensures next { ReadsNextIn (profile_of profile) (R.left source.old) (R.left source.new) (R.is_broken source.old) (R.is_broken source.new)
+            (λ n octets. IsNormalIn (profile_of profile) n octets × (kept.new.items ≡ kept.old.items ++ octets)) result }
+        ensures few { open_count self.new.reader ≤ 32 }
+    {
+        self.read_into::<R, L, Vec<u8>>(profile, source, room, kept)
     }
 
     /// Reads a normal form in the memory of `room`, and hands the octets that the message had to what keeps them.
     #[inline(always)]
     fn read_into<R: Source, L: Look<R>, K: Keep>(
         &mut self,
+        profile: Profile,
         source: &mut R,
         room: Vec<u8>,
         keep: &mut K,
     ) -> Result<Option<Normal>, ReadFailure>
-        ensures next { ReadsNext (R.left source.old) (R.left source.new) (R.is_broken source.old) (R.is_broken source.new)
-            (λ n octets. IsNormalOf n octets × Appends (K.kept keep.old) (K.kept keep.new) octets) result }
+        ensures next { ReadsNextIn (profile_of profile) (R.left source.old) (R.left source.new) (R.is_broken source.old) (R.is_broken source.new)
+            (λ n octets. IsNormalIn (profile_of profile) n octets × Appends (K.kept keep.old) (K.kept keep.new) octets) result }
         ensures few { open_count self.new.reader ≤ 32 }
     {
-        self.reader.restart(Octets::new(room));
+        self.reader.restart(profile, Octets::new(self.alloc, room));
         match read_draft::<Octets, R, L, K>(&mut self.reader, source, keep) {
             Ok(Some(read)) => Ok(Some(self.normal(read))),
             Ok(None) => Ok(None),
@@ -116,7 +157,25 @@ impl NormalReader {
         ensures answers { NormalAnswers octets.now result }
         ensures few { open_count self.new.reader ≤ 32 }
     {
-        self.reader.restart(Octets::new(room));
+        self.decode_as(Profile::Two, octets, room)
+    }
+
+    /// Reads the normal form of the message in the profile that the whole slice is, as [`NormalReader::decode`] does.
+    ///
+    /// # Errors
+    ///
+    /// Those of [`decode`](crate::decode), in the profile.
+    #[inline(always)]
+    pub fn decode_as(
+        &mut self,
+        profile: Profile,
+        octets: &[u8],
+        room: Vec<u8>,
+    ) -> Result<Normal, Failure>
+        ensures answers { NormalAnswersIn (profile_of profile) octets.now result }
+        ensures few { open_count self.new.reader ≤ 32 }
+    {
+        self.reader.restart(profile, Octets::new(self.alloc, room));
         let _ = self.reader.run(octets);
         if !self.reader.outcome()? {
             return Err(Failure::refused(octets.len() as u32, Cause::Truncated));
@@ -134,7 +193,7 @@ impl NormalReader {
         ensures octets { result.octets.items ≡ self.old.reader.path.draft.octets }
         ensures read { result.read ≡ read }
     {
-        let blank = Octets::new(Vec::new(self.alloc));
+        let blank = Octets::new(self.alloc, Vec::new(self.alloc));
         Normal {
             octets: self.reader.exchange_draft(blank).into_octets(),
             read,
@@ -155,6 +214,26 @@ pub fn read_normal_by<R: Source, L: Look<R>>(
     ensures { ReadsNext (R.left source.old) (R.left source.new) (R.is_broken source.old) (R.is_broken source.new) IsNormalOf result }
 {
     read_normal_in::<R, L>(alloc, source, Vec::new(alloc))
+}
+
+/// Reads a normal form as [`read_normal_by`] does, of a message in the profile.
+///
+/// ```text
+/// let normal = read_normal_as::<_, Unseen>(alloc, Profile::Module, source)?;
+/// ```
+///
+/// # Errors
+///
+/// Those of [`read_message`](crate::read_message), in the profile.
+pub fn read_normal_as<R: Source, L: Look<R>>(
+    alloc: Global,
+    profile: Profile,
+    source: &mut R,
+) -> Result<Option<Normal>, ReadFailure>
+    ensures { ReadsNextIn (profile_of profile) (R.left source.old) (R.left source.new) (R.is_broken source.old) (R.is_broken source.new)
+        (IsNormalIn (profile_of profile)) result }
+{
+    NormalReader::new(alloc).read_as::<R, L>(profile, source, Vec::new(alloc))
 }
 
 /// Reads a normal form as [`read_normal_by`] does, and writes it in the memory of `room`, whose octets are forgotten.
@@ -202,4 +281,19 @@ pub fn decode_normal(alloc: Global, octets: &[u8]) -> Result<Normal, Failure>
     ensures { NormalAnswers octets.now result }
 {
     NormalReader::new(alloc).decode(octets, Vec::new(alloc))
+}
+
+/// The normal form of the message in the profile that the whole slice is.
+///
+/// ```text
+/// let normal = decode_normal_as(alloc, Profile::Module, octets)?;
+/// ```
+///
+/// # Errors
+///
+/// Those of [`decode`](crate::decode), in the profile.
+pub fn decode_normal_as(alloc: Global, profile: Profile, octets: &[u8]) -> Result<Normal, Failure>
+    ensures { NormalAnswersIn (profile_of profile) octets.now result }
+{
+    NormalReader::new(alloc).decode_as(profile, octets, Vec::new(alloc))
 }

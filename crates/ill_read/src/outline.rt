@@ -1,6 +1,6 @@
 //! The draft that is the outline of a message: marks that say what its value is, made while the message is read.
 ghost use Rattle.ill_schema.specs.declared.profile.Profile.TheVariants.{Two};
-ghost use Rattle.std.specs.Prelude.{◌≡◌, ◌++◌, [], ◌∷◌, map, take, drop, OnOk};
+ghost use Rattle.std.specs.Prelude.{◌≡◌, ◌++◌, [], ◌∷◌, ◌≤◌, length, map, take, drop, OnOk};
 ghost use Rattle.ill_cells.specs.Places.{alternative_of};
 ghost use Rattle.ill_schema.specs.Table.{rows_of};
 ghost use Rattle.ill_elements.specs.Due.{first_of, shape, slot_in};
@@ -15,7 +15,7 @@ use crate::mark::Mark;
 use crate::octets::Octets;
 use ill_cells::{At, Found};
 use ill_elements::{Element, Frame, LeafType, Next, Opening, Reading, Slot};
-use ill_schema::{NodeId, PartId, rows};
+use ill_schema::{NodeId, PartId, Profile, rows};
 use std::alloc::{AllocError, Global};
 
 /// The outline of a message: marks that say what its value is, in reading order.
@@ -54,13 +54,13 @@ pub struct Outlining {
 
 impl Outlining {
     /// Holds nothing, in the memory of `room`, whose marks are forgotten.
-    pub fn new(room: Outline) -> Outlining
+    pub fn new(alloc: Global, room: Outline) -> Outlining
         ensures { AreOutlined result (top_level Two ∷ []) [] }
     {
         let Outline { mut marks, octets } = room;
         marks.clear();
         Outlining {
-            octets: Octets::new(octets),
+            octets: Octets::new(alloc, octets),
             marks,
         }
     }
@@ -125,10 +125,12 @@ fn pass_before(marks: &mut Vec<Mark>, next: Next, slot: Slot) -> Result<(), Allo
     ensures { OnOk result (HasPassed (start_marks next slot) (rows_before next slot) marks.old.items marks.new.items) }
 {
     match (next, slot) {
-        (Next::Rows(node, position), Slot::Row(row)) => pass(marks, node, position, row),
+        (Next::Rows(node, position), Slot::Row(row)) => {
+            pass(marks, node, position, row.min(rows(node)))
+        }
         (Next::Either(wrapped), Slot::Row(row)) => {
             marks.push(Mark::Sequence)?;
-            pass(marks, wrapped.node, 0, row)
+            pass(marks, wrapped.node, 0, row.min(rows(wrapped.node)))
         }
         _ => Ok(()),
     }
@@ -162,28 +164,31 @@ fn end(marks: &mut Vec<Mark>, next: Next) -> Result<(), AllocError>
 
 /// Passes rows that have no element.
 fn pass(marks: &mut Vec<Mark>, node: NodeId, from: u8, until: u8) -> Result<(), AllocError>
+    requires { until ≤ length (rows_of node) }
     ensures { OnOk result (HasPassed [] (drop from (take until (rows_of node))) marks.old.items marks.new.items) }
 {
-    for row in from..until.min(rows(node)) {
+    for row in from..until {
         marks.push(Mark::Passed(PartId { node, row }))?;
     }
     Ok(())
 }
 
 impl Draft for Outlining {
+    ghost takes = { λ p. p ≡ Two };
+
     ghost holds = { λ draft levels text. AreOutlined draft levels text };
 
-    ghost has = { λ draft a octets. HasOutline draft a };
+    ghost has = { λ p draft a octets. HasOutline draft a };
 
     #[inline(always)]
-    fn open(&mut self, place: At, opening: Opening) -> Result<usize, AllocError> {
+    fn open(&mut self, profile: Profile, place: At, opening: Opening) -> Result<usize, AllocError> {
         let element = Element::of(opening.found);
         if let Element::Segment = element {
-            return self.octets.open(place, opening);
+            return self.octets.open(profile, place, opening);
         }
         lead(&mut self.marks, place, opening.found)?;
         begin(&mut self.marks, element)?;
-        self.octets.open(place, opening)
+        self.octets.open(profile, place, opening)
     }
 
     fn text(&mut self, octets: &[u8]) -> Result<(), AllocError> {
@@ -191,15 +196,25 @@ impl Draft for Outlining {
         put_octets(&mut self.marks, octets)
     }
 
+    fn bits(
+        &mut self,
+        _profile: Profile,
+        _reading: Reading,
+        _content: &[u8],
+    ) -> Result<(), AllocError> {
+        unreachable!()
+    }
+
     #[inline(always)]
     fn leaf(
         &mut self,
+        profile: Profile,
         place: At,
         reading: Reading,
         leaf: LeafType,
         content: &[u8],
     ) -> Result<(), AllocError> {
-        self.octets.leaf(place, reading, leaf, content)?;
+        self.octets.leaf(profile, place, reading, leaf, content)?;
         let marks = &mut self.marks;
         lead(marks, place, reading.found)?;
         marks.push(Mark::Leaf(leaf))?;
@@ -208,9 +223,19 @@ impl Draft for Outlining {
         Ok(())
     }
 
+    fn module_element(
+        &mut self,
+        _profile: Profile,
+        _place: At,
+        _reading: Reading,
+        _content: &[u8],
+    ) -> Result<(), AllocError> {
+        unreachable!()
+    }
+
     #[inline(always)]
-    fn close(&mut self, frame: Frame, place: At) -> Result<(), Failure> {
-        self.octets.close(frame, place)?;
+    fn close(&mut self, profile: Profile, frame: Frame, place: At) -> Result<(), Failure> {
+        self.octets.close(profile, frame, place)?;
         end(&mut self.marks, frame.next())?;
         Ok(())
     }

@@ -9,6 +9,7 @@ use crate::outline::{Outline, Outlining};
 use crate::read::read_draft;
 use crate::reader::Reader;
 use ber_core::{Look, Source};
+use ill_schema::Profile;
 use std::alloc::Global;
 
 /// The outline of a message that was read.
@@ -44,7 +45,11 @@ impl OutlineReader {
     pub fn new(alloc: Global) -> OutlineReader {
         OutlineReader {
             alloc,
-            reader: Reader::new(alloc, Outlining::new(Outline::new(alloc))),
+            reader: Reader::new(
+                alloc,
+                Profile::Two,
+                Outlining::new(alloc, Outline::new(alloc)),
+            ),
         }
     }
 
@@ -62,7 +67,8 @@ impl OutlineReader {
         ensures next { ReadsNext (R.left source.old) (R.left source.new) (R.is_broken source.old) (R.is_broken source.new) IsOutlined result }
         ensures few { open_count self.new.reader ≤ 32 }
     {
-        self.reader.restart(Outlining::new(room));
+        self.reader
+            .restart(Profile::Two, Outlining::new(self.alloc, room));
         match read_draft::<Outlining, R, L, Forget>(&mut self.reader, source, &mut Forget) {
             Ok(Some(read)) => Ok(Some(self.outlined(read))),
             Ok(None) => Ok(None),
@@ -76,7 +82,7 @@ impl OutlineReader {
         ensures outline { result.outline.marks.items ≡ self.old.reader.path.draft.marks.items }
         ensures read { result.read ≡ read }
     {
-        let blank = Outlining::new(Outline::new(self.alloc));
+        let blank = Outlining::new(self.alloc, Outline::new(self.alloc));
         Outlined {
             outline: self.reader.exchange_draft(blank).into_outline(),
             read,

@@ -1,6 +1,5 @@
 //! The path of open elements, with the draft of what has been read.
 ghost use Rattle.std.specs.Prelude.{◌≡◌};
-ghost use Rattle.ill_schema.specs.declared.profile.Profile.{Profile};
 
 use crate::draft::Draft;
 use ill_elements::Frames;
@@ -10,7 +9,6 @@ use ill_elements::Frames;
 pub struct Path<D: Drop> {
     pub frames: Frames,
     pub draft: D,
-    ghost two: { frames.profile ≡ Profile.Two },
 }
 
 impl<D: Draft> Path<D> {

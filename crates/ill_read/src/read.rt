@@ -1,7 +1,9 @@
 //! Messages out of sources and slices.
 ghost use Rattle.std.specs.Prelude.{◌≡◌, ℕ, ◌<◌, ◌≤◌, List, [], ◌++◌, length, take, IfOk, IfErr, IfSome, IsErr, IsErrOf, IsTrue};
 ghost use Rattle.std.specs.Io.KnownBytes.{Appends, Consumes, Keeps};
-ghost use Rattle.ill_read.specs.Answers.{DecodeAnswers, IsRead, IsSpelled, IsUnfinished, ReadsNext, TakesFront, TakesNoMessage};
+ghost use Rattle.ill_schema.specs.Profiles.{profile_of};
+ghost use Rattle.ill_schema.specs.declared.profile.Profile.{Profile as Named};
+ghost use Rattle.ill_read.specs.Answers.{DecodeAnswers, IsRead, IsSpelled, IsUnfinishedIn, ReadsNext, ReadsNextIn, TakesFront, TakesNoMessageIn};
 ghost use Rattle.ill_read.specs.code.Filling.{HasKept, HasPulled, HasTaken, NoneEndsWithin};
 ghost use Rattle.ill_read.specs.Feeding.{IsOpenAt};
 ghost use Rattle.ill_read.specs.OpenElements.{HasFewOpen};
@@ -13,7 +15,7 @@ use crate::keep::{Forget, Keep};
 use crate::reader::Reader;
 use crate::values::Values;
 use ber_core::{Broken, Look, Source, Unseen};
-use ill_schema::{Cause, LIMIT, Message};
+use ill_schema::{Cause, LIMIT, Message, Profile};
 use std::alloc::Global;
 
 /// How many octets are asked of a source at once.
@@ -91,7 +93,7 @@ fn read_into<R: Source, L: Look<R>, K: Keep>(
     ensures { ReadsNext (R.left source.old) (R.left source.new) (R.is_broken source.old) (R.is_broken source.new)
         (λ m octets. IsSpelled m octets × Appends (K.kept keep.old) (K.kept keep.new) octets) result }
 {
-    let mut reader = Reader::new(alloc, Values::new(alloc));
+    let mut reader = Reader::new(alloc, Profile::Two, Values::new(alloc));
     match read_draft::<Values, R, L, K>(&mut reader, source, keep) {
         Ok(Some(_)) => Ok(reader.into_draft().into_message()),
         Ok(None) => Ok(None),
@@ -99,16 +101,16 @@ fn read_into<R: Source, L: Look<R>, K: Keep>(
     }
 }
 
-/// Reads a message with a reader that nothing was fed. Where its draft has it, returns how many octets it had.
+/// Reads a message with a reader that nothing was fed, in its profile. Where its draft has it, returns how many octets it had.
 #[inline(always)]
 pub(crate) fn read_draft<D: Draft, R: Source, L: Look<R>, K: Keep>(
     reader: &mut Reader<D>,
     source: &mut R,
     keep: &mut K,
 ) -> Result<Option<u32>, ReadFailure>
-    requires { IsOpenAt D.holds reader.old [] }
-    ensures { ReadsNext (R.left source.old) (R.left source.new) (R.is_broken source.old) (R.is_broken source.new)
-        (λ n octets. (n ≡ length octets) × IsReadOf D.has reader.new.path.draft octets × Appends (K.kept keep.old) (K.kept keep.new) octets) result }
+    requires takes { D.takes reader.old.path.frames.profile }
+    ensures { (p : Named) → IsOpenAt p D.holds reader.old [] → ReadsNextIn (profile_of p) (R.left source.old) (R.left source.new) (R.is_broken source.old) (R.is_broken source.new)
+        (λ n octets. (n ≡ length octets) × IsReadOf p D.has reader.new.path.draft octets × Appends (K.kept keep.old) (K.kept keep.new) octets) result }
 {
     match fill::<D, R, L, K>(reader, source, keep) {
         Ok(()) => match reader.ended() {
@@ -134,12 +136,14 @@ fn fill<D: Draft, R: Source, L: Look<R>, K: Keep>(
     source: &mut R,
     keep: &mut K,
 ) -> Result<(), Unfilled>
-    requires { IsOpenAt D.holds reader.old [] }
-    ensures filled { IfOk result (λ _. HasKept D.holds D.has (R.left source.old) (R.left source.new) reader.new (K.kept keep.old) (K.kept keep.new)) }
+    requires takes { D.takes reader.old.path.frames.profile }
+    ensures filled { (p : Named) → IsOpenAt p D.holds reader.old []
+        → IfOk result (λ _. HasKept p D.holds D.has (R.left source.old) (R.left source.new) reader.new (K.kept keep.old) (K.kept keep.new)) }
     ensures taken { TakesFront (R.left source.old) (R.left source.new) }
     ensures broken { IsErrOf result Unfilled.Broken → IsTrue (R.is_broken source.new) }
-    ensures unfinished { IsErrOf result Unfilled.Broken → TakesNoMessage (R.left source.old) (R.left source.new) }
+    ensures unfinished { (p : Named) → IsOpenAt p D.holds reader.old [] → IsErrOf result Unfilled.Broken → TakesNoMessageIn (profile_of p) (R.left source.old) (R.left source.new) }
     ensures stays { IsTrue (R.is_broken source.old) → IsTrue (R.is_broken source.new) }
+    ensures profile { reader.new.path.frames.profile ≡ reader.old.path.frames.profile }
 {
     let mut buffer = [0; CHUNK];
     let mut room = LIMIT;
@@ -164,6 +168,7 @@ fn more<D: Draft, R: Source, L: Look<R>, K: Keep>(
     buffer: &mut [u8],
     room: u32,
 ) -> Result<usize, Unfilled>
+    requires takes { D.takes reader.old.path.frames.profile }
     requires space { 0 < length buffer.old }
     requires room { 0 < room }
     ensures taken { IfOk result (λ n. (n ≤ room)
@@ -171,9 +176,10 @@ fn more<D: Draft, R: Source, L: Look<R>, K: Keep>(
     ensures front { IfErr result (λ _. (octets : List ℕ) × Consumes (R.left source.old) (R.left source.new) octets × (length octets ≤ room)) }
     ensures broken { IsErrOf result Unfilled.Broken → IsTrue (R.is_broken source.new) }
     ensures kept { IsErrOf result Unfilled.Broken → Keeps (R.left source.old) (R.left source.new) }
-    ensures unfinished { IsErrOf result Unfilled.Broken → (b : List ℕ) → IsFed D.holds D.has reader.old b → NoneEndsWithin b → IsUnfinished b }
+    ensures unfinished { IsErrOf result Unfilled.Broken → (p : Named) (b : List ℕ) → IsFed p D.holds D.has reader.old b → NoneEndsWithin p b → IsUnfinishedIn (profile_of p) b }
     ensures stays { IsTrue (R.is_broken source.old) → IsTrue (R.is_broken source.new) }
     ensures space { length buffer.new ≡ length buffer.old }
+    ensures profile { reader.new.path.frames.profile ≡ reader.old.path.frames.profile }
 {
     let hand = L::at_hand(source);
     let most = hand.len().min(room as usize);
@@ -203,15 +209,17 @@ fn pull<D: Draft, R: Source>(
     buffer: &mut [u8],
     room: u32,
 ) -> Result<usize, Broken>
+    requires takes { D.takes reader.old.path.frames.profile }
     requires space { 0 < length buffer.old }
     requires room { 0 < room }
     ensures count { IfOk result (λ n. (n ≤ room) × (n ≤ length buffer.new)) }
     ensures taken { IfOk result (λ n. Consumes (R.left source.old) (R.left source.new) (take n buffer.new)) }
     ensures kept { IsErr result → Keeps (R.left source.old) (R.left source.new) }
-    ensures unfinished { IsErr result → (b : List ℕ) → IsFed D.holds D.has reader.old b → IsUnfinished b }
-    ensures fed { IfOk result (λ n. (b : List ℕ) → IsFed D.holds D.has reader.old b → NoneEndsWithin b → HasPulled D.holds D.has (R.left source.new) reader.new b (take n buffer.new)) }
+    ensures unfinished { IsErr result → (p : Named) (b : List ℕ) → IsFed p D.holds D.has reader.old b → IsUnfinishedIn (profile_of p) b }
+    ensures fed { IfOk result (λ n. (p : Named) (b : List ℕ) → IsFed p D.holds D.has reader.old b → NoneEndsWithin p b → HasPulled p D.holds D.has (R.left source.new) reader.new b (take n buffer.new)) }
     ensures broken { IsErr result → IsTrue (R.is_broken source.new) }
     ensures stays { IsTrue (R.is_broken source.old) → IsTrue (R.is_broken source.new) }
+    ensures profile { reader.new.path.frames.profile ≡ reader.old.path.frames.profile }
 {
     let wanted = (reader.ask().min(room) as usize).min(buffer.len());
     if wanted == 0 {
@@ -242,7 +250,7 @@ pub fn decode(alloc: Global, octets: &[u8]) -> Result<Message, Failure>
 fn begun(alloc: Global, octets: &[u8]) -> Result<Option<Message>, Failure>
     ensures { HasBegun octets.now result }
 {
-    let mut reader = Reader::new(alloc, Values::new(alloc));
+    let mut reader = Reader::new(alloc, Profile::Two, Values::new(alloc));
     let _ = reader.run(octets);
     match reader.outcome() {
         Ok(true) => Ok(reader.into_draft().into_message()),

@@ -1,5 +1,4 @@
 //! Goes through a message that comes in pieces, and makes a draft of it.
-ghost use Rattle.ill_schema.specs.declared.profile.Profile.TheVariants.{Two};
 ghost use Rattle.std.specs.Prelude.{◌≤◌};
 
 use crate::draft::Draft;
@@ -10,7 +9,7 @@ use ill_elements::{
     Extent, HeaderRead, LengthRead, Opening, Reading, first_identifier, length_after, need_at,
     read_any,
 };
-use ill_schema::{Cause, LIMIT, Refusal};
+use ill_schema::{Cause, LIMIT, Profile, Refusal};
 use std::alloc::Global;
 use std::mem;
 
@@ -37,15 +36,17 @@ pub enum State {
 }
 
 impl<D: Draft> Reader<D> {
+    ghost use Rattle.ill_schema.specs.Profiles.{profile_of};
+    ghost use Rattle.ill_schema.specs.declared.profile.Profile.{Profile as Named};
+    ghost use Rattle.ill_elements.specs.Two.{is_found_of};
     ghost use Rattle.std.specs.Prelude.{◌≡◌, ◌≢◌, ℕ, ◌+◌, ◌<◌, List, [], ◌∷◌, ◌++◌, length, drop, take, true, IsTrue, Ok, Err, Some, None};
     ghost use Rattle.ber_core.specs.Octets.{are_octets};
-    ghost use Rattle.ber_leaf.specs.Profile.{profile_two};
     ghost use Rattle.ill_schema.specs.Apdu.{Apdu, Accepts};
-    ghost use Rattle.ill_elements.specs.Need.{NeedsAfter};
+    ghost use Rattle.ill_elements.specs.Need.{NeedsAfterIn};
     ghost use Rattle.ill_read.specs.Feeding.{IsOpenAt};
     ghost use Rattle.ill_read.specs.Paths.{HoldsAt};
     ghost use Rattle.ill_elements.specs.Standing.{StandsBefore, top_level};
-    ghost use Rattle.ill_read.specs.Answers.{IsRefused};
+    ghost use Rattle.ill_read.specs.Answers.{IsRefusedIn};
     ghost use Rattle.ill_elements.specs.HeaderCode.{IsHeaderRead};
     ghost use Rattle.ill_refusals.specs.code.Judge.{faulty, judge, judge_element, judge_end, judge_mark, judge_octets};
     ghost use Rattle.ill_refusals.specs.code.Step.{moved};
@@ -53,31 +54,32 @@ impl<D: Draft> Reader<D> {
     ghost use Rattle.ill_read.specs.code.Filling.{HasLooked, NoneEndsWithin};
     ghost use Rattle.ill_read.specs.code.Judged.{IsJudgement, IsStep};
     ghost use Rattle.ill_elements.specs.code.Judging.{IsRoom};
-    ghost use Rattle.ill_cells.specs.Places.{is_two};
     ghost use Rattle.ill_read.specs.code.Progress.{Judgement, Closes, Opens, Reads, size_of, IsProgress};
     ghost use Rattle.ill_elements.specs.Standing.{depth_of};
     ghost use Rattle.ill_read.specs.code.ReaderCode.{CanRefuse, CanStep, HasAdvanced, HasClosed, HasOutcome, HasStopped, IsFed, IsRunning, LeadsOn, Progresses, Steps, ended};
 
-    /// Begins with nothing.
+    /// Begins with nothing, to read a message in the profile.
     #[inline(always)]
-    pub fn new(alloc: Global, draft: D) -> Reader<D>
-        ensures { D.holds draft (top_level Two ∷ []) [] → IsOpenAt D.holds result [] }
+    pub fn new(alloc: Global, profile: Profile, draft: D) -> Reader<D>
+        ensures open { D.holds draft (top_level profile ∷ []) [] → IsOpenAt profile D.holds result [] }
+        ensures profile { result.path.frames.profile ≡ profile }
     {
         Reader {
             alloc,
-            path: Path::new(draft),
+            path: Path::new(profile, draft),
             at: 0,
             pending: Vec::new(alloc),
             state: State::Open,
         }
     }
 
-    /// Begins with nothing again, whatever was read before.
+    /// Begins with nothing again, to read a message in the profile, whatever was read before.
     #[inline(always)]
-    pub fn restart(&mut self, draft: D)
-        ensures { D.holds draft (top_level Two ∷ []) [] → IsOpenAt D.holds self.new [] }
+    pub fn restart(&mut self, profile: Profile, draft: D)
+        ensures open { D.holds draft (top_level profile ∷ []) [] → IsOpenAt profile D.holds self.new [] }
+        ensures profile { self.new.path.frames.profile ≡ profile }
     {
-        self.path.restart(draft);
+        self.path.restart(profile, draft);
         self.at = 0;
         self.pending.clear();
         self.state = State::Open;
@@ -86,7 +88,8 @@ impl<D: Draft> Reader<D> {
     /// What was made, in exchange for another draft. The reader has to be restarted before it reads again.
     #[inline(always)]
     pub fn exchange_draft(&mut self, draft: D) -> D
-        ensures { result ≡ self.old.path.draft }
+        ensures draft { result ≡ self.old.path.draft }
+        ensures profile { self.new.path.frames.profile ≡ self.old.path.frames.profile }
     {
         let path = &mut self.path;
         mem::replace(&mut path.draft, draft)
@@ -130,10 +133,10 @@ impl<D: Draft> Reader<D> {
     /// How many octets at least still belong to the message: 0 once it is whole, or has failed.
     #[inline(always)]
     pub fn need(&self) -> u32
-        ensures exact { (fed : List ℕ) → IsOpenAt D.holds self.now fed → NeedsAfter fed result }
-        ensures some { (fed : List ℕ) → IsOpenAt D.holds self.now fed → 0 < result }
-        ensures at_least { (fed more : List ℕ) (a : Apdu) (n : ℕ) → IsOpenAt D.holds self.now fed → IsTrue (are_octets (fed ++ more))
-            → Accepts profile_two (fed ++ more) a n → length fed + result ≤ n }
+        ensures exact { (p : Named) (fed : List ℕ) → IsOpenAt p D.holds self.now fed → NeedsAfterIn p fed result }
+        ensures some { (p : Named) (fed : List ℕ) → IsOpenAt p D.holds self.now fed → 0 < result }
+        ensures at_least { (p : Named) (fed more : List ℕ) (a : Apdu) (n : ℕ) → IsOpenAt p D.holds self.now fed → IsTrue (are_octets (fed ++ more))
+            → Accepts (profile_of p) (fed ++ more) a n → length fed + result ≤ n }
         ensures closed { self.now.state ≢ State.Open → result ≡ 0 }
     {
         if !matches!(&self.state, State::Open) {
@@ -147,9 +150,9 @@ impl<D: Draft> Reader<D> {
     #[inline(always)]
     pub fn ask(&self) -> u32
         ensures closed { self.now.state ≢ State.Open → result ≡ 0 }
-        ensures some { (fed : List ℕ) → IsFed D.holds D.has self.now fed → self.now.state ≡ State.Open → 0 < result }
-        ensures at_least { (fed more : List ℕ) (a : Apdu) (n : ℕ) → IsFed D.holds D.has self.now fed → IsTrue (are_octets (fed ++ more)) → self.now.state ≡ State.Open
-            → Accepts profile_two (fed ++ more) a n → length fed + result ≤ n }
+        ensures some { (p : Named) (fed : List ℕ) → IsFed p D.holds D.has self.now fed → self.now.state ≡ State.Open → 0 < result }
+        ensures at_least { (p : Named) (fed more : List ℕ) (a : Apdu) (n : ℕ) → IsFed p D.holds D.has self.now fed → IsTrue (are_octets (fed ++ more)) → self.now.state ≡ State.Open
+            → Accepts (profile_of p) (fed ++ more) a n → length fed + result ≤ n }
     {
         match self.need() {
             1 if self.pending.is_empty() => 2,
@@ -160,9 +163,11 @@ impl<D: Draft> Reader<D> {
     /// Takes the next piece, and goes as far as the octets reach.
     #[inline(always)]
     pub fn take(&mut self, piece: &[u8])
-        ensures fed { (fed : List ℕ) → IsFed D.holds D.has self.old fed → IsFed D.holds D.has self.new (fed ++ piece.now) }
+        requires takes { D.takes self.old.path.frames.profile }
+        ensures fed { (p : Named) (fed : List ℕ) → IsFed p D.holds D.has self.old fed → IsFed p D.holds D.has self.new (fed ++ piece.now) }
         ensures stays { self.old.state ≢ State.Open → self.new ≡ self.old }
         ensures octets { IsTrue (are_octets piece.now) }
+        ensures profile { self.new.path.frames.profile ≡ self.old.path.frames.profile }
     {
         if !matches!(&self.state, State::Open) {
             return;
@@ -186,8 +191,10 @@ impl<D: Draft> Reader<D> {
     /// elements that are passed; of a message, no octet after it; all, where they are refused.
     #[inline(always)]
     pub fn look(&mut self, octets: &[u8]) -> usize
+        requires takes { D.takes self.old.path.frames.profile }
         ensures count { result ≤ length octets.now }
-        ensures looked { (b : List ℕ) → IsFed D.holds D.has self.old b → NoneEndsWithin b → HasLooked D.holds D.has self.new (b ++ take result octets.now) }
+        ensures looked { (p : Named) (b : List ℕ) → IsFed p D.holds D.has self.old b → NoneEndsWithin p b → HasLooked p D.holds D.has self.new (b ++ take result octets.now) }
+        ensures profile { self.new.path.frames.profile ≡ self.old.path.frames.profile }
     {
         if !matches!(&self.state, State::Open) || !self.pending.is_empty() {
             return 0;
@@ -205,7 +212,8 @@ impl<D: Draft> Reader<D> {
     /// Keeps the octets after those that were passed, in the memory that they have.
     fn keep_after(&mut self, mut octets: Vec<u8>, count: usize)
         requires within { count ≤ length octets.items }
-        ensures { (fed : List ℕ) → HasStopped D.holds D.has self.old fed (drop count octets.items) → IsFed D.holds D.has self.new fed }
+        ensures fed { (p : Named) (fed : List ℕ) → HasStopped p D.holds D.has self.old fed (drop count octets.items) → IsFed p D.holds D.has self.new fed }
+        ensures profile { self.new.path.frames.profile ≡ self.old.path.frames.profile }
     {
         // A large content that comes octet by octet stays where it is.
         if count == 0 {
@@ -222,7 +230,8 @@ impl<D: Draft> Reader<D> {
     #[inline(always)]
     fn keep(&mut self, octets: &[u8])
         requires { self.old.pending.items ≡ [] }
-        ensures { (fed : List ℕ) → HasStopped D.holds D.has self.old fed octets.now → IsFed D.holds D.has self.new fed }
+        ensures fed { (p : Named) (fed : List ℕ) → HasStopped p D.holds D.has self.old fed octets.now → IsFed p D.holds D.has self.new fed }
+        ensures profile { self.new.path.frames.profile ≡ self.old.path.frames.profile }
     {
         if !matches!(&self.state, State::Open) {
             return;
@@ -234,9 +243,11 @@ impl<D: Draft> Reader<D> {
 
     /// Goes from place to place as far as the octets reach, and returns how many belong to the elements that were passed.
     pub fn run(&mut self, octets: &[u8]) -> usize
+        requires takes { D.takes self.old.path.frames.profile }
         ensures count { result ≤ length octets.now }
         ensures pending { self.new.pending ≡ self.old.pending }
-        ensures stopped { (s : List ℕ) → IsRunning D.holds D.has self.old s octets.now → HasStopped D.holds D.has self.new s (drop result octets.now) }
+        ensures stopped { (p : Named) (s : List ℕ) → IsRunning p D.holds D.has self.old s octets.now → HasStopped p D.holds D.has self.new s (drop result octets.now) }
+        ensures profile { self.new.path.frames.profile ≡ self.old.path.frames.profile }
     {
         let mut rest = octets;
         while let Some(size) = self.advance(rest) {
@@ -247,9 +258,11 @@ impl<D: Draft> Reader<D> {
 
     /// Goes on to the next place, and returns how many octets that took, or None where the rest doesn't reach it or nothing is open.
     fn advance(&mut self, rest: &[u8]) -> Option<usize>
+        requires takes { D.takes self.old.path.frames.profile }
         ensures pending { self.new.pending ≡ self.old.pending }
         ensures progress { Progresses (length rest.now) self.old.path.frames self.new.path.frames result }
-        ensures goes { (s : List ℕ) → IsRunning D.holds D.has self.old s rest.now → HasAdvanced D.holds D.has self.new s rest.now result }
+        ensures goes { (p : Named) (s : List ℕ) → IsRunning p D.holds D.has self.old s rest.now → HasAdvanced p D.holds D.has self.new s rest.now result }
+        ensures profile { self.new.path.frames.profile ≡ self.old.path.frames.profile }
     {
         if !matches!(&self.state, State::Open) {
             return None;
@@ -269,11 +282,13 @@ impl<D: Draft> Reader<D> {
     /// An end mark or an element, in the octets before the bound: at most `room`, of the `came` octets that follow.
     #[inline(always)]
     fn advance_within(&mut self, window: &[u8], room: u32, came: usize) -> Option<usize>
+        requires takes { D.takes self.old.path.frames.profile }
         requires open { self.old.state ≡ State.Open }
         requires fits { IsRoom self.old.at room window.now }
         ensures pending { self.new.pending ≡ self.old.pending }
         ensures progress { Progresses (length window.now) self.old.path.frames self.new.path.frames result }
-        ensures goes { LeadsOn D.holds D.has self.old window.now room came self.new result (λ place cut. judge_octets profile_two place self.old.at cut window.now) }
+        ensures goes { (p : Named) → LeadsOn p D.holds D.has self.old window.now room came self.new result (λ place cut. judge_octets (profile_of p) place self.old.at cut window.now) }
+        ensures profile { self.new.path.frames.profile ≡ self.old.path.frames.profile }
     {
         let Some(first) = window.first() else {
             return self.cut(came);
@@ -287,13 +302,15 @@ impl<D: Draft> Reader<D> {
     /// An end mark, whose first octet is there.
     #[inline(never)]
     fn end_mark(&mut self, window: &[u8], came: usize) -> Option<usize>
+        requires takes { D.takes self.old.path.frames.profile }
         requires open { self.old.state ≡ State.Open }
         requires fits { self.old.at + length window.now ≤ 1_048_576 }
         requires depth { 0 < depth_of self.old.path.frames }
         ensures pending { self.new.pending ≡ self.old.pending }
         ensures progress { Progresses (length window.now) self.old.path.frames self.new.path.frames result }
-        ensures goes { (room : ℕ) → LeadsOn D.holds D.has self.old window.now room came self.new result
-            (λ place cut. judge_mark profile_two place self.old.at cut (drop 1 window.now)) }
+        ensures goes { (p : Named) (room : ℕ) → LeadsOn p D.holds D.has self.old window.now room came self.new result
+            (λ place cut. judge_mark (profile_of p) place self.old.at cut (drop 1 window.now)) }
+        ensures profile { self.new.path.frames.profile ≡ self.old.path.frames.profile }
     {
         let Some(second) = window.get(1) else {
             return self.cut(came);
@@ -310,13 +327,15 @@ impl<D: Draft> Reader<D> {
     /// The innermost element ends, after this number of octets of an end mark.
     #[inline(always)]
     fn end_element(&mut self, marks: u32) -> Option<usize>
+        requires takes { D.takes self.old.path.frames.profile }
         requires open { self.old.state ≡ State.Open }
         requires depth { 0 < depth_of self.old.path.frames }
         requires fits { self.old.at + marks ≤ 1_048_576 }
         ensures pending { self.new.pending ≡ self.old.pending }
         ensures progress { Progresses marks self.old.path.frames self.new.path.frames result }
-        ensures goes { (window : List ℕ) (room came : ℕ) → marks ≤ length window
-            → LeadsOn D.holds D.has self.old window room came self.new result (λ place cut. judge_end profile_two place self.old.at marks) }
+        ensures goes { (p : Named) (window : List ℕ) (room came : ℕ) → marks ≤ length window
+            → LeadsOn p D.holds D.has self.old window room came self.new result (λ place cut. judge_end (profile_of p) place self.old.at marks) }
+        ensures profile { self.new.path.frames.profile ≡ self.old.path.frames.profile }
     {
         match self.path.frames.end_fault(self.at) {
             Some(refusal) => self.refuse(refusal),
@@ -327,11 +346,13 @@ impl<D: Draft> Reader<D> {
     /// An element from its first octet on.
     #[inline(always)]
     fn element(&mut self, window: &[u8], room: u32, came: usize) -> Option<usize>
+        requires takes { D.takes self.old.path.frames.profile }
         requires open { self.old.state ≡ State.Open }
         requires fits { IsRoom self.old.at room window.now }
         ensures pending { self.new.pending ≡ self.old.pending }
         ensures progress { Progresses (length window.now) self.old.path.frames self.new.path.frames result }
-        ensures goes { LeadsOn D.holds D.has self.old window.now room came self.new result (λ place cut. judge_element profile_two place self.old.at cut window.now) }
+        ensures goes { (p : Named) → LeadsOn p D.holds D.has self.old window.now room came self.new result (λ place cut. judge_element (profile_of p) place self.old.at cut window.now) }
+        ensures profile { self.new.path.frames.profile ≡ self.old.path.frames.profile }
     {
         let Some(id) = first_identifier(window) else {
             return self.rare_element(window, room, came);
@@ -346,11 +367,13 @@ impl<D: Draft> Reader<D> {
     // Apart, so that what most elements have is not put together with what few have.
     #[inline(never)]
     fn rare_element(&mut self, window: &[u8], room: u32, came: usize) -> Option<usize>
+        requires takes { D.takes self.old.path.frames.profile }
         requires open { self.old.state ≡ State.Open }
         requires fits { IsRoom self.old.at room window.now }
         ensures pending { self.new.pending ≡ self.old.pending }
         ensures progress { Progresses (length window.now) self.old.path.frames self.new.path.frames result }
-        ensures goes { LeadsOn D.holds D.has self.old window.now room came self.new result (λ place cut. judge_element profile_two place self.old.at cut window.now) }
+        ensures goes { (p : Named) → LeadsOn p D.holds D.has self.old window.now room came self.new result (λ place cut. judge_element (profile_of p) place self.old.at cut window.now) }
+        ensures profile { self.new.path.frames.profile ≡ self.old.path.frames.profile }
     {
         match read_any(window) {
             HeaderRead::PartIdentifier => self.cut(came),
@@ -374,12 +397,14 @@ impl<D: Draft> Reader<D> {
         room: u32,
         came: usize,
     ) -> Option<usize>
+        requires takes { D.takes self.old.path.frames.profile }
         requires open { self.old.state ≡ State.Open }
         requires fits { IsRoom self.old.at room window.now }
         requires header { IsHeaderRead (HeaderRead.Identified id length_read) window.now }
         ensures pending { self.new.pending ≡ self.old.pending }
         ensures progress { Progresses (length window.now) self.old.path.frames self.new.path.frames result }
-        ensures goes { LeadsOn D.holds D.has self.old window.now room came self.new result (λ place cut. judge_element profile_two place self.old.at cut window.now) }
+        ensures goes { (p : Named) → LeadsOn p D.holds D.has self.old window.now room came self.new result (λ place cut. judge_element (profile_of p) place self.old.at cut window.now) }
+        ensures profile { self.new.path.frames.profile ≡ self.old.path.frames.profile }
     {
         let at = self.at;
         let found = match self.path.frames.judge_tag(at, id) {
@@ -413,14 +438,16 @@ impl<D: Draft> Reader<D> {
     /// Opens an element.
     #[inline(always)]
     fn open(&mut self, opening: Opening) -> Option<usize>
+        requires takes { D.takes self.old.path.frames.profile }
         requires open { self.old.state ≡ State.Open }
         requires room { depth_of self.old.path.frames < 32 }
         requires header { 0 < opening.header }
-        requires two { IsTrue (is_two opening.found) }
+        requires is_of { IsTrue (is_found_of self.old.path.frames.profile opening.found) }
         requires fits { self.old.at + opening.header ≤ 1_048_576 }
         ensures pending { self.new.pending ≡ self.old.pending }
         ensures progress { Progresses opening.header self.old.path.frames self.new.path.frames result }
-        ensures goes { Steps D.holds D.has self.old (Opens opening) self.new result }
+        ensures goes { (p : Named) → Steps p D.holds D.has self.old (Opens opening) self.new result }
+        ensures profile { self.new.path.frames.profile ≡ self.old.path.frames.profile }
     {
         match self.path.open(opening, self.at) {
             Ok(()) => self.go_on(opening.header, false),
@@ -431,15 +458,17 @@ impl<D: Draft> Reader<D> {
     /// Takes a primitive element, which begins the octets.
     #[inline(always)]
     fn read(&mut self, reading: Reading, octets: &[u8]) -> Option<usize>
+        requires takes { D.takes self.old.path.frames.profile }
         requires open { self.old.state ≡ State.Open }
         requires header { (0 < reading.header) × (reading.header + reading.size ≤ length octets.now) }
-        requires two { IsTrue (is_two reading.found) }
+        requires is_of { IsTrue (is_found_of self.old.path.frames.profile reading.found) }
         requires fits { self.old.at + length octets.now ≤ 1_048_576 }
         ensures pending { self.new.pending ≡ self.old.pending }
         ensures progress { Progresses (length octets.now) self.old.path.frames self.new.path.frames result }
-        ensures goes { (s rest more : List ℕ) (b : StandsBefore Two (HoldsAt D.holds self.old.path) self.old.at s rest) → rest ≡ octets.now ++ more
-            → IsJudgement self.old.path.frames b.place self.old.at octets.now (Reads reading) (judge profile_two b.place self.old.at rest)
-            → HasAdvanced D.holds D.has self.new s rest result }
+        ensures goes { (p : Named) (s rest more : List ℕ) (b : StandsBefore p (HoldsAt p D.holds self.old.path) self.old.at s rest) → rest ≡ octets.now ++ more
+            → IsJudgement p self.old.path.frames b.place self.old.at octets.now (Reads reading) (judge (profile_of p) b.place self.old.at rest)
+            → HasAdvanced p D.holds D.has self.new s rest result }
+        ensures profile { self.new.path.frames.profile ≡ self.old.path.frames.profile }
     {
         let size = reading.header + reading.size;
         let content = &octets[reading.header as usize..size as usize];
@@ -452,12 +481,14 @@ impl<D: Draft> Reader<D> {
     /// Closes the innermost element, in which nothing is missing.
     #[inline(always)]
     fn close(&mut self, marks: u32) -> Option<usize>
+        requires takes { D.takes self.old.path.frames.profile }
         requires open { self.old.state ≡ State.Open }
         requires depth { 0 < depth_of self.old.path.frames }
         requires fits { self.old.at + marks ≤ 1_048_576 }
         ensures pending { self.new.pending ≡ self.old.pending }
         ensures progress { Progresses marks self.old.path.frames self.new.path.frames result }
-        ensures goes { Steps D.holds D.has self.old (Closes marks) self.new result }
+        ensures goes { (p : Named) → Steps p D.holds D.has self.old (Closes marks) self.new result }
+        ensures profile { self.new.path.frames.profile ≡ self.old.path.frames.profile }
     {
         match self.path.close() {
             Ok(whole) => self.go_on(marks, whole),
@@ -473,10 +504,11 @@ impl<D: Draft> Reader<D> {
         ensures pending { self.new.pending ≡ self.old.pending }
         ensures frames { self.new.path.frames ≡ self.old.path.frames }
         ensures size { result ≡ Some size }
-        ensures goes { (path : Path D) (s rest : List ℕ) (judgement : Judgement) (b : StandsBefore Two (HoldsAt D.holds path) self.old.at s rest)
-            → IsProgress (depth_of path.frames) (length rest) judgement → IsJudgement path.frames b.place self.old.at rest judgement (judge profile_two b.place self.old.at rest)
-            → size ≡ size_of judgement → IsStep D.holds self.old.path (Ok whole) (moved (judge profile_two b.place self.old.at rest) b.place self.old.at rest)
-            → HasAdvanced D.holds D.has self.new s rest result }
+        ensures goes { (p : Named) → D.takes p → (path : Path D) (s rest : List ℕ) (judgement : Judgement) (b : StandsBefore p (HoldsAt p D.holds path) self.old.at s rest)
+            → IsProgress (depth_of path.frames) (length rest) judgement → IsJudgement p path.frames b.place self.old.at rest judgement (judge (profile_of p) b.place self.old.at rest)
+            → size ≡ size_of judgement → IsStep p D.holds self.old.path (Ok whole) (moved (judge (profile_of p) b.place self.old.at rest) b.place self.old.at rest)
+            → HasAdvanced p D.holds D.has self.new s rest result }
+        ensures profile { self.new.path.frames.profile ≡ self.old.path.frames.profile }
     {
         self.at += size;
         if whole {
@@ -490,7 +522,8 @@ impl<D: Draft> Reader<D> {
     fn fail(&mut self, failure: Failure) -> Option<usize>
         ensures none { result ≡ None }
         ensures pending { self.new.pending ≡ self.old.pending }
-        ensures goes { (s rest : List ℕ) → IsRefused s failure → HasAdvanced D.holds D.has self.new s rest result }
+        ensures goes { (p : Named) (s rest : List ℕ) → IsRefusedIn (profile_of p) s failure → HasAdvanced p D.holds D.has self.new s rest result }
+        ensures profile { self.new.path.frames.profile ≡ self.old.path.frames.profile }
     {
         self.state = State::Failed(failure);
         None
@@ -502,7 +535,8 @@ impl<D: Draft> Reader<D> {
         requires open { self.old.state ≡ State.Open }
         ensures none { result ≡ None }
         ensures pending { self.new.pending ≡ self.old.pending }
-        ensures goes { (window : List ℕ) (room : ℕ) → LeadsOn D.holds D.has self.old window room came self.new result (λ place cut. faulty cut) }
+        ensures goes { (p : Named) (window : List ℕ) (room : ℕ) → LeadsOn p D.holds D.has self.old window room came self.new result (λ place cut. faulty cut) }
+        ensures profile { self.new.path.frames.profile ≡ self.old.path.frames.profile }
     {
         let refusal = self.path.frames.cut_fault(self.at, came);
         self.refuse(refusal)
@@ -514,7 +548,8 @@ impl<D: Draft> Reader<D> {
         requires open { self.old.state ≡ State.Open }
         ensures none { result ≡ None }
         ensures pending { self.new.pending ≡ self.old.pending }
-        ensures goes { (s rest : List ℕ) → CanRefuse D.holds self.old s rest refusal → HasAdvanced D.holds D.has self.new s rest result }
+        ensures goes { (p : Named) (s rest : List ℕ) → CanRefuse p D.holds self.old s rest refusal → HasAdvanced p D.holds D.has self.new s rest result }
+        ensures profile { self.new.path.frames.profile ≡ self.old.path.frames.profile }
     {
         if !matches!(&refusal.cause, Cause::Truncated) {
             self.state = State::Failed(Failure::Refused(refusal));
@@ -526,8 +561,9 @@ impl<D: Draft> Reader<D> {
     fn end(&mut self)
         ensures frames { self.new.path.frames ≡ self.old.path.frames }
         ensures pending { self.new.pending ≡ self.old.pending }
-        ensures ended { (s : List ℕ) (a : Apdu) → self.old.at ≤ length s → HoldsApdu D.holds self.old.path.draft a (take self.old.at s)
-            → HasClosed D.has self.new s }
+        ensures ended { (p : Named) (s : List ℕ) (a : Apdu) → D.takes p → self.old.at ≤ length s → HoldsApdu p D.holds self.old.path.draft a (take self.old.at s)
+            → HasClosed p D.has self.new s }
+        ensures profile { self.new.path.frames.profile ≡ self.old.path.frames.profile }
     {
         let path = &mut self.path;
         self.state = if path.draft.end(self.at) {
@@ -543,7 +579,7 @@ impl<D: Draft> Reader<D> {
     ///
     /// The failure, once it has failed.
     pub fn outcome(&self) -> Result<bool, Failure>
-        ensures { (s rest : List ℕ) → HasStopped D.holds D.has self.now s rest → HasOutcome D.has self.now s result }
+        ensures { (p : Named) (s rest : List ℕ) → HasStopped p D.holds D.has self.now s rest → HasOutcome p D.has self.now s result }
     {
         match self.state {
             State::Whole => Ok(true),
@@ -559,7 +595,7 @@ impl<D: Draft> Reader<D> {
     /// The failure, once it has failed; or, where some octets were fed and the message isn't whole, Truncated at their number.
     #[inline(always)]
     pub fn ended(&self) -> Result<bool, Failure>
-        ensures open { (fed : List ℕ) → IsOpenAt D.holds self.now fed → result ≡ ended fed }
+        ensures open { (p : Named) (fed : List ℕ) → IsOpenAt p D.holds self.now fed → result ≡ ended fed }
         ensures whole { self.now.state ≡ State.Whole → result ≡ Ok true }
         ensures failed { (failure : Failure) → self.now.state ≡ State.Failed failure → result ≡ Err failure }
     {

@@ -1,5 +1,4 @@
 //! What the path does when an element opens, is read or ends.
-ghost use Rattle.ill_schema.specs.declared.profile.Profile.TheVariants.{Two};
 ghost use Rattle.std.specs.Prelude.{◌≡◌, ◌+◌, ◌<◌, ◌≤◌, [], ◌∷◌, IfOk, IsTrue};
 ghost use Rattle.ill_read.specs.Paths.{HoldsAt};
 ghost use Rattle.ill_elements.specs.Standing.{top_level};
@@ -8,33 +7,37 @@ use crate::draft::Draft;
 use crate::failure::Failure;
 use crate::path::Path;
 use ill_cells::At;
-use ill_elements::{Element, Frame, Frames, Opening, Reading};
+use ill_elements::{Element, Frame, Frames, LeafType, Opening, Reading};
 use ill_schema::{Cause, Profile};
 use std::alloc::AllocError;
 
 impl<D: Draft> Path<D> {
-    ghost use Rattle.ill_schema.specs.TableFacts.{is_of_two};
-    ghost use Rattle.ill_cells.specs.Places.{is_two, node_in};
+    ghost use Rattle.ill_elements.specs.Due.{read_as};
+    ghost use Rattle.ill_read.specs.code.Drafts.{IsModuleElement};
+    ghost use Rattle.ill_elements.specs.Two.{is_found_of, is_place_of};
+    ghost use Rattle.ill_elements.specs.declared.element.Element.{Element as CodeElement};
     ghost use Rattle.ill_elements.specs.Standing.{depth_of};
     ghost use Rattle.ill_read.specs.code.Stepping.{ClosesExactly, OpensExactly, ReadsExactly, GoesOn};
 
-    /// No open element, and a draft of nothing.
+    /// No open element, and a draft of nothing, of a message that is read in the profile.
     #[inline(always)]
-    pub fn new(draft: D) -> Path<D>
-        ensures { D.holds draft (top_level Two ∷ []) [] → HoldsAt D.holds result [] }
+    pub fn new(profile: Profile, draft: D) -> Path<D>
+        ensures holds { D.holds draft (top_level profile ∷ []) [] → HoldsAt profile D.holds result [] }
+        ensures profile { result.frames.profile ≡ profile }
     {
         Path {
-            frames: Frames::new(Profile::Two),
+            frames: Frames::new(profile),
             draft,
         }
     }
 
-    /// Forgets all open elements, and begins with a draft of nothing.
+    /// Forgets all open elements, and begins with a draft of nothing, of a message that is read in the profile.
     #[inline(always)]
-    pub fn restart(&mut self, draft: D)
-        ensures { D.holds draft (top_level Two ∷ []) [] → HoldsAt D.holds self.new [] }
+    pub fn restart(&mut self, profile: Profile, draft: D)
+        ensures holds { D.holds draft (top_level profile ∷ []) [] → HoldsAt profile D.holds self.new [] }
+        ensures profile { self.new.frames.profile ≡ profile }
     {
-        self.frames.clear();
+        self.frames.restart(profile);
         self.draft = draft;
     }
 
@@ -42,11 +45,14 @@ impl<D: Draft> Path<D> {
     #[inline(always)]
     pub fn open(&mut self, opening: Opening, start: u32) -> Result<(), AllocError>
         requires room { depth_of self.old.frames < 32 }
-        requires two { IsTrue (is_two opening.found) }
+        requires takes { D.takes self.old.frames.profile }
+        requires is_of { IsTrue (is_found_of self.old.frames.profile opening.found) }
         ensures exact { IfOk result (λ _. OpensExactly D.holds self.old opening start self.new) }
         ensures depth { depth_of self.new.frames ≤ depth_of self.old.frames + 1 }
+        ensures profile { self.new.frames.profile ≡ self.old.frames.profile }
     {
-        let base = self.draft.open(self.frames.place(), opening)?;
+        let profile = self.frames.profile;
+        let base = self.draft.open(profile, self.frames.place(), opening)?;
         let frame = Frame {
             found: opening.found,
             place: opening.found.first(),
@@ -62,43 +68,98 @@ impl<D: Draft> Path<D> {
     /// Takes the content of a primitive element that is due and begins at `start`. Returns whether the message is whole.
     #[inline(always)]
     pub fn take(&mut self, reading: Reading, start: u32, content: &[u8]) -> Result<bool, Failure>
-        requires two { IsTrue (is_two reading.found) }
+        requires takes { D.takes self.old.frames.profile }
+        requires is_of { IsTrue (is_found_of self.old.frames.profile reading.found) }
         ensures exact { ReadsExactly D.holds self.old reading start content.now self.new result }
         ensures depth { depth_of self.new.frames ≡ depth_of self.old.frames }
+        ensures profile { self.new.frames.profile ≡ self.old.frames.profile }
     {
-        let Element::Leaf(leaf) = Element::of(reading.found) else {
-            self.draft.text(content)?;
-            return Ok(false);
-        };
-        if let Some(fault) = leaf.fault(content) {
+        match Element::of(reading.found) {
+            Element::Leaf(leaf) => self.take_leaf(reading, leaf, start, content),
+            Element::ModuleLeaf(_) | Element::BitString | Element::Foreign(_) => {
+                self.take_other(reading, start, content)
+            }
+            Element::BitSegment => {
+                let profile = self.frames.profile;
+                self.draft.bits(profile, reading, content)?;
+                Ok(false)
+            }
+            _ => {
+                self.draft.text(content)?;
+                Ok(false)
+            }
+        }
+    }
+
+    /// Takes the content of a leaf.
+    #[inline(always)]
+    fn take_leaf(
+        &mut self,
+        reading: Reading,
+        leaf: LeafType,
+        start: u32,
+        content: &[u8],
+    ) -> Result<bool, Failure>
+        requires takes { D.takes self.old.frames.profile }
+        requires is_of { IsTrue (is_found_of self.old.frames.profile reading.found) }
+        requires leaf { read_as reading.found ≡ CodeElement.Leaf leaf }
+        ensures exact { ReadsExactly D.holds self.old reading start content.now self.new result }
+        ensures depth { depth_of self.new.frames ≡ depth_of self.old.frames }
+        ensures profile { self.new.frames.profile ≡ self.old.frames.profile }
+    {
+        let profile = self.frames.profile;
+        if let Some(fault) = leaf.fault(profile, content) {
             return Err(Failure::refused(start, Cause::from(fault)));
         }
         self.draft
-            .leaf(self.frames.place(), reading, leaf, content)?;
+            .leaf(profile, self.frames.place(), reading, leaf, content)?;
+        Ok(self.pass(reading.found.after()))
+    }
+
+    /// Takes the content of an element that only the module profile has.
+    #[inline(never)]
+    fn take_other(&mut self, reading: Reading, start: u32, content: &[u8]) -> Result<bool, Failure>
+        requires takes { D.takes self.old.frames.profile }
+        requires is_of { IsTrue (is_found_of self.old.frames.profile reading.found) }
+        requires other { IsModuleElement (read_as reading.found) }
+        ensures exact { ReadsExactly D.holds self.old reading start content.now self.new result }
+        ensures depth { depth_of self.new.frames ≡ depth_of self.old.frames }
+        ensures profile { self.new.frames.profile ≡ self.old.frames.profile }
+    {
+        let profile = self.frames.profile;
+        if let Some(fault) = Element::of(reading.found).fault(profile, content) {
+            return Err(Failure::refused(start, Cause::from(fault)));
+        }
+        self.draft
+            .module_element(profile, self.frames.place(), reading, content)?;
         Ok(self.pass(reading.found.after()))
     }
 
     /// Closes the innermost element, in which nothing is missing. Returns whether the message is whole.
     #[inline(always)]
     pub fn close(&mut self) -> Result<bool, Failure>
-        requires { 0 < depth_of self.old.frames }
+        requires depth { 0 < depth_of self.old.frames }
+        requires takes { D.takes self.old.frames.profile }
         ensures exact { ClosesExactly D.holds self.old self.new result }
         ensures depth { depth_of self.new.frames + 1 ≡ depth_of self.old.frames }
+        ensures profile { self.new.frames.profile ≡ self.old.frames.profile }
     {
         let frame = self.frames.pop();
-        if let Element::Segment = Element::of(frame.found) {
+        if let Element::Segment | Element::BitSegment = Element::of(frame.found) {
             return Ok(false);
         }
-        self.draft.close(frame, self.frames.place())?;
+        let profile = self.frames.profile;
+        self.draft.close(profile, frame, self.frames.place())?;
         Ok(self.pass(frame.found.after()))
     }
 
     /// Goes on at the place after an element. Returns whether the message is whole.
     #[inline(always)]
     fn pass(&mut self, after: At) -> bool
-        requires two { IsTrue (is_of_two (node_in after)) }
+        requires is_of { IsTrue (is_place_of self.old.frames.profile after) }
         ensures passed { GoesOn after self.old.frames.open.items self.new.frames.open.items result }
         ensures draft { self.new.draft ≡ self.old.draft }
+        ensures profile { self.new.frames.profile ≡ self.old.frames.profile }
         ensures depth { depth_of self.new.frames ≡ depth_of self.old.frames }
     {
         if self.frames.depth() == 0 {

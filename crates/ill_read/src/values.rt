@@ -18,7 +18,7 @@ use crate::held::Held;
 use crate::whole::message_of;
 use ill_cells::At;
 use ill_elements::{Element, Frame, LeafType, Next, Opening, Reading, Slot};
-use ill_schema::{Cause, Message, Value};
+use ill_schema::{Cause, Message, Profile, Value};
 use std::alloc::{AllocError, Global};
 use std::mem;
 
@@ -67,7 +67,7 @@ impl Values {
 
     /// The message that is held, of as many octets, unless its normal form passes the limit.
     fn made(&mut self, octets: u32) -> Option<Message>
-        ensures { (a : Apdu) (b : List ℕ) → HoldsApdu AreValues self.old a b → IsMessageOf a octets result }
+        ensures { (a : Apdu) (b : List ℕ) → HoldsApdu Two AreValues self.old a b → IsMessageOf a octets result }
     {
         message_of(self.body()?, octets)
     }
@@ -101,7 +101,7 @@ impl Values {
             Element::Segment => Ok(None),
             Element::Leaf(leaf) => {
                 let text = mem::replace(&mut self.text, Vec::new(self.alloc));
-                match leaf.fault(&text) {
+                match leaf.fault(Profile::Two, &text) {
                     Some(fault) => Err(Failure::refused(frame.start, Cause::from(fault))),
                     None => Ok(Some(leaf.value(text))),
                 }
@@ -122,11 +122,18 @@ impl Values {
 }
 
 impl Draft for Values {
+    ghost takes = { λ p. p ≡ Two };
+
     ghost holds = { λ values levels text. AreValues values levels text };
 
-    ghost has = { λ values a octets. AreMessage values a octets };
+    ghost has = { λ p values a octets. AreMessage values a octets };
 
-    fn open(&mut self, _place: At, _opening: Opening) -> Result<usize, AllocError> {
+    fn open(
+        &mut self,
+        _profile: Profile,
+        _place: At,
+        _opening: Opening,
+    ) -> Result<usize, AllocError> {
         Ok(self.held.len())
     }
 
@@ -135,8 +142,18 @@ impl Draft for Values {
         Ok(())
     }
 
+    fn bits(
+        &mut self,
+        _profile: Profile,
+        _reading: Reading,
+        _content: &[u8],
+    ) -> Result<(), AllocError> {
+        unreachable!()
+    }
+
     fn leaf(
         &mut self,
+        _profile: Profile,
         place: At,
         reading: Reading,
         leaf: LeafType,
@@ -149,7 +166,17 @@ impl Draft for Values {
         Ok(())
     }
 
-    fn close(&mut self, frame: Frame, place: At) -> Result<(), Failure> {
+    fn module_element(
+        &mut self,
+        _profile: Profile,
+        _place: At,
+        _reading: Reading,
+        _content: &[u8],
+    ) -> Result<(), AllocError> {
+        unreachable!()
+    }
+
+    fn close(&mut self, _profile: Profile, frame: Frame, place: At) -> Result<(), Failure> {
         let Some(value) = self.ended(frame)? else {
             return Ok(());
         };

@@ -1,14 +1,15 @@
 -- What a draft holds of the elements that have been read, and what each call does to it.
-use Rattle.ill_schema.specs.declared.profile.Profile.TheVariants.{Two}
+use Rattle.ill_schema.specs.Profiles.{profile_of}
+use Rattle.ill_schema.specs.declared.profile.Profile.{Profile as Named}
 use Rattle.std.specs.Prelude.{◌≡◌, ℕ, ◌<◌, ◌≤◌, Bool, true, false, length, List, [], ◌∷◌, ◌++◌, take, drop, map, Option, Some, None, Result, Ok, Err, ⊤, IsTrue}
 use Rattle.ber_core.specs.Id.{tag_of_id}
 use Rattle.ber_core.specs.Identifier.{Tag}
 use Rattle.ber_core.specs.Octets.{are_octets}
-use Rattle.ber_core.specs.Tree.{Tree, Trees, constructed, tag_of}
+use Rattle.ber_core.specs.Tree.{Tree, Trees, constructed, primitive, tag_of}
 use Rattle.ber_leaf.specs.Leaf.{bit_string, value, content_fault}
-use Rattle.ber_leaf.specs.Profile.{profile_two}
+use Rattle.ber_leaf.specs.Segments.{join_bits}
 use Rattle.ber_leaf.specs.declared.fault.LeafFault.{LeafFault}
-use Rattle.ill_schema.specs.Apdu.{Apdu, choice_of, Encodes, normal_form}
+use Rattle.ill_schema.specs.Apdu.{Apdu, choice_of, Encodes, normal_form_in}
 use Rattle.ill_schema.specs.Causes.{cause_of}
 use Rattle.ill_schema.specs.Content.{Content, simple}
 use Rattle.ill_schema.specs.Content as content
@@ -64,28 +65,28 @@ abbrev pub with_entry : Level → Slot → Content → Level
 with_entry l slot c = record l { next = behind l.next slot; entries = l.entries ++ (map absent_content (rows_before l.next slot) ++ Some c ∷ []) }
 
 -- the element is due in the level
-pub record IsDueAt (l : Level) (expected : Next) (tag : Tag) (slot : Slot) (alternative : Option ℕ) (element : CodeElement) : Type 0 where
+pub record IsDueAt (p : Named) (l : Level) (expected : Next) (tag : Tag) (slot : Slot) (alternative : Option ℕ) (element : CodeElement) : Type 0 where
   pub trees : Trees
-  pub held : IsHeld Two l.element l.next l.entries trees
+  pub held : IsHeld p l.element l.next l.entries trees
   pub next : l.next ≡ expected
   pub is_due : IsDueIn tag l.next (due_with slot alternative element)
 
 -- a text that is at fault, or no memory
-abbrev pub IsTextFault : CodeElement → ℕ → List ℕ → Failure → Type 0
-IsTextFault element start text (Failure.Refused r) = (c : LeafFault) × (element_fault profile_two (element_is element) text ≡ Some c) × (fault (cause_of c) start ≡ fault_of r)
-IsTextFault element start text Failure.OutOfMemory = Unit {0}
+abbrev pub IsTextFault : Named → CodeElement → ℕ → List ℕ → Failure → Type 0
+IsTextFault p element start text (Failure.Refused r) = (c : LeafFault) × (element_fault (profile_of p) (element_is element) text ≡ Some c) × (fault (cause_of c) start ≡ fault_of r)
+IsTextFault p element start text Failure.OutOfMemory = Unit {0}
 
 -- the text is right, where the element is a leaf
-abbrev pub IsRightText : CodeElement → List ℕ → Type 0
-IsRightText (Leaf l) text = IsTrue (are_octets text) × (content_fault profile_two (leaf_is l) text ≡ None)
-IsRightText (ModuleLeaf l) text = IsTrue (are_octets text) × (content_fault profile_two (module_leaf_is l) text ≡ None)
-IsRightText BitString text = IsTrue (are_octets text) × (content_fault profile_two bit_string text ≡ None)
-IsRightText _ text = Unit {0}
+abbrev pub IsRightText : Named → CodeElement → List ℕ → Type 0
+IsRightText p (Leaf l) text = IsTrue (are_octets text) × (content_fault (profile_of p) (leaf_is l) text ≡ None)
+IsRightText p (ModuleLeaf l) text = IsTrue (are_octets text) × (content_fault (profile_of p) (module_leaf_is l) text ≡ None)
+IsRightText p BitString text = IsTrue (are_octets text) × (content_fault (profile_of p) bit_string text ≡ None)
+IsRightText p _ text = Unit {0}
 
 -- the text is right, or at fault, or there is no memory
-abbrev pub IsChecked : Frame → List ℕ → Result ⊤ Failure → Type 0
-IsChecked f text (Ok _) = IsRightText (read_as f.found) text
-IsChecked f text (Err failure) = IsTextFault (read_as f.found) f.start text failure
+abbrev pub IsChecked : Named → Frame → List ℕ → Result ⊤ Failure → Type 0
+IsChecked p f text (Ok _) = IsRightText p (read_as f.found) text
+IsChecked p f text (Err failure) = IsTextFault p (read_as f.found) f.start text failure
 
 -- no text is open, and the element is due in the innermost level
 pub record IsOpeningIn (levels : List Level) (text : List ℕ) (expected : Next) (o : Opening) : Type 0 where
@@ -100,36 +101,74 @@ pub record IsOpeningIn (levels : List Level) (text : List ℕ) (expected : Next)
 abbrev pub IsNoSegment : CodeElement → Type 0
 IsNoSegment e = (e ≡ Segment → ⊥) × (e ≡ BitSegment → ⊥)
 
+-- the text of the string that is open once the element has opened: a BIT STRING has no bits, and a segment of it adds none
+abbrev pub text_opened : CodeElement → List ℕ → List ℕ
+text_opened BitString text = 0 ∷ []
+text_opened BitSegment text = join_bits text (0 ∷ [])
+text_opened _ text = text
+
+-- a BIT STRING is the innermost element
+abbrev pub InBitString : List Level → Type 0
+InBitString levels = (l : Level) × (below : List Level) × (levels ≡ l ∷ below) × (l.element ≡ BitString)
+
 -- an element opened
 abbrev pub HasOpened : {D : Type 0} → (D → List Level → List ℕ → Type 0) → D → Next → Opening → ℕ → D → Type 0
-HasOpened holds old next o base new = (levels : List Level) (text : List ℕ) → holds old levels text → (IsNoSegment (read_as o.found) → IsOpeningIn levels text next o)
-    → holds new (pushed (record { element = read_as o.found; tag = tag_of_id o.id; next = first_of (read_as o.found); base = base; entries = [] }) levels) text
+HasOpened holds old next o base new = (levels : List Level) (text : List ℕ) → holds old levels text → (IsNoSegment (read_as o.found) → IsOpeningIn levels text next o) → (read_as o.found ≡ BitSegment → InBitString levels)
+    → holds new (pushed (record { element = read_as o.found; tag = tag_of_id o.id; next = first_of (read_as o.found); base = base; entries = [] }) levels) (text_opened (read_as o.found) text)
 
 -- the text grew
 abbrev pub HasText : {D : Type 0} → (D → List Level → List ℕ → Type 0) → D → List ℕ → D → Type 0
-HasText holds old octets new = (levels : List Level) (text : List ℕ) → holds old levels text → holds new levels (text ++ octets)
+HasText holds old octets new = (l : Level) (below : List Level) (text : List ℕ) → (l.element ≡ BitString → ⊥) → holds old (l ∷ below) text → holds new (l ∷ below) (text ++ octets)
+
+-- a BIT STRING that is open has these bits more
+abbrev pub HasBits : {D : Type 0} → (D → List Level → List ℕ → Type 0) → D → List ℕ → D → Type 0
+HasBits holds old octets new = (l : Level) (below : List Level) (text : List ℕ) → l.element ≡ BitString → holds old (l ∷ below) text → holds new (l ∷ below) (join_bits text octets)
 
 -- a leaf was added, after which comes what comes at the place after what was found
-abbrev pub HasLeaf : {D : Type 0} → (D → List Level → List ℕ → Type 0) → D → Next → Reading → LeafType → List ℕ → D → Type 0
-HasLeaf holds old next r leaf octets new = shape_at (next_place r.found) ≡ behind next (slot_in r.found) → (l : Level) (below : List Level) → holds old (l ∷ below) [] → IsDueAt l next (tag_of_id r.id) (slot_in r.found) (alternative_of r.found) (Leaf leaf)
+abbrev pub HasLeaf : {D : Type 0} → Named → (D → List Level → List ℕ → Type 0) → D → Next → Reading → LeafType → List ℕ → D → Type 0
+HasLeaf p holds old next r leaf octets new = shape_at (next_place r.found) ≡ behind next (slot_in r.found) → (l : Level) (below : List Level) → holds old (l ∷ below) [] → IsDueAt p l next (tag_of_id r.id) (slot_in r.found) (alternative_of r.found) (Leaf leaf)
     → holds new (with_entry l (slot_in r.found) (with_alternative (alternative_of r.found) (simple (value (leaf_is leaf) octets))) ∷ below) []
 
+-- the octets are a content of the element, where it has contents of its own
+abbrev pub IsRightContent : Named → CodeElement → List ℕ → Type 0
+IsRightContent p e octets = IsTrue (are_octets octets) × (element_fault (profile_of p) (element_is e) octets ≡ None)
+
+-- an element that only the module profile has, and no segment
+abbrev pub IsModuleElement : CodeElement → Type 0
+IsModuleElement (ModuleLeaf l) = Unit {0}
+IsModuleElement BitString = Unit {0}
+IsModuleElement (Foreign m) = Unit {0}
+IsModuleElement _ = ⊥
+
+-- the content of a primitive element that only the module profile has
+abbrev pub IsPrimitiveOf : CodeElement → Tag → List ℕ → Content → Type 0
+IsPrimitiveOf (ModuleLeaf l) tag octets c = c ≡ simple (value (module_leaf_is l) octets)
+IsPrimitiveOf BitString tag octets c = c ≡ simple (value bit_string octets)
+IsPrimitiveOf (Foreign m) tag octets c = c ≡ content.foreign (primitive tag octets)
+IsPrimitiveOf _ tag octets c = ⊥
+
+-- such an element was added
+abbrev pub HasModuleElement : {D : Type 0} → Named → (D → List Level → List ℕ → Type 0) → D → Next → Reading → List ℕ → D → Type 0
+HasModuleElement p holds old next r octets new = (l : Level) (below : List Level) (c : Content) → holds old (l ∷ below) []
+    → IsDueAt p l next (tag_of_id r.id) (slot_in r.found) (alternative_of r.found) (read_as r.found) → IsPrimitiveOf (read_as r.found) (tag_of_id r.id) octets c
+    → holds new (with_entry l (slot_in r.found) (with_alternative (alternative_of r.found) c) ∷ below) []
+
 -- the text of the innermost element was checked
-abbrev pub ChecksText : {D : Type 0} → (D → List Level → List ℕ → Type 0) → D → Frame → Result ⊤ Failure → Type 0
-ChecksText holds old f result = (tag : Tag) (entries : List (Option Content)) (below : List Level) (text : List ℕ) → holds old (level_of f tag entries ∷ below) text → IsChecked f text result
+abbrev pub ChecksText : {D : Type 0} → Named → (D → List Level → List ℕ → Type 0) → D → Frame → Result ⊤ Failure → Type 0
+ChecksText p holds old f result = (tag : Tag) (entries : List (Option Content)) (below : List Level) (text : List ℕ) → holds old (level_of f tag entries ∷ below) text → IsChecked p f text result
 
 -- an element ended, and its content is in the level round it
-abbrev pub HasClosed : {D : Type 0} → (D → List Level → List ℕ → Type 0) → D → Frame → Next → D → Type 0
-HasClosed holds old f next new = (tag : Tag) (entries : List (Option Content)) (trees : Trees) (l : Level) (below : List Level) (text : List ℕ) (c : Content)
-    → holds old (level_of f tag entries ∷ l ∷ below) text → IsHeld Two (read_as f.found) (shape f.place) entries trees → IsRightText (read_as f.found) text → IsContentOf (read_as f.found) (shape f.place) entries text c
-    → ((T : Tree) × (tag_of T ≡ tag) × IsValueOf Two (element_is (read_as f.found)) c T)
-    → IsDueAt l next tag (slot_in f.found) (alternative_of f.found) (read_as f.found) → holds new (with_entry l (slot_in f.found) (with_alternative (alternative_of f.found) c) ∷ below) []
+abbrev pub HasClosed : {D : Type 0} → Named → (D → List Level → List ℕ → Type 0) → D → Frame → Next → D → Type 0
+HasClosed p holds old f next new = (tag : Tag) (entries : List (Option Content)) (trees : Trees) (l : Level) (below : List Level) (text : List ℕ) (c : Content)
+    → holds old (level_of f tag entries ∷ l ∷ below) text → IsHeld p (read_as f.found) (shape f.place) entries trees → IsRightText p (read_as f.found) text → IsContentOf (read_as f.found) (shape f.place) entries text c
+    → ((T : Tree) × (tag_of T ≡ tag) × IsValueOf p (element_is (read_as f.found)) c T)
+    → IsDueAt p l next tag (slot_in f.found) (alternative_of f.found) (read_as f.found) → holds new (with_entry l (slot_in f.found) (with_alternative (alternative_of f.found) c) ∷ below) []
 
 -- the draft holds the whole APDU, whose octets these are
-abbrev pub HoldsApdu : {D : Type 0} → (D → List Level → List ℕ → Type 0) → D → Apdu → List ℕ → Type 0
-HoldsApdu holds draft a b = holds draft (whole_level Two (choice_of a) ∷ []) [] × (1 ≤ a.number) × Encodes profile_two a b
+abbrev pub HoldsApdu : {D : Type 0} → Named → (D → List Level → List ℕ → Type 0) → D → Apdu → List ℕ → Type 0
+HoldsApdu p holds draft a b = holds draft (whole_level p (choice_of a) ∷ []) [] × (1 ≤ a.number) × Encodes (profile_of p) a b
 
 -- it has it, if the normal form is within the limit
-abbrev pub HasEnded : {D : Type 0} → (D → Apdu → ℕ → Type 0) → D → Apdu → ℕ → Bool → Type 0
-HasEnded has draft a n true = has draft a n × (length (normal_form a) ≤ profile_two.limit)
-HasEnded has draft a n false = profile_two.limit < length (normal_form a)
+abbrev pub HasEnded : {D : Type 0} → (p : Named) → (Named → D → Apdu → ℕ → Type 0) → D → Apdu → ℕ → Bool → Type 0
+HasEnded p has draft a n true = has p draft a n × (length (normal_form_in (profile_of p) a) ≤ 1_048_576)
+HasEnded p has draft a n false = 1_048_576 < length (normal_form_in (profile_of p) a)

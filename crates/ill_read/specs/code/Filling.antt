@@ -1,7 +1,8 @@
 -- A reader that was fed from a source.
+use Rattle.ill_schema.specs.Profiles.{profile_of}
+use Rattle.ill_schema.specs.declared.profile.Profile.{Profile as Named}
 use Rattle.std.specs.Prelude.{◌≡◌, ◌≢◌, ◌⊎◌, ℕ, ◌≤◌, List, [], ◌++◌, length, Option}
 use Rattle.std.specs.Io.KnownBytes.{Appends, Consumes, IsAtEnd}
-use Rattle.ber_leaf.specs.Profile.{profile_two}
 use Rattle.ill_schema.specs.Apdu.{Apdu, Accepts}
 use Rattle.ill_elements.specs.Standing.{Level}
 use Rattle.ill_read.specs.code.ReaderCode.{IsFed}
@@ -9,37 +10,37 @@ use Rattle.ill_read.specs.declared.reader.Reader.{Reader}
 use Rattle.ill_read.specs.declared.reader.State.TheVariants as state
 
 -- no message ends before the octets do
-abbrev pub NoneEndsWithin : List ℕ → Type 0
-NoneEndsWithin b = (a : Apdu) (n : ℕ) → Accepts profile_two b a n → length b ≤ n
+abbrev pub NoneEndsWithin : Named → List ℕ → Type 0
+NoneEndsWithin p b = (a : Apdu) (n : ℕ) → Accepts (profile_of p) b a n → length b ≤ n
 
 -- the reader was fed these octets, within which no message ends
-pub record HasLooked {D : Type 0} (holds : D → List Level → List ℕ → Type 0) (has : D → Apdu → ℕ → Type 0) (d : Reader D) (octets : List ℕ) : Type 0 where
-  pub fed : IsFed holds has d octets
-  pub exact : NoneEndsWithin octets
+pub record HasLooked {D : Type 0} (p : Named) (holds : D → List Level → List ℕ → Type 0) (has : Named → D → Apdu → ℕ → Type 0) (d : Reader D) (octets : List ℕ) : Type 0 where
+  pub fed : IsFed p holds has d octets
+  pub exact : NoneEndsWithin p octets
 
 -- it was fed a piece more, which is empty only where nothing is open or nothing is left
-pub record HasPulled {D : Type 0} (holds : D → List Level → List ℕ → Type 0) (has : D → Apdu → ℕ → Type 0) (after : Option (List ℕ)) (d : Reader D) (b piece : List ℕ) : Type 0 where
-  pub fed : IsFed holds has d (b ++ piece)
-  pub exact : NoneEndsWithin (b ++ piece)
+pub record HasPulled {D : Type 0} (p : Named) (holds : D → List Level → List ℕ → Type 0) (has : Named → D → Apdu → ℕ → Type 0) (after : Option (List ℕ)) (d : Reader D) (b piece : List ℕ) : Type 0 where
+  pub fed : IsFed p holds has d (b ++ piece)
+  pub exact : NoneEndsWithin p (b ++ piece)
   pub ended : piece ≡ [] → (d.state ≢ state.Open) ⊎ IsAtEnd after
 
 -- n octets were taken, kept, and fed to the reader
-pub record HasTaken {D : Type 0} (holds : D → List Level → List ℕ → Type 0) (has : D → Apdu → ℕ → Type 0) (left after held held' : Option (List ℕ)) (d d' : Reader D) (n : ℕ) : Type 0 where
+pub record HasTaken {D : Type 0} (holds : D → List Level → List ℕ → Type 0) (has : Named → D → Apdu → ℕ → Type 0) (left after held held' : Option (List ℕ)) (d d' : Reader D) (n : ℕ) : Type 0 where
   pub piece : List ℕ
   pub size : length piece ≡ n
   pub taken : Consumes left after piece
   pub kept : Appends held held' piece
-  pub fed : (b : List ℕ) → IsFed holds has d b → NoneEndsWithin b → HasPulled holds has after d' b piece
+  pub fed : (p : Named) (b : List ℕ) → IsFed p holds has d b → NoneEndsWithin p b → HasPulled p holds has after d' b piece
 
 -- it was fed just these octets, which the source gave up, until nothing was open or the source was at its end
-pub record HasFilled {D : Type 0} (holds : D → List Level → List ℕ → Type 0) (has : D → Apdu → ℕ → Type 0) (left after : Option (List ℕ)) (d : Reader D) : Type 0 where
+pub record HasFilled {D : Type 0} (p : Named) (holds : D → List Level → List ℕ → Type 0) (has : Named → D → Apdu → ℕ → Type 0) (left after : Option (List ℕ)) (d : Reader D) : Type 0 where
   pub octets : List ℕ
   pub taken : Consumes left after octets
-  pub fed : IsFed holds has d octets
-  pub exact : NoneEndsWithin octets
+  pub fed : IsFed p holds has d octets
+  pub exact : NoneEndsWithin p octets
   pub ended : (d.state ≢ state.Open) ⊎ IsAtEnd after
 
 -- and these octets were kept after those that were kept before
-pub record HasKept {D : Type 0} (holds : D → List Level → List ℕ → Type 0) (has : D → Apdu → ℕ → Type 0) (left after : Option (List ℕ)) (d : Reader D) (old new : Option (List ℕ)) : Type 0 where
-  pub filled : HasFilled holds has left after d
+pub record HasKept {D : Type 0} (p : Named) (holds : D → List Level → List ℕ → Type 0) (has : Named → D → Apdu → ℕ → Type 0) (left after : Option (List ℕ)) (d : Reader D) (old new : Option (List ℕ)) : Type 0 where
+  pub filled : HasFilled p holds has left after d
   pub kept : Appends old new filled.octets

@@ -55,9 +55,9 @@ IsFound None c = ⊥
 
 -- the value of an element that has ended, with these levels round it, where its text is right
 abbrev pub IsEnded : Frame → List (Option Content) → List Level → List ℕ → Values → Result (Option Value) Failure → Type 0
-IsEnded f entries below text new (Ok found) = IsRightText (read_as f.found) text × ((trees : Trees) (c : Content)
+IsEnded f entries below text new (Ok found) = IsRightText Two (read_as f.found) text × ((trees : Trees) (c : Content)
     → IsHeld Two (read_as f.found) (shape f.place) entries trees → IsContentOf (read_as f.found) (shape f.place) entries text c → IsFound found c × AreValues new below [])
-IsEnded f entries below text new (Err failure) = IsTextFault (read_as f.found) f.start text failure
+IsEnded f entries below text new (Err failure) = IsTextFault Two (read_as f.found) f.start text failure
 
 abbrev pub EndsExactly : Values → Frame → Values → Result (Option Value) Failure → Type 0
 EndsExactly old f new result = (tag : Tag) (entries : List (Option Content)) (below : List Level) (text : List ℕ)

@@ -1,11 +1,13 @@
 -- What a draft of octets holds of the elements that have been read.
+use Rattle.ill_schema.specs.Profiles.{profile_of}
+use Rattle.ill_schema.specs.declared.profile.Profile.{Profile as Named}
 use Rattle.std.specs.Prelude.{◌≡◌, ℕ, Bool, true, false, List, [], ◌∷◌, ◌++◌, length, Option, Some, None}
 use Rattle.ber_core.specs.Der.{encoding, encodings}
 use Rattle.ber_core.specs.Id.{tag_of_id}
 use Rattle.ber_core.specs.Identifier.{identifier}
 use Rattle.ber_core.specs.declared.id.Class.TheVariants.{Universal}
 use Rattle.ber_core.specs.Length.{shortest_length}
-use Rattle.ill_schema.specs.Apdu.{Apdu, normal_form}
+use Rattle.ill_schema.specs.Apdu.{Apdu, normal_form_in}
 use Rattle.ill_schema.specs.Content.{Content}
 use Rattle.ill_schema.specs.Content as content
 use Rattle.ill_schema.specs.Normal.{normal_tree, normal_trees, normal_items}
@@ -19,7 +21,7 @@ use Rattle.ill_elements.specs.declared.due.Next.{Next}
 use Rattle.ill_elements.specs.declared.due.Next.TheVariants.{Rows, Nothing}
 use Rattle.ill_elements.specs.declared.due.Slot.{Slot}
 use Rattle.ill_elements.specs.declared.element.Element.{Element as CodeElement}
-use Rattle.ill_elements.specs.declared.element.Element.TheVariants.{Leaf, Sequence, List as ListOf, Wrapper, LooseWrapper, Foreign}
+use Rattle.ill_elements.specs.declared.element.Element.TheVariants.{Leaf, Sequence, List as ListOf, Wrapper, LooseWrapper, Segment, ModuleLeaf, BitString, BitSegment, Foreign}
 use Rattle.ill_elements.specs.declared.element.Wrapped.{Wrapped}
 use Rattle.ill_elements.specs.declared.judge.Opening.{Opening}
 use Rattle.ill_read.specs.declared.octets.Octets.{Octets}
@@ -59,9 +61,11 @@ written _ n es = []
 abbrev pub unless_left : Next → Slot → Content → List ℕ → List ℕ
 unless_left n slot c octets = elim (left_away n slot c) as (λ _. List ℕ) [ true ↦ [] | false ↦ octets ]
 
--- a string is primitive
+-- a string is primitive in DER (10.2)
 abbrev pub form_of : CodeElement → Bool
 form_of (Leaf l) = false
+form_of (ModuleLeaf l) = false
+form_of BitString = false
 form_of _ = true
 
 -- the tag isn't that of an end mark, where the element is primitive
@@ -84,11 +88,28 @@ enclosed (LooseWrapper w) Nothing octets = octets
 enclosed (LooseWrapper w) n octets = identifier sequence_tag true ++ (shortest_length (length octets) ++ octets)
 enclosed _ n octets = octets
 
+-- the text of the string that is open stands behind the octets; that of a BIT STRING stands apart
+abbrev pub IsBehind : Octets → CodeElement → List ℕ → List ℕ → Type 0
+IsBehind draft BitString front text = (draft.octets ≡ front) × (draft.bits ≡ text)
+IsBehind draft _ front text = draft.octets ≡ front ++ text
+
+-- a string that only the module profile has, or a segment of one
+abbrev pub IsModuleString : CodeElement → Type 0
+IsModuleString (ModuleLeaf l) = Unit {0}
+IsModuleString BitString = Unit {0}
+IsModuleString BitSegment = Unit {0}
+IsModuleString _ = ⊥
+
+-- the element of the innermost level
+abbrev pub innermost : List Level → CodeElement
+innermost [] = Segment
+innermost (l ∷ below) = l.element
+
 pub record AreOctets (draft : Octets) (levels : List Level) (text : List ℕ) : Type 0 where
   pub front : List ℕ
-  pub joined : draft.octets ≡ front ++ text
+  pub joined : IsBehind draft (innermost levels) front text
   pub are : AreWritten levels front
 
 -- the octets are the APDU's normal form
-abbrev pub AreNormal : Octets → Apdu → ℕ → Type 0
-AreNormal draft a n = draft.octets ≡ normal_form a
+abbrev pub AreNormal : Named → Octets → Apdu → ℕ → Type 0
+AreNormal p draft a n = draft.octets ≡ normal_form_in (profile_of p) a

@@ -1,5 +1,6 @@
 -- What a reader's functions say: how it stands for the octets that it has been fed.
-use Rattle.ill_schema.specs.declared.profile.Profile.TheVariants.{Two}
+use Rattle.ill_schema.specs.Profiles.{profile_of}
+use Rattle.ill_schema.specs.declared.profile.Profile.{Profile as Named}
 use Rattle.std.specs.Prelude.{◌≡◌, ℕ, ◌+◌, ◌-◌, ◌*◌, ◌<◌, ◌≤◌, Bool, true, false, List, [], ◌∷◌, ◌++◌, length, drop, Option, Some, None, IfSome, Result, Ok, Err}
 use Rattle.ber_leaf.specs.Profile.{profile_two}
 use Rattle.ill_schema.specs.declared.message.Message.{Message}
@@ -12,7 +13,7 @@ use Rattle.ill_refusals.specs.Fault.{Fault, fault_of, cut_fault}
 use Rattle.ill_refusals.specs.Outcome.{OnlyAccepts, OnlyRefuses}
 use Rattle.ill_refusals.specs.Place.{Open, bound}
 use Rattle.ill_refusals.specs.code.Judge.{Judgement as Judged, faulty, judge}
-use Rattle.ill_read.specs.Answers.{IsPart, IsRead, IsRefused}
+use Rattle.ill_read.specs.Answers.{IsPart, IsPartIn, IsRead, IsRefused, IsRefusedIn}
 use Rattle.ill_read.specs.Paths.{HoldsAt}
 use Rattle.ill_elements.specs.Standing.{Level, StandsBefore, StandsLast}
 use Rattle.ill_read.specs.code.Judged.{IsJudgement}
@@ -28,70 +29,70 @@ use Rattle.ill_read.specs.declared.reader.State.TheVariants as state
 use Rattle.ill_read.specs.declared.values.Body.{Body}
 
 -- a message was read of the octets, or they are refused, or else this holds
-abbrev pub InState : State → List ℕ → Type 0 → Type 0 → Type 0
-InState state.Open s IsWhole IfOpen = IfOpen
-InState state.Whole s IsWhole IfOpen = IsWhole
-InState (state.Failed f) s IsWhole IfOpen = IsRefused s f
+abbrev pub InState : Named → State → List ℕ → Type 0 → Type 0 → Type 0
+InState p state.Open s IsWhole IfOpen = IfOpen
+InState p state.Whole s IsWhole IfOpen = IsWhole
+InState p (state.Failed f) s IsWhole IfOpen = IsRefusedIn (profile_of p) s f
 
 -- the octets begin with the message that the draft has, and no other
-abbrev pub HasRead : {D : Type 0} → (D → Apdu → ℕ → Type 0) → Reader D → List ℕ → Type 0
-HasRead has r s = (a : Apdu) × OnlyAccepts profile_two s a r.at × has r.path.draft a r.at
+abbrev pub HasRead : {D : Type 0} → Named → (Named → D → Apdu → ℕ → Type 0) → Reader D → List ℕ → Type 0
+HasRead p has r s = (a : Apdu) × OnlyAccepts (profile_of p) s a r.at × has p r.path.draft a r.at
 
-abbrev pub IsRunning : {D : Type 0} → (D → List Level → List ℕ → Type 0) → (D → Apdu → ℕ → Type 0) → Reader D → List ℕ → List ℕ → Type 0
-IsRunning holds has r s rest = InState r.state s (HasRead has r s) (StandsBefore Two (HoldsAt holds r.path) r.at s rest)
+abbrev pub IsRunning : {D : Type 0} → Named → (D → List Level → List ℕ → Type 0) → (Named → D → Apdu → ℕ → Type 0) → Reader D → List ℕ → List ℕ → Type 0
+IsRunning p holds has r s rest = InState p r.state s (HasRead p has r s) (StandsBefore p (HoldsAt p holds r.path) r.at s rest)
 
-abbrev pub HasStopped : {D : Type 0} → (D → List Level → List ℕ → Type 0) → (D → Apdu → ℕ → Type 0) → Reader D → List ℕ → List ℕ → Type 0
-HasStopped holds has r s rest = InState r.state s (HasRead has r s) (StandsLast Two (HoldsAt holds r.path) r.at s rest)
+abbrev pub HasStopped : {D : Type 0} → Named → (D → List Level → List ℕ → Type 0) → (Named → D → Apdu → ℕ → Type 0) → Reader D → List ℕ → List ℕ → Type 0
+HasStopped p holds has r s rest = InState p r.state s (HasRead p has r s) (StandsLast p (HoldsAt p holds r.path) r.at s rest)
 
 -- the reader has been fed these octets
-abbrev pub IsFed : {D : Type 0} → (D → List Level → List ℕ → Type 0) → (D → Apdu → ℕ → Type 0) → Reader D → List ℕ → Type 0
-IsFed holds has r s = HasStopped holds has r s r.pending.items
+abbrev pub IsFed : {D : Type 0} → Named → (D → List Level → List ℕ → Type 0) → (Named → D → Apdu → ℕ → Type 0) → Reader D → List ℕ → Type 0
+IsFed p holds has r s = HasStopped p holds has r s r.pending.items
 
 -- the judgement is the definitions' one at its place
-abbrev pub CanStep : {D : Type 0} → (D → List Level → List ℕ → Type 0) → Reader D → List ℕ → List ℕ → Judgement → Type 0
-CanStep holds r s rest judgement =
-    (b : StandsBefore Two (HoldsAt holds r.path) r.at s rest) × IsJudgement r.path.frames b.place r.at rest judgement (judge profile_two b.place r.at rest)
+abbrev pub CanStep : {D : Type 0} → Named → (D → List Level → List ℕ → Type 0) → Reader D → List ℕ → List ℕ → Judgement → Type 0
+CanStep p holds r s rest judgement =
+    (b : StandsBefore p (HoldsAt p holds r.path) r.at s rest) × IsJudgement p r.path.frames b.place r.at rest judgement (judge (profile_of p) b.place r.at rest)
 
 -- the refusal is the definitions' judgement there
-abbrev pub CanRefuse : {D : Type 0} → (D → List Level → List ℕ → Type 0) → Reader D → List ℕ → List ℕ → Refusal → Type 0
-CanRefuse holds r s rest refusal = (b : StandsBefore Two (HoldsAt holds r.path) r.at s rest) × (judge profile_two b.place r.at rest ≡ faulty (fault_of refusal))
+abbrev pub CanRefuse : {D : Type 0} → Named → (D → List Level → List ℕ → Type 0) → Reader D → List ℕ → List ℕ → Refusal → Type 0
+CanRefuse p holds r s rest refusal = (b : StandsBefore p (HoldsAt p holds r.path) r.at s rest) × (judge (profile_of p) b.place r.at rest ≡ faulty (fault_of refusal))
 
 -- it went on after `size` octets, or stopped
-abbrev pub HasAdvanced : {D : Type 0} → (D → List Level → List ℕ → Type 0) → (D → Apdu → ℕ → Type 0) → Reader D → List ℕ → List ℕ → Option ℕ → Type 0
-HasAdvanced holds has r s rest (Some size) = IsRunning holds has r s (drop size rest)
-HasAdvanced holds has r s rest None = HasStopped holds has r s rest
+abbrev pub HasAdvanced : {D : Type 0} → Named → (D → List Level → List ℕ → Type 0) → (Named → D → Apdu → ℕ → Type 0) → Reader D → List ℕ → List ℕ → Option ℕ → Type 0
+HasAdvanced p holds has r s rest (Some size) = IsRunning p holds has r s (drop size rest)
+HasAdvanced p holds has r s rest None = HasStopped p holds has r s rest
 
 -- from the place, it does what is judged there
-abbrev pub Steps : {D : Type 0} → (D → List Level → List ℕ → Type 0) → (D → Apdu → ℕ → Type 0) → Reader D → Judgement → Reader D → Option ℕ → Type 0
-Steps holds has old judgement new result = (s rest : List ℕ) → CanStep holds old s rest judgement → IsProgress (depth_of old.path.frames) (length rest) judgement
-    → HasAdvanced holds has new s rest result
+abbrev pub Steps : {D : Type 0} → Named → (D → List Level → List ℕ → Type 0) → (Named → D → Apdu → ℕ → Type 0) → Reader D → Judgement → Reader D → Option ℕ → Type 0
+Steps p holds has old judgement new result = (s rest : List ℕ) → CanStep p holds old s rest judgement → IsProgress (depth_of old.path.frames) (length rest) judgement
+    → HasAdvanced p holds has new s rest result
 
 -- from the place it goes on, or fails, as is judged in the octets before the bound; `came` octets follow the place in all
-abbrev pub LeadsOn : {D : Type 0} → (D → List Level → List ℕ → Type 0) → (D → Apdu → ℕ → Type 0) → Reader D → List ℕ → ℕ → ℕ → Reader D → Option ℕ → (List Open → Fault → Judged) → Type 0
-LeadsOn holds has old window room came new result judged = (s rest more : List ℕ) (b : StandsBefore Two (HoldsAt holds old.path) old.at s rest) → length rest ≡ came
-    → rest ≡ window ++ more → room ≡ bound profile_two b.place - old.at
-    → judge profile_two b.place old.at rest ≡ judged b.place (cut_fault profile_two b.place old.at rest) → HasAdvanced holds has new s rest result
+abbrev pub LeadsOn : {D : Type 0} → Named → (D → List Level → List ℕ → Type 0) → (Named → D → Apdu → ℕ → Type 0) → Reader D → List ℕ → ℕ → ℕ → Reader D → Option ℕ → (List Open → Fault → Judged) → Type 0
+LeadsOn p holds has old window room came new result judged = (s rest more : List ℕ) (b : StandsBefore p (HoldsAt p holds old.path) old.at s rest) → length rest ≡ came
+    → rest ≡ window ++ more → room ≡ bound (profile_of p) b.place - old.at
+    → judge (profile_of p) b.place old.at rest ≡ judged b.place (cut_fault (profile_of p) b.place old.at rest) → HasAdvanced p holds has new s rest result
 
 -- at most `room` octets are passed: at least one, or an element is closed
 abbrev pub Progresses : ℕ → Frames → Frames → Option ℕ → Type 0
 Progresses room old new result = IfSome result (λ size. (size ≤ room) × (depth_of new < 2 * size + depth_of old))
 
 -- nothing is open any more
-abbrev pub HasClosed : {D : Type 0} → (D → Apdu → ℕ → Type 0) → Reader D → List ℕ → Type 0
-HasClosed has r s = InState r.state s (HasRead has r s) ⊥
+abbrev pub HasClosed : {D : Type 0} → Named → (Named → D → Apdu → ℕ → Type 0) → Reader D → List ℕ → Type 0
+HasClosed p has r s = InState p r.state s (HasRead p has r s) ⊥
 
 -- what has come of the octets
-abbrev pub HasOutcome : {D : Type 0} → (D → Apdu → ℕ → Type 0) → Reader D → List ℕ → Result Bool Failure → Type 0
-HasOutcome has r s (Ok true) = HasRead has r s
-HasOutcome has r s (Ok false) = IsPart s × (length s < 1_048_576)
-HasOutcome has r s (Err failure) = IsRefused s failure
+abbrev pub HasOutcome : {D : Type 0} → Named → (Named → D → Apdu → ℕ → Type 0) → Reader D → List ℕ → Result Bool Failure → Type 0
+HasOutcome p has r s (Ok true) = HasRead p has r s
+HasOutcome p has r s (Ok false) = IsPartIn (profile_of p) s × (length s < 1_048_576)
+HasOutcome p has r s (Err failure) = IsRefusedIn (profile_of p) s failure
 
 -- what is returned after the last octet
-abbrev pub EndsAs : {D : Type 0} → (D → Apdu → ℕ → Type 0) → Reader D → List ℕ → Result Bool Failure → Type 0
-EndsAs has r s (Ok true) = HasRead has r s
-EndsAs has r s (Ok false) = s ≡ []
-EndsAs has r s (Err (Failure.Refused refusal)) = OnlyRefuses profile_two s (fault_of refusal) × (0 < length s)
-EndsAs has r s (Err Failure.OutOfMemory) = Unit {0}
+abbrev pub EndsAs : {D : Type 0} → Named → (Named → D → Apdu → ℕ → Type 0) → Reader D → List ℕ → Result Bool Failure → Type 0
+EndsAs p has r s (Ok true) = HasRead p has r s
+EndsAs p has r s (Ok false) = s ≡ []
+EndsAs p has r s (Err (Failure.Refused refusal)) = OnlyRefuses (profile_of p) s (fault_of refusal) × (0 < length s)
+EndsAs p has r s (Err Failure.OutOfMemory) = Unit {0}
 
 -- of a reader that is open
 abbrev pub ended : List ℕ → Result Bool Failure
@@ -114,8 +115,8 @@ HasBegun s (Ok None) = IsPart s × (length s < 1_048_576)
 HasBegun s (Err failure) = IsRefused s failure
 
 -- the draft has the APDU that the octets spell
-abbrev pub IsReadOf : {D : Type 0} → (D → Apdu → ℕ → Type 0) → D → List ℕ → Type 0
-IsReadOf has draft b = (a : Apdu) × SpellsApdu profile_two a b × has draft a (length b)
+abbrev pub IsReadOf : {D : Type 0} → Named → (Named → D → Apdu → ℕ → Type 0) → D → List ℕ → Type 0
+IsReadOf p has draft b = (a : Apdu) × SpellsApdu (profile_of p) a b × has p draft a (length b)
 
 -- what is read, by how a reader ends
 abbrev pub read_result : ℕ → Result Bool Failure → Result (Option ℕ) ReadFailure

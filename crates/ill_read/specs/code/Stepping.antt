@@ -1,8 +1,8 @@
 -- What each part of a step does to the path.
-use Rattle.ill_schema.specs.declared.profile.Profile.TheVariants.{Two}
+use Rattle.ill_schema.specs.Profiles.{profile_of}
+use Rattle.ill_schema.specs.declared.profile.Profile.{Profile as Named}
 use Rattle.std.specs.Prelude.{◌≡◌, ℕ, Bool, true, false, List, [], ◌∷◌, ◌++◌, Result}
 use Rattle.ber_core.specs.Id.{tag_of_id}
-use Rattle.ber_leaf.specs.Profile.{profile_two}
 use Rattle.ill_refusals.specs.Place.{Open}
 use Rattle.ill_refusals.specs.Fault.{element_fault}
 use Rattle.ill_refusals.specs.code.Judge.{Judgement, or_faulty, reads}
@@ -27,14 +27,14 @@ GoesOn after old new false = (old ≡ [] → ⊥)
     × ((outer : List Frame) (f : Frame) → old ≡ outer ++ f ∷ [] → new ≡ outer ++ record f { place = after } ∷ [])
 
 abbrev pub ClosesExactly : {D : Type 0} → (D → List Level → List ℕ → Type 0) → Path D → Path D → Result Bool Failure → Type 0
-ClosesExactly holds old new result = (place : List Open) (marks at : ℕ) (rest : List ℕ) (j : Judgement) → HoldsAt holds old place → IsEnd Two place marks j
-    → IsStep holds new result (moved j place at rest)
+ClosesExactly holds old new result = (p : Named) (place : List Open) (marks at : ℕ) (rest : List ℕ) (j : Judgement) → HoldsAt p holds old place → IsEnd p place marks j
+    → IsStep p holds new result (moved j place at rest)
 
 abbrev pub OpensExactly : {D : Type 0} → (D → List Level → List ℕ → Type 0) → Path D → Opening → ℕ → Path D → Type 0
-OpensExactly holds old o start new = (place : List Open) → HoldsAt holds old place → IsBegin old.frames place (tag_of_id o.id) o.found true
-    → HoldsAt holds new (opened (element_is (read_as o.found)) (tag_of_id o.id) start o.end ∷ place)
+OpensExactly holds old o start new = (p : Named) (place : List Open) → HoldsAt p holds old place → IsBegin old.frames place (tag_of_id o.id) o.found true
+    → HoldsAt p holds new (opened (element_is (read_as o.found)) (tag_of_id o.id) start o.end ∷ place)
 
 abbrev pub ReadsExactly : {D : Type 0} → (D → List Level → List ℕ → Type 0) → Path D → Reading → ℕ → List ℕ → Path D → Result Bool Failure → Type 0
-ReadsExactly holds old r start octets new result = (place : List Open) (header at : ℕ) (rest : List ℕ) → HoldsAt holds old place
+ReadsExactly holds old r start octets new result = (p : Named) (place : List Open) (header at : ℕ) (rest : List ℕ) → HoldsAt p holds old place
     → IsBegin old.frames place (tag_of_id r.id) r.found false
-    → IsStep holds new result (moved (or_faulty (element_fault profile_two (element_is (read_as r.found)) octets) start (reads (tag_of_id r.id) header octets)) place at rest)
+    → IsStep p holds new result (moved (or_faulty (element_fault (profile_of p) (element_is (read_as r.found)) octets) start (reads (tag_of_id r.id) header octets)) place at rest)

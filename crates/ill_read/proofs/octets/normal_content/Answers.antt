@@ -1,7 +1,6 @@
 use Rattle.std.proofs.Common.{rules, arith, ◌≡◌, ℕ, [], ◌∷◌, Bool, true, false, nat_eq, None, if◌then◌else◌, sym, ap, subst, ◌∙◌}
 use Rattle.ber_leaf.specs.Leaf.{boolean, content_fault, normal_content, value}
-use Rattle.ber_leaf.specs.Profile.{profile_two}
-use Rattle.ber_leaf.proofs.Leaves.{content_holds}
+use Rattle.ill_schema.specs.Profiles.{profile_of}
 use Rattle.ill_elements.specs.LeafTypes.{leaf_is}
 use Rattle.ill_elements.specs.declared.leaf_type.LeafType.{LeafType}
 use Rattle.ill_elements.specs.declared.leaf_type.LeafType.TheVariants as code
@@ -20,15 +19,15 @@ not_zero a h = elim (nat_eq a 0) as (λ b. nat_eq a 0 ≡ b → b ≡ false) [ t
 
 pub returns-in_default : goal.returns-in_default
 returns-in_default c =
-    let right = content_holds (leaf_is c.args.leaf) c.args.content.now c.requires in
-    sym (normal_as_read profile_two (leaf_is c.args.leaf) c.args.content.now (λ e. c.in_default.not-Boolean (only_boolean c.args.leaf e)) (no_bits c.args.leaf) right.0 right.1)
+    let right = c.requires.1 in
+    sym (normal_as_read (profile_of c.requires.0) (leaf_is c.args.leaf) c.args.content.now (λ e. c.in_default.not-Boolean (only_boolean c.args.leaf e)) (no_bits c.args.leaf) right.0 right.1)
 
 pub returns-then-ne : goal.returns-then-ne
 returns-then-ne c =
     let o = c.args.content.now in
-    let right = content_holds (leaf_is c.args.leaf) o c.requires in
+    let right = c.requires.1 in
     let is = ap leaf_is c.in-Boolean.is in
-    let b = normal_boolean profile_two o (subst (λ l. content_fault profile_two l o ≡ None) is right.1) in
+    let b = normal_boolean (profile_of c.requires.0) o (subst (λ l. content_fault (profile_of c.requires.0) l o ≡ None) is right.1) in
     let differs : o ≡ 0 ∷ [] → ⊥ = search rules in
     let other = not_zero b.0 (λ e. differs (b.1 ∙ e)) in
     sym (ap (λ l. normal_content (value l o)) is ∙ b.2 ∙ ap (λ (x : Bool). if x then 0 ∷ [] else 0xFF ∷ []) other)

@@ -5,7 +5,7 @@ use Rattle.ill_read.proofs.outline.pass.Goals as goal
 
 pub loop-row-preserved : goal.loop-row-preserved
 loop-row-preserved c =
-    let within : c.loop-row.row < min c.args.until (length (rows_of c.args.node)) = omega (arith, c.loop-row-test.true, c.min-row-end.ensures, c.rows.ensures) in
+    let within : c.loop-row.row < min c.args.until (length (rows_of c.args.node)) = omega (arith, c.loop-row-test.true, c.requires) in
     record {
       from = omega (arith, c.loop-row.invariant.from);
       within = λ h. omega (arith, within);

@@ -1,6 +1,7 @@
 use Rattle.std.proofs.Common.{◌<◌, Bool, Result, get_or, IsTrue, Ok, drop, sym, ap, subst, ◌∙◌, arith}
 use Rattle.ber_core.specs.Octets.{are_octets}
 use Rattle.ber_leaf.proofs.Leaves.{octets_fit}
+use Rattle.ill_schema.specs.declared.profile.Profile.TheVariants.{Two}
 use Rattle.ill_read.specs.Paths.{AreMessage, AreValues}
 use Rattle.ill_read.specs.code.ReaderCode.{HasBegun, HasOutcome}
 use Rattle.ill_read.specs.declared.failure.Failure.{Failure}
@@ -12,8 +13,8 @@ pub returns-in-Ok-true : goal.returns-in-Ok-true
 returns-in-Ok-true c =
     let w = c.args.octets.now in
     let ok : IsTrue (are_octets w) = octets_fit w (λ k. let small : get_or w k 0 < 256 = omega (arith, c.type_inv.octets k) in small) in
-    let came = c.outcome.ensures w (drop c.run.result w) (c.run.ensures.stopped w (runs AreValues AreMessage c.new-reader.result w ok (c.new-reader.ensures c.new.ensures))) in
-    let read = subst (λ (e : Result Bool Failure). HasOutcome AreMessage c.run.new.self w e) (c.in-Ok-true.is ∙ ap Ok c.in-Ok-true.field-0-test) came in
+    let came = c.outcome.ensures Two w (drop c.run.result w) (c.run.ensures.stopped Two w (runs Two AreValues (λ p values a n. AreMessage values a n) c.new-reader.result w ok (c.new-reader.ensures.«open» c.new.ensures))) in
+    let read = subst (λ (e : Result Bool Failure). HasOutcome Two (λ p values a n. AreMessage values a n) c.run.new.self w e) (c.in-Ok-true.is ∙ ap Ok c.in-Ok-true.field-0-test) came in
     let m = message_is c.run.new.self w read in
     subst (λ x. HasBegun w (Ok x)) (sym (c.into_message.ensures ∙ ap (λ (v : Values). v.message) c.into_draft.ensures ∙ m.1)) m.2
 
@@ -21,12 +22,12 @@ pub returns-in-Ok-false : goal.returns-in-Ok-false
 returns-in-Ok-false c =
     let w = c.args.octets.now in
     let ok : IsTrue (are_octets w) = octets_fit w (λ k. let small : get_or w k 0 < 256 = omega (arith, c.type_inv.octets k) in small) in
-    let came = c.outcome.ensures w (drop c.run.result w) (c.run.ensures.stopped w (runs AreValues AreMessage c.new-reader.result w ok (c.new-reader.ensures c.new.ensures))) in
-    subst (λ (e : Result Bool Failure). HasOutcome AreMessage c.run.new.self w e) (c.in-Ok-false.is ∙ ap Ok c.in-Ok-false.field-0-test) came
+    let came = c.outcome.ensures Two w (drop c.run.result w) (c.run.ensures.stopped Two w (runs Two AreValues (λ p values a n. AreMessage values a n) c.new-reader.result w ok (c.new-reader.ensures.«open» c.new.ensures))) in
+    subst (λ (e : Result Bool Failure). HasOutcome Two (λ p values a n. AreMessage values a n) c.run.new.self w e) (c.in-Ok-false.is ∙ ap Ok c.in-Ok-false.field-0-test) came
 
 pub returns-in-Err : goal.returns-in-Err
 returns-in-Err c =
     let w = c.args.octets.now in
     let ok : IsTrue (are_octets w) = octets_fit w (λ k. let small : get_or w k 0 < 256 = omega (arith, c.type_inv.octets k) in small) in
-    let came = c.outcome.ensures w (drop c.run.result w) (c.run.ensures.stopped w (runs AreValues AreMessage c.new-reader.result w ok (c.new-reader.ensures c.new.ensures))) in
-    subst (λ (e : Result Bool Failure). HasOutcome AreMessage c.run.new.self w e) c.in-Err.is came
+    let came = c.outcome.ensures Two w (drop c.run.result w) (c.run.ensures.stopped Two w (runs Two AreValues (λ p values a n. AreMessage values a n) c.new-reader.result w ok (c.new-reader.ensures.«open» c.new.ensures))) in
+    subst (λ (e : Result Bool Failure). HasOutcome Two (λ p values a n. AreMessage values a n) c.run.new.self w e) c.in-Err.is came

@@ -1,4 +1,4 @@
-use Rattle.std.proofs.Common.{◌≡◌, [], ◌++◌, Err, length-append, ap, ◌∙◌, inl, arith}
+use Rattle.std.proofs.Common.{◌≡◌, [], ◌++◌, Err, length-append, ap, ◌∙◌, inl, sym, subst, arith}
 use Rattle.std.proofs.KnownBytes.{Appends-trans, Consumes-trans, Consumes-kept}
 use Rattle.std.proofs.lemmas.List.{nil_from_length}
 use Rattle.ill_read.specs.declared.read.Unfilled.TheVariants.{Broken}
@@ -6,14 +6,15 @@ use Rattle.ill_read.proofs.SourceReads.{full_closed}
 use Rattle.ill_read.proofs.read.fill.Goals as goal
 
 pub returns-in-Ok-eq0-clause-filled : goal.returns-in-Ok-eq0-clause-filled
-returns-in-Ok-eq0-clause-filled g c =
+returns-in-Ok-eq0-clause-filled g c p opened =
     let i = c.loop-room.invariant.0 in
     let t = c.in-Ok-eq0.ensures.taken.1 in
-    let p = t.fed i.0 i.3 i.4 in
+    let was = i.3 p opened in
+    let x = t.fed p i.0 was.0 was.1 in
     let none : t.piece ≡ [] = nil_from_length t.piece (omega (arith, t.size, c.in-Ok-eq0.field-0-test)) in
     record {
-      filled = record { octets = i.0 ++ t.piece; taken = Consumes-trans _ _ _ i.0 t.piece i.1 t.taken; fed = p.fed; exact = p.exact; ended = p.ended none };
-      kept = Appends-trans _ _ _ i.0 t.piece i.5 t.kept;
+      filled = record { octets = i.0 ++ t.piece; taken = Consumes-trans _ _ _ i.0 t.piece i.1 t.taken; fed = x.fed; exact = x.exact; ended = x.ended none };
+      kept = Appends-trans _ _ _ i.0 t.piece i.4 t.kept;
     }
 
 pub returns-in-Ok-eq0-clause-taken : goal.returns-in-Ok-eq0-clause-taken
@@ -31,28 +32,39 @@ returns-in-Err-clause-taken g c =
     (i.0 ++ f.0, Consumes-trans _ _ _ i.0 f.0 i.1 f.1, omega (arith, size, le, length-append i.0 f.0))
 
 pub returns-in-Err-clause-unfinished : goal.returns-in-Err-clause-unfinished
-returns-in-Err-clause-unfinished g c is_err =
+returns-in-Err-clause-unfinished g c p opened is_err =
     let i = c.loop-room.invariant.0 in
     let is : c.in-Err.failure ≡ Broken = cc in
     let broken = c.in-Err.is ∙ ap Err is in
-    (i.0, Consumes-kept _ _ _ i.0 i.1 (c.more.ensures.kept broken), c.more.ensures.unfinished broken i.0 i.3 i.4)
+    let was = i.3 p opened in
+    (i.0, Consumes-kept _ _ _ i.0 i.1 (c.more.ensures.kept broken), c.more.ensures.unfinished broken p i.0 was.0 was.1)
 
 pub loop-room-preserved : goal.loop-room-preserved
 loop-room-preserved g c =
     let i = c.loop-room.invariant.0 in
     let t = c.in-Ok.ensures.taken.1 in
     let size = i.2 in let fits = c.in-Ok.ensures.taken.0 in
-    let p = t.fed i.0 i.3 i.4 in
-    let kept = Appends-trans _ _ _ i.0 t.piece i.5 t.kept in (
-      (i.0 ++ t.piece, Consumes-trans _ _ _ i.0 t.piece i.1 t.taken, omega (arith, size, fits, t.size, length-append i.0 t.piece), p.fed, p.exact, kept),
+    let kept = Appends-trans _ _ _ i.0 t.piece i.4 t.kept in (
+      (
+        i.0 ++ t.piece,
+        Consumes-trans _ _ _ i.0 t.piece i.1 t.taken,
+        omega (arith, size, fits, t.size, length-append i.0 t.piece),
+        λ p opened. let was = i.3 p opened in let x = t.fed p i.0 was.0 was.1 in (x.fed, x.exact),
+        kept,
+      ),
       λ h. c.in-Ok.ensures.stays (c.loop-room.invariant.1 h),
+      c.more.ensures.profile ∙ c.loop-room.invariant.2,
     )
 
 pub returns-clause-filled : goal.returns-clause-filled
-returns-clause-filled g c =
+returns-clause-filled g c p opened =
     let i = c.loop-room.invariant.0 in
     let size = i.2 in let none = c.loop-room-test.false in
+    let was = i.3 p opened in
     record {
-      filled = record { octets = i.0; taken = i.1; fed = i.3; exact = i.4; ended = inl (full_closed g.D.Draft.holds g.D.Draft.has c.loop-room.reader i.0 i.3 (omega (arith, size, none))) };
-      kept = i.5;
+      filled = record { octets = i.0; taken = i.1; fed = was.0; exact = was.1; ended = inl (full_closed p g.D.Draft.holds g.D.Draft.has c.loop-room.reader i.0 was.0 (omega (arith, size, none))) };
+      kept = i.4;
     }
+
+pub more-requires-clause-takes : goal.more-requires-clause-takes
+more-requires-clause-takes g c = subst g.D.Draft.takes (sym c.loop-room.invariant.2) c.requires.takes

@@ -20,8 +20,8 @@ returns-then-seen-gt0-clause-taken g c =
         size = size;
         taken = subst (λ z. Consumes (g.R.Source.left c.args.source.now) (g.R.Source.left c.pass.new.source) (take n z)) (sym c.at_hand-hand.ensures.hand) c.pass.ensures.octets;
         kept = c.in_default.ensures;
-        fed = λ b h exact.
-            let looked = subst (λ z. HasLooked g.D.Draft.holds g.D.Draft.has c.look-seen.new.self (b ++ z)) (take-take n most hand bound) (c.look-seen.ensures.looked b h exact) in
+        fed = λ p b h exact.
+            let looked = subst (λ z. HasLooked p g.D.Draft.holds g.D.Draft.has c.look-seen.new.self (b ++ z)) (take-take n most hand bound) (c.look-seen.ensures.looked p b h exact) in
             record { fed = looked.fed; exact = looked.exact; ended = λ e. absurd (omega (arith, ap length e, size, c.if-seen-gt0.true)) };
       },
     )
@@ -35,13 +35,13 @@ returns-in-Ok-keep-clause-taken g c =
         size = length-take-le n c.pull.new.buffer c.in-Ok.ensures.count.1;
         taken = c.in-Ok.ensures.taken;
         kept = c.in-Ok-keep.ensures;
-        fed = λ b h exact.
-            let x = looked_nothing g.D.Draft.holds g.D.Draft.has c.look-seen.new.self b _ c.look-seen.result (omega (arith, c.if-seen-gt0.false)) (c.look-seen.ensures.looked b h exact) in
-            c.in-Ok.ensures.fed b x.fed x.exact;
+        fed = λ p b h exact.
+            let x = looked_nothing p g.D.Draft.holds g.D.Draft.has c.look-seen.new.self b _ c.look-seen.result (omega (arith, c.if-seen-gt0.false)) (c.look-seen.ensures.looked p b h exact) in
+            c.in-Ok.ensures.fed p b x.fed x.exact;
       },
     )
 
 pub returns-in-Err-pull-clause-unfinished : goal.returns-in-Err-pull-clause-unfinished
-returns-in-Err-pull-clause-unfinished g c is b h exact =
-    let x = looked_nothing g.D.Draft.holds g.D.Draft.has c.look-seen.new.self b _ c.look-seen.result (omega (arith, c.if-seen-gt0.false)) (c.look-seen.ensures.looked b h exact) in
-    c.in-Err-pull.ensures.unfinished refl b x.fed
+returns-in-Err-pull-clause-unfinished g c is p b h exact =
+    let x = looked_nothing p g.D.Draft.holds g.D.Draft.has c.look-seen.new.self b _ c.look-seen.result (omega (arith, c.if-seen-gt0.false)) (c.look-seen.ensures.looked p b h exact) in
+    c.in-Err-pull.ensures.unfinished refl p b x.fed

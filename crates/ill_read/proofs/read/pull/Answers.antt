@@ -6,27 +6,27 @@ use Rattle.ill_read.proofs.SourceReads.{none_yet, pulled_exact, pulled_ended}
 use Rattle.ill_read.proofs.read.pull.Goals as goal
 
 pub returns-then-wanted-eq0-clause-fed : goal.returns-then-wanted-eq0-clause-fed
-returns-then-wanted-eq0-clause-fed g c b h exact =
+returns-then-wanted-eq0-clause-fed g c p b h exact =
     let d = c.args.reader.now in
     let none : b ++ [] ≡ b = append-nil b in
     let zero = c.if-wanted-eq0.true in
     let space = c.requires.space in let room = c.requires.room in
     record {
-      fed = subst (IsFed g.D.Draft.holds g.D.Draft.has d) (sym none) h;
-      exact = subst NoneEndsWithin (sym none) exact;
-      ended = λ e. pulled_ended d d _ c.ask.result c.min-wanted.result (λ closed. refl) (λ is_open. c.ask.ensures.some b h is_open)
+      fed = subst (IsFed p g.D.Draft.holds g.D.Draft.has d) (sym none) h;
+      exact = subst (NoneEndsWithin p) (sym none) exact;
+      ended = λ e. pulled_ended d d _ c.ask.result c.min-wanted.result (λ closed. refl) (λ opened. c.ask.ensures.some p b h opened)
           (λ z. omega (arith, z, c.min-wanted.ensures, c.min.ensures, space, room))
           (λ l. absurd (omega (arith, l, zero)));
     }
 
 pub returns-in_err-count-clause-unfinished : goal.returns-in_err-count-clause-unfinished
-returns-in_err-count-clause-unfinished g c is_err b h a n accepted =
+returns-in_err-count-clause-unfinished g c is_err p b h a n accepted =
     let wanted = c.if-wanted-eq0.false in
-    none_yet g.D.Draft.holds g.D.Draft.has c.args.reader.now b c.ask.result h c.ask.ensures.closed (λ zero. wanted (omega (arith, zero, c.min-wanted.ensures, c.min.ensures)))
-    (λ x k is_open octets spelled. c.ask.ensures.at_least b [] x k h octets is_open spelled) a n accepted
+    none_yet p g.D.Draft.holds g.D.Draft.has c.args.reader.now b c.ask.result h c.ask.ensures.closed (λ zero. wanted (omega (arith, zero, c.min-wanted.ensures, c.min.ensures)))
+    (λ x k opened octets spelled. c.ask.ensures.at_least p b [] x k h octets opened spelled) a n accepted
 
 pub returns-clause-fed : goal.returns-clause-fed
-returns-clause-fed g c b h exact =
+returns-clause-fed g c p b h exact =
     let d = c.args.reader.now in
     let n = c.in_ok-count.count in
     let given = c.take.new.buffer in
@@ -36,12 +36,12 @@ returns-clause-fed g c b h exact =
     let long : length piece ≡ n = ap length (take-append-le n given (drop c.min-wanted.result c.args.buffer.now) le) ∙ length-take-le n given le in
     let needed : length piece ≤ c.ask.result = omega (arith, long, len, le, c.min-wanted.ensures, c.min.ensures) in
     let space = c.requires.space in let room = c.requires.room in
-    let ends : NoneEndsWithin (b ++ piece) = pulled_exact g.D.Draft.holds g.D.Draft.has d b piece c.ask.result h c.take-2.ensures.octets exact c.ask.ensures.closed
-    (λ a k is_open ok accepted. c.ask.ensures.at_least b piece a k h ok is_open accepted) needed in
+    let ends : NoneEndsWithin p (b ++ piece) = pulled_exact p g.D.Draft.holds g.D.Draft.has d b piece c.ask.result h c.take-2.ensures.octets exact c.ask.ensures.closed
+    (λ a k opened ok accepted. c.ask.ensures.at_least p b piece a k h ok opened accepted) needed in
     record {
-      fed = c.take-2.ensures.fed b h;
+      fed = c.take-2.ensures.fed p b h;
       exact = ends;
-      ended = λ e. pulled_ended d c.take-2.new.self _ c.ask.result c.min-wanted.result c.take-2.ensures.stays (λ is_open. c.ask.ensures.some b h is_open)
+      ended = λ e. pulled_ended d c.take-2.new.self _ c.ask.result c.min-wanted.result c.take-2.ensures.stays (λ opened. c.ask.ensures.some p b h opened)
           (λ z. omega (arith, z, c.min-wanted.ensures, c.min.ensures, space, room))
           (λ l. c.in_ok-count.ensures.octets.1 (let q = ap length e in omega (arith, q, long)) (omega (arith, l, len)));
     }

@@ -3,7 +3,6 @@ use Rattle.ber_core.specs.Der.{encoding}
 use Rattle.ber_core.specs.Id.{tag_of_id}
 use Rattle.ber_core.specs.Tree.{primitive}
 use Rattle.ber_leaf.specs.Leaf.{normal_content, value}
-use Rattle.ber_leaf.proofs.Leaves.{content_holds}
 use Rattle.ill_cells.specs.Places.{alternative_of}
 use Rattle.ill_elements.specs.Due.{IsDueIn, shape, slot_in}
 use Rattle.ill_elements.specs.Due.{due_with}
@@ -16,19 +15,19 @@ pub returns-then-is_left_away : goal.returns-then-is_left_away
 returns-then-is_left_away c after l below h due =
     let leaf = c.args.leaf in
     let octets = c.args.content.now in
-    let right = content_holds (leaf_is leaf) octets c.requires in
+    let right = c.requires.content in
     let x = encoding (primitive (tag_of_id c.args.reading.id) (normal_content (value (leaf_is leaf) octets))) in
     let left = sym (c.is_left_away.ensures (tag_of_id c.args.reading.id) (shape c.args._place) (subst (λ n. IsDueIn (tag_of_id c.args.reading.id) n (due_with (slot_in c.args.reading.found) (alternative_of c.args.reading.found) (LeafElement leaf))) due.next due.is_due) after) ∙ c.if-is_left_away.true in
-    leaf_added c.args.self.now c.args.self.now l below (shape c.args._place) c.args.reading leaf octets h due right.0 right.1
+    leaf_added c.args._profile c.args.self.now c.args.self.now l below (shape c.args._place) c.args.reading leaf octets h due right.0 right.1
     (sym (append-nil c.args.self.now.octets) ∙ ap (λ (b : Bool). c.args.self.now.octets ++ elim b as (λ _. List ℕ) [ true ↦ [] | false ↦ x ]) (sym left))
 
 pub returns : goal.returns
 returns c after l below h due =
     let leaf = c.args.leaf in
     let octets = c.args.content.now in
-    let right = content_holds (leaf_is leaf) octets c.requires in
+    let right = c.requires.content in
     let x = encoding (primitive (tag_of_id c.args.reading.id) (normal_content (value (leaf_is leaf) octets))) in
     let kept = sym (c.is_left_away.ensures (tag_of_id c.args.reading.id) (shape c.args._place) (subst (λ n. IsDueIn (tag_of_id c.args.reading.id) n (due_with (slot_in c.args.reading.found) (alternative_of c.args.reading.found) (LeafElement leaf))) due.next due.is_due) after) ∙ c.if-is_left_away.false in
-    leaf_added c.args.self.now (record c.args.self.now { octets = c.primitive.new.self }) l below (shape c.args._place) c.args.reading leaf octets h due right.0 right.1
+    leaf_added c.args._profile c.args.self.now (record c.args.self.now { octets = c.primitive.new.self }) l below (shape c.args._place) c.args.reading leaf octets h due right.0 right.1
     (c.in_ok-primitive.ensures.encoding c.args.reading.form ∙ ap (λ o. c.args.self.now.octets ++ encoding (primitive (tag_of_id c.args.reading.id) o)) c.normal_content.ensures
     ∙ ap (λ (b : Bool). c.args.self.now.octets ++ elim b as (λ _. List ℕ) [ true ↦ [] | false ↦ x ]) (sym kept))

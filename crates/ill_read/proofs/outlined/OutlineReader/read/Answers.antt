@@ -1,4 +1,32 @@
+use Rattle.std.proofs.Common.{◌≡◌, ◌∙◌, ℕ, List, Ok, None, length, subst, sym}
+use Rattle.std.specs.Io.KnownBytes.{Appends}
+use Rattle.ill_schema.specs.Apdu.{choice_of}
+use Rattle.ill_schema.specs.declared.profile.Profile.TheVariants.{Two}
+use Rattle.ill_read.specs.Answers.{ReadsNext}
+use Rattle.ill_read.specs.Outline.{IsMarked}
+use Rattle.ill_read.specs.Outlined.{IsOutlined}
+use Rattle.ill_read.specs.code.Outlines.{HasOutline}
+use Rattle.ill_read.specs.code.ReaderCode.{IsReadOf}
+use Rattle.ill_read.proofs.NextRead.{reads_as, reads_fails, reads_none}
 use Rattle.ill_read.proofs.outlined.OutlineReader.read.Goals as goal
 
 pub read_draft-requires : goal.read_draft-requires
-read_draft-requires g c = c.restart.ensures c.new.ensures
+read_draft-requires g c = record { takes = c.restart.ensures.profile }
+
+pub returns-in-Ok-Some-clause-next : goal.returns-in-Ok-Some-clause-next
+returns-in-Ok-Some-clause-next g c =
+    let draft = c.read_draft.new.reader.path.draft in
+    let Is : ℕ → List ℕ → Type 0 = λ n octets. (n ≡ length octets) × IsReadOf Two (λ p draft a octets. HasOutline draft a) draft octets × Appends None None octets in
+    let was = subst (λ o. ReadsNext {T = ℕ} (g.R.Source.left c.args.source.now) (g.R.Source.left c.read_draft.new.source) (g.R.Source.is_broken c.args.source.now) (g.R.Source.is_broken c.read_draft.new.source) Is (Ok o)) c.in-Ok-Some.field-0-is
+    (c.in-Ok-Some.ensures Two (c.restart.ensures.«open» c.new.ensures)) in
+    reads_as Is IsOutlined _ _ _ _ c.in-Ok-Some.read c.outlined.result (λ b h. (h.1.0, h.1.1, subst (IsMarked (choice_of h.1.0)) (sym c.outlined.ensures.outline) h.1.2, c.outlined.ensures.read ∙ h.0)) was
+
+pub returns-in-Ok-None-clause-next : goal.returns-in-Ok-None-clause-next
+returns-in-Ok-None-clause-next g c =
+    let Is : ℕ → List ℕ → Type 0 = λ n octets. (n ≡ length octets) × IsReadOf Two (λ p draft a octets. HasOutline draft a) c.read_draft.new.reader.path.draft octets × Appends None None octets in
+    let was = subst (λ o. ReadsNext {T = ℕ} (g.R.Source.left c.args.source.now) (g.R.Source.left c.read_draft.new.source) (g.R.Source.is_broken c.args.source.now) (g.R.Source.is_broken c.read_draft.new.source) Is (Ok o)) c.in-Ok-None.field-0-is
+    (c.in-Ok-None.ensures Two (c.restart.ensures.«open» c.new.ensures)) in
+    reads_none Is IsOutlined _ _ _ _ was
+
+pub returns-in-Err-clause-next : goal.returns-in-Err-clause-next
+returns-in-Err-clause-next g c = reads_fails _ IsOutlined _ _ _ _ c.in-Err.failure (c.in-Err.ensures Two (c.restart.ensures.«open» c.new.ensures))

@@ -1,7 +1,6 @@
+use Rattle.ill_schema.specs.Profiles.{profile_of}
 use Rattle.ill_read.proofs.ProfileOfPath.{stands_at}
 use Rattle.std.proofs.Common.{◌≡◌, ◌-◌, ◌++◌, ◌∙◌, ℕ, List, [], Bor, true, false, take, drop, length, refl, sym, ap, subst, arith, take_all, take-append-drop}
-use Rattle.ill_schema.specs.declared.profile.Profile.TheVariants.{Two}
-use Rattle.ber_leaf.specs.Profile.{profile_two}
 use Rattle.ill_refusals.specs.Place.{bound}
 use Rattle.ill_read.specs.Paths.{HoldsAt}
 use Rattle.ill_elements.specs.Standing.{StandsAt, StandsBefore}
@@ -12,31 +11,31 @@ use Rattle.ill_read.proofs.reader.Reader.advance.Goals as goal
 use Rattle.ill_read.proofs.reader.Reader.advance.Goals.{in-Open, in_default, then-rest-room, else-rest-room}
 
 pub returns-then-ends_at-clause-goes : goal.returns-then-ends_at-clause-goes
-returns-then-ends_at-clause-goes g c s h =
+returns-then-ends_at-clause-goes g c p s h =
     let d = c.args.self.now in let rest = c.args.rest.now in
-    let is_open : d.state ≡ Open = elim c.match-matches.branch [
+    let opened : d.state ≡ Open = elim c.match-matches.branch [
       | in-Open w ↦ w.in-Open.is
       | in_default w ↦ absurd (let q : true ≡ false = sym c.if-not-matches.false ∙ w.matches-is in cc)
     ] in
-    let b = subst (λ st. InState st s (HasRead g.D.Draft.has d s) (StandsBefore Two (HoldsAt g.D.Draft.holds d.path) d.at s rest)) is_open h in
-    c.end_element.ensures.goes [] (bound profile_two b.place - d.at) (length rest) (omega arith) s rest rest b refl refl refl
-    (ended_judged Two b.place d.at rest (sym (c.ends_at.ensures.exact b.place (stands_at g.D.Draft.holds c.args.self.now.path b.place b.stands)) ∙ c.if-ends_at.true))
+    let b = subst (λ st. InState p st s (HasRead p g.D.Draft.has d s) (StandsBefore p (HoldsAt p g.D.Draft.holds d.path) d.at s rest)) opened h in
+    c.end_element.ensures.goes p [] (bound (profile_of p) b.place - d.at) (length rest) (omega arith) s rest rest b refl refl refl
+    (ended_judged p b.place d.at rest (sym (c.ends_at.ensures.exact b.place (stands_at p g.D.Draft.holds c.args.self.now.path b.place b.stands)) ∙ c.if-ends_at.true))
 
 pub returns-clause-goes : goal.returns-clause-goes
-returns-clause-goes g c s h =
+returns-clause-goes g c p s h =
     let d = c.args.self.now in let rest = c.args.rest.now in
-    let is_open : d.state ≡ Open = elim c.match-matches.branch [
+    let opened : d.state ≡ Open = elim c.match-matches.branch [
       | in-Open w ↦ w.in-Open.is
       | in_default w ↦ absurd (let q : true ≡ false = sym c.if-not-matches.false ∙ w.matches-is in cc)
     ] in
-    let b = subst (λ st. InState st s (HasRead g.D.Draft.has d s) (StandsBefore Two (HoldsAt g.D.Draft.holds d.path) d.at s rest)) is_open h in
-    let stands : StandsAt c.args.self.now.path.frames b.place = (stands_at g.D.Draft.holds c.args.self.now.path b.place b.stands) in
+    let b = subst (λ st. InState p st s (HasRead p g.D.Draft.has d s) (StandsBefore p (HoldsAt p g.D.Draft.holds d.path) d.at s rest)) opened h in
+    let stands : StandsAt c.args.self.now.path.frames b.place = (stands_at p g.D.Draft.holds c.args.self.now.path b.place b.stands) in
     let room = c.saturating_sub-room.result in
     let front : c.if-rest-room.window.now ≡ take room rest = elim c.if-rest-room.branch [
       | then-rest-room w ↦ ap (λ (x : Bor (List ℕ)). x.now) w.window-is ∙ sym (take_all room rest (omega (arith, w.if-rest-room.true)))
       | else-rest-room w ↦ ap (λ (x : Bor (List ℕ)). x.now) w.window-is
     ] in
-    let here : room ≡ bound profile_two b.place - d.at = c.saturating_sub-room.ensures ∙ ap (λ n. n - d.at) (c.bound.ensures.exact b.place stands) in
+    let here : room ≡ bound (profile_of p) b.place - d.at = c.saturating_sub-room.ensures ∙ ap (λ n. n - d.at) (c.bound.ensures.exact b.place stands) in
     let joined : rest ≡ c.if-rest-room.window.now ++ drop room rest = sym (ap (λ x. x ++ drop room rest) front ∙ take-append-drop room rest) in
-    c.advance_within.ensures.goes s rest (drop room rest) b refl joined here
-    (within_judged Two b.place d.at rest c.if-rest-room.window.now (sym (c.ends_at.ensures.exact b.place stands) ∙ c.if-ends_at.false) (front ∙ ap (λ m. take m rest) here))
+    c.advance_within.ensures.goes p s rest (drop room rest) b refl joined here
+    (within_judged p b.place d.at rest c.if-rest-room.window.now (sym (c.ends_at.ensures.exact b.place stands) ∙ c.if-ends_at.false) (front ∙ ap (λ m. take m rest) here))

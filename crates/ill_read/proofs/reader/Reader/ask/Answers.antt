@@ -1,5 +1,4 @@
 use Rattle.std.proofs.Common.{◌≡◌, ℕ, [], true, Vec, Global, sym, subst, ◌∙◌, arith}
-use Rattle.ill_schema.specs.declared.profile.Profile.TheVariants.{Two}
 use Rattle.std.specs.Bool.{◌==◌}
 use Rattle.std.specs.Vec.{vec_len}
 use Rattle.std.proofs.lemmas.List.{nil_from_length}
@@ -13,17 +12,17 @@ none_left : (v : Vec ℕ Global) → (vec_len v == 0) ≡ true → v.items ≡ [
 none_left v e = nil_from_length v.items (grind (arith, e))
 
 pub returns-in-1-clause-at_least : goal.returns-in-1-clause-at_least
-returns-in-1-clause-at_least g c fed more a n is ok o h =
+returns-in-1-clause-at_least g c p fed more a n is ok o h =
     let d = c.args.self.now in
     let none = none_left d.pending (sym c.is_empty.ensures ∙ c.if-is_empty.true) in
-    let stands = (is_open g.D.Draft.holds g.D.Draft.has d fed is o).1 in
-    two_at_least (HoldsAt g.D.Draft.holds d.path) d.at fed (subst (StandsLast Two (HoldsAt g.D.Draft.holds d.path) d.at fed) none stands) more a n ok h
+    let stands = (is_open p g.D.Draft.holds g.D.Draft.has d fed is o).1 in
+    two_at_least p (HoldsAt p g.D.Draft.holds d.path) d.at fed (subst (StandsLast p (HoldsAt p g.D.Draft.holds d.path) d.at fed) none stands) more a n ok h
 
 pub returns-in_default-clause-at_least : goal.returns-in_default-clause-at_least
-returns-in_default-clause-at_least g c fed more a n is ok o h = c.need.ensures.at_least fed more a n (is_open g.D.Draft.holds g.D.Draft.has c.args.self.now fed is o) ok h
+returns-in_default-clause-at_least g c p fed more a n is ok o h = c.need.ensures.at_least p fed more a n (is_open p g.D.Draft.holds g.D.Draft.has c.args.self.now fed is o) ok h
 
 pub returns-in_default-2-clause-some : goal.returns-in_default-2-clause-some
-returns-in_default-2-clause-some g c fed is o = c.need.ensures.some fed (is_open g.D.Draft.holds g.D.Draft.has c.args.self.now fed is o)
+returns-in_default-2-clause-some g c p fed is o = c.need.ensures.some p fed (is_open p g.D.Draft.holds g.D.Draft.has c.args.self.now fed is o)
 
 pub returns-in_default-2-clause-at_least : goal.returns-in_default-2-clause-at_least
-returns-in_default-2-clause-at_least g c fed more a n is ok o h = c.need.ensures.at_least fed more a n (is_open g.D.Draft.holds g.D.Draft.has c.args.self.now fed is o) ok h
+returns-in_default-2-clause-at_least g c p fed more a n is ok o h = c.need.ensures.at_least p fed more a n (is_open p g.D.Draft.holds g.D.Draft.has c.args.self.now fed is o) ok h

@@ -1,6 +1,5 @@
+use Rattle.ill_schema.specs.Profiles.{profile_of}
 use Rattle.std.proofs.Common.{◌+◌, ◌≤◌, Ok, Some, drop, take, length, sym, subst}
-use Rattle.ill_schema.specs.declared.profile.Profile.TheVariants.{Two}
-use Rattle.ber_leaf.specs.Profile.{profile_two}
 use Rattle.ill_schema.specs.Apdu.{Apdu}
 use Rattle.ill_refusals.specs.Outcome.{OnlyAccepts}
 use Rattle.ill_refusals.specs.code.Judge.{judge}
@@ -17,21 +16,21 @@ use Rattle.ill_read.proofs.reader.Reader.go_on.Goals as goal
 use Rattle.ill_read.proofs.reader.Reader.go_on.Goals.{then-whole, else-whole}
 
 pub returns-clause-goes : goal.returns-clause-goes
-returns-clause-goes g c path s rest judgement b progress judged size made =
+returns-clause-goes g c p takes path s rest judgement b progress judged size made =
     let holds = g.D.Draft.holds in
     let d = c.args.self.now in
     elim c.if-whole.branch [
       | then-whole w ↦
-          let whole = is_whole holds path d.path d.at s rest judgement b progress judged
-          (subst (λ x. IsStep holds d.path (Ok x) (moved (judge profile_two b.place d.at rest) b.place d.at rest)) w.if-whole.true made) in
-          let here = subst (λ n. (d.at + n ≤ length s) × ((a : Apdu) × HoldsApdu holds d.path.draft a (take (d.at + n) s))) (sym size) whole in
-          subst (λ (r : Reader g.row.D.Denot). HasAdvanced holds g.D.Draft.has r s rest (Some c.args.size)) (sym w.self-is)
-          (after_end g.D.Draft.has w.end.new.self s _ (w.end.ensures.ended s here.1.0 here.0 here.1.1))
+          let whole = is_whole p holds path d.path d.at s rest judgement b progress judged
+          (subst (λ x. IsStep p holds d.path (Ok x) (moved (judge (profile_of p) b.place d.at rest) b.place d.at rest)) w.if-whole.true made) in
+          let here = subst (λ n. (d.at + n ≤ length s) × ((a : Apdu) × HoldsApdu p holds d.path.draft a (take (d.at + n) s))) (sym size) whole in
+          subst (λ (r : Reader g.row.D.Denot). HasAdvanced p holds g.D.Draft.has r s rest (Some c.args.size)) (sym w.self-is)
+          (after_end p g.D.Draft.has w.end.new.self s _ (w.end.ensures.ended p s here.1.0 takes here.0 here.1.1))
       | else-whole w ↦
-          let on = goes_on holds path d.path d.at s rest judgement b progress judged
-          (subst (λ x. IsStep holds d.path (Ok x) (moved (judge profile_two b.place d.at rest) b.place d.at rest)) w.if-whole.false made) in
-          let here = subst (λ n. StandsBefore Two (HoldsAt holds d.path) (d.at + n) s (drop n rest)) (sym size) on in
-          subst (λ (r : Reader g.row.D.Denot). HasAdvanced holds g.D.Draft.has r s rest (Some c.args.size)) (sym w.self-is)
-          (subst (λ st. InState st s ((a : Apdu) × OnlyAccepts profile_two s a (d.at + c.args.size) × g.D.Draft.has d.path.draft a (d.at + c.args.size))
-          (StandsBefore Two (HoldsAt holds d.path) (d.at + c.args.size) s (drop c.args.size rest))) (sym c.requires.open) here)
+          let on = goes_on p holds path d.path d.at s rest judgement b progress judged
+          (subst (λ x. IsStep p holds d.path (Ok x) (moved (judge (profile_of p) b.place d.at rest) b.place d.at rest)) w.if-whole.false made) in
+          let here = subst (λ n. StandsBefore p (HoldsAt p holds d.path) (d.at + n) s (drop n rest)) (sym size) on in
+          subst (λ (r : Reader g.row.D.Denot). HasAdvanced p holds g.D.Draft.has r s rest (Some c.args.size)) (sym w.self-is)
+          (subst (λ st. InState p st s ((a : Apdu) × OnlyAccepts (profile_of p) s a (d.at + c.args.size) × g.D.Draft.has p d.path.draft a (d.at + c.args.size))
+          (StandsBefore p (HoldsAt p holds d.path) (d.at + c.args.size) s (drop c.args.size rest))) (sym c.requires.open) here)
     ]

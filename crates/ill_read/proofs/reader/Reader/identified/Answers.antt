@@ -2,14 +2,12 @@ use Rattle.ill_refusals.specs.Fault.{fault_of}
 use Rattle.ill_refusals.specs.code.Judge.{faulty}
 use Rattle.ill_elements.specs.code.Judging.{judge_identified}
 use Rattle.ill_schema.specs.Profiles.{profile_of}
-use Rattle.ill_read.proofs.ProfileOfPath.{headed_two, in_two, stands_at}
+use Rattle.ill_read.proofs.ProfileOfPath.{headed_in, stands_at}
 use Rattle.std.proofs.Common.{◌≡◌, ◌<◌, ◌++◌, ◌∙◌, get_or, length, Ok, IsTrue, ap, subst, arith, length-append}
-use Rattle.ill_schema.specs.declared.profile.Profile.TheVariants.{Two}
 use Rattle.ber_core.specs.Id.{tag_of_id, form_of_id}
 use Rattle.ber_core.specs.Identifier.{identifier}
 use Rattle.ber_core.specs.Octets.{are_octets}
 use Rattle.ber_leaf.proofs.Leaves.{octets_fit}
-use Rattle.ber_leaf.specs.Profile.{profile_two}
 use Rattle.ill_refusals.specs.Fault.{cut_fault}
 use Rattle.ill_refusals.proofs.Headers.{read_is_identifier}
 use Rattle.ill_elements.specs.Standing.{StandsAt}
@@ -22,65 +20,65 @@ use Rattle.ill_elements.proofs.Judgements.{behind_identifier}
 use Rattle.ill_read.proofs.reader.Reader.identified.Goals as goal
 
 pub returns-in-Err-clause-goes : goal.returns-in-Err-clause-goes
-returns-in-Err-clause-goes g c s rest more b came joined bounded judged =
+returns-in-Err-clause-goes g c p s rest more b came joined bounded judged =
     let w = c.args.window.now in let id = c.args.id in let at = c.args.self.now.at in
     let ok : IsTrue (are_octets w) = octets_fit w (λ k. let l : get_or w k 0 < 256 = omega (arith, c.type_inv.window k) in l) in
     let read = c.requires.header in
-    let cut = cut_fault profile_two b.place at rest in
+    let cut = cut_fault (profile_of p) b.place at rest in
     let front = identifier (tag_of_id id) (form_of_id id) in
     let spelled : w ≡ front ++ read.0 = (read_is_identifier w (tag_of_id id) (form_of_id id) read.0 ok read.1).1 in
-    c.refuse.ensures.goes s rest (
+    c.refuse.ensures.goes p s rest (
       b,
-      judged ∙ behind_identifier Two b.place at cut w front read.0 (tag_of_id id) (form_of_id id) spelled read.1
-          ∙ in_two c.args.self.now.path (λ q. judge_identified q b.place (tag_of_id id) (form_of_id id) at (length front) cut read.0 ≡ faulty (fault_of c.in-Err.refusal)) (c.in-Err.ensures.exact b.place (stands_at g.D.Draft.holds c.args.self.now.path b.place b.stands) (length front) cut read.0),
+      judged ∙ behind_identifier p b.place at cut w front read.0 (tag_of_id id) (form_of_id id) spelled read.1
+          ∙ subst (λ q. judge_identified q b.place (tag_of_id id) (form_of_id id) at (length front) cut read.0 ≡ faulty (fault_of c.in-Err.refusal)) b.stands.3 (c.in-Err.ensures.exact b.place (stands_at p g.D.Draft.holds c.args.self.now.path b.place b.stands) (length front) cut read.0),
     )
 
 pub returns-in-Err-judge_length-clause-goes : goal.returns-in-Err-judge_length-clause-goes
-returns-in-Err-judge_length-clause-goes g c s rest more b came joined bounded judged =
+returns-in-Err-judge_length-clause-goes g c p s rest more b came joined bounded judged =
     let w = c.args.window.now in let id = c.args.id in let at = c.args.self.now.at in
     let ok : IsTrue (are_octets w) = octets_fit w (λ k. let l : get_or w k 0 < 256 = omega (arith, c.type_inv.window k) in l) in
     let read = c.requires.header in
     let front = identifier (tag_of_id id) (form_of_id id) in
     let spelled : w ≡ front ++ read.0 = (read_is_identifier w (tag_of_id id) (form_of_id id) read.0 ok read.1).1 in
-    let stands : StandsAt c.args.self.now.path.frames b.place = stands_at g.D.Draft.holds c.args.self.now.path b.place b.stands in
-    let same = headed_two c.args.self.now.path b.place (tag_of_id id) c.in-Ok.found (form_of_id id) at (cut_fault profile_two b.place at rest) w front read.0 stands (c.in-Ok.ensures.exact b.place stands) spelled read.1 in
-    c.refuse-in-Err-judge_length.ensures.goes s rest (
+    let stands : StandsAt c.args.self.now.path.frames b.place = stands_at p g.D.Draft.holds c.args.self.now.path b.place b.stands in
+    let same = headed_in p c.args.self.now.path b.place (tag_of_id id) c.in-Ok.found (form_of_id id) at (cut_fault (profile_of p) b.place at rest) w front read.0 b.stands.3 stands (c.in-Ok.ensures.exact b.place stands) spelled read.1 in
+    c.refuse-in-Err-judge_length.ensures.goes p s rest (
       b,
-      judged ∙ same ∙ in_two c.args.self.now.path (λ q. judge_length (profile_of q) b.place (element_is (read_as c.in-Ok.found)) (tag_of_id id) (form_of_id id) at (length front) (cut_fault (profile_of q) b.place at rest) read.0 ≡ faulty (fault_of c.in-Err-judge_length.refusal))
+      judged ∙ same ∙ subst (λ q. judge_length (profile_of q) b.place (element_is (read_as c.in-Ok.found)) (tag_of_id id) (form_of_id id) at (length front) (cut_fault (profile_of q) b.place at rest) read.0 ≡ faulty (fault_of c.in-Err-judge_length.refusal)) b.stands.3
           (c.in-Err-judge_length.ensures.exact rest front read.0 came spelled read.2 c.in-Ok.found b.place stands bounded),
     )
 
 pub returns-in-Opens-clause-goes : goal.returns-in-Opens-clause-goes
-returns-in-Opens-clause-goes g c s rest more b came joined bounded judged =
+returns-in-Opens-clause-goes g c p s rest more b came joined bounded judged =
     let w = c.args.window.now in let id = c.args.id in let at = c.args.self.now.at in
     let frames = c.args.self.now.path.frames in
     let ok : IsTrue (are_octets w) = octets_fit w (λ k. let l : get_or w k 0 < 256 = omega (arith, c.type_inv.window k) in l) in
     let read = c.requires.header in
     let front = identifier (tag_of_id id) (form_of_id id) in
     let spelled : w ≡ front ++ read.0 = (read_is_identifier w (tag_of_id id) (form_of_id id) read.0 ok read.1).1 in
-    let stands : StandsAt c.args.self.now.path.frames b.place = stands_at g.D.Draft.holds c.args.self.now.path b.place b.stands in
+    let stands : StandsAt c.args.self.now.path.frames b.place = stands_at p g.D.Draft.holds c.args.self.now.path b.place b.stands in
     let begun = c.in-Ok.ensures.exact b.place stands in
-    let same = headed_two c.args.self.now.path b.place (tag_of_id id) c.in-Ok.found (form_of_id id) at (cut_fault profile_two b.place at rest) w front read.0 stands begun spelled read.1 in
+    let same = headed_in p c.args.self.now.path b.place (tag_of_id id) c.in-Ok.found (form_of_id id) at (cut_fault (profile_of p) b.place at rest) w front read.0 b.stands.3 stands begun spelled read.1 in
     let fits = subst (Fits id (length w)) c.in-Opens.is c.in-Ok-judge_length.ensures.fits in
-    let extent = subst (λ x. IsExtent Two c.in-Ok.found id at w (Ok x) (judge_length profile_two b.place (element_is (read_as c.in-Ok.found)) (tag_of_id id) (form_of_id id) at (length front) (cut_fault profile_two b.place at rest) read.0)) c.in-Opens.is
-    (in_two c.args.self.now.path (λ q. IsExtent q c.in-Ok.found id at w (Ok c.in-Ok-judge_length.extent) (judge_length (profile_of q) b.place (element_is (read_as c.in-Ok.found)) (tag_of_id id) (form_of_id id) at (length front) (cut_fault (profile_of q) b.place at rest) read.0))
+    let extent = subst (λ x. IsExtent p c.in-Ok.found id at w (Ok x) (judge_length (profile_of p) b.place (element_is (read_as c.in-Ok.found)) (tag_of_id id) (form_of_id id) at (length front) (cut_fault (profile_of p) b.place at rest) read.0)) c.in-Opens.is
+    (subst (λ q. IsExtent q c.in-Ok.found id at w (Ok c.in-Ok-judge_length.extent) (judge_length (profile_of q) b.place (element_is (read_as c.in-Ok.found)) (tag_of_id id) (form_of_id id) at (length front) (cut_fault (profile_of q) b.place at rest) read.0)) b.stands.3
     (c.in-Ok-judge_length.ensures.exact rest front read.0 came spelled read.2 c.in-Ok.found b.place stands bounded)) in
-    c.open.ensures.goes s rest (b, (subst (IsBegin frames b.place (tag_of_id id) c.in-Ok.found) fits.0 begun, judged ∙ same ∙ extent))
+    c.open.ensures.goes p s rest (b, (subst (IsBegin frames b.place (tag_of_id id) c.in-Ok.found) fits.0 begun, judged ∙ same ∙ extent))
     (fits.1, omega (arith, fits.2, ap length joined, length-append w more))
 
 pub returns-in-Reads-clause-goes : goal.returns-in-Reads-clause-goes
-returns-in-Reads-clause-goes g c s rest more b came joined bounded judged =
+returns-in-Reads-clause-goes g c p s rest more b came joined bounded judged =
     let w = c.args.window.now in let id = c.args.id in let at = c.args.self.now.at in
     let frames = c.args.self.now.path.frames in
     let ok : IsTrue (are_octets w) = octets_fit w (λ k. let l : get_or w k 0 < 256 = omega (arith, c.type_inv.window k) in l) in
     let read = c.requires.header in
     let front = identifier (tag_of_id id) (form_of_id id) in
     let spelled : w ≡ front ++ read.0 = (read_is_identifier w (tag_of_id id) (form_of_id id) read.0 ok read.1).1 in
-    let stands : StandsAt c.args.self.now.path.frames b.place = stands_at g.D.Draft.holds c.args.self.now.path b.place b.stands in
+    let stands : StandsAt c.args.self.now.path.frames b.place = stands_at p g.D.Draft.holds c.args.self.now.path b.place b.stands in
     let begun = c.in-Ok.ensures.exact b.place stands in
-    let same = headed_two c.args.self.now.path b.place (tag_of_id id) c.in-Ok.found (form_of_id id) at (cut_fault profile_two b.place at rest) w front read.0 stands begun spelled read.1 in
+    let same = headed_in p c.args.self.now.path b.place (tag_of_id id) c.in-Ok.found (form_of_id id) at (cut_fault (profile_of p) b.place at rest) w front read.0 b.stands.3 stands begun spelled read.1 in
     let fits = subst (Fits id (length w)) c.in-Reads.is c.in-Ok-judge_length.ensures.fits in
-    let extent = subst (λ x. IsExtent Two c.in-Ok.found id at w (Ok x) (judge_length profile_two b.place (element_is (read_as c.in-Ok.found)) (tag_of_id id) (form_of_id id) at (length front) (cut_fault profile_two b.place at rest) read.0)) c.in-Reads.is
-    (in_two c.args.self.now.path (λ q. IsExtent q c.in-Ok.found id at w (Ok c.in-Ok-judge_length.extent) (judge_length (profile_of q) b.place (element_is (read_as c.in-Ok.found)) (tag_of_id id) (form_of_id id) at (length front) (cut_fault (profile_of q) b.place at rest) read.0))
+    let extent = subst (λ x. IsExtent p c.in-Ok.found id at w (Ok x) (judge_length (profile_of p) b.place (element_is (read_as c.in-Ok.found)) (tag_of_id id) (form_of_id id) at (length front) (cut_fault (profile_of p) b.place at rest) read.0)) c.in-Reads.is
+    (subst (λ q. IsExtent q c.in-Ok.found id at w (Ok c.in-Ok-judge_length.extent) (judge_length (profile_of q) b.place (element_is (read_as c.in-Ok.found)) (tag_of_id id) (form_of_id id) at (length front) (cut_fault (profile_of q) b.place at rest) read.0)) b.stands.3
     (c.in-Ok-judge_length.ensures.exact rest front read.0 came spelled read.2 c.in-Ok.found b.place stands bounded)) in
-    c.read.ensures.goes s rest more b joined (subst (IsBegin frames b.place (tag_of_id id) c.in-Ok.found) fits.0 begun, judged ∙ same ∙ extent)
+    c.read.ensures.goes p s rest more b joined (subst (IsBegin frames b.place (tag_of_id id) c.in-Ok.found) fits.0 begun, judged ∙ same ∙ extent)

@@ -3,7 +3,7 @@ use Rattle.ill_read.proofs.MessageEnds.{stands_part, last_size, open_stands}
 use Rattle.ill_read.proofs.reader.Reader.outcome.Goals as goal
 
 pub returns-in-Open : goal.returns-in-Open
-returns-in-Open g c s rest h =
+returns-in-Open g c p s rest h =
     let d = c.args.self.now in
-    let last = open_stands g.D.Draft.holds g.D.Draft.has d s rest h c.in-Open.is in
-    (stands_part (HoldsAt g.D.Draft.holds d.path) d.at s rest last, (last_size (HoldsAt g.D.Draft.holds d.path) d.at s rest last).1)
+    let last = open_stands p g.D.Draft.holds g.D.Draft.has d s rest h c.in-Open.is in
+    (stands_part p (HoldsAt p g.D.Draft.holds d.path) d.at s rest last, (last_size p (HoldsAt p g.D.Draft.holds d.path) d.at s rest last).1)

@@ -1,6 +1,6 @@
+use Rattle.ill_schema.specs.Profiles.{profile_of}
 use Rattle.std.proofs.Common.{◌≡◌, ◌+◌, ◌-◌, ◌∙◌, ℕ, List, length, take, drop, refl, sym, ap, subst, arith, length-append}
 use Rattle.ber_core.specs.Id.{tag_of_id}
-use Rattle.ber_leaf.specs.Profile.{profile_two}
 use Rattle.ill_refusals.specs.Fault.{element_fault}
 use Rattle.ill_refusals.specs.code.Judge.{judge, or_faulty, reads}
 use Rattle.ill_elements.specs.Due.{read_as}
@@ -19,25 +19,25 @@ taken : (header size : ℕ) (octets : List ℕ) → take (header + size - header
 taken header size octets = let n : header + size - header ≡ size = omega arith in ap (λ k. take k (drop header octets)) n
 
 pub returns-in-Ok-clause-goes : goal.returns-in-Ok-clause-goes
-returns-in-Ok-clause-goes g c s rest more b joined judged =
+returns-in-Ok-clause-goes g c p s rest more b joined judged =
     let d = c.args.self.now in let r = c.args.reading in let octets = c.args.octets.now in
     let further : content_in r.header r.size octets ≡ content_in r.header r.size rest =
     content_further r.header r.size octets more c.requires.header.1 ∙ ap (content_in r.header r.size) (sym joined) in
-    let at_rest : IsJudgement d.path.frames b.place d.at rest (Reads r) (judge profile_two b.place d.at rest) =
-    (judged.0, judged.1 ∙ ap (λ x. or_faulty (element_fault profile_two (element_is (read_as r.found)) x) d.at (reads (tag_of_id r.id) r.header x)) further) in
-    let made = reads_judged g.D.Draft.holds d.path c.take.new.self b.place r d.at rest (judge profile_two b.place d.at rest) c.take.result b.stands at_rest
+    let at_rest : IsJudgement p d.path.frames b.place d.at rest (Reads r) (judge (profile_of p) b.place d.at rest) =
+    (judged.0, judged.1 ∙ ap (λ x. or_faulty (element_fault (profile_of p) (element_is (read_as r.found)) x) d.at (reads (tag_of_id r.id) r.header x)) further) in
+    let made = reads_judged p g.D.Draft.holds d.path c.take.new.self b.place r d.at rest (judge (profile_of p) b.place d.at rest) c.take.result b.stands at_rest
     (subst (λ x. ReadsExactly g.D.Draft.holds d.path r d.at x c.take.new.self c.take.result) (taken r.header r.size octets ∙ further) c.take.ensures.exact) in
-    c.go_on.ensures.goes d.path s rest (Reads r) b (c.requires.header.0, omega (arith, c.requires.header.1, ap length joined, length-append octets more)) at_rest refl (subst (λ x. IsStep g.D.Draft.holds c.take.new.self x (moved (judge profile_two b.place d.at rest) b.place d.at rest)) c.in-Ok.is made)
+    c.go_on.ensures.goes p (subst g.D.Draft.takes b.stands.3 c.requires.takes) d.path s rest (Reads r) b (c.requires.header.0, omega (arith, c.requires.header.1, ap length joined, length-append octets more)) at_rest refl (subst (λ x. IsStep p g.D.Draft.holds c.take.new.self x (moved (judge (profile_of p) b.place d.at rest) b.place d.at rest)) c.in-Ok.is made)
 
 pub returns-in-Err-clause-goes : goal.returns-in-Err-clause-goes
-returns-in-Err-clause-goes g c s rest more b joined judged =
+returns-in-Err-clause-goes g c p s rest more b joined judged =
     let d = c.args.self.now in let r = c.args.reading in let octets = c.args.octets.now in
     let further : content_in r.header r.size octets ≡ content_in r.header r.size rest =
     content_further r.header r.size octets more c.requires.header.1 ∙ ap (content_in r.header r.size) (sym joined) in
-    let at_rest : IsJudgement d.path.frames b.place d.at rest (Reads r) (judge profile_two b.place d.at rest) =
-    (judged.0, judged.1 ∙ ap (λ x. or_faulty (element_fault profile_two (element_is (read_as r.found)) x) d.at (reads (tag_of_id r.id) r.header x)) further) in
-    let made = reads_judged g.D.Draft.holds d.path c.take.new.self b.place r d.at rest (judge profile_two b.place d.at rest) c.take.result b.stands at_rest
+    let at_rest : IsJudgement p d.path.frames b.place d.at rest (Reads r) (judge (profile_of p) b.place d.at rest) =
+    (judged.0, judged.1 ∙ ap (λ x. or_faulty (element_fault (profile_of p) (element_is (read_as r.found)) x) d.at (reads (tag_of_id r.id) r.header x)) further) in
+    let made = reads_judged p g.D.Draft.holds d.path c.take.new.self b.place r d.at rest (judge (profile_of p) b.place d.at rest) c.take.result b.stands at_rest
     (subst (λ x. ReadsExactly g.D.Draft.holds d.path r d.at x c.take.new.self c.take.result) (taken r.header r.size octets ∙ further) c.take.ensures.exact) in
-    c.fail.ensures.goes s rest (is_refused g.D.Draft.holds d.path c.take.new.self d.at s rest (Reads r) c.in-Err.failure b
+    c.fail.ensures.goes p s rest (is_refused p g.D.Draft.holds d.path c.take.new.self d.at s rest (Reads r) c.in-Err.failure b
     (c.requires.header.0, omega (arith, c.requires.header.1, ap length joined, length-append octets more)) at_rest
-    (subst (λ x. IsStep g.D.Draft.holds c.take.new.self x (moved (judge profile_two b.place d.at rest) b.place d.at rest)) c.in-Err.is made))
+    (subst (λ x. IsStep p g.D.Draft.holds c.take.new.self x (moved (judge (profile_of p) b.place d.at rest) b.place d.at rest)) c.in-Err.is made))

@@ -1,16 +1,20 @@
 use Rattle.std.proofs.Common.{◌∙◌, ℕ, Global, Vec, refl, sym, subst, ap}
-use Rattle.ber_leaf.specs.Content.{IsContent}
-use Rattle.ber_leaf.proofs.Leaves.{content_holds}
-use Rattle.ill_elements.specs.LeafTypes.{leaf_is}
+use Rattle.ill_schema.specs.declared.profile.Profile.TheVariants.{Two}
+use Rattle.ill_read.proofs.ProfileOfPath.{content_two}
+use Rattle.ill_elements.specs.LeafTypes.{IsContentIn, leaf_is}
 use Rattle.ill_read.proofs.ValueDrafts.{list_ends, wrapper_ends, loose_wrapper_ends, string_ends}
 use Rattle.ill_read.proofs.values.Values.ended.Goals as goal
+
+pub value-requires : goal.value-requires
+value-requires c =
+    let octets = c.replace-text.result.items in
+    content_two Two (leaf_is c.in-Leaf.leaf) octets refl (subst (IsContentIn Two (leaf_is c.in-Leaf.leaf)) c.deref.ensures.value (c.in-None.ensures.octets, sym c.in-None.ensures.fault))
 
 pub returns-in-None : goal.returns-in-None
 returns-in-None c =
     let l = c.in-Leaf.leaf in
     let octets = c.replace-text.result.items in
-    let content : IsContent (leaf_is l) octets = subst (IsContent (leaf_is l)) c.deref.ensures.value (c.in-None.ensures.none.0 refl) in
-    let right = content_holds (leaf_is l) octets content in
+    let right = subst (IsContentIn Two (leaf_is l)) c.deref.ensures.value (c.in-None.ensures.octets, sym c.in-None.ensures.fault) in
     string_ends c.args.self.now (record c.args.self.now { text = c.replace-text.new.dest }) c.args.frame c.value.result l octets (sym c.of.ensures.element ∙ c.in-Leaf.is)
     (ap (λ (t : Vec ℕ Global). t.items) c.replace-text.ensures.value) right.0 right.1 c.value.ensures refl (ap (λ (t : Vec ℕ Global). t.items) c.replace-text.ensures.after ∙ c.new.ensures.items)
 

@@ -1,30 +1,37 @@
-use Rattle.std.proofs.Common.{◌∙◌, ◌∷◌, ap₂, subst}
+use Rattle.std.proofs.Common.{◌∙◌, ◌∷◌, Err, ap₂, subst, sym}
 use Rattle.ill_cells.specs.Places.{alternative_of}
-use Rattle.ill_elements.specs.Due.{shape, slot_in}
-use Rattle.ill_read.specs.code.Drafts.{IsChecked, rows_before}
+use Rattle.ill_elements.specs.Due.{read_as, shape, slot_in}
+use Rattle.ill_read.specs.code.Drafts.{IsChecked, IsRightText, rows_before}
 use Rattle.ill_read.specs.code.Held.{HasAdded, IsFound}
 use Rattle.ill_elements.specs.Contents.{with_alternative}
 use Rattle.ill_read.proofs.ClosedElements.{handed_on}
 use Rattle.ill_read.proofs.ValueDrafts.{values_added}
+use Rattle.ill_elements.specs.Standing.{IsHeld}
+use Rattle.ill_read.proofs.ProfileOfPath.{found_two}
 use Rattle.ill_read.proofs.values.ValuesDraft.close.Goals as goal
+
+pub ended-requires : goal.ended-requires
+ended-requires c = found_two c.args._profile c.args.frame.found c.requires.takes c.requires.is_of
 
 pub returns-in_err-value-clause-text : goal.returns-in_err-value-clause-text
 returns-in_err-value-clause-text c tag entries below text h =
-    handed_on (IsChecked c.args.frame text) c.from_residual.result c.in_err-value.field-0.0 c.from_residual.ensures.1 (c.in_err-value.ensures tag entries below text h)
+    handed_on (IsChecked c.args._profile c.args.frame text) c.from_residual.result c.in_err-value.field-0.0 c.from_residual.ensures.1 (subst (λ q. IsChecked q c.args.frame text (Err c.in_err-value.field-0.0)) (sym c.requires.takes) (c.in_err-value.ensures tag entries below text h))
 
 pub returns-in_default-clause-text : goal.returns-in_default-clause-text
-returns-in_default-clause-text c tag entries below text h = (c.in_ok-value.ensures tag entries below text h).0
+returns-in_default-clause-text c tag entries below text h = subst (λ q. IsRightText q (read_as c.args.frame.found) text) (sym c.requires.takes) (c.in_ok-value.ensures tag entries below text h).0
 
 pub returns-in_default-clause-closed : goal.returns-in_default-clause-closed
-returns-in_default-clause-closed c tag entries trees l below text content h held right is value_of due =
+returns-in_default-clause-closed c tag entries trees l below text content h held_in right is value_of due =
+    let held = subst (λ q. IsHeld q (read_as c.args.frame.found) (shape c.args.frame.place) entries trees) c.requires.takes held_in in
     let found = (c.in_ok-value.ensures tag entries (l ∷ below) text h).1 trees content held is in
     absurd (subst (λ x. IsFound x content) c.in_default.is found.0)
 
 pub returns-clause-text : goal.returns-clause-text
-returns-clause-text c tag entries below text h = (c.in_ok-value.ensures tag entries below text h).0
+returns-clause-text c tag entries below text h = subst (λ q. IsRightText q (read_as c.args.frame.found) text) (sym c.requires.takes) (c.in_ok-value.ensures tag entries below text h).0
 
 pub returns-clause-closed : goal.returns-clause-closed
-returns-clause-closed c tag entries trees l below text content h held right is value_of due =
+returns-clause-closed c tag entries trees l below text content h held_in right is value_of due =
+    let held = subst (λ q. IsHeld q (read_as c.args.frame.found) (shape c.args.frame.place) entries trees) c.requires.takes held_in in
     let found = (c.in_ok-value.ensures tag entries (l ∷ below) text h).1 trees content held is in
     let value = subst (λ x. IsFound x content) c.in-Some.is found.0 in
     let f = c.args.frame.found in
