@@ -1,7 +1,11 @@
 -- Normal forms are canonical.
-use Rattle.std.proofs.Common.{◌≡◌, ◌↔◌, ℕ, ◌<◌, ◌≤◌, ◌^◌, List, [], length, Err, refl, sym, ap, ◌∙◌, inl, inr, arith, lit<}
-use Rattle.ber_leaf.specs.Profile.{profile_two}
-use Rattle.ill_schema.specs.Apdu.{Apdu, SpellsApdu, Accepts, normal_form}
+use Rattle.std.proofs.Common.{◌≡◌, ◌↔◌, ℕ, ◌<◌, ◌≤◌, ◌^◌, List, [], length, Err, refl, sym, subst, ap, ◌∙◌, inl, inr, arith, lit<}
+use Rattle.ber_leaf.specs.Profile.{Profile, profile_two}
+use Rattle.ill_schema.specs.Profiles.{profile_of}
+use Rattle.ill_schema.specs.declared.profile.Profile.{Profile as Named}
+use Rattle.ill_schema.specs.declared.profile.Profile.TheVariants.{Two}
+use Rattle.std.proofs.lemmas.List.{take_all}
+use Rattle.ill_schema.specs.Apdu.{Apdu, SpellsApdu, Accepts, normal_form, normal_form_in}
 use Rattle.ill_schema.specs.declared.refusal.Cause.{Cause}
 use Rattle.ill_schema.proofs.MeansFits.{means_apdu_fits}
 use Rattle.ill_schema.proofs.Encodings.{normal_spells, normal_unique}
@@ -9,8 +13,7 @@ use Rattle.ill_schema.proofs.OneMeaning.{one_message}
 use Rattle.ill_schema.proofs.Streams.{accepts_once}
 use Rattle.ill_refusals.specs.Fault.{Fault, fault, fault_of}
 use Rattle.ill_read.specs.declared.failure.Failure.{Failure}
-use Rattle.ill_read.proofs.FedPieces.{accepts_whole}
-use Rattle.ill_read.specs.Answers.{DecodeAnswers, IfRefused, NormalAnswers, RefusesWhole}
+use Rattle.ill_read.specs.Answers.{DecodeAnswers, IfRefused, NormalAnswersIn, RefusesWhole, RefusesWholeIn}
 
 short : (n : ℕ) → n ≤ 1_048_576 → n < 256 ^ 126
 short n h = let k : 1_048_576 < 256 ^ 126 = lit< tt in le_lt n 1_048_576 (256 ^ 126) h k
@@ -18,59 +21,65 @@ short n h = let k : 1_048_576 < 256 ^ 126 = lit< tt in le_lt n 1_048_576 (256 ^ 
     le_lt : (a b c : ℕ) → a ≤ b → b < c → a < c
     le_lt a b c h k = omega arith
 
-pub one_normal : (a b : Apdu) (x y : List ℕ) → SpellsApdu profile_two a x → SpellsApdu profile_two b y → normal_form a ≡ normal_form b → a ≡ b
-one_normal a b x y h k e = normal_unique profile_two a b (means_apdu_fits profile_two a h.encodes.tree h.encodes.means) (means_apdu_fits profile_two b k.encodes.tree k.encodes.means)
-    (short (length (normal_form a)) h.normal_short) (short (length (normal_form b)) k.normal_short) e
+whole_accepted : (p : Profile) (a : Apdu) (s : List ℕ) → SpellsApdu p a s → Accepts p s a (length s)
+whole_accepted p a s spells = (omega arith, subst (SpellsApdu p a) (sym (take_all (length s) s (omega arith))) spells)
+
+pub one_normal : (q : Named) (a b : Apdu) (x y : List ℕ) → SpellsApdu (profile_of q) a x → SpellsApdu (profile_of q) b y → normal_form_in (profile_of q) a ≡ normal_form_in (profile_of q) b → a ≡ b
+one_normal q a b x y h k e =
+    let p = profile_of q in
+    normal_unique p a b (means_apdu_fits p a h.encodes.tree h.encodes.means) (means_apdu_fits p b k.encodes.tree k.encodes.means)
+    (short (length (normal_form_in p a)) h.normal_short) (short (length (normal_form_in p b)) k.normal_short) e
 
 pub exactly : (a b : Apdu) (x y : List ℕ) → SpellsApdu profile_two a x → SpellsApdu profile_two b y → (normal_form a ≡ normal_form b) ↔ (a ≡ b)
-exactly a b x y h k = (one_normal a b x y h k, ap normal_form)
+exactly a b x y h k = (one_normal Two a b x y h k, ap normal_form)
 
 pub spells_normal : (a : Apdu) (x : List ℕ) → SpellsApdu profile_two a x → SpellsApdu profile_two a (normal_form a)
 spells_normal a x h = normal_spells profile_two a (means_apdu_fits profile_two a h.encodes.tree h.encodes.means) (lit< tt) h.normal_short
 
 pub accepts_normal : (a : Apdu) (x : List ℕ) → SpellsApdu profile_two a x → Accepts profile_two (normal_form a) a (length (normal_form a))
-accepts_normal a x h = accepts_whole a (normal_form a) (spells_normal a x h)
+accepts_normal a x h = whole_accepted profile_two a (normal_form a) (spells_normal a x h)
 
 -- octets spell one APDU
-pub spells_once : (a b : Apdu) (s : List ℕ) → SpellsApdu profile_two a s → SpellsApdu profile_two b s → a ≡ b
-spells_once a b s h k = (one_message profile_two a b s s [] [] h.encodes k.encodes refl).0
+pub spells_once : {p : Profile} (a b : Apdu) (s : List ℕ) → SpellsApdu p a s → SpellsApdu p b s → a ≡ b
+spells_once {p = p} a b s h k = (one_message p a b s s [] [] h.encodes k.encodes refl).0
 
 pub own_normal : (a b : Apdu) (x : List ℕ) → SpellsApdu profile_two a x → SpellsApdu profile_two b (normal_form a) → normal_form b ≡ normal_form a
 own_normal a b x h k = ap normal_form (spells_once b a (normal_form a) k (spells_normal a x h))
 
 -- what is refused whole is no spelling
-pub refuses_whole : (s : List ℕ) (f : Fault) (a : Apdu) → RefusesWhole s f → SpellsApdu profile_two a s → ⊥
-refuses_whole s f a (inl only) h = only.2 a (length s) (accepts_whole a s h)
-refuses_whole s f a (inr (b, n, accepts, lt, e)) h =
-    let same = (accepts_once profile_two s a b (length s) n (accepts_whole a s h) accepts).1 in omega (arith, same, lt)
+pub refuses_whole : {p : Profile} (s : List ℕ) (f : Fault) (a : Apdu) → RefusesWholeIn p s f → SpellsApdu p a s → ⊥
+refuses_whole {p = p} s f a (inl only) h = only.2 a (length s) (whole_accepted p a s h)
+refuses_whole {p = p} s f a (inr (b, n, accepts, lt, e)) h =
+    let same = (accepts_once p s a b (length s) n (whole_accepted p a s h) accepts).1 in omega (arith, same, lt)
 
 -- what refuses a slice
 pub decode_refuses : (s : List ℕ) (e : Failure) → DecodeAnswers s (Err e) → IfRefused e (RefusesWhole s)
 decode_refuses s (Failure.Refused refusal) h = h
 decode_refuses s Failure.OutOfMemory h = tt
 
-pub normal_refuses : (s : List ℕ) (e : Failure) → NormalAnswers s (Err e) → IfRefused e (RefusesWhole s)
-normal_refuses s (Failure.Refused refusal) h = h
-normal_refuses s Failure.OutOfMemory h = tt
+pub normal_refuses : (p : Profile) (s : List ℕ) (e : Failure) → NormalAnswersIn p s (Err e) → IfRefused e (RefusesWholeIn p s)
+normal_refuses p s (Failure.Refused refusal) h = h
+normal_refuses p s Failure.OutOfMemory h = tt
 
 -- a spelling is not refused, so there is no memory
-pub only_memory : (e : Failure) (s : List ℕ) (a : Apdu) → IfRefused e (RefusesWhole s) → SpellsApdu profile_two a s → e ≡ Failure.OutOfMemory
-only_memory (Failure.Refused refusal) s a h k = absurd (refuses_whole s (fault_of refusal) a h k)
-only_memory Failure.OutOfMemory s a h k = refl
+pub only_memory : {p : Profile} (e : Failure) (s : List ℕ) (a : Apdu) → IfRefused e (RefusesWholeIn p s) → SpellsApdu p a s → e ≡ Failure.OutOfMemory
+only_memory {p = p} (Failure.Refused refusal) s a h k = absurd (refuses_whole {p = p} s (fault_of refusal) a h k)
+only_memory {p = p} Failure.OutOfMemory s a h k = refl
 
 -- what compares normal forms compares APDUs
-pub compared_forms : (a b : Apdu) (x y s t : List ℕ) (P : Type 0) → SpellsApdu profile_two a s → SpellsApdu profile_two b t → x ≡ normal_form a → y ≡ normal_form b
-    → P ↔ (x ≡ y) → (P ↔ (a ≡ b)) × (P ↔ (normal_form a ≡ normal_form b))
-compared_forms a b x y s t P h k x_is y_is e =
-    let forward : P → normal_form a ≡ normal_form b = λ p. sym x_is ∙ e.0 p ∙ y_is in
-    let back : normal_form a ≡ normal_form b → P = λ n. e.1 (x_is ∙ n ∙ sym y_is) in
-    ((λ p. one_normal a b s t h k (forward p), λ n. back (ap normal_form n)), (forward, back))
+pub compared_forms : (q : Named) (a b : Apdu) (x y s t : List ℕ) (P : Type 0) → SpellsApdu (profile_of q) a s → SpellsApdu (profile_of q) b t → x ≡ normal_form_in (profile_of q) a → y ≡ normal_form_in (profile_of q) b
+    → P ↔ (x ≡ y) → (P ↔ (a ≡ b)) × (P ↔ (normal_form_in (profile_of q) a ≡ normal_form_in (profile_of q) b))
+compared_forms q a b x y s t P h k x_is y_is e =
+    let form = normal_form_in (profile_of q) in
+    let forward : P → form a ≡ form b = λ p. sym x_is ∙ e.0 p ∙ y_is in
+    let back : form a ≡ form b → P = λ n. e.1 (x_is ∙ n ∙ sym y_is) in
+    ((λ p. one_normal q a b s t h k (forward p), λ n. back (ap form n)), (forward, back))
 
 -- octets are refused whole in one way
-pub refuses_once : (s : List ℕ) (f g : Fault) → RefusesWhole s f → RefusesWhole s g → f ≡ g
-refuses_once s f g (inl only) (inl other) = other.1 f only.0
-refuses_once s f g (inl only) (inr (b, n, accepts, lt, e)) = absurd (only.2 b n accepts)
-refuses_once s f g (inr (a, m, accepts, lt, e)) (inl other) = absurd (other.2 a m accepts)
-refuses_once s f g (inr (a, m, h, lt, e)) (inr (b, n, k, lt', e')) =
-    let same = (accepts_once profile_two s a b m n h k).1 in
+pub refuses_once : {p : Profile} (s : List ℕ) (f g : Fault) → RefusesWholeIn p s f → RefusesWholeIn p s g → f ≡ g
+refuses_once {p = p} s f g (inl only) (inl other) = other.1 f only.0
+refuses_once {p = p} s f g (inl only) (inr (b, n, accepts, lt, e)) = absurd (only.2 b n accepts)
+refuses_once {p = p} s f g (inr (a, m, accepts, lt, e)) (inl other) = absurd (other.2 a m accepts)
+refuses_once {p = p} s f g (inr (a, m, h, lt, e)) (inr (b, n, k, lt', e')) =
+    let same = (accepts_once p s a b m n h k).1 in
     e ∙ ap (λ (x : ℕ). fault Cause.TrailingBytes x) same ∙ sym e'

@@ -1,12 +1,15 @@
 //! What there is to say of a message.
 ghost use Rattle.std.specs.Prelude.{◌≡◌, ℕ, List, IfSome};
 ghost use Rattle.ber_leaf.specs.Profile.{profile_two};
-ghost use Rattle.ill_schema.specs.Apdu.{Apdu, Accepts, SpellsApdu, normal_form};
-ghost use Rattle.ill_read.specs.Answers.{AnswersSome, ReadsNext};
-ghost use Rattle.ill_normal.specs.Checking.{Describes, IsFormOf};
+ghost use Rattle.ill_schema.specs.Apdu.{Apdu, Accepts, SpellsApdu, normal_form_in};
+ghost use Rattle.ill_schema.specs.Profiles.{profile_of};
+ghost use Rattle.ill_schema.specs.declared.profile.Profile.{Profile as Named};
+ghost use Rattle.ill_read.specs.Answers.{AnswersSome, ReadsNext, ReadsNextIn};
+ghost use Rattle.ill_normal.specs.Checking.{Describes, DescribesIn, IsFormIn, IsFormOf};
 
 use ber_core::{Look, Source, Unseen};
 use ill_read::{NormalReader, ReadFailure};
+use ill_schema::Profile;
 use std::alloc::Global;
 
 /// A message, and how it was spelled.
@@ -33,7 +36,30 @@ pub fn check_one<R: Source>(alloc: Global, source: &mut R) -> Result<Option<Chec
     // A spelling at the front is checked, unless memory or the source failed.
     ensures accepts { IfSome (R.left source.old) (λ s. (a : Apdu) (n : ℕ) → Accepts profile_two s a n → AnswersSome result) }
 {
-    check_one_by::<R, Unseen>(alloc, source)
+    check_one_as(alloc, Profile::Two, source)
+}
+
+/// Checks a message in the profile as [`check_one`] does.
+///
+/// # Errors
+///
+/// Those of [`check_one`], in the profile.
+pub fn check_one_as<R: Source>(
+    alloc: Global,
+    profile: Profile,
+    source: &mut R,
+) -> Result<Option<Checked>, ReadFailure>
+    ensures next { ReadsNextIn (profile_of profile) (R.left source.old) (R.left source.new) (R.is_broken source.old) (R.is_broken source.new)
+        (DescribesIn (profile_of profile)) result }
+    // A spelling at the front is checked, unless memory or the source failed.
+    ensures accepts { IfSome (R.left source.old) (λ s. (a : Apdu) (n : ℕ) → Accepts (profile_of profile) s a n → AnswersSome result) }
+{
+    let mut reader = NormalReader::new(alloc);
+    let Some(found) = check_in::<R, Unseen>(alloc, profile, &mut reader, source, Vec::new(alloc))?
+    else {
+        return Ok(None);
+    };
+    Ok(Some(found.0))
 }
 
 /// Checks a message as [`check_one`] does, by a way to look at the source.
@@ -73,8 +99,25 @@ pub fn check_one_in<R: Source, L: Look<R>>(
     // A spelling at the front is checked, unless memory or the source failed.
     ensures accepts { IfSome (R.left source.old) (λ s. (a : Apdu) (n : ℕ) → Accepts profile_two s a n → AnswersSome result) }
 {
+    check_in::<R, L>(alloc, Profile::Two, reader, source, room)
+}
+
+/// Checks a message in the profile as [`check_one_in`] does.
+#[inline(always)]
+fn check_in<R: Source, L: Look<R>>(
+    alloc: Global,
+    profile: Profile,
+    reader: &mut NormalReader,
+    source: &mut R,
+    room: Vec<u8>,
+) -> Result<Option<(Checked, Vec<u8>)>, ReadFailure>
+    ensures next { ReadsNextIn (profile_of profile) (R.left source.old) (R.left source.new) (R.is_broken source.old) (R.is_broken source.new)
+        (λ found octets. DescribesIn (profile_of profile) found.0 octets × IsFormIn (profile_of profile) found.1.items octets) result }
+    // A spelling at the front is checked, unless memory or the source failed.
+    ensures accepts { IfSome (R.left source.old) (λ s. (a : Apdu) (n : ℕ) → Accepts (profile_of profile) s a n → AnswersSome result) }
+{
     let mut kept = Vec::new(alloc);
-    let Some(normal) = reader.read_kept::<R, L>(source, room, &mut kept)? else {
+    let Some(normal) = reader.read_kept_as::<R, L>(profile, source, room, &mut kept)? else {
         return Ok(None);
     };
     let checked = Checked {
@@ -88,7 +131,8 @@ pub fn check_one_in<R: Source, L: Look<R>>(
 
 /// The number of the APDU whose normal form this is: its first octet is [APPLICATION number], constructed.
 fn apdu_number(normal: &[u8]) -> u8
-    ensures { (a : Apdu) (b : List ℕ) → SpellsApdu profile_two a b → normal.now ≡ normal_form a → result ≡ a.number }
+    ensures { (p : Named) (a : Apdu) (b : List ℕ) → SpellsApdu (profile_of p) a b → normal.now ≡ normal_form_in (profile_of p) a
+        → result ≡ a.number }
 {
     match normal {
         [first, ..] => first % 32,

@@ -23,21 +23,22 @@ pub use ber_core::{
 pub use ber_leaf::{
     DateText, GeneralText, IllString, LeafFault, PrintableText, TimeText, VisibleText,
 };
-pub use check::{Checked, check_one, check_one_by, check_one_in};
-pub use compare::{Side, is_normal, same_message};
+pub use check::{Checked, check_one, check_one_as, check_one_by, check_one_in};
+pub use compare::{Side, is_normal, is_normal_as, same_message, same_message_as};
 pub use failure::{NormalFailure, StreamCause, StreamFailure};
 pub use ill_read::{
-    Failure, Normal, NormalReader, ReadFailure, decode, decode_normal, read_kept_normal_by,
-    read_message, read_message_by, read_normal_by, read_normal_in,
+    Failure, Normal, NormalReader, ReadFailure, decode, decode_normal, decode_normal_as,
+    read_kept_normal_by, read_message, read_message_by, read_normal_as, read_normal_by,
+    read_normal_in,
 };
 pub use ill_schema::{
-    Cause, Kind, LIMIT, LeafKind, Message, Mode, NodeId, PartId, Presence, Refusal, Row, Unfit,
-    Value, apdu_name, apdu_node, kind, part_name, row, rows,
+    Cause, Kind, LIMIT, LeafKind, Message, Mode, NodeId, PartId, Presence, Profile, Refusal, Row,
+    Unfit, Value, apdu_name, apdu_node, kind, part_name, row, rows,
 };
 pub use laws::{
     normal_form_is_accepted, normal_form_is_its_own, normal_forms_are_equal_exactly_if_apdus_are,
     one_prefix_is_accepted, one_refusal_of_a_slice,
 };
 pub use messages::{Maker, Output, Passed, Piece, Position, Stopped, Why, each_message};
-pub use single::normalise;
+pub use single::{normalise, normalise_as};
 pub use stream::{NormalForms, normalise_stream};

@@ -1,3 +1,4 @@
+use Rattle.ber_leaf.specs.Profile.{profile_two}
 use Rattle.std.proofs.lemmas.Result.{err_from_is_err_and}
 use Rattle.ill_normal.proofs.Canonical.{normal_refuses, only_memory}
 use Rattle.ill_digest.proofs.message_digest.Goals as goal
@@ -5,4 +6,4 @@ use Rattle.ill_digest.proofs.message_digest.Goals as goal
 pub returns-in_err-normal-clause-accepts : goal.returns-in_err-normal-clause-accepts
 returns-in_err-normal-clause-accepts c =
     let p = err_from_is_err_and c.from_residual.result c.from_residual.ensures.1 in
-    rw (p.1, p.2) (λ a h. only_memory _ _ a (normal_refuses _ _ c.in_err-normal.ensures) h)
+    rw (p.1, p.2) (λ a h. only_memory _ _ a (normal_refuses profile_two _ _ c.in_err-normal.ensures) h)

@@ -3,11 +3,11 @@ use Rattle.ill_normal.proofs.ApduOctets.{first_octet, number_is}
 use Rattle.ill_normal.proofs.check.apdu_number.Goals as goal
 
 pub returns-in-empty : goal.returns-in-empty
-returns-in-empty c a b h e =
-    let first = first_octet a b h in
+returns-in-empty c q a b h e =
+    let first = first_octet q a b h in
     absurd (let q = ap length (e ∙ first.1) in let z = c.in-empty.len_below in omega (arith, q, z))
 
 pub returns-in-len1-up : goal.returns-in-len1-up
-returns-in-len1-up c a b h e =
-    let first = first_octet a b h in
+returns-in-len1-up c q a b h e =
+    let first = first_octet q a b h in
     ap (λ (x : List ℕ). slice_index_or x 0 0 % 32) (e ∙ first.1) ∙ number_is a.number first.2

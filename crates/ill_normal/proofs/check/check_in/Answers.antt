@@ -1,0 +1,40 @@
+use Rattle.std.proofs.Common.{◌≡◌, ℕ, List, ◌++◌, length, refl, sym, ap, ◌∙◌}
+use Rattle.std.proofs.lemmas.Bool.Decides.{Decides-eqb}
+use Rattle.std.proofs.lemmas.Slice.Eq.{slice_eq-Decides}
+use Rattle.ill_read.specs.Answers.{IsNormalIn}
+use Rattle.ill_read.specs.declared.normal.Normal.{Normal}
+use Rattle.ill_normal.specs.declared.check.Checked.{Checked}
+use Rattle.std.proofs.lemmas.Result.{err_from_is_err_and}
+use Rattle.ill_read.proofs.NextRead.{reads_as}
+use Rattle.ill_normal.specs.Checking.{DescribesIn, IsFormIn}
+use Rattle.ill_schema.specs.Apdu.{normal_form_in}
+use Rattle.ill_schema.specs.Profiles.{profile_of}
+use Rattle.ill_normal.proofs.Canonical.{spells_once}
+use Rattle.ill_normal.proofs.DescribedMessages.{described}
+use Rattle.ill_normal.proofs.InputAnswers.{none_is_no_spelling, read_fails_accepts}
+use Rattle.ill_normal.proofs.check.check_in.Goals as goal
+
+pub returns-in_err-normal-clause-accepts : goal.returns-in_err-normal-clause-accepts
+returns-in_err-normal-clause-accepts g c =
+    let p = err_from_is_err_and c.from_residual.result c.from_residual.ensures.1 in
+    rw (p.1, p.2) (read_fails_accepts (profile_of c.args.profile) _ _ c.in_err-normal.ensures.next.refused)
+
+pub returns-in_default-clause-accepts : goal.returns-in_default-clause-accepts
+returns-in_default-clause-accepts g c = let h = rw c.in_default.is at c.in_ok-normal.ensures.next.none in none_is_no_spelling (profile_of c.args.profile) _ _ _ h.0 h.1
+
+pub returns-clause-next : goal.returns-clause-next
+returns-clause-next g c =
+    let p = profile_of c.args.profile in
+    let h = rw c.in-Some.is at c.in_ok-normal.ensures.next in
+    let eq = slice_eq-Decides Decides-eqb c.as_slice.result.now c.as_slice-2.result.now c.eq.result c.eq.ensures in
+    let checked : Checked = record { apdu = c.apdu_number.result; octets = c.in-Some.normal.read; normal = c.len.result; is_normal = c.eq.result } in
+    reads_as (λ (n : Normal) (b : List ℕ). IsNormalIn p n b × (c.read_kept_as.new.kept.items ≡ c.new-kept.result.items ++ b)) (λ found b. DescribesIn p found.0 b × IsFormIn p found.1.items b)
+    (g.R.Source.left c.args.source.now) (g.R.Source.left c.read_kept_as.new.source) (g.R.Source.is_broken c.args.source.now) (g.R.Source.is_broken c.read_kept_as.new.source)
+    c.in-Some.normal (checked, c.in-Some.normal.octets)
+    (λ b is. (
+      described p checked c.in-Some.normal b _ is.0 (is.1 ∙ ap (λ x. x ++ b) c.new-kept.ensures.items)
+          (λ a s h e. c.apdu_number.ensures c.args.profile a s h (c.deref.ensures.value ∙ e)) refl (c.len.ensures ∙ sym c.as_slice-2.ensures.len ∙ ap length c.as_slice-2.ensures.value)
+          (λ t. sym c.as_slice.ensures.value ∙ eq.0 t ∙ c.as_slice-2.ensures.value, λ e. eq.1 (c.as_slice.ensures.value ∙ e ∙ sym c.as_slice-2.ensures.value)),
+      λ a s. is.0.2 ∙ ap (normal_form_in p) (spells_once is.0.0 a b is.0.1 s),
+    ))
+    h
