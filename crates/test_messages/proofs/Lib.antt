@@ -2,3 +2,4 @@ pub mod Accepted
 pub mod FrontForms
 pub mod Refused
 pub mod ModuleForms
+pub mod WrittenForms

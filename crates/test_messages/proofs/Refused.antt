@@ -8,38 +8,38 @@ use Rattle.ill_schema.specs.declared.refusal.Refusal.{Refusal}
 use Rattle.ill_schema.proofs.Streams.{accepts_once, accepts_some, drop_front, parts_accept}
 use Rattle.ill_refusals.specs.Fault.{Fault, fault_of}
 use Rattle.ill_refusals.specs.Outcome.{OnlyRefuses}
-use Rattle.ill_read.specs.Answers.{ReadsNext}
+use Rattle.ill_read.specs.Answers.{ReadsNextIn}
 use Rattle.ill_read.specs.declared.failure.ReadFailure.{ReadFailure}
-use Rattle.ill_normal.specs.Compared.{RefusesSide}
+use Rattle.ill_normal.specs.Compared.{RefusesSideIn}
 use Rattle.ill_normal.specs.Streamed.{Passes}
 use Rattle.ill_normal.specs.declared.compare.Side.{Side}
 use Rattle.ill_normal.specs.declared.failure.StreamFailure.{StreamFailure}
 use Rattle.ill_normal.proofs.Canonical.{refuses_once, refuses_whole}
 
 -- What is refused is not read.
-pub never_read : {T : Type 0} (Is : T → List ℕ → Type 0) (s t : List ℕ) (broken broken' : Bool) (f : Fault) (r : Result (Option T) ReadFailure)
-    → ((x : T) (b : List ℕ) → Is x b → (c : Apdu) × SpellsApdu profile_two c b)
-    → 0 < length s → OnlyRefuses profile_two s f → ReadsNext (Some s) (Some t) broken broken' Is r → IfOk r (λ _. ⊥)
-never_read Is s t broken broken' f (Ok (Some x)) spells some only next =
+pub never_read : {T : Type 0} (p : Profile) (Is : T → List ℕ → Type 0) (s t : List ℕ) (broken broken' : Bool) (f : Fault) (r : Result (Option T) ReadFailure)
+    → ((x : T) (b : List ℕ) → Is x b → (c : Apdu) × SpellsApdu p c b)
+    → 0 < length s → OnlyRefuses p s f → ReadsNextIn p (Some s) (Some t) broken broken' Is r → IfOk r (λ _. ⊥)
+never_read p Is s t broken broken' f (Ok (Some x)) spells some only next =
     let o = next.message.0 in
     let a = spells x o next.message.2 in
-    only.2 a.0 (length o) (parts_accept profile_two s a.0 o t next.message.1 a.1)
-never_read Is s t broken broken' f (Ok None) spells some only next = let empty : s ≡ [] = next.none.0 ∙ next.none.1 in absurd (omega (arith, some, ap length empty))
-never_read Is s t broken broken' f (Err e) spells some only next = tt
+    only.2 a.0 (length o) (parts_accept p s a.0 o t next.message.1 a.1)
+never_read p Is s t broken broken' f (Ok None) spells some only next = let empty : s ≡ [] = next.none.0 ∙ next.none.1 in absurd (omega (arith, some, ap length empty))
+never_read p Is s t broken broken' f (Err e) spells some only next = tt
 
 -- The fault that is read is the one.
-pub one_fault : {T : Type 0} (Is : T → List ℕ → Type 0) (s t : List ℕ) (broken broken' : Bool) (f : Fault) (x : Refusal) (r : Result (Option T) ReadFailure)
-    → OnlyRefuses profile_two s f → ReadsNext (Some s) (Some t) broken broken' Is r → r ≡ Err (ReadFailure.Refused x) → fault_of x ≡ f
-one_fault {T = T} Is s t broken broken' f x r only next e =
-    let read = subst (λ (q : Result (Option T) ReadFailure). ReadsNext (Some s) (Some t) broken broken' Is q) e next in
+pub one_fault : {T : Type 0} (p : Profile) (Is : T → List ℕ → Type 0) (s t : List ℕ) (broken broken' : Bool) (f : Fault) (x : Refusal) (r : Result (Option T) ReadFailure)
+    → OnlyRefuses p s f → ReadsNextIn p (Some s) (Some t) broken broken' Is r → r ≡ Err (ReadFailure.Refused x) → fault_of x ≡ f
+one_fault {T = T} p Is s t broken broken' f x r only next e =
+    let read = subst (λ (q : Result (Option T) ReadFailure). ReadsNextIn p (Some s) (Some t) broken broken' Is q) e next in
     only.1 (fault_of x) read.refused.1.0
 
 -- One side is refused, and with one fault.
-pub one_side : (s t : List ℕ) (a b : Side) (f g : Fault) → RefusesSide s t a f → RefusesSide s t b g → (a ≡ b) × (f ≡ g)
-one_side s t Side.First Side.First f g h k = (refl, refuses_once s f g h k)
-one_side s t Side.First Side.Second f g h k = absurd (refuses_whole s f k.0.0 h k.0.1)
-one_side s t Side.Second Side.First f g h k = absurd (refuses_whole s g h.0.0 k h.0.1)
-one_side s t Side.Second Side.Second f g h k = (refl, refuses_once t f g h.1 k.1)
+pub one_side : (p : Profile) (s t : List ℕ) (a b : Side) (f g : Fault) → RefusesSideIn p s t a f → RefusesSideIn p s t b g → (a ≡ b) × (f ≡ g)
+one_side p s t Side.First Side.First f g h k = (refl, refuses_once {p = p} s f g h k)
+one_side p s t Side.First Side.Second f g h k = absurd (refuses_whole {p = p} s f k.0.0 h k.0.1)
+one_side p s t Side.Second Side.First f g h k = absurd (refuses_whole {p = p} s g h.0.0 k h.0.1)
+one_side p s t Side.Second Side.Second f g h k = (refl, refuses_once {p = p} t f g h.1 k.1)
 
 -- Octets are one stream.
 pub same_stream : (p : Profile) (s : List ℕ) (xs ys : List Apdu) → IsStream p s xs [] → IsStream p s ys [] → xs ≡ ys

@@ -5,6 +5,7 @@ mod contracts;
 mod going;
 mod hostile;
 mod one;
+mod profiles;
 mod refused;
 mod rows;
 mod sips;

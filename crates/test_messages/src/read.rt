@@ -1,5 +1,7 @@
 //! Worked inputs through the decoder and the reader.
 mod contracts;
+mod module;
+mod module_rows;
 mod rows;
 
 use ber_core::{Broken, Pieces, Source};

@@ -1,10 +1,14 @@
-//! Contracts that leave one result, for a decoder: what the calls return is proved of their contracts and the laws alone. So a body
+//! Contracts that leave one result, for a decoder and in each profile: what the calls return is proved of their contracts and the laws alone. So a body
 //! that returns anything else doesn't meet its contract. That memory was refused is the one result that may come besides.
-ghost use Rattle.std.specs.Prelude.{◌≡◌, ◌≢◌, ◌<◌, ℕ, List, [], Err, IfErr};
+ghost use Rattle.std.specs.Prelude.{◌≡◌, ◌≢◌, ◌<◌, ℕ, List, [], length, Ok, Err, IfErr};
+ghost use Rattle.ill_schema.specs.Apdu.{Apdu, SpellsApdu, normal_form_in};
+ghost use Rattle.ill_schema.specs.Profiles.{profile_of};
 ghost use Rattle.ill_read.specs.Feeding.{HasFailedWith, IsOpenAfter, IsWholeWith, MayTake};
 
-use ill_read::{Decoder, Failure, Progress, decoders_are_apart, one_place};
-use ill_schema::Message;
+use ill_read::{
+    Decoder, Failure, Normal, Progress, decode_normal_as, decoders_are_apart, one_place,
+};
+use ill_schema::{Message, Profile, Refusal};
 use std::alloc::Global;
 
 /// A new decoder is open, so it has not failed and has no message.
@@ -92,4 +96,25 @@ fn open_decoders_need_one_number(one: &Decoder, other: &Decoder) -> (u32, u32)
 {
     one_place();
     (one.need(), other.need())
+}
+
+/// In each profile a slice has the normal form of the APDU that it spells, or one refusal.
+fn slices_have_one_normal_form_in_each_profile(
+    octets: &[u8],
+    profile: Profile,
+    alloc: Global,
+) -> (Result<Normal, Failure>, Result<Normal, Failure>)
+    ensures form { (a : Apdu) (n : Normal) → SpellsApdu (profile_of profile) a octets.now → result.0 ≡ Ok n
+        → n.octets.items ≡ normal_form_in (profile_of profile) a }
+    ensures same { (m n : Normal) → result.0 ≡ Ok m → result.1 ≡ Ok n → m.octets.items ≡ n.octets.items }
+    ensures read { (n : Normal) → result.0 ≡ Ok n → n.read ≡ length octets.now }
+    ensures accepted { (a : Apdu) (x : Refusal) → SpellsApdu (profile_of profile) a octets.now
+        → result.0 ≡ Err (Failure.Refused x) → ⊥ }
+    ensures refusal { (x y : Refusal) → result.0 ≡ Err (Failure.Refused x) → result.1 ≡ Err (Failure.Refused y) → x ≡ y }
+    ensures apart { (n : Normal) (x : Refusal) → result.0 ≡ Ok n → result.1 ≡ Err (Failure.Refused x) → ⊥ }
+{
+    (
+        decode_normal_as(alloc, profile, octets),
+        decode_normal_as(alloc, profile, octets),
+    )
 }
