@@ -8,7 +8,8 @@ use Rattle.std.specs.Io.KnownBytes.{Consumes, Keeps, IsAtEnd}
 use Rattle.std.proofs.KnownBytes.{Consumes-nil, Consumes-trans, Consumes-kept}
 use Rattle.ber_core.specs.Length.{short}
 use Rattle.ber_core.specs.Tree.{depth}
-use Rattle.ber_leaf.specs.Profile.{profile_two}
+use Rattle.ill_schema.specs.Profiles.{profile_of}
+use Rattle.ill_schema.specs.declared.profile.Profile.{Profile as Named}
 use Rattle.ber_frame.specs.declared.framer.Frame.{Frame}
 use Rattle.ber_frame.specs.declared.framer.Frame.TheVariants as framed
 use Rattle.ber_frame.specs.declared.framer.Framer.{Framer}
@@ -21,8 +22,8 @@ use Rattle.ill_schema.specs.Apdu.{Apdu, SpellsApdu}
 use Rattle.ill_schema.proofs.Streams.{take_front}
 use Rattle.ill_refusals.specs.Fault.{fault_of}
 use Rattle.ill_refusals.specs.Outcome.{OnlyRefuses}
-use Rattle.ill_read.specs.Answers.{IsUnfinished}
-use Rattle.ill_normal.specs.Messages.{Spelling, counted, Makes}
+use Rattle.ill_read.specs.Answers.{IsUnfinishedIn}
+use Rattle.ill_normal.specs.Messages.{Spelling, counted, MakesIn}
 use Rattle.ill_normal.proofs.WrittenMessages.{counted_left}
 use Rattle.ill_normal.specs.declared.messages.Piece.{Piece}
 use Rattle.ill_going.specs.declared.next.Next.{Next}
@@ -165,18 +166,18 @@ element_endless left left' f kept count size frame r le judged = record {
 
 -- ---- what is taken, as messages
 
-pub spelling_framed : (a : Apdu) (b : List ℕ) → SpellsApdu profile_two a b → IsFrame b
-spelling_framed a b h =
+pub spelling_framed : (q : Named) (a : Apdu) (b : List ℕ) → SpellsApdu (profile_of q) a b → IsFrame b
+spelling_framed q a b h =
     let e = h.encodes in
     let short : length b ≤ 1_048_576 = e.short in
     let shallow : depth e.tree ≤ 32 = e.shallow in
     tree_framed e.tree 18_446_744_073_709_551_615 b e.spells (omega (arith, short)) (omega (arith, shallow))
 
 -- in part of an element no message ends
-no_message : (b : List ℕ) → IsPart b → ((n : ℕ) → n < length b → IsPart (take n b)) → IsUnfinished b
-no_message b p within a n h = elim (cases_lt n (length b)) [
-  | inl lt ↦ part_and_whole (take n b) (within n lt) (spelling_framed a (take n b) h.1)
-  | inr ge ↦ part_and_whole b p (subst IsFrame (take_all n b ge) (spelling_framed a (take n b) h.1))
+no_message : (q : Named) (b : List ℕ) → IsPart b → ((n : ℕ) → n < length b → IsPart (take n b)) → IsUnfinishedIn (profile_of q) b
+no_message q b p within a n h = elim (cases_lt n (length b)) [
+  | inl lt ↦ part_and_whole (take n b) (within n lt) (spelling_framed q a (take n b) h.1)
+  | inr ge ↦ part_and_whole b p (subst IsFrame (take_all n b ge) (spelling_framed q a (take n b) h.1))
 ]
 
 pub part_taken : (left left' left'' : Option (List ℕ)) (f : Framer) (kept : List ℕ) (count size : ℕ) → Framing left left' f kept count size → Keeps left' left'' → ((b : List ℕ) → IsFed f b → IsPart b)
@@ -184,7 +185,7 @@ pub part_taken : (left left' left'' : Option (List ℕ)) (f : Framer) (kept : Li
 part_taken left left' left'' f kept count size r keeps part = record {
   octets = r.octets;
   taken = Consumes-kept left left' left'' r.octets r.taken keeps;
-  unfinished = no_message r.octets (part r.octets r.fed) r.within;
+  unfinished = λ q. no_message q r.octets (part r.octets r.fed) r.within;
 }
 
 none_is_part : IsPart []
@@ -196,13 +197,13 @@ nothing_kept m (x ∷ xs) e = let f : x ∷ take m xs ≡ [] = e in cc
 
 module _ (left left' : Option (List ℕ)) (kept : List ℕ) (size : ℕ) (frame : Frame) (t : TakesElement left left' kept size frame) where
   -- a message at the front of an element is the element
-  message_is : (a : Apdu) (m rest : List ℕ) → SpellsApdu profile_two a m → kept ≡ m ++ rest → t.octets ≡ m
-  message_is a m rest h e =
+  message_is : (q : Named) (a : Apdu) (m rest : List ℕ) → SpellsApdu (profile_of q) a m → kept ≡ m ++ rest → t.octets ≡ m
+  message_is q a m rest h e =
       let all : t.octets ≡ m ++ (rest ++ drop 1_048_576 t.octets) =
       sym (take-append-drop 1_048_576 t.octets) ∙ ap (λ z. z ++ drop 1_048_576 t.octets) (sym t.keeps ∙ e) ∙ append_assoc m rest (drop 1_048_576 t.octets) in
       let more = rest ++ drop 1_048_576 t.octets in
       elim (cases_lt (length m) (length t.octets)) [
-        | inl lt ↦ part_and_whole m (subst IsPart (ap (λ z. take (length m) z) all ∙ take_front m more) (t.within (length m) lt)) (spelling_framed a m h)
+        | inl lt ↦ part_and_whole m (subst IsPart (ap (λ z. take (length m) z) all ∙ take_front m more) (t.within (length m) lt)) (spelling_framed q a m h)
         | inr ge ↦ all ∙ ap (λ z. m ++ z) (none_left more (omega (arith, ge, ap length all, length-append m more))) ∙ append-nil m
       ]
     where
@@ -210,10 +211,10 @@ module _ (left left' : Option (List ℕ)) (kept : List ℕ) (size : ℕ) (frame 
       none_left [] z = refl
       none_left (o ∷ x) z = absurd (omega (arith, z))
 
-  pub read_next : {T : Type 0} (is : T → List ℕ → Type 0) (text : Spelling → List ℕ) (is_good : Spelling → Bool) (piece : Piece T) (rest : List ℕ) (m : List ℕ) → Consumes (Some kept) (Some rest) m
-      → Makes is text is_good piece m → IsNext is text is_good left left' (Next.Read piece)
-  read_next is text is_good piece rest m c h =
-      let same = message_is h.apdu m rest h.spells c in
+  pub read_next : {T : Type 0} (q : Named) (is : T → List ℕ → Type 0) (text : Spelling → List ℕ) (is_good : Spelling → Bool) (piece : Piece T) (rest : List ℕ) (m : List ℕ) → Consumes (Some kept) (Some rest) m
+      → MakesIn (profile_of q) is text is_good piece m → IsNext (profile_of q) is text is_good left left' (Next.Read piece)
+  read_next q is text is_good piece rest m c h =
+      let same = message_is q h.apdu m rest h.spells c in
       (m, subst (Consumes left left') same t.taken, h)
 
   pub none_next : (rest : List ℕ) → Consumes (Some kept) (Some rest) [] → IsAtEnd (Some rest) → Consumes left left' [] × IsAtEnd left'
@@ -228,12 +229,12 @@ module _ (left left' : Option (List ℕ)) (kept : List ℕ) (size : ℕ) (frame 
   end_is framed.Unframed j = inl (record { front = t.octets; more = []; joined = sym (append-nil t.octets); unframed = j; within = t.within })
   end_is framed.Part j = inr (j, t.part j)
 
-  pub refused_next : {T : Type 0} (is : T → List ℕ → Type 0) (text : Spelling → List ℕ) (is_good : Spelling → Bool) (refusal : Refusal) (end : Option ℕ) → end ≡ end_of frame size
-      → OnlyRefuses profile_two kept (fault_of refusal) → IsNext {T = T} is text is_good left left' (Next.Refused refusal end)
-  refused_next is text is_good refusal end e h = (
+  pub refused_next : {T : Type 0} (q : Named) (is : T → List ℕ → Type 0) (text : Spelling → List ℕ) (is_good : Spelling → Bool) (refusal : Refusal) (end : Option ℕ) → end ≡ end_of frame size
+      → OnlyRefuses (profile_of q) kept (fault_of refusal) → IsNext (profile_of q) {T = T} is text is_good left left' (Next.Refused refusal end)
+  refused_next q is text is_good refusal end e h = (
     t.octets,
     t.taken,
-    subst (λ z. OnlyRefuses profile_two z (fault_of refusal)) t.keeps h,
+    subst (λ z. OnlyRefuses (profile_of q) z (fault_of refusal)) t.keeps h,
     subst (λ (o : Option ℕ). MatchOption o (HasNoEnd t.octets left') (λ n. IsFrame t.octets × (n ≡ counted (length t.octets)))) (sym e) (end_is frame t.judged),
   )
 
@@ -271,27 +272,27 @@ none_begins octets more unframed within m rest frame e = elim (cases_lt (length 
   | inr ge ↦ let t = front_of octets m more rest ge e in unframed t.0 (subst IsFrame t.1 frame)
 ]
 
-unframed_unfinished : (octets more : List ℕ) → IsUnframed octets → ((n : ℕ) → n < length octets → IsPart (take n octets)) → IsUnfinished (octets ++ more)
-unframed_unfinished octets more unframed within a n h =
-    none_begins octets more unframed within (take n (octets ++ more)) (drop n (octets ++ more)) (spelling_framed a (take n (octets ++ more)) h.1) (sym (take-append-drop n (octets ++ more)))
+unframed_unfinished : (q : Named) (octets more : List ℕ) → IsUnframed octets → ((n : ℕ) → n < length octets → IsPart (take n octets)) → IsUnfinishedIn (profile_of q) (octets ++ more)
+unframed_unfinished q octets more unframed within a n h =
+    none_begins octets more unframed within (take n (octets ++ more)) (drop n (octets ++ more)) (spelling_framed q a (take n (octets ++ more)) h.1) (sym (take-append-drop n (octets ++ more)))
 
 pub unframed_broken : (left left' left'' : Option (List ℕ)) (kept kept' : List ℕ) (size : ℕ) → TakesElement left left' kept size framed.Unframed → TakesRest left' left'' kept kept' → TakesPart left left''
 unframed_broken left left' left'' kept kept' size t r = record {
   octets = t.octets ++ r.more;
   taken = Consumes-trans left left' left'' t.octets r.more t.taken r.taken;
-  unfinished = unframed_unfinished t.octets r.more t.judged t.within;
+  unfinished = λ q. unframed_unfinished q t.octets r.more t.judged t.within;
 }
 
 module _ (left left' : Option (List ℕ)) (kept : List ℕ) (size : ℕ) where
   -- what the reader made of what was kept
-  pub read_took : {T : Type 0} (is : T → List ℕ → Type 0) (text : Spelling → List ℕ) (is_good : Spelling → Bool) (frame : Frame) → Took left left' kept size frame → (piece : Piece T) (rest m : List ℕ)
-      → Consumes (Some kept) (Some rest) m → Makes is text is_good piece m → IsNext is text is_good left left' (Next.Read piece)
-  read_took is text is_good framed.Whole t piece rest m c h = read_next left left' kept size framed.Whole t is text is_good piece rest m c h
-  read_took is text is_good framed.Part t piece rest m c h = read_next left left' kept size framed.Part t is text is_good piece rest m c h
-  read_took is text is_good framed.Unframed t piece rest m c h =
+  pub read_took : {T : Type 0} (q : Named) (is : T → List ℕ → Type 0) (text : Spelling → List ℕ) (is_good : Spelling → Bool) (frame : Frame) → Took left left' kept size frame → (piece : Piece T) (rest m : List ℕ)
+      → Consumes (Some kept) (Some rest) m → MakesIn (profile_of q) is text is_good piece m → IsNext (profile_of q) is text is_good left left' (Next.Read piece)
+  read_took q is text is_good framed.Whole t piece rest m c h = read_next left left' kept size framed.Whole t q is text is_good piece rest m c h
+  read_took q is text is_good framed.Part t piece rest m c h = read_next left left' kept size framed.Part t q is text is_good piece rest m c h
+  read_took q is text is_good framed.Unframed t piece rest m c h =
       let all : t.octets ++ t.more ≡ m ++ (rest ++ drop 1_048_576 (t.octets ++ t.more)) =
       sym (take-append-drop 1_048_576 (t.octets ++ t.more)) ∙ ap (λ z. z ++ drop 1_048_576 (t.octets ++ t.more)) (sym t.keeps ∙ c) ∙ append_assoc m rest (drop 1_048_576 (t.octets ++ t.more)) in
-      absurd (none_begins t.octets t.more t.unframed t.within m _ (spelling_framed h.apdu m h.spells) all)
+      absurd (none_begins t.octets t.more t.unframed t.within m _ (spelling_framed q h.apdu m h.spells) all)
 
   nothing_first : (a b : List ℕ) → a ++ b ≡ [] → a ≡ []
   nothing_first [] b e = refl
@@ -304,14 +305,14 @@ module _ (left left' : Option (List ℕ)) (kept : List ℕ) (size : ℕ) where
       let none : t.octets ≡ [] = nothing_first t.octets t.more (nothing_kept 1_048_575 (t.octets ++ t.more) (sym t.keeps ∙ c ∙ end)) in
       absurd (t.unframed none_is_part.0 (subst (λ z. IsFrame (z ++ none_is_part.0)) (sym none) none_is_part.2))
 
-  pub refused_took : {T : Type 0} (is : T → List ℕ → Type 0) (text : Spelling → List ℕ) (is_good : Spelling → Bool) (frame : Frame) → Took left left' kept size frame → (refusal : Refusal) (end : Option ℕ)
-      → end ≡ end_of frame size → OnlyRefuses profile_two kept (fault_of refusal) → IsNext {T = T} is text is_good left left' (Next.Refused refusal end)
-  refused_took is text is_good framed.Whole t refusal end e h = refused_next left left' kept size framed.Whole t is text is_good refusal end e h
-  refused_took is text is_good framed.Part t refusal end e h = refused_next left left' kept size framed.Part t is text is_good refusal end e h
-  refused_took is text is_good framed.Unframed t refusal end e h = (
+  pub refused_took : {T : Type 0} (q : Named) (is : T → List ℕ → Type 0) (text : Spelling → List ℕ) (is_good : Spelling → Bool) (frame : Frame) → Took left left' kept size frame → (refusal : Refusal) (end : Option ℕ)
+      → end ≡ end_of frame size → OnlyRefuses (profile_of q) kept (fault_of refusal) → IsNext (profile_of q) {T = T} is text is_good left left' (Next.Refused refusal end)
+  refused_took q is text is_good framed.Whole t refusal end e h = refused_next left left' kept size framed.Whole t q is text is_good refusal end e h
+  refused_took q is text is_good framed.Part t refusal end e h = refused_next left left' kept size framed.Part t q is text is_good refusal end e h
+  refused_took q is text is_good framed.Unframed t refusal end e h = (
     t.octets ++ t.more,
     t.taken,
-    subst (λ z. OnlyRefuses profile_two z (fault_of refusal)) t.keeps h,
+    subst (λ z. OnlyRefuses (profile_of q) z (fault_of refusal)) t.keeps h,
     subst (λ (o : Option ℕ). MatchOption o (HasNoEnd (t.octets ++ t.more) left') (λ n. IsFrame (t.octets ++ t.more) × (n ≡ counted (length (t.octets ++ t.more))))) (sym e)
         (inl (record { front = t.octets; more = t.more; joined = refl; unframed = t.unframed; within = t.within })),
   )

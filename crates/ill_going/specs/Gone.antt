@@ -2,9 +2,10 @@
 use Rattle.std.specs.Prelude.{◌≡◌, ◌⊎◌, ℕ, ◌+◌, ◌<◌, ◌≤◌, Bool, false, List, [], ◌∷◌, ◌++◌, length, take, Option, IsTrue}
 use Rattle.std.specs.Io.KnownBytes.{Consumes, Keeps, Appends, IsAtEnd}
 use Rattle.ber_frame.specs.Framed.{IsPart, IsUnframed}
+use Rattle.ber_leaf.specs.Profile.{Profile}
 use Rattle.ill_schema.specs.declared.refusal.Refusal.{Refusal}
 use Rattle.ill_normal.specs.Calls.{Taking, taking, Putting, putting}
-use Rattle.ill_normal.specs.Messages.{Spelling, counted, first, BreaksWithin, TakesNoFurther}
+use Rattle.ill_normal.specs.Messages.{Spelling, counted, first, BreaksWithinIn, TakesNoFurtherIn}
 use Rattle.ill_normal.specs.declared.messages.Position.{Position}
 use Rattle.ill_going.specs.Items.{Item, AreItems, IsRefusedFor, position_past, written_from, report, reports_from, good_in, all_good, Adds}
 use Rattle.ill_going.specs.declared.report.Report.{Report}
@@ -21,9 +22,9 @@ abbrev pub reporting : Option (List Report) → Option (List Report) → Reporti
 reporting old new = record { old = old; new = new }
 
 -- the octets that were taken are these messages; what is written of them was put, and what is refused was reported
-pub record Goes (text : Position → Spelling → List ℕ) (left left' held held' : Option (List ℕ)) (reports : Reporting) (items : List Item) : Type 0 where
+pub record Goes (q : Profile) (text : Position → Spelling → List ℕ) (left left' held held' : Option (List ℕ)) (reports : Reporting) (items : List Item) : Type 0 where
   pub octets : List ℕ
-  pub are : AreItems octets items []
+  pub are : AreItems q octets items []
   pub taken : Consumes left left' octets
   pub written : Appends held held' (written_from text first items)
   pub reported : Adds reports.old reports.new (reports_from 1 items)
@@ -42,12 +43,12 @@ abbrev pub HasNoEnd : List ℕ → Option (List ℕ) → Type 0
 HasNoEnd octets left' = IsEndless octets ⊎ (IsPart octets × (IsAtEnd left' ⊎ (18_446_744_073_709_551_615 ≤ length octets)))
 
 -- after this many messages one was refused whose end can't be known, which was reported
-pub record LosesEnd (left left' : Option (List ℕ)) (reports : Reporting) (before : ℕ) : Type 0 where
+pub record LosesEnd (q : Profile) (left left' : Option (List ℕ)) (reports : Reporting) (before : ℕ) : Type 0 where
   pub octets : List ℕ
   pub refusal : Refusal
   pub taken : Consumes left left' octets
   pub no_end : HasNoEnd octets left'
-  pub refused : IsRefusedFor octets refusal
+  pub refused : IsRefusedFor q octets refusal
   pub reported : Adds reports.old reports.new (report (before + 1) refusal false ∷ [])
 
 -- nothing was left
@@ -57,30 +58,30 @@ pub record IsDone (left left' : Option (List ℕ)) (reports : Reporting) : Type 
   pub reported : Adds reports.old reports.new []
 
 -- what came after these messages: the end of the input, or one more that was refused, whose end can't be known
-abbrev pub EndsWith : Option (List ℕ) → Option (List ℕ) → Reporting → List Item → Gone → Type 0
-EndsWith left left' reports items gone =
+abbrev pub EndsWith : Profile → Option (List ℕ) → Option (List ℕ) → Reporting → List Item → Gone → Type 0
+EndsWith q left left' reports items gone =
     (IsDone left left' reports × (gone.messages ≡ length items) × (gone.refused ≡ length (reports_from 1 items)))
-    ⊎ (LosesEnd left left' reports (length items) × (gone.messages ≡ length items + 1) × (gone.refused ≡ length (reports_from 1 items) + 1))
+    ⊎ (LosesEnd q left left' reports (length items) × (gone.messages ≡ length items + 1) × (gone.refused ≡ length (reports_from 1 items) + 1))
 
 -- the input was gone through, as far as the ends of its messages can be known
-pub record GoesThrough (text : Position → Spelling → List ℕ) (is_good : Spelling → Bool) (source : Taking) (sink : Putting) (reports : Reporting) (gone : Gone) : Type 0 where
+pub record GoesThrough (q : Profile) (text : Position → Spelling → List ℕ) (is_good : Spelling → Bool) (source : Taking) (sink : Putting) (reports : Reporting) (gone : Gone) : Type 0 where
   pub items : List Item
   pub rest : Option (List ℕ)
   pub reported : Option (List Report)
-  pub goes : Goes text source.left rest sink.held sink.held' (reporting reports.old reported) items
-  pub ends : EndsWith rest source.left' (reporting reported reports.new) items gone
+  pub goes : Goes q text source.left rest sink.held sink.held' (reporting reports.old reported) items
+  pub ends : EndsWith q rest source.left' (reporting reported reports.new) items gone
   pub few : gone.messages ≤ 1_000_000
   pub good : gone.good ≡ good_in is_good items
   pub octets : gone.octets ≡ counted (length goes.octets)
   pub all : gone.all_good ≡ all_good is_good items
 
 -- why no further message was gone through, after `before` of them, where `next` is the position of the next one
-abbrev pub Halts : (Position → Spelling → List ℕ) → Taking → Putting → ℕ → Position → Why → Type 0
-Halts text source sink before next Why.OutOfMemory = (before < 1_000_000) × Keeps sink.held sink.held'
-Halts text source sink before next Why.ReadFault =
-    (before ≤ 1_000_000) × IsTrue source.broken × TakesNoFurther before source.left source.left' × Keeps sink.held sink.held'
-Halts text source sink before next (Why.WriteFault n) = (before < 1_000_000) × BreaksWithin (text next) source sink n
-Halts text source sink before next Why.TooMany =
+abbrev pub Halts : Profile → (Position → Spelling → List ℕ) → Taking → Putting → ℕ → Position → Why → Type 0
+Halts q text source sink before next Why.OutOfMemory = (before < 1_000_000) × Keeps sink.held sink.held'
+Halts q text source sink before next Why.ReadFault =
+    (before ≤ 1_000_000) × IsTrue source.broken × TakesNoFurtherIn q before source.left source.left' × Keeps sink.held sink.held'
+Halts q text source sink before next (Why.WriteFault n) = (before < 1_000_000) × BreaksWithinIn q (text next) source sink n
+Halts q text source sink before next Why.TooMany =
     (before ≡ 1_000_000) × ((octet : ℕ) × Consumes source.left source.left' (octet ∷ [])) × Keeps sink.held sink.held'
 
 -- the octets of the last message that were written, where the sink broke within it
@@ -89,14 +90,14 @@ part_of (Why.WriteFault n) = n
 part_of _ = 0
 
 -- the messages before the end, and why there was one
-pub record HaltsAfter (text : Position → Spelling → List ℕ) (is_good : Spelling → Bool) (source : Taking) (sink : Putting) (reports : Reporting) (halted : Halted) : Type 0 where
+pub record HaltsAfter (q : Profile) (text : Position → Spelling → List ℕ) (is_good : Spelling → Bool) (source : Taking) (sink : Putting) (reports : Reporting) (halted : Halted) : Type 0 where
   pub items : List Item
   pub rest : Option (List ℕ)
   pub grown : Option (List ℕ)
-  pub goes : Goes text source.left rest sink.held grown reports items
+  pub goes : Goes q text source.left rest sink.held grown reports items
   pub messages : halted.messages ≡ length items
   pub refused : halted.refused ≡ length (reports_from 1 items)
   pub good : halted.good ≡ good_in is_good items
   pub octets : halted.octets ≡ counted (length goes.octets)
   pub written : halted.written ≡ length (written_from text first items) + part_of halted.why
-  pub halts : Halts text (taking rest source.left' source.broken) (putting grown sink.held' sink.broken) halted.messages (position_past first items) halted.why
+  pub halts : Halts q text (taking rest source.left' source.broken) (putting grown sink.held' sink.broken) halted.messages (position_past first items) halted.why

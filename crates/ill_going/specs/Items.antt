@@ -1,6 +1,6 @@
 -- An input that isn't given up at a message that is refused: what it is, what is written of it, and what is reported.
 use Rattle.std.specs.Prelude.{◌≡◌, ℕ, suc, ◌+◌, Bool, true, ◌&&◌, List, [], ◌∷◌, ◌++◌, length, take, Option, Some, None}
-use Rattle.ber_leaf.specs.Profile.{profile_two}
+use Rattle.ber_leaf.specs.Profile.{Profile}
 use Rattle.ber_frame.specs.Framed.{IsFrame}
 use Rattle.ill_schema.specs.declared.refusal.Refusal.{Refusal}
 use Rattle.ill_schema.specs.Apdu.{SpellsApdu}
@@ -16,14 +16,14 @@ pub data Item : Type 0 where
   bad : List ℕ → Refusal → Item
 
 -- the refusal says the one fault of the octets; of more than a message may have, that of the first 1,048,576
-abbrev pub IsRefusedFor : List ℕ → Refusal → Type 0
-IsRefusedFor octets refusal = OnlyRefuses profile_two (take 1_048_576 octets) (fault_of refusal)
+abbrev pub IsRefusedFor : Profile → List ℕ → Refusal → Type 0
+IsRefusedFor q octets refusal = OnlyRefuses q (take 1_048_576 octets) (fault_of refusal)
 
 -- s is these messages, one after another, and then the rest; those that are refused are framed elements
-abbrev pub AreItems : List ℕ → List Item → List ℕ → Type 0
-AreItems s [] rest = s ≡ rest
-AreItems s (good m ∷ items) rest = (t : List ℕ) × (s ≡ m.octets ++ t) × SpellsApdu profile_two m.apdu m.octets × AreItems t items rest
-AreItems s (bad octets refusal ∷ items) rest = (t : List ℕ) × (s ≡ octets ++ t) × IsFrame octets × IsRefusedFor octets refusal × AreItems t items rest
+abbrev pub AreItems : Profile → List ℕ → List Item → List ℕ → Type 0
+AreItems q s [] rest = s ≡ rest
+AreItems q s (good m ∷ items) rest = (t : List ℕ) × (s ≡ m.octets ++ t) × SpellsApdu q m.apdu m.octets × AreItems q t items rest
+AreItems q s (bad octets refusal ∷ items) rest = (t : List ℕ) × (s ≡ octets ++ t) × IsFrame octets × IsRefusedFor q octets refusal × AreItems q t items rest
 
 abbrev pub item_octets : Item → List ℕ
 item_octets (good m) = m.octets

@@ -1,6 +1,7 @@
 //! What holds of the definitions alone.
 ghost use Rattle.std.specs.Prelude.{◌≡◌, ◌≢◌, ℕ, ◌<◌, List, ◌++◌, length, Some};
-ghost use Rattle.ber_leaf.specs.Profile.{profile_two};
+ghost use Rattle.ill_schema.specs.Profiles.{profile_of};
+ghost use Rattle.ill_schema.specs.declared.profile.Profile.{Profile as Named};
 ghost use Rattle.ill_schema.specs.declared.refusal.Refusal.{Refusal};
 ghost use Rattle.ill_refusals.specs.Fault.{fault_of, Refuses};
 ghost use Rattle.ill_normal.specs.Messages.{Spelling, first, output_from};
@@ -16,9 +17,9 @@ pub fn good_ones_are_written()
         → written_from text p items ≡ output_from text first (good_ones items) }
 {}
 
-/// An input is messages in one way, as far as their ends can be known.
+/// In each profile an input is messages in one way, as far as their ends can be known.
 pub fn one_way()
-    ensures { (s rest over : List ℕ) (items others : List Item) → AreItems s items rest → HasNoMore rest → AreItems s others over → HasNoMore over
+    ensures { (p : Named) (s rest over : List ℕ) (items others : List Item) → AreItems (profile_of p) s items rest → HasNoMore rest → AreItems (profile_of p) s others over → HasNoMore over
         → (items ≡ others) × (rest ≡ over) }
 {}
 
@@ -29,6 +30,6 @@ pub fn lost_ends_are_last()
 
 /// A refusal that says more than that the octets end is that of the input that they begin, so it is what a call returns that stops there.
 pub fn refusals_are_of_the_input()
-    ensures { (octets rest : List ℕ) (refusal : Refusal) → refusal.cause ≢ Cause.Truncated → IsRefusedFor octets refusal
-        → Refuses profile_two (octets ++ rest) (fault_of refusal) }
+    ensures { (p : Named) (octets rest : List ℕ) (refusal : Refusal) → refusal.cause ≢ Cause.Truncated → IsRefusedFor (profile_of p) octets refusal
+        → Refuses (profile_of p) (octets ++ rest) (fault_of refusal) }
 {}

@@ -2,6 +2,7 @@
 ghost use Rattle.std.specs.Prelude.{◌≡◌, ℕ, ◌-◌, ◌<◌, ◌≤◌, List, [], ◌++◌, length, take, IfOk, IfErr, OnOk, IsTrue, MatchOption};
 ghost use Rattle.std.specs.Io.KnownBytes.{Consumes, IsAtEnd, Keeps};
 ghost use Rattle.ber_frame.specs.Framed.{IsPart};
+ghost use Rattle.ill_schema.specs.Profiles.{profile_of};
 ghost use Rattle.ber_frame.specs.Framer.{IsFed, Judged};
 ghost use Rattle.ill_going.specs.code.Taking.{end_of, IsNext, Takes, TakesElement, TakesPart, TakesRest, Took};
 
@@ -56,7 +57,7 @@ pub fn next_message<M: Maker, R: Source, L: Look<R>>(
     room: M::Out,
 ) -> Result<Option<Next<M::Out>>, Unread>
     ensures next { IfOk result (λ found. MatchOption found (Consumes (R.left source.old) (R.left source.new) [] × IsAtEnd (R.left source.new))
-        (IsNext M.Out.is (M.text maker.now position) (M.is_good maker.now) (R.left source.old) (R.left source.new))) }
+        (IsNext (profile_of (M.profile maker.now)) M.Out.is (M.text maker.now position) (M.is_good maker.now) (R.left source.old) (R.left source.new))) }
     ensures broken { IfErr result (λ e. e ≡ Unread.Broken → IsTrue (R.is_broken source.new) × TakesPart (R.left source.old) (R.left source.new)) }
     ensures stays { IsTrue (R.is_broken source.old) → IsTrue (R.is_broken source.new) }
 {

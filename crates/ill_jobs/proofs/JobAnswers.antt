@@ -7,6 +7,7 @@ use Rattle.ill_schema.specs.Apdu.{Apdu, Accepts}
 use Rattle.ill_schema.proofs.Streams.{parts_accept, accepts_once, accepts_some, take_front, tails}
 use Rattle.ill_refusals.specs.Fault.{Fault, fault_of}
 use Rattle.ill_refusals.specs.Outcome.{OnlyRefuses}
+use Rattle.ill_schema.specs.declared.profile.Profile.TheVariants.{Two}
 use Rattle.ill_normal.proofs.InputAnswers.{front}
 use Rattle.ill_normal.specs.Messages.{Spelling, AreSpelled}
 use Rattle.ill_normal.proofs.LongestStreams.{nothing_over, no_longer, one_rest}
@@ -41,7 +42,7 @@ pub taken_of : (work : Work) (s : List ℕ) (left' held held' : Option (List ℕ
     → (r : List ℕ) × (left' ≡ Some r) × AreSpelled s ms r
 taken_of work s left' held held' ms w =
     let t = front s left' w.octets w.taken in
-    (t.0, t.2, subst (λ z. AreSpelled z ms t.0) (sym t.1) (spelled_front w.octets t.0 ms w.spelled))
+    (t.0, t.2, subst (λ z. AreSpelled z ms t.0) (sym t.1) (spelled_front Two w.octets t.0 ms w.spelled))
 
 not_none : (r : List ℕ) → 0 < length r → r ≡ [] → ⊥
 not_none r h e = let z : length r ≡ 0 = ap length e in omega arith
@@ -53,11 +54,11 @@ some_left (Some r) left' octet h = let t = front r left' (octet ∷ []) h in let
 -- two readings of s up to where nothing more is read are as long, and leave the same
 longest : (s r t : List ℕ) (ms ns : List Spelling) → AreSpelled s ms r → ((a : Apdu) (n : ℕ) → Accepts profile_two r a n → ⊥) → AreSpelled s ns t → length ns ≤ length ms
 longest s r t ms ns h over k =
-    let le = no_longer profile_two s r t (apdus_of ms) (apdus_of ns) (stream_of s r ms h) over (stream_of s t ns k) in omega (arith, le, as_many ms, as_many ns)
+    let le = no_longer profile_two s r t (apdus_of ms) (apdus_of ns) (stream_of Two s r ms h) over (stream_of Two s t ns k) in omega (arith, le, as_many ms, as_many ns)
 
 one_left : (s r t : List ℕ) (ms ns : List Spelling) → AreSpelled s ms r → AreSpelled s ns t → length ms ≡ length ns → r ≡ t
 one_left s r t ms ns h k e =
-    one_rest profile_two s r t (apdus_of ms) (apdus_of ns) (stream_of s r ms h) (stream_of s t ns k) (omega (arith, e, as_many ms, as_many ns))
+    one_rest profile_two s r t (apdus_of ms) (apdus_of ns) (stream_of Two s r ms h) (stream_of Two s t ns k) (omega (arith, e, as_many ms, as_many ns))
 
 over : (a : Apdu) (n : ℕ) → Accepts profile_two [] a n → ⊥
 over a n h = nothing_over profile_two [] refl a n h

@@ -4,9 +4,10 @@ use Rattle.std.specs.List.{list_all}
 use Rattle.std.specs.Io.KnownBytes.{Appends}
 use Rattle.std.proofs.KnownBytes.{Appends-trans}
 use Rattle.std.proofs.Math.Seq.{take-append-add}
+use Rattle.ber_leaf.specs.Profile.{profile_two}
 use Rattle.ill_read.specs.declared.failure.ReadFailure.{ReadFailure}
 use Rattle.ill_normal.specs.Calls.{Taking, taking, Putting, putting}
-use Rattle.ill_normal.specs.Messages.{Spelling, position, position_after, good_of, PassesAll, BreaksWithin, Ends, EndsAfter, TakesNoFurther, part_of}
+use Rattle.ill_normal.specs.Messages.{Spelling, position, position_after, good_of, PassesAll, BreaksWithinIn, EndsIn, EndsAfter, TakesNoFurther, part_of}
 use Rattle.ill_normal.specs.declared.messages.Position.{Position}
 use Rattle.ill_normal.specs.declared.messages.Passed.{Passed}
 use Rattle.ill_normal.specs.declared.messages.Stopped.{Stopped}
@@ -55,7 +56,7 @@ module _ (work : Work) where
   -- the sink broke within a message
   broke_within : (left : Option (List ℕ)) (source : Taking) (sink : Putting) (first : Option (List ℕ)) (ms : List Spelling) (n written : ℕ)
       → Writes work left source.left first sink.held ms → written ≡ length (output work ms) + n
-      → BreaksWithin (message_output work (position_after start ms)) source sink n → BrokeAt work source.left source.left' first sink.held' ms written
+      → BreaksWithinIn profile_two (message_output work (position_after start ms)) source sink n → BrokeAt work source.left source.left' first sink.held' ms written
   broke_within left source sink first ms n written w size b =
       let text = message_output work (position_after start ms) in
       let m = b.message in
@@ -74,7 +75,7 @@ module _ (work : Work) where
 
   stops : (left : Option (List ℕ)) (source : Taking) (sink : Putting) (first : Option (List ℕ)) (ms : List Spelling) (whole written : ℕ) (why : Why)
       → Writes work left source.left first sink.held ms → whole ≡ length ms → written ≡ length (output work ms) + part_of why
-      → Ends (message_output work) source sink whole (position_after start ms) why → Stops work source sink first ms (fault_after whole written why)
+      → EndsIn profile_two (message_output work) source sink whole (position_after start ms) why → Stops work source sink first ms (fault_after whole written why)
   stops left source sink first ms whole written (Why.Read (ReadFailure.Refused refusal)) w count size h =
       (ap (λ (n : ℕ). n + 1) count, omega (arith, count, h.0), h.1, h.2)
   stops left source sink first ms whole written (Why.Read ReadFailure.OutOfMemory) w count size h = (omega (arith, count, h.0), h.1)
@@ -96,7 +97,7 @@ module _ (work : Work) where
     stops = stops source.left (taking h.rest source.left' source.broken) (putting h.grown sink.held' sink.broken) sink.held h.messages e.whole e.written e.why h.writes h.count h.written h.ends;
   }
 
-  few : (source : Taking) (sink : Putting) (whole : ℕ) (next : Position) (why : Why) → Ends (message_output work) source sink whole next why → whole ≤ 1_000_000
+  few : (source : Taking) (sink : Putting) (whole : ℕ) (next : Position) (why : Why) → EndsIn profile_two (message_output work) source sink whole next why → whole ≤ 1_000_000
   few source sink whole next (Why.Read (ReadFailure.Refused refusal)) h = omega (arith, h.0)
   few source sink whole next (Why.Read ReadFailure.OutOfMemory) h = omega (arith, h.0)
   few source sink whole next (Why.Read ReadFailure.ReadFault) h = omega (arith, h.0)

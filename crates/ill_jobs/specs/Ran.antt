@@ -21,7 +21,7 @@ use Rattle.ill_jobs.specs.Unread.{TakesAtMost}
 
 -- the octets that were taken are these messages, and their output was written
 abbrev pub Writes : Work → Option (List ℕ) → Option (List ℕ) → Option (List ℕ) → Option (List ℕ) → List Spelling → Type 0
-Writes work left left' held held' ms = messages.Writes (message_output work) left left' held held' ms
+Writes work left left' held held' ms = messages.WritesIn profile_two (message_output work) left left' held held' ms
 
 -- where a sink broke: of the output, with that of one message more, the first n octets were written
 pub record BrokeAt (work : Work) (left left' held held' : Option (List ℕ)) (messages : List Spelling) (n : ℕ) : Type 0 where

@@ -5,6 +5,7 @@ ghost use Rattle.ill_read.specs.Answers.{ReadsNext};
 ghost use Rattle.ill_read.specs.Outline.{IsOutlineOf};
 ghost use Rattle.ber_leaf.specs.Profile.{profile_two};
 ghost use Rattle.ill_schema.specs.Apdu.{Apdu, SpellsApdu, normal_form};
+ghost use Rattle.ill_schema.specs.declared.profile.Profile.{Profile as Named};
 ghost use Rattle.ill_text.specs.Shown.{shown_text};
 ghost use Rattle.ill_jobs.specs.declared.job.Job.{Job};
 ghost use Rattle.ill_normal.specs.Messages.{Makes};
@@ -42,6 +43,8 @@ impl Maker for Work<'_> {
     type Reader = Readers;
 
     ghost use Rattle.ill_jobs.specs.Output.{counts_as_good, message_output};
+
+    ghost profile = { λ _. Named.Two };
 
     ghost text = { λ work. message_output work };
 

@@ -3,12 +3,13 @@ use Rattle.std.proofs.Common.{◌≡◌, ℕ, ◌≤◌, Bool, List, [], ◌∷�
 use Rattle.std.specs.Prelude.{flat_map}
 use Rattle.std.specs.Io.KnownBytes.{Appends, IsAtEnd}
 use Rattle.std.proofs.lemmas.List.{length-map}
-use Rattle.ber_leaf.specs.Profile.{profile_two}
-use Rattle.ill_schema.specs.Apdu.{Apdu, IsStream, normal_form}
+use Rattle.ill_schema.specs.Profiles.{profile_of}
+use Rattle.ill_schema.specs.declared.profile.Profile.{Profile as Named}
+use Rattle.ill_schema.specs.Apdu.{Apdu, IsStream, normal_form_in}
 use Rattle.ill_read.specs.declared.failure.ReadFailure.{ReadFailure}
 use Rattle.ill_normal.specs.Calls.{Taking, Putting}
-use Rattle.ill_normal.specs.Messages.{Spelling, AreSpelled, after, first, position_after, output_from, Writes, PassesAll, Ends, EndsAfter, part_of}
-use Rattle.ill_normal.specs.Streamed.{Passes, Stops, StopsAfter}
+use Rattle.ill_normal.specs.Messages.{Spelling, AreSpelledIn, after, first, position_after, output_from, WritesIn, PassesAllIn, EndsIn, EndsAfterIn, part_of}
+use Rattle.ill_normal.specs.Streamed.{PassesIn, StopsIn, StopsAfterIn}
 use Rattle.ill_normal.specs.code.Ending.{stream_cause}
 use Rattle.ill_normal.specs.declared.messages.Passed.{Passed}
 use Rattle.ill_normal.specs.declared.messages.Position.{Position}
@@ -18,64 +19,65 @@ use Rattle.ill_normal.specs.declared.messages.Why.{Why}
 pub apdus_of : List Spelling → List Apdu
 apdus_of ms = map (λ m. m.apdu) ms
 
-pub stream_of : (s rest : List ℕ) (ms : List Spelling) → AreSpelled s ms rest → IsStream profile_two s (apdus_of ms) rest
-unfolding apdus_of
-stream_of s rest [] h = h
-stream_of s rest (m ∷ ms) h = (m.octets, h.0, h.1, h.2, stream_of h.0 rest ms h.3)
-
 pub as_many : (ms : List Spelling) → length (apdus_of ms) ≡ length ms
 unfolding apdus_of
 as_many ms = length-map ms (λ m. m.apdu)
 
--- what is written of a message in a stream
-abbrev pub normal_text : Position → Spelling → List ℕ
-normal_text p m = normal_form m.apdu
+module _ (q : Named) where
+  pub stream_of : (s rest : List ℕ) (ms : List Spelling) → AreSpelledIn (profile_of q) s ms rest → IsStream (profile_of q) s (apdus_of ms) rest
+  unfolding apdus_of
+  stream_of s rest [] h = h
+  stream_of s rest (m ∷ ms) h = (m.octets, h.0, h.1, h.2, stream_of h.0 rest ms h.3)
 
-forms : (p : Position) (ms : List Spelling) → output_from normal_text p ms ≡ flat_map normal_form (apdus_of ms)
-unfolding apdus_of
-forms p [] = refl
-forms p (m ∷ ms) = ap (λ l. normal_form m.apdu ++ l) (forms (after p (length m.octets)) ms)
+  -- what is written of a message in a stream
+  abbrev pub normal_text : Position → Spelling → List ℕ
+  normal_text p m = normal_form_in (profile_of q) m.apdu
 
-passes_of : (left left' held held' : Option (List ℕ)) (ms : List Spelling) (whole before : ℕ) → (w : Writes normal_text left left' held held' ms)
-    → whole ≡ length ms → before ≡ length w.octets → Passes left left' held held' whole before
-passes_of left left' held held' ms whole before w count size = record {
-  apdus = apdus_of ms;
-  octets = w.octets;
-  stream = stream_of w.octets [] ms w.spelled;
-  taken = w.taken;
-  written = subst (Appends held held') (forms first ms) w.written;
-  count = as_many ms ∙ sym count;
-  size = sym size;
-}
+  forms : (p : Position) (ms : List Spelling) → output_from normal_text p ms ≡ flat_map (normal_form_in (profile_of q)) (apdus_of ms)
+  unfolding apdus_of
+  forms p [] = refl
+  forms p (m ∷ ms) = ap (λ l. normal_form_in (profile_of q) m.apdu ++ l) (forms (after p (length m.octets)) ms)
 
-pub streamed : (is_good : Spelling → Bool) (left left' held held' : Option (List ℕ)) (p : Passed) → PassesAll normal_text is_good left left' held held' p
-    → (before : ℕ) × Passes left left' held held' p.whole before × IsAtEnd left' × (p.whole ≤ 1_000_000)
-streamed is_good left left' held held' p h =
-    (length h.writes.octets, passes_of left left' held held' h.messages p.whole _ h.writes h.count refl, h.end, omega (arith, h.few, h.count))
+  passes_of : (left left' held held' : Option (List ℕ)) (ms : List Spelling) (whole before : ℕ) → (w : WritesIn (profile_of q) normal_text left left' held held' ms)
+      → whole ≡ length ms → before ≡ length w.octets → PassesIn (profile_of q) left left' held held' whole before
+  passes_of left left' held held' ms whole before w count size = record {
+    apdus = apdus_of ms;
+    octets = w.octets;
+    stream = stream_of w.octets [] ms w.spelled;
+    taken = w.taken;
+    written = subst (Appends held held') (forms first ms) w.written;
+    count = as_many ms ∙ sym count;
+    size = sym size;
+  }
 
-stops : (source : Taking) (sink : Putting) (whole : ℕ) (next : Position) (why : Why) → Ends normal_text source sink whole next why → Stops source sink whole (stream_cause why)
-stops source sink whole next (Why.Read (ReadFailure.Refused refusal)) h = (h.0, (h.1, h.2))
-stops source sink whole next (Why.Read ReadFailure.OutOfMemory) h = (h.0, h.1)
-stops source sink whole next (Why.Read ReadFailure.ReadFault) h = (h.0, h.2, (h.1, h.2.0, h.3))
-stops source sink whole next (Why.Write n) h =
-    let b = h.1 in (h.0, (b.broken, (b.message.apdu, b.message.octets, b.spells, b.taken, b.written, b.fewer)))
-stops source sink whole next Why.TooMany h = h
+  pub streamed : (is_good : Spelling → Bool) (left left' held held' : Option (List ℕ)) (p : Passed) → PassesAllIn (profile_of q) normal_text is_good left left' held held' p
+      → (before : ℕ) × PassesIn (profile_of q) left left' held held' p.whole before × IsAtEnd left' × (p.whole ≤ 1_000_000)
+  streamed is_good left left' held held' p h =
+      (length h.writes.octets, passes_of left left' held held' h.messages p.whole _ h.writes h.count refl, h.end, omega (arith, h.few, h.count))
 
-pub stops_of : (is_good : Spelling → Bool) (source : Taking) (sink : Putting) (e : Stopped) → EndsAfter normal_text is_good source sink e
-    → StopsAfter source sink (record { whole = e.whole; before = e.before; why = stream_cause e.why })
-stops_of is_good source sink e h = record {
-  rest = h.rest;
-  grown = h.grown;
-  passes = passes_of source.left h.rest sink.held h.grown h.messages e.whole e.before h.writes h.count h.before;
-  taken = h.taken;
-  stops = stops _ _ e.whole (position_after first h.messages) e.why h.ends;
-}
+  stops : (source : Taking) (sink : Putting) (whole : ℕ) (next : Position) (why : Why) → EndsIn (profile_of q) normal_text source sink whole next why → StopsIn (profile_of q) source sink whole (stream_cause why)
+  stops source sink whole next (Why.Read (ReadFailure.Refused refusal)) h = (h.0, (h.1, h.2))
+  stops source sink whole next (Why.Read ReadFailure.OutOfMemory) h = (h.0, h.1)
+  stops source sink whole next (Why.Read ReadFailure.ReadFault) h = (h.0, h.2, (h.1, h.2.0, h.3))
+  stops source sink whole next (Why.Write n) h =
+      let b = h.1 in (h.0, (b.broken, (b.message.apdu, b.message.octets, b.spells, b.taken, b.written, b.fewer)))
+  stops source sink whole next Why.TooMany h = h
 
--- of a normal form no more is written than a message may have
-part : (source : Taking) (sink : Putting) (whole : ℕ) (next : Position) (why : Why) → Ends normal_text source sink whole next why → part_of why ≤ 1_048_576
-part source sink whole next (Why.Read failure) h = omega arith
-part source sink whole next (Why.Write n) h = let b = h.1 in let short : length (normal_form b.message.apdu) ≤ 1_048_576 = b.spells.normal_short in omega (arith, short, b.fewer)
-part source sink whole next Why.TooMany h = omega arith
+  pub stops_of : (is_good : Spelling → Bool) (source : Taking) (sink : Putting) (e : Stopped) → EndsAfterIn (profile_of q) normal_text is_good source sink e
+      → StopsAfterIn (profile_of q) source sink (record { whole = e.whole; before = e.before; why = stream_cause e.why })
+  stops_of is_good source sink e h = record {
+    rest = h.rest;
+    grown = h.grown;
+    passes = passes_of source.left h.rest sink.held h.grown h.messages e.whole e.before h.writes h.count h.before;
+    taken = h.taken;
+    stops = stops _ _ e.whole (position_after first h.messages) e.why h.ends;
+  }
 
-pub part_bound : (is_good : Spelling → Bool) (source : Taking) (sink : Putting) (e : Stopped) → EndsAfter normal_text is_good source sink e → part_of e.why ≤ 1_048_576
-part_bound is_good source sink e h = part _ _ e.whole (position_after first h.messages) e.why h.ends
+  -- of a normal form no more is written than a message may have
+  part : (source : Taking) (sink : Putting) (whole : ℕ) (next : Position) (why : Why) → EndsIn (profile_of q) normal_text source sink whole next why → part_of why ≤ 1_048_576
+  part source sink whole next (Why.Read failure) h = omega arith
+  part source sink whole next (Why.Write n) h = let b = h.1 in let short : length (normal_form_in (profile_of q) b.message.apdu) ≤ 1_048_576 = b.spells.normal_short in omega (arith, short, b.fewer)
+  part source sink whole next Why.TooMany h = omega arith
+
+  pub part_bound : (is_good : Spelling → Bool) (source : Taking) (sink : Putting) (e : Stopped) → EndsAfterIn (profile_of q) normal_text is_good source sink e → part_of e.why ≤ 1_048_576
+  part_bound is_good source sink e h = part _ _ e.whole (position_after first h.messages) e.why h.ends

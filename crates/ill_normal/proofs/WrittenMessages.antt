@@ -7,25 +7,18 @@ use Rattle.std.proofs.Math.Dec.{eqb-suc-suc}
 use Rattle.std.proofs.lemmas.Bool.Decides.{eqb_tells}
 use Rattle.std.specs.Io.KnownBytes.{Consumes, Appends, IsAtEnd}
 use Rattle.std.proofs.KnownBytes.{Consumes-nil, Consumes-trans, Consumes-kept, Keeps-refl, Appends-nil, Appends-trans}
-use Rattle.ber_leaf.specs.Profile.{profile_two}
+use Rattle.ill_schema.specs.Profiles.{profile_of}
+use Rattle.ill_schema.specs.declared.profile.Profile.{Profile as Named}
 use Rattle.ill_schema.specs.Apdu.{SpellsApdu}
 use Rattle.ill_schema.proofs.Streams.{accepts_some}
-use Rattle.ill_read.specs.Answers.{ReadsNext, TakesFront}
+use Rattle.ill_read.specs.Answers.{ReadsNextIn, TakesFront}
 use Rattle.ill_read.specs.declared.failure.ReadFailure.{ReadFailure}
 use Rattle.ill_normal.specs.Calls.{taking, putting}
-use Rattle.ill_normal.specs.Messages.{Spelling, spelling, AreSpelled, counted, position, first, after, position_after, output_from, one_if, good_of, Makes, Writes, PassesAll, BreaksWithin, Ends, EndsAfter}
+use Rattle.ill_normal.specs.Messages.{Spelling, spelling, AreSpelledIn, counted, position, first, after, position_after, output_from, one_if, good_of, MakesIn, WritesIn, PassesAllIn, BreaksWithinIn, EndsIn, EndsAfterIn}
 use Rattle.ill_normal.specs.code.Ending.{GoesOn, all_passed, ended_at}
 use Rattle.ill_normal.specs.declared.messages.Piece.{Piece}
 use Rattle.ill_normal.specs.declared.messages.Position.{Position}
 use Rattle.ill_normal.specs.declared.messages.Why.{Why}
-
-pub spelled_front : (b t : List ℕ) (ms : List Spelling) → AreSpelled b ms [] → AreSpelled (b ++ t) ms t
-spelled_front b t [] h = ap (λ l. l ++ t) h
-spelled_front b t (m ∷ ms) h = (h.0 ++ t, ap (λ l. l ++ t) h.1 ∙ append_assoc m.octets h.0 t, h.2, spelled_front h.0 t ms h.3)
-
-spelled_more : (b : List ℕ) (ms : List Spelling) (m : Spelling) → AreSpelled b ms [] → SpellsApdu profile_two m.apdu m.octets → AreSpelled (b ++ m.octets) (ms ++ m ∷ []) []
-spelled_more b [] m h k = ([], ap (λ l. l ++ m.octets) h ∙ sym (append-nil m.octets), k, refl)
-spelled_more b (x ∷ ms) m h k = (h.0 ++ m.octets, ap (λ l. l ++ m.octets) h.1 ∙ append_assoc x.octets h.0 m.octets, h.2, spelled_more h.0 ms m h.3 k)
 
 pub output_push : (text : Position → Spelling → List ℕ) (p : Position) (ms : List Spelling) (m : Spelling)
     → output_from text p (ms ++ m ∷ []) ≡ output_from text p ms ++ text (position_after p ms) m
@@ -62,36 +55,6 @@ pub all_good : (p : Spelling → Bool) (ms : List Spelling) → nat_eq (good_of 
 all_good p [] = refl
 all_good p (m ∷ ms) = all_counted (p m) (list_all p ms) (good_of p ms) (length ms) (good_bound p ms) (all_good p ms)
 
--- `whole` messages of `before` octets were read and written, whose output has `written` octets, and this many were good
-pub record Reached (text : Position → Spelling → List ℕ) (is_good : Spelling → Bool) (left left' held held' : Option (List ℕ)) (whole before written good : ℕ) : Type 0 where
-  pub messages : List Spelling
-  pub writes : Writes text left left' held held' messages
-  pub count : whole ≡ length messages
-  pub input : before ≡ length writes.octets
-  pub next : position_after first messages ≡ position (whole + 1) before
-  pub size : written ≡ length (output_from text first messages)
-  pub good_ones : good ≡ good_of is_good messages
-
-pub reached_none : (text : Position → Spelling → List ℕ) (is_good : Spelling → Bool) (left held : Option (List ℕ)) → Reached text is_good left left held held 0 0 0 0
-reached_none text is_good left held = record {
-  messages = [];
-  writes = record { octets = []; spelled = refl; taken = Consumes-nil left; written = Appends-nil held };
-  count = refl;
-  input = refl;
-  next = refl;
-  size = refl;
-  good_ones = refl;
-}
-
--- the octets of the next message were taken, and the piece was made of them
-abbrev pub Made : {T : Type 0} → (T → List ℕ → Type 0) → (Position → Spelling → List ℕ) → (Spelling → Bool) → Position → Option (List ℕ) → Option (List ℕ) → Piece T → Type 0
-Made is text is_good p left left' piece = (b : List ℕ) × Consumes left left' b × Makes is (text p) is_good piece b
-
--- a message has at most 1,048,576 octets
-pub made_bound : {T : Type 0} (is : T → List ℕ → Type 0) (text : Position → Spelling → List ℕ) (is_good : Spelling → Bool) (i : Position) (left left' : Option (List ℕ)) (piece : Piece T)
-    → Made is text is_good i left left' piece → piece.octets ≤ 1_048_576
-made_bound is text is_good i left left' piece p = let h : length p.0 ≤ 1_048_576 = p.2.spells.encodes.short in omega (arith, p.2.size)
-
 pub counted_left : (a n : ℕ) → counted (counted a + n) ≡ counted (a + n)
 counted_left a n = elim (cases_lt a 18_446_744_073_709_551_615) [
   | inl lt ↦ ap (λ (k : ℕ). counted (k + n)) (min-eq_left (omega (arith, lt)))
@@ -110,136 +73,175 @@ counted_right a n =
 grows : (number offset n : ℕ) → offset + n ≤ 18_446_744_073_709_551_615 → after (position number offset) n ≡ position (number + 1) (offset + n)
 grows number offset n le = ap (position (number + 1)) (min-eq_left le)
 
-module _ (text : Position → Spelling → List ℕ) (is_good : Spelling → Bool) (left left' left'' held held' held'' : Option (List ℕ)) (whole before written good : ℕ)
-    (r : Reached text is_good left left' held held' whole before written good) where
-  here : Position
-  here = position (whole + 1) before
+module _ (q : Named) where
+  pub spelled_front : (b t : List ℕ) (ms : List Spelling) → AreSpelledIn (profile_of q) b ms [] → AreSpelledIn (profile_of q) (b ++ t) ms t
+  spelled_front b t [] h = ap (λ l. l ++ t) h
+  spelled_front b t (m ∷ ms) h = (h.0 ++ t, ap (λ l. l ++ t) h.1 ∙ append_assoc m.octets h.0 t, h.2, spelled_front h.0 t ms h.3)
 
-  pushed : (m : Spelling) → output_from text first (r.messages ++ m ∷ []) ≡ output_from text first r.messages ++ text here m
-  unfolding here
-  pushed m = output_push text first r.messages m ∙ ap (λ (p : Position). output_from text first r.messages ++ text p m) r.next
+  spelled_more : (b : List ℕ) (ms : List Spelling) (m : Spelling) → AreSpelledIn (profile_of q) b ms [] → SpellsApdu (profile_of q) m.apdu m.octets → AreSpelledIn (profile_of q) (b ++ m.octets) (ms ++ m ∷ []) []
+  spelled_more b [] m h k = ([], ap (λ l. l ++ m.octets) h ∙ sym (append-nil m.octets), k, refl)
+  spelled_more b (x ∷ ms) m h k = (h.0 ++ m.octets, ap (λ l. l ++ m.octets) h.1 ∙ append_assoc x.octets h.0 m.octets, h.2, spelled_more h.0 ms m h.3 k)
 
-  pub reached_more : {T : Type 0} (is : T → List ℕ → Type 0) (piece : Piece T) (p : Made is text is_good (position (whole + 1) before) left' left'' piece) (size : ℕ)
-      → before + piece.octets ≤ 18_446_744_073_709_551_615
-      → size ≡ length (text (position (whole + 1) before) (spelling p.2.apdu p.0)) → Appends held' held'' (text (position (whole + 1) before) (spelling p.2.apdu p.0))
-      → Reached text is_good left left'' held held'' (whole + 1) (before + piece.octets) (written + size) (good + one_if piece.is_good)
-  unfolding here
-  reached_more is piece p size le n w =
-      let m : Spelling = spelling p.2.apdu p.0 in
-      let so_far = output_from text first r.messages in
-      let all : so_far ++ text (position (whole + 1) before) m ≡ output_from text first (r.messages ++ m ∷ []) = sym (pushed m) in
-      record {
-        messages = r.messages ++ m ∷ [];
-        writes = record {
-          octets = r.writes.octets ++ p.0;
-          spelled = spelled_more r.writes.octets r.messages m r.writes.spelled p.2.spells;
-          taken = Consumes-trans left left' left'' r.writes.octets p.0 r.writes.taken p.1;
-          written = subst (Appends held held'') all (Appends-trans held held' held'' _ _ r.writes.written w);
-        };
-        count = omega (arith, r.count, length-append r.messages (m ∷ []));
-        input = omega (arith, r.input, p.2.size, length-append r.writes.octets p.0);
-        next = position_push first r.messages m ∙ ap (λ (p : Position). after p (length m.octets)) r.next ∙ ap (after (position (whole + 1) before)) (sym p.2.size) ∙ grows (whole + 1) before piece.octets le;
-        size = omega (arith, r.size, n, ap length all, length-append so_far (text (position (whole + 1) before) m));
-        good_ones = omega (arith, r.good_ones, ap one_if p.2.good, good_push is_good r.messages m);
-      }
+  -- `whole` messages of `before` octets were read and written, whose output has `written` octets, and this many were good
+  pub record Reached (text : Position → Spelling → List ℕ) (is_good : Spelling → Bool) (left left' held held' : Option (List ℕ)) (whole before written good : ℕ) : Type 0 where
+    pub messages : List Spelling
+    pub writes : WritesIn (profile_of q) text left left' held held' messages
+    pub count : whole ≡ length messages
+    pub input : before ≡ length writes.octets
+    pub next : position_after first messages ≡ position (whole + 1) before
+    pub size : written ≡ length (output_from text first messages)
+    pub good_ones : good ≡ good_of is_good messages
 
-  -- nothing was left
-  pub passes_all : (n : ℕ) → n ≡ whole → Consumes left' left'' [] → IsAtEnd left'' → n ≤ 1_000_000 → PassesAll text is_good left left'' held held' (all_passed n good before)
-  passes_all n same h e le = record {
-    messages = r.messages;
-    writes = record {
-      octets = r.writes.octets;
-      spelled = r.writes.spelled;
-      taken = subst (Consumes left left'') (append-nil r.writes.octets) (Consumes-trans left left' left'' r.writes.octets [] r.writes.taken h);
-      written = r.writes.written;
-    };
-    end = e;
-    few = omega (arith, r.count, le, same);
-    count = same ∙ r.count;
-    good = r.good_ones;
-    octets = r.input;
-    all = ap₂ nat_eq r.good_ones (same ∙ r.count) ∙ all_good is_good r.messages;
+  pub reached_none : (text : Position → Spelling → List ℕ) (is_good : Spelling → Bool) (left held : Option (List ℕ)) → Reached text is_good left left held held 0 0 0 0
+  reached_none text is_good left held = record {
+    messages = [];
+    writes = record { octets = []; spelled = refl; taken = Consumes-nil left; written = Appends-nil held };
+    count = refl;
+    input = refl;
+    next = refl;
+    size = refl;
+    good_ones = refl;
   }
 
-  module _ (x y : Bool) where
-    -- the next message was not read
-    read_ends : {T : Type 0} (was : Bool) (Is : T → List ℕ → Type 0) (e : ReadFailure) → whole < 1_000_000 → ReadsNext left' left'' was x Is (Err e)
-        → Ends text (taking left' left'' x) (putting held' held' y) whole (position_after first r.messages) (Why.Read e)
-    read_ends was Is (ReadFailure.Refused refusal) lt h = (lt, h.refused, Keeps-refl held')
-    read_ends was Is ReadFailure.OutOfMemory lt h = (lt, Keeps-refl held')
-    read_ends was Is ReadFailure.ReadFault lt h = (omega arith, h.fault.0, (h.fault.1, λ full. absurd (omega (arith, lt, full))), Keeps-refl held')
+  -- the octets of the next message were taken, and the piece was made of them
+  abbrev pub Made : {T : Type 0} → (T → List ℕ → Type 0) → (Position → Spelling → List ℕ) → (Spelling → Bool) → Position → Option (List ℕ) → Option (List ℕ) → Piece T → Type 0
+  Made is text is_good p left left' piece = (b : List ℕ) × Consumes left left' b × MakesIn (profile_of q) is (text p) is_good piece b
 
-    pub ends_reading : {T : Type 0} (was : Bool) (Is : T → List ℕ → Type 0) (e : ReadFailure) → whole < 1_000_000 → ReadsNext left' left'' was x Is (Err e)
-        → EndsAfter text is_good (taking left left'' x) (putting held held' y) (ended_at whole good before written (Why.Read e))
-    ends_reading was Is e lt h = record {
-      messages = r.messages;
-      rest = left';
-      grown = held';
-      writes = r.writes;
-      taken = h.taken;
-      count = r.count;
-      good = r.good_ones;
-      before = r.input;
-      written = omega (arith, r.size);
-      ends = read_ends was Is e lt h;
-    }
+  -- a message has at most 1,048,576 octets
+  pub made_bound : {T : Type 0} (is : T → List ℕ → Type 0) (text : Position → Spelling → List ℕ) (is_good : Spelling → Bool) (i : Position) (left left' : Option (List ℕ)) (piece : Piece T)
+      → Made is text is_good i left left' piece → piece.octets ≤ 1_048_576
+  made_bound is text is_good i left left' piece p = let h : length p.0 ≤ 1_048_576 = p.2.spells.encodes.short in omega (arith, p.2.size)
 
-    -- the sink broke
-    pub ends_writing : {T : Type 0} (is : T → List ℕ → Type 0) (piece : Piece T) (n : ℕ) → whole < 1_000_000 → TakesFront left' left'' → (p : Made is text is_good (position (whole + 1) before) left' left'' piece)
-        → Appends held' held'' (take n (text (position (whole + 1) before) (spelling p.2.apdu p.0))) → n < length (text (position (whole + 1) before) (spelling p.2.apdu p.0)) → IsTrue y
-        → EndsAfter text is_good (taking left left'' x) (putting held held'' y) (ended_at whole good before (written + n) (Why.Write n))
-    ends_writing is piece n lt t p w fewer broken = record {
-      messages = r.messages;
-      rest = left';
-      grown = held';
-      writes = r.writes;
-      taken = t;
-      count = r.count;
-      good = r.good_ones;
-      before = r.input;
-      written = omega (arith, r.size);
-      ends = (
-        lt,
-        subst (λ (q : Position). BreaksWithin (text q) (taking left' left'' x) (putting held' held'' y) n) (sym r.next) (record {
-          message = spelling p.2.apdu p.0;
-          spells = p.2.spells;
-          taken = p.1;
-          written = w;
-          fewer = fewer;
-          broken = broken;
-        }),
-      );
-    }
+  module _ (text : Position → Spelling → List ℕ) (is_good : Spelling → Bool) (left left' left'' held held' held'' : Option (List ℕ)) (whole before written good : ℕ)
+      (r : Reached text is_good left left' held held' whole before written good) where
+    here : Position
+    here = position (whole + 1) before
 
-    -- after the last message that an input may have an octet was taken, or the source broke
-    pub ends_at_last : (n : ℕ) (why : Why) → n ≡ whole → n ≡ 1_000_000 → GoesOn left' left'' x why
-        → EndsAfter text is_good (taking left left'' x) (putting held held' y) (ended_at n good before written why)
-    ends_at_last n Why.TooMany same last h = record {
+    pushed : (m : Spelling) → output_from text first (r.messages ++ m ∷ []) ≡ output_from text first r.messages ++ text here m
+    unfolding here
+    pushed m = output_push text first r.messages m ∙ ap (λ (p : Position). output_from text first r.messages ++ text p m) r.next
+
+    pub reached_more : {T : Type 0} (is : T → List ℕ → Type 0) (piece : Piece T) (p : Made is text is_good (position (whole + 1) before) left' left'' piece) (size : ℕ)
+        → before + piece.octets ≤ 18_446_744_073_709_551_615
+        → size ≡ length (text (position (whole + 1) before) (spelling p.2.apdu p.0)) → Appends held' held'' (text (position (whole + 1) before) (spelling p.2.apdu p.0))
+        → Reached text is_good left left'' held held'' (whole + 1) (before + piece.octets) (written + size) (good + one_if piece.is_good)
+    unfolding here
+    reached_more is piece p size le n w =
+        let m : Spelling = spelling p.2.apdu p.0 in
+        let so_far = output_from text first r.messages in
+        let all : so_far ++ text (position (whole + 1) before) m ≡ output_from text first (r.messages ++ m ∷ []) = sym (pushed m) in
+        record {
+          messages = r.messages ++ m ∷ [];
+          writes = record {
+            octets = r.writes.octets ++ p.0;
+            spelled = spelled_more r.writes.octets r.messages m r.writes.spelled p.2.spells;
+            taken = Consumes-trans left left' left'' r.writes.octets p.0 r.writes.taken p.1;
+            written = subst (Appends held held'') all (Appends-trans held held' held'' _ _ r.writes.written w);
+          };
+          count = omega (arith, r.count, length-append r.messages (m ∷ []));
+          input = omega (arith, r.input, p.2.size, length-append r.writes.octets p.0);
+          next = position_push first r.messages m ∙ ap (λ (p : Position). after p (length m.octets)) r.next ∙ ap (after (position (whole + 1) before)) (sym p.2.size) ∙ grows (whole + 1) before piece.octets le;
+          size = omega (arith, r.size, n, ap length all, length-append so_far (text (position (whole + 1) before) m));
+          good_ones = omega (arith, r.good_ones, ap one_if p.2.good, good_push is_good r.messages m);
+        }
+
+    -- nothing was left
+    pub passes_all : (n : ℕ) → n ≡ whole → Consumes left' left'' [] → IsAtEnd left'' → n ≤ 1_000_000 → PassesAllIn (profile_of q) text is_good left left'' held held' (all_passed n good before)
+    passes_all n same h e le = record {
       messages = r.messages;
-      rest = left';
-      grown = held';
-      writes = r.writes;
-      taken = (h.0 ∷ [], h.1, omega arith);
+      writes = record {
+        octets = r.writes.octets;
+        spelled = r.writes.spelled;
+        taken = subst (Consumes left left'') (append-nil r.writes.octets) (Consumes-trans left left' left'' r.writes.octets [] r.writes.taken h);
+        written = r.writes.written;
+      };
+      end = e;
+      few = omega (arith, r.count, le, same);
       count = same ∙ r.count;
       good = r.good_ones;
-      before = r.input;
-      written = omega (arith, r.size);
-      ends = (last, h, Keeps-refl held');
+      octets = r.input;
+      all = ap₂ nat_eq r.good_ones (same ∙ r.count) ∙ all_good is_good r.messages;
     }
-    ends_at_last n (Why.Read ReadFailure.ReadFault) same last h =
-        let none = Consumes-kept left' left' left'' [] (Consumes-nil left') h.1 in
-        record {
-          messages = r.messages;
-          rest = left';
-          grown = held';
-          writes = r.writes;
-          taken = ([], none, omega arith);
-          count = same ∙ r.count;
-          good = r.good_ones;
-          before = r.input;
-          written = omega (arith, r.size);
-          ends = (omega arith, h.0, (([], none, λ a n accepted. accepts_some profile_two [] a n refl accepted), λ full. h.1), Keeps-refl held');
-        }
-    ends_at_last n (Why.Read (ReadFailure.Refused refusal)) same last h = absurd h
-    ends_at_last n (Why.Read ReadFailure.OutOfMemory) same last h = absurd h
-    ends_at_last n (Why.Write k) same last h = absurd h
+
+    module _ (x y : Bool) where
+      -- the next message was not read
+      read_ends : {T : Type 0} (was : Bool) (Is : T → List ℕ → Type 0) (e : ReadFailure) → whole < 1_000_000 → ReadsNextIn (profile_of q) left' left'' was x Is (Err e)
+          → EndsIn (profile_of q) text (taking left' left'' x) (putting held' held' y) whole (position_after first r.messages) (Why.Read e)
+      read_ends was Is (ReadFailure.Refused refusal) lt h = (lt, h.refused, Keeps-refl held')
+      read_ends was Is ReadFailure.OutOfMemory lt h = (lt, Keeps-refl held')
+      read_ends was Is ReadFailure.ReadFault lt h = (omega arith, h.fault.0, (h.fault.1, λ full. absurd (omega (arith, lt, full))), Keeps-refl held')
+
+      pub ends_reading : {T : Type 0} (was : Bool) (Is : T → List ℕ → Type 0) (e : ReadFailure) → whole < 1_000_000 → ReadsNextIn (profile_of q) left' left'' was x Is (Err e)
+          → EndsAfterIn (profile_of q) text is_good (taking left left'' x) (putting held held' y) (ended_at whole good before written (Why.Read e))
+      ends_reading was Is e lt h = record {
+        messages = r.messages;
+        rest = left';
+        grown = held';
+        writes = r.writes;
+        taken = h.taken;
+        count = r.count;
+        good = r.good_ones;
+        before = r.input;
+        written = omega (arith, r.size);
+        ends = read_ends was Is e lt h;
+      }
+
+      -- the sink broke
+      pub ends_writing : {T : Type 0} (is : T → List ℕ → Type 0) (piece : Piece T) (n : ℕ) → whole < 1_000_000 → TakesFront left' left'' → (p : Made is text is_good (position (whole + 1) before) left' left'' piece)
+          → Appends held' held'' (take n (text (position (whole + 1) before) (spelling p.2.apdu p.0))) → n < length (text (position (whole + 1) before) (spelling p.2.apdu p.0)) → IsTrue y
+          → EndsAfterIn (profile_of q) text is_good (taking left left'' x) (putting held held'' y) (ended_at whole good before (written + n) (Why.Write n))
+      ends_writing is piece n lt t p w fewer broken = record {
+        messages = r.messages;
+        rest = left';
+        grown = held';
+        writes = r.writes;
+        taken = t;
+        count = r.count;
+        good = r.good_ones;
+        before = r.input;
+        written = omega (arith, r.size);
+        ends = (
+          lt,
+          subst (λ (i : Position). BreaksWithinIn (profile_of q) (text i) (taking left' left'' x) (putting held' held'' y) n) (sym r.next) (record {
+            message = spelling p.2.apdu p.0;
+            spells = p.2.spells;
+            taken = p.1;
+            written = w;
+            fewer = fewer;
+            broken = broken;
+          }),
+        );
+      }
+
+      -- after the last message that an input may have an octet was taken, or the source broke
+      pub ends_at_last : (n : ℕ) (why : Why) → n ≡ whole → n ≡ 1_000_000 → GoesOn left' left'' x why
+          → EndsAfterIn (profile_of q) text is_good (taking left left'' x) (putting held held' y) (ended_at n good before written why)
+      ends_at_last n Why.TooMany same last h = record {
+        messages = r.messages;
+        rest = left';
+        grown = held';
+        writes = r.writes;
+        taken = (h.0 ∷ [], h.1, omega arith);
+        count = same ∙ r.count;
+        good = r.good_ones;
+        before = r.input;
+        written = omega (arith, r.size);
+        ends = (last, h, Keeps-refl held');
+      }
+      ends_at_last n (Why.Read ReadFailure.ReadFault) same last h =
+          let none = Consumes-kept left' left' left'' [] (Consumes-nil left') h.1 in
+          record {
+            messages = r.messages;
+            rest = left';
+            grown = held';
+            writes = r.writes;
+            taken = ([], none, omega arith);
+            count = same ∙ r.count;
+            good = r.good_ones;
+            before = r.input;
+            written = omega (arith, r.size);
+            ends = (omega arith, h.0, (([], none, λ a n accepted. accepts_some (profile_of q) [] a n refl accepted), λ full. h.1), Keeps-refl held');
+          }
+      ends_at_last n (Why.Read (ReadFailure.Refused refusal)) same last h = absurd h
+      ends_at_last n (Why.Read ReadFailure.OutOfMemory) same last h = absurd h
+      ends_at_last n (Why.Write k) same last h = absurd h

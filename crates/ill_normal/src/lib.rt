@@ -41,4 +41,4 @@ pub use laws::{
 };
 pub use messages::{Maker, Output, Passed, Piece, Position, Stopped, Why, each_message};
 pub use single::{normalise, normalise_as};
-pub use stream::{NormalForms, normalise_stream};
+pub use stream::{NormalForms, NormalFormsIn, normalise_stream, normalise_stream_as};

@@ -1,9 +1,11 @@
 //! The messages of an input, one after another.
 ghost use Rattle.std.specs.Prelude.{◌≡◌, ℕ, ◌+◌, ◌<◌, ◌≤◌, ◌^◌, Bool, List, [], ◌∷◌, length, take, IfOk, IfErr, OnOk, IsErr, IsTrue};
 ghost use Rattle.std.specs.Io.KnownBytes.{Appends, Consumes, IsAtEnd, Keeps};
-ghost use Rattle.ill_read.specs.Answers.{ReadsNext};
+ghost use Rattle.ill_schema.specs.Profiles.{profile_of};
+ghost use Rattle.ill_schema.specs.declared.profile.Profile.{Profile as Named};
+ghost use Rattle.ill_read.specs.Answers.{ReadsNextIn};
 ghost use Rattle.ill_normal.specs.Calls.{taking, putting};
-ghost use Rattle.ill_normal.specs.Messages.{EndsAfter, Makes, PassesAll, Spelling};
+ghost use Rattle.ill_normal.specs.Messages.{EndsAfterIn, MakesIn, PassesAllIn, Spelling};
 ghost use Rattle.ill_normal.specs.declared.messages.Position.{Position};
 ghost use Rattle.ill_normal.specs.code.Ending.{GoesOn, all_passed, ended_at};
 
@@ -78,6 +80,9 @@ pub trait Maker {
     /// What reads one message after another.
     type Reader: Drop;
 
+    // The profile of the messages that it reads.
+    ghost profile: { Self → Named };
+
     // What is written of the message at this position.
     ghost text: { Self → Position → Spelling → List ℕ };
 
@@ -101,8 +106,8 @@ pub trait Maker {
         source: &mut R,
         room: Self::Out,
     ) -> Result<Option<Piece<Self::Out>>, ReadFailure>
-        ensures { ReadsNext (R.left source.old) (R.left source.new) (R.is_broken source.old) (R.is_broken source.new)
-            (Makes Self.Out.is (text self.now position) (is_good self.now)) result };
+        ensures { ReadsNextIn (profile_of (profile self.now)) (R.left source.old) (R.left source.new) (R.is_broken source.old) (R.is_broken source.new)
+            (MakesIn (profile_of (profile self.now)) Self.Out.is (text self.now position) (is_good self.now)) result };
 }
 
 /// Messages to the end of an input.
@@ -157,9 +162,9 @@ pub fn each_message<M: Maker, R: Source, L: Look<R>, W: Sink>(
     source: &mut R,
     sink: &mut W,
 ) -> Result<Passed, Stopped>
-    ensures passes { IfOk result (PassesAll (M.text maker.now) (M.is_good maker.now) (R.left source.old) (R.left source.new)
+    ensures passes { IfOk result (PassesAllIn (profile_of (M.profile maker.now)) (M.text maker.now) (M.is_good maker.now) (R.left source.old) (R.left source.new)
         (W.contents sink.old) (W.contents sink.new)) }
-    ensures ends { IfErr result (EndsAfter (M.text maker.now) (M.is_good maker.now) (taking (R.left source.old) (R.left source.new) (R.is_broken source.new))
+    ensures ends { IfErr result (EndsAfterIn (profile_of (M.profile maker.now)) (M.text maker.now) (M.is_good maker.now) (taking (R.left source.old) (R.left source.new) (R.is_broken source.new))
         (putting (W.contents sink.old) (W.contents sink.new) (W.is_broken sink.new))) }
     ensures source_stays { IsTrue (R.is_broken source.old) → IsTrue (R.is_broken source.new) }
     ensures sink_stays { IsTrue (W.is_broken sink.old) → IsTrue (W.is_broken sink.new) }

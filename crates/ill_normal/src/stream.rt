@@ -2,18 +2,21 @@
 ghost use Rattle.std.specs.Prelude.{◌≡◌, ◌<◌, ◌≤◌, ℕ, List, [], true, length, IfOk, IfErr, IfSome, IsTrue};
 ghost use Rattle.std.specs.Io.KnownBytes.{IsAtEnd};
 ghost use Rattle.ber_leaf.specs.Profile.{profile_two};
-ghost use Rattle.ill_schema.specs.Apdu.{Apdu, IsStream, normal_form};
+ghost use Rattle.ill_schema.specs.Apdu.{Apdu, IsStream, normal_form, normal_form_in};
+ghost use Rattle.ill_schema.specs.Profiles.{profile_of};
+ghost use Rattle.ill_schema.specs.declared.profile.Profile.{Profile as Named};
 ghost use Rattle.ill_refusals.specs.Fault.{Fault};
 ghost use Rattle.ill_refusals.specs.Outcome.{OnlyRefuses};
 ghost use Rattle.ill_normal.specs.Calls.{taking, putting};
 ghost use Rattle.ill_normal.specs.Messages.{part_of};
 ghost use Rattle.ill_normal.specs.code.Ending.{stream_cause};
-ghost use Rattle.ill_normal.specs.Streamed.{Passes, StopsAfter, AnswersCount, AnswersRefusedAfter, AnswersTooMany};
+ghost use Rattle.ill_normal.specs.Streamed.{Passes, PassesIn, StopsAfter, StopsAfterIn, AnswersCount, AnswersRefusedAfter, AnswersTooMany};
 
 use crate::failure::{NormalFailure, StreamCause, StreamFailure};
 use crate::messages::{Maker, Piece, Position, Why, each_message};
 use ber_core::{Look, Sink, Source, Unseen};
 use ill_read::{NormalReader, ReadFailure};
+use ill_schema::Profile;
 use std::alloc::Global;
 
 /// Makes the normal form of each message.
@@ -23,6 +26,8 @@ impl Maker for NormalForms {
     type Out = Vec<u8>;
 
     type Reader = NormalReader;
+
+    ghost profile = { λ _. Named.Two };
 
     ghost text = { λ _ p m. normal_form m.apdu };
 
@@ -40,8 +45,44 @@ impl Maker for NormalForms {
         source: &mut R,
         room: Vec<u8>,
     ) -> Result<Option<Piece<Vec<u8>>>, ReadFailure> {
+        let forms = NormalFormsIn {
+            profile: Profile::Two,
+        };
+        forms.next::<R, L>(alloc, reader, position, source, room)
+    }
+}
+
+/// Makes the normal form of each message, in a profile.
+#[derive(Clone, Copy)]
+pub struct NormalFormsIn {
+    pub profile: Profile,
+}
+
+impl Maker for NormalFormsIn {
+    type Out = Vec<u8>;
+
+    type Reader = NormalReader;
+
+    ghost profile = { λ forms. forms.profile };
+
+    ghost text = { λ forms p m. normal_form_in (profile_of forms.profile) m.apdu };
+
+    ghost is_good = { λ _ m. true };
+
+    fn reader(alloc: Global) -> NormalReader {
+        NormalReader::new(alloc)
+    }
+
+    fn next<R: Source, L: Look<R>>(
+        &self,
+        alloc: Global,
+        reader: &mut NormalReader,
+        position: Position,
+        source: &mut R,
+        room: Vec<u8>,
+    ) -> Result<Option<Piece<Vec<u8>>>, ReadFailure> {
         let (_, _) = (alloc, position);
-        let Some(normal) = reader.read::<R, L>(source, room)? else {
+        let Some(normal) = reader.read_as::<R, L>(self.profile, source, room)? else {
             return Ok(None);
         };
         Ok(Some(Piece {
@@ -92,7 +133,37 @@ pub fn normalise_stream<R: Source, W: Sink>(
     ensures source_stays { IsTrue (R.is_broken source.old) → IsTrue (R.is_broken source.new) }
     ensures sink_stays { IsTrue (W.is_broken sink.old) → IsTrue (W.is_broken sink.new) }
 {
-    match each_message::<NormalForms, R, Unseen, W>(alloc, &NormalForms, source, sink) {
+    normalise_stream_as(alloc, Profile::Two, source, sink)
+}
+
+/// Writes normal forms as [`normalise_stream`] does, of messages in the profile.
+///
+/// # Errors
+///
+/// Those of [`normalise_stream`], in the profile.
+pub fn normalise_stream_as<R: Source, W: Sink>(
+    alloc: Global,
+    profile: Profile,
+    source: &mut R,
+    sink: &mut W,
+) -> Result<u32, StreamFailure>
+    // The input was this number of messages and nothing else, and their normal forms were written.
+    ensures streamed { IfOk result (λ whole. (before : ℕ) × PassesIn (profile_of profile) (R.left source.old) (R.left source.new)
+        (W.contents sink.old) (W.contents sink.new) whole before × IsAtEnd (R.left source.new) × (whole ≤ 1_000_000)) }
+    ensures stops { IfErr result (StopsAfterIn (profile_of profile) (taking (R.left source.old) (R.left source.new) (R.is_broken source.new))
+        (putting (W.contents sink.old) (W.contents sink.new) (W.is_broken sink.new))) }
+    // A stream of messages is normalised, unless they are too many or what follows is refused.
+    ensures accepts { IfSome (R.left source.old) (λ s. (as' : List Apdu) → IsStream (profile_of profile) s as' [] → length as' ≤ 1_000_000
+        → AnswersCount result (length as')) }
+    ensures refuses { IfSome (R.left source.old) (λ s. (as' : List Apdu) (rest : List ℕ) (f : Fault) → IsStream (profile_of profile) s as' rest
+        → length as' < 1_000_000 → 0 < length rest → OnlyRefuses (profile_of profile) rest f → AnswersRefusedAfter result (length as') f) }
+    ensures too_many { IfSome (R.left source.old) (λ s. (as' : List Apdu) (rest : List ℕ) → IsStream (profile_of profile) s as' rest
+        → length as' ≡ 1_000_000 → 0 < length rest → AnswersTooMany result) }
+    ensures source_stays { IsTrue (R.is_broken source.old) → IsTrue (R.is_broken source.new) }
+    ensures sink_stays { IsTrue (W.is_broken sink.old) → IsTrue (W.is_broken sink.new) }
+{
+    let forms = NormalFormsIn { profile };
+    match each_message::<NormalFormsIn, R, Unseen, W>(alloc, &forms, source, sink) {
         Ok(passed) => Ok(passed.whole),
         Err(stopped) => Err(StreamFailure {
             whole: stopped.whole,

@@ -2,8 +2,11 @@
 use Rattle.std.specs.Prelude.{◌≡◌, ◌⊎◌, ℕ, ◌-◌, ◌<◌, ◌≤◌, Bool, List, ◌++◌, length, take, Option, Some, None}
 use Rattle.std.specs.Io.KnownBytes.{Consumes, IsAtEnd}
 use Rattle.std.specs.Prelude.{MatchOption}
-use Rattle.ill_read.specs.Answers.{IsUnfinished}
-use Rattle.ill_normal.specs.Messages.{Spelling, counted, Makes}
+use Rattle.ber_leaf.specs.Profile.{Profile}
+use Rattle.ill_read.specs.Answers.{IsUnfinishedIn}
+use Rattle.ill_schema.specs.Profiles.{profile_of}
+use Rattle.ill_schema.specs.declared.profile.Profile.{Profile as Named}
+use Rattle.ill_normal.specs.Messages.{Spelling, counted, MakesIn}
 use Rattle.ber_frame.specs.declared.framer.Frame.{Frame}
 use Rattle.ber_frame.specs.declared.framer.Frame.TheVariants as frame
 use Rattle.ber_frame.specs.declared.framer.Framer.{Framer}
@@ -65,11 +68,11 @@ pub record TakesRest (left left' : Option (List ℕ)) (kept kept' : List ℕ) : 
   pub taken : Consumes left left' more
   pub keeps : (octets : List ℕ) → kept ≡ take 1_048_576 octets → kept' ≡ take 1_048_576 (octets ++ more)
 
--- a part of an element was taken, and no message is at its front
+-- a part of an element was taken, and no message of any profile is at its front
 pub record TakesPart (left left' : Option (List ℕ)) : Type 0 where
   pub octets : List ℕ
   pub taken : Consumes left left' octets
-  pub unfinished : IsUnfinished octets
+  pub unfinished : (q : Named) → IsUnfinishedIn (profile_of q) octets
 
 -- how many octets an element has whose end was found
 abbrev pub end_of : Frame → ℕ → Option ℕ
@@ -77,7 +80,7 @@ end_of frame.Whole size = Some size
 end_of _ size = None
 
 -- the next message was read, or refused
-abbrev pub IsNext : {T : Type 0} → (T → List ℕ → Type 0) → (Spelling → List ℕ) → (Spelling → Bool) → Option (List ℕ) → Option (List ℕ) → Next T → Type 0
-IsNext is text is_good left left' (Read piece) = (b : List ℕ) × Consumes left left' b × Makes is text is_good piece b
-IsNext is text is_good left left' (Refused refusal end) =
-    (b : List ℕ) × Consumes left left' b × IsRefusedFor b refusal × MatchOption end (HasNoEnd b left') (λ n. IsFrame b × (n ≡ counted (length b)))
+abbrev pub IsNext : Profile → {T : Type 0} → (T → List ℕ → Type 0) → (Spelling → List ℕ) → (Spelling → Bool) → Option (List ℕ) → Option (List ℕ) → Next T → Type 0
+IsNext q is text is_good left left' (Read piece) = (b : List ℕ) × Consumes left left' b × MakesIn q is text is_good piece b
+IsNext q is text is_good left left' (Refused refusal end) =
+    (b : List ℕ) × Consumes left left' b × IsRefusedFor q b refusal × MatchOption end (HasNoEnd b left') (λ n. IsFrame b × (n ≡ counted (length b)))

@@ -5,7 +5,7 @@ use Rattle.ill_going.proofs.going.keep_going.Given as goal
 
 abbrev pub invariant-loop-before : goal.invariant-loop-before
 invariant-loop-before g l = record {
-  reached : Reached (g.M.Maker.text l.fn.maker) (g.M.Maker.is_good l.fn.maker) (g.R.Source.left l.fn.source) (g.R.Source.left l.source)
+  reached : Reached (g.M.Maker.profile l.fn.maker) (g.M.Maker.text l.fn.maker) (g.M.Maker.is_good l.fn.maker) (g.R.Source.left l.fn.source) (g.R.Source.left l.source)
       (g.W.Sink.contents l.fn.sink) (g.W.Sink.contents l.sink) (reporting (g.T.Reports.reported l.fn.reports) (g.T.Reports.reported l.reports)) l.before l.refused l.good l.offset l.written;
   few : l.refused + l.good ≤ l.before;
   bound : l.written ≤ l.before * 2 ^ 63;
