@@ -2,8 +2,8 @@
 use Rattle.std.proofs.Common.{◌≡◌, ◌<◌, ◌≤◌, ◌∙◌, ℕ, Bool, List, [], ◌∷◌, ◌++◌, Option, Some, None, Ok, Err, IfOk, Result, drop, length, refl, sym, ap, ap₂, subst, arith, append-nil}
 use Rattle.std.specs.Prelude.{flat_map}
 use Rattle.std.specs.Io.KnownBytes.{IsAtEnd}
-use Rattle.ber_leaf.specs.Profile.{Profile, profile_two}
-use Rattle.ill_schema.specs.Apdu.{Apdu, IsStream, SpellsApdu, normal_form}
+use Rattle.ber_leaf.specs.Profile.{Profile}
+use Rattle.ill_schema.specs.Apdu.{Apdu, IsStream, SpellsApdu, normal_form_in}
 use Rattle.ill_schema.specs.declared.refusal.Refusal.{Refusal}
 use Rattle.ill_schema.proofs.Streams.{accepts_once, accepts_some, drop_front, parts_accept}
 use Rattle.ill_refusals.specs.Fault.{Fault, fault_of}
@@ -11,7 +11,7 @@ use Rattle.ill_refusals.specs.Outcome.{OnlyRefuses}
 use Rattle.ill_read.specs.Answers.{ReadsNextIn}
 use Rattle.ill_read.specs.declared.failure.ReadFailure.{ReadFailure}
 use Rattle.ill_normal.specs.Compared.{RefusesSideIn}
-use Rattle.ill_normal.specs.Streamed.{Passes}
+use Rattle.ill_normal.specs.Streamed.{PassesIn}
 use Rattle.ill_normal.specs.declared.compare.Side.{Side}
 use Rattle.ill_normal.specs.declared.failure.StreamFailure.{StreamFailure}
 use Rattle.ill_normal.proofs.Canonical.{refuses_once, refuses_whole}
@@ -52,12 +52,12 @@ same_stream p s (x ∷ xs) (y ∷ ys) h k =
     ap₂ ◌∷◌ one.0 (same_stream p h.1 xs ys h.4 (subst (λ t. IsStream p t ys []) (sym rest) k.4))
 
 -- What was written of a stream is the normal form of each of its messages.
-pub written : (s t held held' : List ℕ) (xs : List Apdu) (r : Result ℕ StreamFailure) → IsStream profile_two s xs []
-    → IfOk r (λ whole. (before : ℕ) × Passes (Some s) (Some t) (Some held) (Some held') whole before × IsAtEnd (Some t) × (whole ≤ 1_000_000))
-    → IfOk r (λ _. held' ≡ held ++ flat_map normal_form xs)
-written s t held held' xs (Ok n) h p =
-    let passes = p.1 in
-    let all : s ≡ passes.octets = passes.taken ∙ ap (λ z. passes.octets ++ z) p.2 ∙ append-nil passes.octets in
-    let same = same_stream profile_two s passes.apdus xs (subst (λ z. IsStream profile_two z passes.apdus []) (sym all) passes.stream) h in
-    passes.written ∙ ap (λ z. held ++ flat_map normal_form z) same
-written s t held held' xs (Err e) h p = tt
+pub written : (p : Profile) (s t held held' : List ℕ) (xs : List Apdu) (r : Result ℕ StreamFailure) → IsStream p s xs []
+    → IfOk r (λ whole. (before : ℕ) × PassesIn p (Some s) (Some t) (Some held) (Some held') whole before × IsAtEnd (Some t) × (whole ≤ 1_000_000))
+    → IfOk r (λ _. held' ≡ held ++ flat_map (normal_form_in p) xs)
+written p s t held held' xs (Ok n) h is =
+    let passes = is.1 in
+    let all : s ≡ passes.octets = passes.taken ∙ ap (λ z. passes.octets ++ z) is.2 ∙ append-nil passes.octets in
+    let same = same_stream p s passes.apdus xs (subst (λ z. IsStream p z passes.apdus []) (sym all) passes.stream) h in
+    passes.written ∙ ap (λ z. held ++ flat_map (normal_form_in p) z) same
+written p s t held held' xs (Err e) h is = tt

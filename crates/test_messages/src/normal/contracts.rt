@@ -5,6 +5,7 @@ ghost use Rattle.std.specs.Prelude.{◌≡◌, ◌↔◌, ◌≤◌, ◌+◌, �
 ghost use Rattle.ber_leaf.specs.Profile.{profile_two};
 ghost use Rattle.ill_schema.specs.Apdu.{Apdu, Accepts, IsStream, SpellsApdu, normal_form};
 ghost use Rattle.ill_schema.specs.Message.{apdu_of, octets_of};
+ghost use Rattle.ill_schema.specs.Profiles.{profile_of};
 ghost use Rattle.ill_normal.specs.Messages.{AreSpelled, Spelling, spelling};
 
 use ber_core::{AtHand, FromSlice, Pieces, Room, Sink, Source, Unseen};
@@ -163,7 +164,7 @@ fn pieces_have_nothing_of_the_room<M: Maker>(
     room: M::Out,
     alloc: Global,
 ) -> Result<Option<Piece<M::Out>>, ReadFailure>
-    ensures { (a : Apdu) (n : ℕ) → Accepts profile_two source.old.octets a n
+    ensures { (a : Apdu) (n : ℕ) → Accepts (profile_of (M.profile maker.now)) source.old.octets a n
         → IfOk result (λ found. elim found as (λ _. Type 0) [
           | Some x ↦ M.Out.is x.text (M.text maker.now position (spelling a (take n source.old.octets))) × (x.octets ≡ n)
           | None ↦ ⊥

@@ -1,16 +1,17 @@
 //! Contracts that leave one result in each profile: what the calls that are given a profile return and write is proved of their contracts
 //! and the laws alone. That memory was refused, and that the source or the sink broke, are the results that may come besides.
-ghost use Rattle.std.specs.Prelude.{◌≡◌, ◌↔◌, ◌<◌, ℕ, List, ◌++◌, take, Some, None, Err, IfOk, IsTrue, length};
-ghost use Rattle.ill_schema.specs.Apdu.{Apdu, Accepts, SpellsApdu, normal_form_in};
+ghost use Rattle.std.specs.Prelude.{◌≡◌, ◌↔◌, ◌<◌, ◌≤◌, ℕ, List, [], ◌++◌, take, Some, None, Err, IfOk, IsTrue, flat_map, length};
+ghost use Rattle.ill_schema.specs.Apdu.{Apdu, Accepts, IsStream, SpellsApdu, normal_form_in};
 ghost use Rattle.ill_schema.specs.Profiles.{profile_of};
 ghost use Rattle.ill_refusals.specs.Fault.{Fault, fault_of};
 ghost use Rattle.ill_refusals.specs.Outcome.{OnlyRefuses};
 ghost use Rattle.ill_normal.specs.Normalised.{AnswersRefused};
+ghost use Rattle.ill_normal.specs.Streamed.{AnswersCount, AnswersRefusedAfter};
 
 use ber_core::{Pieces, Room, Sink, Source};
 use ill_normal::{
-    Cause, Checked, Failure, NormalFailure, Profile, ReadFailure, Refusal, Side, check_one_as,
-    is_normal_as, normalise_as, same_message_as,
+    Cause, Checked, Failure, NormalFailure, Profile, ReadFailure, Refusal, Side, StreamFailure,
+    check_one_as, is_normal_as, normalise_as, normalise_stream_as, same_message_as,
 };
 use std::alloc::Global;
 use std::test::Fail;
@@ -39,6 +40,24 @@ fn messages_are_normalised_in_each_profile(
         → AnswersRefused result f }
 {
     normalise_as(alloc, profile, source, sink)
+}
+
+/// In each profile a stream of messages is normalised, each of them; one that is refused after some messages is refused there, and with
+/// its one fault.
+fn streams_are_normalised_in_each_profile(
+    profile: Profile,
+    source: &mut Pieces,
+    sink: &mut Room<64>,
+    alloc: Global,
+) -> Result<u32, StreamFailure>
+    ensures count { (apdus : List Apdu) → IsStream (profile_of profile) source.old.octets apdus [] → length apdus ≤ 1_000_000
+        → AnswersCount result (length apdus) }
+    ensures written { (apdus : List Apdu) → IsStream (profile_of profile) source.old.octets apdus []
+        → IfOk result (λ _. sink.new.octets ≡ sink.old.octets ++ flat_map (normal_form_in (profile_of profile)) apdus) }
+    ensures refused { (apdus : List Apdu) (rest : List ℕ) (f : Fault) → IsStream (profile_of profile) source.old.octets apdus rest
+        → length apdus < 1_000_000 → 0 < length rest → OnlyRefuses (profile_of profile) rest f → AnswersRefusedAfter result (length apdus) f }
+{
+    normalise_stream_as(alloc, profile, source, sink)
 }
 
 /// In each profile the message at the front is checked and described, and what is refused is refused with its one fault.
@@ -118,6 +137,15 @@ fn messages_of_the_module_profile_are_taken(rt: HostRuntime) -> Result<(), Fail>
         is_normal: false,
     };
     assert!(rt; checked == Ok(Some(want)));
+    let mut stream: Room<64> = Room::new(7, None);
+    let count = normalise_stream_as(
+        rt.alloc(),
+        profile,
+        &mut Pieces::new(&octets, 7, None),
+        &mut stream,
+    );
+    assert!(rt; matches!(count, Ok(1)));
+    assert!(rt; stream.octets() == normal.as_slice());
     assert!(rt; same_message_as(rt.alloc(), profile, &octets, &normal) == Ok(true));
     assert!(rt; is_normal_as(rt.alloc(), profile, &octets) == Ok(false));
     assert!(rt; is_normal_as(rt.alloc(), profile, &normal) == Ok(true));

@@ -1,15 +1,16 @@
 use Rattle.std.proofs.Common.{take, ◌∙◌}
-use Rattle.ber_leaf.specs.Profile.{profile_two}
+use Rattle.ill_schema.specs.Profiles.{profile_of}
 use Rattle.ill_normal.proofs.Canonical.{spells_once}
-use Rattle.ill_normal.specs.Messages.{Makes}
+use Rattle.ill_normal.specs.Messages.{MakesIn}
 use Rattle.test_messages.proofs.FrontForms.{front}
 use Rattle.test_messages.proofs.normal.contracts.pieces_have_nothing_of_the_room.Goals as goal
 
 pub returns : goal.returns
 returns g c a n h =
     let s = c.args.source.now.octets in
+    let p = profile_of (g.M.Maker.profile c.args.maker.now) in
     let text = g.M.Maker.text c.args.maker.now c.args.position in
-    front profile_two (Makes _ text (g.M.Maker.is_good c.args.maker.now)) _ s c.next.new.source.octets _ _ a n c.next.result
+    front p (MakesIn p _ text (g.M.Maker.is_good c.args.maker.now)) _ s c.next.new.source.octets _ _ a n c.next.result
     (λ x b is. (is.apdu, is.spells))
     (λ x is size rest. (rw (spells_once is.apdu a (take n s) is.spells h.1) at is.text, is.size ∙ size))
     h c.next.ensures
