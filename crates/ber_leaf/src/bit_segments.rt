@@ -7,8 +7,8 @@ use crate::bit_string::{clear_unused, is_bits};
 use std::alloc::{AllocError, Global};
 use std::marker::Model;
 
-/// The content that the segments of a BIT STRING have, joined in the order in which they come (X.690, 8.6.4): the number of unused bits,
-/// and the octets.
+/// The content of a BIT STRING that comes in segments, which are joined in order (X.690, 8.6.4): the number of unused bits, then
+/// the octets.
 #[derive(Debug, Drop)]
 pub struct BitSegments {
     content: Vec<u8>,
@@ -41,7 +41,10 @@ impl BitSegments {
         Ok(())
     }
 
-    /// Adds the bits of a segment at the end. After unused bits nothing may follow: then the content is none, whatever is added.
+    /// Adds the bits of a segment at the end.
+    ///
+    /// Only the last segment may have unused bits (X.690, 8.6.4). After one that breaks this rule, or is itself malformed, the
+    /// content stays invalid whatever is added.
     pub fn push(&mut self, segment: &[u8]) -> Result<(), AllocError>
         ensures { OnOk result (self.new ≡ join_bits self.old segment.now) }
     {
@@ -56,7 +59,7 @@ impl BitSegments {
         Ok(())
     }
 
-    /// Makes the content none.
+    /// Makes the content invalid for good.
     fn spoil(&mut self) -> Result<(), AllocError>
         ensures { OnOk result (self.new ≡ 8 ∷ []) }
     {
