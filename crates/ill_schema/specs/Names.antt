@@ -2,7 +2,9 @@
 use Rattle.std.specs.Prelude.{ℕ, ◌-◌, nat_eq, List, [], ◌∷◌, ◌++◌, codes, Option, Some, None, option_map, slice_get, if◌then◌else◌}
 use Rattle.ill_schema.specs.declared.{node.NodeId.NodeId, part.PartId.PartId, part.Presence.Presence, part.Row.Row}
 use Rattle.ill_schema.specs.declared.node.NodeId.TheVariants.{Symbol, Name, SystemId, TransactionId, DateTime, ServiceDateTime, PostalAddress, SystemAddress, DeliveryAddress, ClientId, DeliveryService, RequesterOptionalMessages, ResponderOptionalMessages, SearchType, SupplyMediumInfo, ItemId, Amount, CostInfo, SendTo, SendToList, AlreadyTriedList, ThirdPartyInfo, UnitsPerMedium, UnitsPerMediumList, DateDue, ShippedVia, SupplyDetails, IllServiceTypes, SupplyMediumInfos, IllRequest, Shipped, LocationInfo, Locs, Conditional, Retry, Unfilled, Locations, WillSupply, HoldPlaced, Estimate, Results, IllAnswer, ConditionalReply, Cancel, CancelReply, Received, Recall, Returned, CheckedIn, Overdue, Renew, RenewAnswer, Lost, Damaged, MessageApdu, StatusQuery, Expired, IllApdu, Encoding, External, TaggedExternal, Externals, Extension, Extensions, EDeliveryService, DocumentType, EDeliveryDetails, ElectronicDelivery, ElectronicDeliveries, SpecificUnits, DamagedPortion, DamagedDetails, HistoryReport, StatusReport, AlreadyForwarded, UserErrorReport, StateTransition, ProviderErrorReport, ErrorReport, ForwardNotification, StatusOrErrorReport, ModuleDeliveryService, ModuleShippedVia, ModuleItemId, ModuleUnitsPerMedium, ModuleUnitsPerMediumList, ModuleSupplyDetails, ModuleIllRequest, ModuleShipped, ModuleConditional, ModuleWillSupply, ModuleResults, ModuleIllAnswer, ModuleConditionalReply, ModuleCancel, ModuleCancelReply, ModuleReceived, ModuleRecall, ModuleReturned, ModuleCheckedIn, ModuleOverdue, ModuleRenew, ModuleRenewAnswer, ModuleLost, ModuleDamaged, ModuleMessageApdu, ModuleStatusQuery, ModuleExpired, ModuleIllApdu}
-use Rattle.ill_schema.specs.Table.{rows_of}
+use Rattle.ber_leaf.specs.Profile.{Profile}
+use Rattle.ill_schema.specs.Apdu.{root}
+use Rattle.ill_schema.specs.Table.{rows_of, twin_in}
 
 -- the letter comes before the first word
 abbrev before_first : ℕ → List (List ℕ) → List (List ℕ)
@@ -185,3 +187,13 @@ apdu_node_of number = if nat_eq number 0 then None else carried_node (slice_get 
 
 abbrev pub apdu_name_of : ℕ → Option (List ℕ)
 apdu_name_of number = option_map (λ node. (names_of node).0) (apdu_node_of number)
+
+-- the same in a profile
+abbrev pub node_in : Profile → NodeId → NodeId
+node_in p node = twin_in p.full node
+
+abbrev pub apdu_node_in : Profile → ℕ → Option NodeId
+apdu_node_in p number = if nat_eq number 0 then None else carried_node (slice_get (rows_of (root p)) (number - 1))
+
+abbrev pub apdu_name_in : Profile → ℕ → Option (List ℕ)
+apdu_name_in p number = option_map (λ node. (names_of node).0) (apdu_node_in p number)

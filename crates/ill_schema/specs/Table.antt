@@ -132,7 +132,7 @@ twin IllApdu = ModuleIllApdu
 twin node = node
 
 -- the same where a table is that of the module profile
-abbrev twin_in : Bool → NodeId → NodeId
+abbrev pub twin_in : Bool → NodeId → NodeId
 twin_in true node = twin node
 twin_in false node = node
 

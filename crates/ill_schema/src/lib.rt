@@ -36,9 +36,11 @@ pub use laws::{
     one_value, profile_two_extends_profile_one, tables_are_well_formed,
     the_module_reads_profile_two, what_is_meant_fits, worked_messages,
 };
-pub use lookup::{kind, row, rows};
+pub use lookup::{kind, kind_as, row, row_as, rows, rows_as};
 pub use message::Message;
-pub use names::{apdu_name, apdu_node, part_name, row_names};
+pub use names::{
+    apdu_name, apdu_name_as, apdu_node, apdu_node_as, part_name, part_name_as, row_names,
+};
 pub use node::{Kind, LeafKind, NodeId};
 pub use part::{Mode, PartId, Presence, Row};
 pub use profile::Profile;

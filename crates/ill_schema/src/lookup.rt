@@ -1,9 +1,12 @@
 //! What the tables say of a node and of its rows.
 ghost use Rattle.std.specs.Prelude.{◌≡◌, length, slice_get};
+ghost use Rattle.ill_schema.specs.Names.{node_in};
+ghost use Rattle.ill_schema.specs.Profiles.{profile_of};
 ghost use Rattle.ill_schema.specs.Table.{kind_of, rows_of};
 
 use crate::node::{Kind, LeafKind, NodeId};
 use crate::part::{PartId, Row};
+use crate::profile::Profile;
 use crate::table::rows_of;
 
 /// The kind of a node.
@@ -67,4 +70,33 @@ pub fn row(part: PartId) -> Option<Row>
     ensures { result ≡ slice_get (rows_of part.node) part.row }
 {
     rows_of(part.node).get(part.row as usize).copied()
+}
+
+/// The kind of a node in the profile. It is the same in each.
+pub fn kind_as(profile: Profile, node: NodeId) -> Kind
+    ensures { result ≡ kind_of (node_in (profile_of profile) node) }
+{
+    kind(profile.node(node))
+}
+
+/// How many rows a node has in the profile.
+///
+/// ```
+/// // Conditional has three rows in profile 2, and four in the module profile.
+/// let count = rows_as(Profile::Module, NodeId::CONDITIONAL);
+/// ```
+pub fn rows_as(profile: Profile, node: NodeId) -> u8
+    ensures { result ≡ length (rows_of (node_in (profile_of profile) node)) }
+{
+    rows(profile.node(node))
+}
+
+/// What the tables of the profile say of a part, None where the node has no such row.
+pub fn row_as(profile: Profile, part: PartId) -> Option<Row>
+    ensures { result ≡ slice_get (rows_of (node_in (profile_of profile) part.node)) part.row }
+{
+    row(PartId {
+        node: profile.node(part.node),
+        row: part.row,
+    })
 }

@@ -1,11 +1,13 @@
 //! The names of the nodes, and of each node's rows.
 ghost use Rattle.std.specs.Prelude.{◌≡◌, ◌↔◌, None, Some, IsSome, MatchOption, map, slice_get};
-ghost use Rattle.ill_schema.specs.Names.{names_of, part_name_of, apdu_node_of, apdu_name_of};
+ghost use Rattle.ill_schema.specs.Names.{names_of, node_in, part_name_of, apdu_node_of, apdu_node_in, apdu_name_of, apdu_name_in};
+ghost use Rattle.ill_schema.specs.Profiles.{profile_of};
 ghost use Rattle.ill_schema.specs.Table.{rows_of};
 
 use crate::lookup::row;
 use crate::node::NodeId;
 use crate::part::{PartId, Presence};
+use crate::profile::Profile;
 
 type Names<const N: usize> = [&'static str; N];
 
@@ -613,12 +615,36 @@ pub fn part_name(part: PartId) -> Option<(&'static str, &'static str)>
     Some((node_name(part.node), *row))
 }
 
+/// The names of a part in the profile, as [`part_name`] gives them.
+pub fn part_name_as(profile: Profile, part: PartId) -> Option<(&'static str, &'static str)>
+    ensures names { MatchOption result (part_name_of (record part { node = node_in (profile_of profile) part.node }) ≡ None)
+        (λ names. part_name_of (record part { node = node_in (profile_of profile) part.node }) ≡ Some (names.0.now, names.1.now)) }
+    ensures there { IsSome result ↔ IsSome (slice_get (rows_of (node_in (profile_of profile) part.node)) part.row) }
+{
+    part_name(PartId {
+        node: profile.node(part.node),
+        row: part.row,
+    })
+}
+
 /// The node of an APDU's body, None where no APDU of the number is carried.
 pub fn apdu_node(number: u8) -> Option<NodeId>
     ensures { result ≡ apdu_node_of number }
 {
+    apdu_node_as(Profile::Two, number)
+}
+
+/// The node of an APDU's body in the profile, None where no APDU of the number is carried.
+///
+/// ```
+/// // Forward-Notification is carried in the module profile alone.
+/// let node = apdu_node_as(Profile::Module, 2);
+/// ```
+pub fn apdu_node_as(profile: Profile, number: u8) -> Option<NodeId>
+    ensures { result ≡ apdu_node_in (profile_of profile) number }
+{
     let alternative = row(PartId {
-        node: NodeId::ILL_APDU,
+        node: profile.root(),
         row: number.checked_sub(1)?,
     })?;
     match alternative.presence {
@@ -631,6 +657,13 @@ pub fn apdu_node(number: u8) -> Option<NodeId>
 pub fn apdu_name(number: u8) -> Option<&'static str>
     ensures { MatchOption result (apdu_name_of number ≡ None) (λ name. apdu_name_of number ≡ Some name.now) }
 {
-    let node = apdu_node(number)?;
+    apdu_name_as(Profile::Two, number)
+}
+
+/// The name of an APDU in the profile, None where no APDU of the number is carried.
+pub fn apdu_name_as(profile: Profile, number: u8) -> Option<&'static str>
+    ensures { MatchOption result (apdu_name_in (profile_of profile) number ≡ None) (λ name. apdu_name_in (profile_of profile) number ≡ Some name.now) }
+{
+    let node = apdu_node_as(profile, number)?;
     Some(node_name(node))
 }
