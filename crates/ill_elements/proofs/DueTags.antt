@@ -58,20 +58,28 @@ retag_all P Q t (s ∷ ss) f h = (f s.tag s.element h.0, retag_all P Q t ss f h.
 abbrev IsSegment : Element → Type 0
 IsSegment e = (u : Tag) × (e ≡ segment u)
 
--- no segment, and its tag is no end mark's
-abbrev IsStart : Tag → Element → Type 0
-IsStart t e = (IsSegment e → ⊥) × (t.class ≡ Universal → t.number ≡ 0 → ⊥)
+abbrev pub IsForeign : Element → Type 0
+IsForeign e = (k : ℕ) × (e ≡ foreign k)
+
+-- no segment and no foreign element, and its tag is no end mark's
+record IsStart (t : Tag) (e : Element) : Type 0 where
+  no_segment : IsSegment e → ⊥
+  not_foreign : IsForeign e → ⊥
+  not_end : t.class ≡ Universal → t.number ≡ 0 → ⊥
 
 own_apart : (k : Kind) (node : NodeId) → AllStarts IsStart (own_starts k node)
 own_apart Kind.Choice node = tt
 own_apart Kind.Any node = tt
-own_apart Kind.IllString node = ((λ s. let q = s.1 in cc, λ c n. cc), ((λ s. let q = s.1 in cc, λ c n. cc), tt))
-own_apart (Kind.Leaf LeafKind.Boolean) node = ((λ s. let q = s.1 in cc, λ c n. cc), tt)
-own_apart _ node = ((λ s. let q = s.1 in cc, λ c n. cc), tt)
+own_apart Kind.IllString node = (
+  record { no_segment = λ s. let q = s.1 in cc; not_foreign = λ s. let q = s.1 in cc; not_end = λ c n. cc },
+  (record { no_segment = λ s. let q = s.1 in cc; not_foreign = λ s. let q = s.1 in cc; not_end = λ c n. cc }, tt),
+)
+own_apart (Kind.Leaf LeafKind.Boolean) node = (record { no_segment = λ s. let q = s.1 in cc; not_foreign = λ s. let q = s.1 in cc; not_end = λ c n. cc }, tt)
+own_apart _ node = (record { no_segment = λ s. let q = s.1 in cc; not_foreign = λ s. let q = s.1 in cc; not_end = λ c n. cc }, tt)
 
 left_apart : (part : PartId) (ss : List Start) → AllStarts IsStart ss → AllStarts IsStart (leave_out part ss)
 left_apart part [] h = tt
-left_apart part (s ∷ ss) h = ((λ e. let q = e.1 in cc, h.0.1), left_apart part ss h.1)
+left_apart part (s ∷ ss) h = (record { no_segment = λ e. let q = e.1 in cc; not_foreign = λ e. let q = e.1 in cc; not_end = h.0.not_end }, left_apart part ss h.1)
 
 abbrev TaggingApart : Tagging → Type 0
 TaggingApart untagged = Unit {0}
@@ -81,8 +89,8 @@ TaggingApart (explicit_or_bare t) = t.class ≡ Universal → t.number ≡ 0 →
 
 tagged_apart : (g : Tagging) (c : Component) → TaggingApart g → AllStarts IsStart (tagged_starts g c)
 tagged_apart untagged c h = own_apart (kind_of c.node) c.node
-tagged_apart (implicit t) c h = retag_all IsStart IsStart t _ (λ u e k. (k.0, h)) (own_apart (kind_of c.node) c.node)
-tagged_apart _ c h = ((λ s. let q = s.1 in cc, h), tt)
+tagged_apart (implicit t) c h = retag_all IsStart IsStart t _ (λ u e k. record { no_segment = k.no_segment; not_foreign = k.not_foreign; not_end = h }) (own_apart (kind_of c.node) c.node)
+tagged_apart _ c h = (record { no_segment = λ s. let q = s.1 in cc; not_foreign = λ s. let q = s.1 in cc; not_end = h }, tt)
 
 component_apart : (c : Component) → TaggingApart c.tagging → AllStarts IsStart (component_starts c)
 component_apart c h = go c.presence
@@ -144,11 +152,17 @@ rows_start t node n d h = go d.slot h
     go (AtRow r) k = begins_apart t _ d.alternative (found_is d.found) (at_apart node r k.row k.is_row) k.begins
     go _ k = absurd k
 
+-- an element of a foreign tree may come next
+abbrev pub AwaitsForeign : Next → Type 0
+AwaitsForeign (Root w) = kind_of w.node ≡ Kind.Any
+AwaitsForeign (Foreigns n) = Unit {0}
+AwaitsForeign _ = ⊥
+
 -- what is due in a string, in an open type, or elsewhere
 data Place (t : Tag) (n : Next) (e : Element) : Type 0 where
   in_string : n ≡ Segments → Place t n e
   in_bits : n ≡ BitSegments → Place t n e
-  in_open : (k : ℕ) → e ≡ foreign k → Place t n e
+  in_open : (k : ℕ) → e ≡ foreign k → AwaitsForeign n → Place t n e
   elsewhere : IsStart t e → Place t n e
 
 due_start : (t : Tag) (n : Next) (d : Due) → IsDueIn t n d → Place t n (found_is d.found)
@@ -159,9 +173,9 @@ due_start t (Either w) d (inl h) = elsewhere (begins_apart t (component_of w) d.
 due_start t (Either w) d (inr h) = elsewhere (rows_start t w.node 0 d h.1)
 due_start t Segments d h = in_string refl
 due_start t BitSegments d h = in_bits refl
-due_start t (Root w) d h = in_open (foreign_levels - 1) h.1.found
+due_start t (Root w) d h = in_open (foreign_levels - 1) h.1.found h.0
 due_start t (Foreigns zero) d h = absurd h
-due_start t (Foreigns (suc n)) d h = in_open n h.found
+due_start t (Foreigns (suc n)) d h = in_open n h.found tt
 due_start t Nothing d h = absurd h
 
 -- and what is due in a string is a segment
@@ -180,25 +194,40 @@ pub segment_due : (t : Tag) (n : Next) (d : Due) → IsDueIn t n d → found_is 
 segment_due t n d h s = elim (due_start t n d h) [
   | in_string e ↦ e
   | in_bits e ↦ absurd (bits_apart (sym s ∙ due_bit_segment t n d h e))
-  | in_open k e ↦ absurd (let q : segment octet_string ≡ foreign k = sym s ∙ e in cc)
-  | elsewhere k ↦ absurd (k.0 (octet_string, s))
+  | in_open k e _ ↦ absurd (let q : segment octet_string ≡ foreign k = sym s ∙ e in cc)
+  | elsewhere k ↦ absurd (k.no_segment (octet_string, s))
 ]
 
 pub bit_segment_due : (t : Tag) (n : Next) (d : Due) → IsDueIn t n d → found_is d.found ≡ segment (segment_tag bit_string) → n ≡ BitSegments
 bit_segment_due t n d h s = elim (due_start t n d h) [
   | in_string e ↦ absurd (bits_apart (sym (due_segment t n d h e) ∙ s))
   | in_bits e ↦ e
-  | in_open k e ↦ absurd (let q : segment (segment_tag bit_string) ≡ foreign k = sym s ∙ e in cc)
-  | elsewhere k ↦ absurd (k.0 (segment_tag bit_string, s))
+  | in_open k e _ ↦ absurd (let q : segment (segment_tag bit_string) ≡ foreign k = sym s ∙ e in cc)
+  | elsewhere k ↦ absurd (k.no_segment (segment_tag bit_string, s))
 ]
+
+-- a foreign element is due where one is awaited, and nothing else is due there
+pub foreign_due : (t : Tag) (n : Next) (d : Due) (m : ℕ) → IsDueIn t n d → found_is d.found ≡ foreign m → AwaitsForeign n
+foreign_due t n d m h f = elim (due_start t n d h) [
+  | in_string e ↦ absurd (let q : segment octet_string ≡ foreign m = sym (due_segment t n d h e) ∙ f in cc)
+  | in_bits e ↦ absurd (let q : segment (segment_tag bit_string) ≡ foreign m = sym (due_bit_segment t n d h e) ∙ f in cc)
+  | in_open k e o ↦ o
+  | elsewhere k ↦ absurd (k.not_foreign (m, f))
+]
+
+pub awaited : (t : Tag) (n : Next) (d : Due) → IsDueIn t n d → AwaitsForeign n → IsForeign (found_is d.found) × (d.alternative ≡ None)
+awaited t (Root w) d h o = ((foreign_levels - 1, h.1.found), h.1.alternative)
+awaited t (Foreigns zero) d h o = absurd h
+awaited t (Foreigns (suc n)) d h o = ((n, h.found), h.alternative)
+awaited t _ d h o = absurd o
 
 -- of what is due, but of a segment, only an element of a foreign tree may have the tag of an end mark
 pub due_apart : (t : Tag) (n : Next) (d : Due) → IsDueIn t n d → ((u : Tag) → found_is d.found ≡ segment u → ⊥) → t.class ≡ Universal → t.number ≡ 0 → (k : ℕ) × (found_is d.found ≡ foreign k)
 due_apart t n d h s c z = elim (due_start t n d h) [
   | in_string e ↦ absurd (s octet_string (due_segment t n d h e))
   | in_bits e ↦ absurd (s (segment_tag bit_string) (due_bit_segment t n d h e))
-  | in_open k e ↦ (k, e)
-  | elsewhere k ↦ absurd (k.1 c z)
+  | in_open k e _ ↦ (k, e)
+  | elsewhere k ↦ absurd (k.not_end c z)
 ]
 
 -- an element whose value isn't a boolean or a number

@@ -28,13 +28,17 @@ use Rattle.ill_refusals.proofs.WholeElements.{element_at, own_start, implicit_st
 use Rattle.ill_refusals.proofs.OpenElements.{inner_proper, row_proper}
 use Rattle.ill_refusals.proofs.Rows.{starting}
 
+-- what a tag begins in a wrapper is no open type
+pub closed : (t : Tag) (w : Wrapped) (alt : Option ℕ) (f : Found) → IsBegun t (component_of w) alt f → kind_of w.node ≡ Kind.Any → ⊥
+closed t w alt f h = go alt h.begins
+  where
+    go : (alt : Option ℕ) → Begins t (component_of w) alt (found_is f) → kind_of w.node ≡ Kind.Any → ⊥
+    go None b k = let q : element_with t (own_starts Kind.Any w.node) ≡ Some (found_is f) = subst (λ x. element_with t (own_starts x w.node) ≡ Some (found_is f)) k b in cc
+    go (Some n) b k = let q : Kind.Choice ≡ Kind.Any = sym b.1 ∙ k in cc
+
 -- what an explicit tag is round is of no open type, since something begins it
 pub begun_proper : (t : Tag) (w : Wrapped) (alt : Option ℕ) (f : Found) → IsBegun t (component_of w) alt f → IsProperComponent profile_two (component_of w)
-begun_proper t w alt f h = inner_proper profile_two (component_of w) refl refl (closed alt h.begins)
-  where
-    closed : (alt : Option ℕ) → Begins t (component_of w) alt (found_is f) → kind_of w.node ≡ Kind.Any → ⊥
-    closed None b k = let q : element_with t (own_starts Kind.Any w.node) ≡ Some (found_is f) = subst (λ x. element_with t (own_starts x w.node) ≡ Some (found_is f)) k b in cc
-    closed (Some n) b k = let q : Kind.Choice ≡ Kind.Any = sym b.1 ∙ k in cc
+begun_proper t w alt f h = inner_proper profile_two (component_of w) refl refl (closed t w alt f h)
 
 -- a whole element of a kind means its value, under a tagging that it suits
 kind_means : (p : Named) (node : NodeId) (g : Tagging) (T : Tree) (k : Kind) (c : Content) → kind_of node ≡ k → (k ≡ Kind.Choice → ⊥) → (k ≡ Kind.Any → ⊥)
