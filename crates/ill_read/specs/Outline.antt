@@ -1,16 +1,17 @@
 -- The outline of a value: what marks say of it, in reading order.
-use Rattle.std.specs.Prelude.{◌≡◌, ◌⊎◌, ℕ, List, [], ◌∷◌, ◌++◌, map, Option, Some, None, slice_get}
-use Rattle.ber_leaf.specs.Content.{IsContent}
-use Rattle.ber_leaf.specs.Leaf.{value}
+use Rattle.std.specs.Prelude.{◌≡◌, ◌⊎◌, ℕ, List, [], ◌∷◌, ◌++◌, map, Option, Some, None, slice_get, IsTrue}
+use Rattle.ber_core.specs.Der.{encoding}
+use Rattle.ber_core.specs.Foreign.{foreign_levels, is_foreign}
+use Rattle.ber_leaf.specs.Leaf.{Leaf, bit_string, value}
 use Rattle.ber_leaf.specs.Simple.{Simple}
 use Rattle.ill_schema.specs.declared.part.PartId.{PartId}
 use Rattle.ill_schema.specs.declared.part.Row.{Row}
 use Rattle.ill_schema.specs.Apdu.{Apdu, choice_of}
 use Rattle.ill_schema.specs.Content.{Content, simple, sequence, list, alternative, foreign, Entries, no_entries, absent, present, Items, no_items, item}
 use Rattle.ill_schema.specs.Table.{rows_of}
-use Rattle.ill_elements.specs.LeafTypes.{leaf_is}
+use Rattle.ill_elements.specs.LeafTypes.{IsContentIn, leaf_is, module_leaf_is}
+use Rattle.ill_schema.specs.declared.profile.Profile.{Profile as Named}
 use Rattle.ill_elements.specs.Contents.{absent_content}
-use Rattle.ill_elements.specs.declared.leaf_type.LeafType.{LeafType}
 use Rattle.ill_read.specs.declared.mark.Mark.{Mark}
 use Rattle.ill_read.specs.declared.mark.Mark.TheVariants as mark
 use Rattle.ill_read.specs.declared.outline.Outline.{Outline}
@@ -19,24 +20,40 @@ use Rattle.ill_read.specs.declared.outline.Outline.{Outline}
 abbrev pub IsPassed : PartId → Option Content → Type 0
 IsPassed part entry = (row : Row) × (slice_get (rows_of part.node) part.row ≡ Some row) × (absent_content row ≡ entry)
 
--- the marks of a leaf with these octets
-abbrev pub leaf_marks : LeafType → List ℕ → List Mark
-leaf_marks l octets = mark.Leaf l ∷ (map mark.Octet octets ++ mark.End ∷ [])
+-- the leaf that a mark begins
+abbrev pub leaf_marked : Mark → Option Leaf
+leaf_marked (mark.Leaf l) = Some (leaf_is l)
+leaf_marked (mark.ModuleLeaf l) = Some (module_leaf_is l)
+leaf_marked mark.BitString = Some bit_string
+leaf_marked _ = None
+
+-- a mark, octets, and the end
+abbrev pub octets_marks : Mark → List ℕ → List Mark
+octets_marks m octets = m ∷ (map mark.Octet octets ++ mark.End ∷ [])
+
+-- a leaf that was read
+pub record IsLeafRead (v : Simple) (ms : List Mark) : Type 0 where
+  pub first : Mark
+  pub leaf : Leaf
+  pub octets : List ℕ
+  pub profile : Named
+  pub begins : leaf_marked first ≡ Some leaf
+  pub are : ms ≡ octets_marks first octets
+  pub content : IsContentIn profile leaf octets
+  pub holds : v ≡ value leaf octets
 
 -- a leaf that was read, or the default of a row that was passed
 abbrev pub IsLeafMarked : Simple → List Mark → Type 0
-IsLeafMarked v ms =
-    ((l : LeafType) × (octets : List ℕ) × (ms ≡ leaf_marks l octets) × IsContent (leaf_is l) octets × (v ≡ value (leaf_is l) octets))
-    ⊎ ((part : PartId) × (ms ≡ mark.Passed part ∷ []) × IsPassed part (Some (simple v)))
+IsLeafMarked v ms = IsLeafRead v ms ⊎ ((part : PartId) × (ms ≡ mark.Passed part ∷ []) × IsPassed part (Some (simple v)))
 
 abbrev mutual
-  -- the marks say this value; no marks say a foreign tree
+  -- the marks say this value
   pub IsMarked : Content → List Mark → Type 0
   IsMarked (simple v) ms = IsLeafMarked v ms
   IsMarked (sequence es) ms = (inside : List Mark) × (ms ≡ mark.Sequence ∷ (inside ++ mark.End ∷ [])) × AreEntries es inside
   IsMarked (list is) ms = (inside : List Mark) × (ms ≡ mark.List ∷ (inside ++ mark.End ∷ [])) × AreItems is inside
   IsMarked (alternative n c) ms = (inside : List Mark) × (ms ≡ mark.Alternative n ∷ inside) × IsMarked c inside
-  IsMarked (foreign T) ms = ⊥
+  IsMarked (foreign T) ms = (ms ≡ octets_marks mark.Foreign (encoding T)) × IsTrue (is_foreign foreign_levels T)
 
   -- the entries of a sequence, row by row
   pub AreEntries : Entries → List Mark → Type 0

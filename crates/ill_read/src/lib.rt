@@ -29,7 +29,7 @@ mod whole;
 
 pub use decoder::{Decoder, Progress};
 pub use failure::{Failure, ReadFailure};
-pub use ill_elements::LeafType;
+pub use ill_elements::{LeafType, ModuleLeaf};
 pub use ill_refusals::{
     one_outcome, one_place, refusals_stay, truncated_at_the_end, values_are_small,
 };
@@ -40,5 +40,5 @@ pub use normal::{
     read_normal_by, read_normal_in,
 };
 pub use outline::Outline;
-pub use outlined::{OutlineReader, Outlined, read_outline_in};
+pub use outlined::{OutlineReader, Outlined, read_outline_as, read_outline_in};
 pub use read::{decode, read_kept, read_kept_by, read_message, read_message_by};

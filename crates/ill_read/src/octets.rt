@@ -68,8 +68,15 @@ impl Octets {
         self.octets.octets()
     }
 
+    /// The content of the BIT STRING that is open, its segments joined.
+    pub fn bit_string(&self) -> &[u8]
+        ensures { result.now ≡ self.now.bits }
+    {
+        self.bits.content()
+    }
+
     /// What was written from an offset on.
-    fn written_from(&self, base: usize) -> &[u8]
+    pub fn written_from(&self, base: usize) -> &[u8]
         ensures { result.now ≡ drop base self.now.octets }
     {
         let octets = self.octets.octets();

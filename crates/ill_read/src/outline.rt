@@ -1,13 +1,14 @@
 //! The draft that is the outline of a message: marks that say what its value is, made while the message is read.
-ghost use Rattle.ill_schema.specs.declared.profile.Profile.TheVariants.{Two};
+ghost use Rattle.ill_schema.specs.declared.profile.Profile.{Profile as Named};
 ghost use Rattle.std.specs.Prelude.{◌≡◌, ◌++◌, [], ◌∷◌, ◌≤◌, length, map, take, drop, OnOk};
 ghost use Rattle.ill_cells.specs.Places.{alternative_of};
-ghost use Rattle.ill_schema.specs.Table.{rows_of};
-ghost use Rattle.ill_elements.specs.Due.{first_of, shape, slot_in};
+ghost use Rattle.ill_schema.specs.Table.{kind_of, rows_of};
+ghost use Rattle.ill_elements.specs.Due.{first_of, read_as, shape, slot_in};
+ghost use Rattle.ill_read.specs.Outline.{octets_marks};
 ghost use Rattle.ill_elements.specs.Standing.{top_level};
 ghost use Rattle.ill_read.specs.code.Drafts.{rows_before, rows_left};
 ghost use Rattle.ill_read.specs.declared.mark.Mark.{Mark};
-ghost use Rattle.ill_read.specs.code.Outlines.{AreOutlined, HasLed, HasOutline, HasPassed, HasRear, alternative_marks, first_marks, late_marks, start_marks};
+ghost use Rattle.ill_read.specs.code.Outlines.{AreOutlined, HasLed, HasOutline, HasPassed, HasRear, alternative_marks, first_marks, held_marks, is_any, late_marks, start_marks};
 
 use crate::draft::Draft;
 use crate::failure::Failure;
@@ -55,13 +56,32 @@ pub struct Outlining {
 impl Outlining {
     /// Holds nothing, in the memory of `room`, whose marks are forgotten.
     pub fn new(alloc: Global, room: Outline) -> Outlining
-        ensures { AreOutlined result (top_level Two ∷ []) [] }
+        ensures { (p : Named) → AreOutlined result (top_level p ∷ []) [] }
     {
         let Outline { mut marks, octets } = room;
         marks.clear();
         Outlining {
             octets: Octets::new(alloc, octets),
             marks,
+        }
+    }
+
+    /// Marks the octets that only the draft of octets has when an element ends: the bits of a BIT STRING, and a foreign tree in its
+    /// wrapper.
+    #[inline(always)]
+    fn put_held(&mut self, frame: Frame) -> Result<(), AllocError>
+        ensures octets { self.new.octets ≡ self.old.octets }
+        ensures marks { OnOk result (self.new.marks.items ≡ self.old.marks.items ++ held_marks (read_as frame.found) self.old.octets frame.base) }
+    {
+        match Element::of(frame.found) {
+            Element::BitString => put_octets(&mut self.marks, self.octets.bit_string()),
+            Element::Wrapper(wrapped) => {
+                if !is_open_type(wrapped.node) {
+                    return Ok(());
+                }
+                put_foreign(&mut self.marks, self.octets.written_from(frame.base))
+            }
+            _ => Ok(()),
         }
     }
 
@@ -77,6 +97,13 @@ impl Outlining {
     }
 }
 
+/// Tells whether the type of a node is left open, so that what stands there is a foreign tree.
+fn is_open_type(node: NodeId) -> bool
+    ensures { result ≡ is_any (kind_of node) }
+{
+    matches!(&node, NodeId::Any)
+}
+
 /// Marks what comes before an element that was found at this place: the rows that it passes, and the alternative that it is.
 fn lead(marks: &mut Vec<Mark>, place: At, found: Found) -> Result<(), AllocError>
     ensures { OnOk result (HasLed (shape place) (slot_in found) (alternative_of found) marks.old.items marks.new.items) }
@@ -85,12 +112,15 @@ fn lead(marks: &mut Vec<Mark>, place: At, found: Found) -> Result<(), AllocError
     choose(marks, found.alternative())
 }
 
-/// Marks that an element begins. What comes in a loose wrapper says whether it is a sequence.
+/// Marks that an element begins. What comes in a loose wrapper says whether it is a sequence, and a foreign tree is marked when its
+/// wrapper ends.
 fn begin(marks: &mut Vec<Mark>, element: Element) -> Result<(), AllocError>
     ensures { OnOk result (marks.new.items ≡ marks.old.items ++ first_marks (first_of element) element) }
 {
     match element {
         Element::Leaf(leaf) => marks.push(Mark::Leaf(leaf))?,
+        Element::ModuleLeaf(leaf) => marks.push(Mark::ModuleLeaf(leaf))?,
+        Element::BitString => marks.push(Mark::BitString)?,
         Element::Sequence(_) => marks.push(Mark::Sequence)?,
         Element::List(_) => marks.push(Mark::List)?,
         _ => {}
@@ -108,7 +138,7 @@ fn choose(marks: &mut Vec<Mark>, alternative: Option<u8>) -> Result<(), AllocErr
     Ok(())
 }
 
-/// Marks the octets of a leaf.
+/// Marks octets.
 fn put_octets(marks: &mut Vec<Mark>, octets: &[u8]) -> Result<(), AllocError>
     ensures { OnOk result (marks.new.items ≡ marks.old.items ++ map Mark.Octet octets.now) }
 {
@@ -116,6 +146,17 @@ fn put_octets(marks: &mut Vec<Mark>, octets: &[u8]) -> Result<(), AllocError>
     for octet in octets {
         marks.push_reserved(Mark::Octet(*octet));
     }
+    Ok(())
+}
+
+/// Marks a foreign tree, which has these octets.
+#[inline(never)]
+fn put_foreign(marks: &mut Vec<Mark>, octets: &[u8]) -> Result<(), AllocError>
+    ensures { OnOk result (marks.new.items ≡ marks.old.items ++ octets_marks Mark.Foreign octets.now) }
+{
+    marks.push(Mark::Foreign)?;
+    put_octets(marks, octets)?;
+    marks.push(Mark::End)?;
     Ok(())
 }
 
@@ -154,7 +195,7 @@ fn pass_last(marks: &mut Vec<Mark>, next: Next) -> Result<(), AllocError>
 fn end(marks: &mut Vec<Mark>, next: Next) -> Result<(), AllocError>
     ensures { OnOk result (HasRear next marks.old.items marks.new.items) }
 {
-    if let Next::Inner(_) | Next::Root(_) | Next::Nothing = next {
+    if let Next::Inner(_) | Next::Root(_) | Next::Foreigns(_) | Next::Nothing = next {
         return Ok(());
     }
     pass_last(marks, next)?;
@@ -174,7 +215,7 @@ fn pass(marks: &mut Vec<Mark>, node: NodeId, from: u8, until: u8) -> Result<(), 
 }
 
 impl Draft for Outlining {
-    ghost takes = { λ p. p ≡ Two };
+    ghost takes = { λ p. Unit };
 
     ghost holds = { λ draft levels text. AreOutlined draft levels text };
 
@@ -183,7 +224,7 @@ impl Draft for Outlining {
     #[inline(always)]
     fn open(&mut self, profile: Profile, place: At, opening: Opening) -> Result<usize, AllocError> {
         let element = Element::of(opening.found);
-        if let Element::Segment = element {
+        if let Element::Segment | Element::BitSegment = element {
             return self.octets.open(profile, place, opening);
         }
         lead(&mut self.marks, place, opening.found)?;
@@ -198,11 +239,11 @@ impl Draft for Outlining {
 
     fn bits(
         &mut self,
-        _profile: Profile,
-        _reading: Reading,
-        _content: &[u8],
+        profile: Profile,
+        reading: Reading,
+        content: &[u8],
     ) -> Result<(), AllocError> {
-        unreachable!()
+        self.octets.bits(profile, reading, content)
     }
 
     #[inline(always)]
@@ -225,16 +266,28 @@ impl Draft for Outlining {
 
     fn module_element(
         &mut self,
-        _profile: Profile,
-        _place: At,
-        _reading: Reading,
-        _content: &[u8],
+        profile: Profile,
+        place: At,
+        reading: Reading,
+        content: &[u8],
     ) -> Result<(), AllocError> {
-        unreachable!()
+        self.octets
+            .module_element(profile, place, reading, content)?;
+        let element = Element::of(reading.found);
+        if let Element::Foreign(_) = element {
+            return Ok(());
+        }
+        let marks = &mut self.marks;
+        lead(marks, place, reading.found)?;
+        begin(marks, element)?;
+        put_octets(marks, content)?;
+        marks.push(Mark::End)?;
+        Ok(())
     }
 
     #[inline(always)]
     fn close(&mut self, profile: Profile, frame: Frame, place: At) -> Result<(), Failure> {
+        self.put_held(frame)?;
         self.octets.close(profile, frame, place)?;
         end(&mut self.marks, frame.next())?;
         Ok(())

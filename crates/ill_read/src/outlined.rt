@@ -1,7 +1,8 @@
 //! Messages as their outlines.
 ghost use Rattle.std.specs.Prelude.{◌≡◌, ◌≤◌};
-ghost use Rattle.ill_read.specs.Answers.{ReadsNext};
-ghost use Rattle.ill_read.specs.Outlined.{IsOutlined};
+ghost use Rattle.ill_schema.specs.Profiles.{profile_of};
+ghost use Rattle.ill_read.specs.Answers.{ReadsNext, ReadsNextIn};
+ghost use Rattle.ill_read.specs.Outlined.{IsOutlined, IsOutlinedIn};
 
 use crate::failure::ReadFailure;
 use crate::keep::Forget;
@@ -67,8 +68,27 @@ impl OutlineReader {
         ensures next { ReadsNext (R.left source.old) (R.left source.new) (R.is_broken source.old) (R.is_broken source.new) IsOutlined result }
         ensures few { open_count self.new.reader ≤ 32 }
     {
+        self.read_as::<R, L>(Profile::Two, source, room)
+    }
+
+    /// Reads an outline as [`OutlineReader::read`] does, of a message in the profile.
+    ///
+    /// # Errors
+    ///
+    /// Those of [`read_message`](crate::read_message), in the profile.
+    #[inline(always)]
+    pub fn read_as<R: Source, L: Look<R>>(
+        &mut self,
+        profile: Profile,
+        source: &mut R,
+        room: Outline,
+    ) -> Result<Option<Outlined>, ReadFailure>
+        ensures next { ReadsNextIn (profile_of profile) (R.left source.old) (R.left source.new) (R.is_broken source.old) (R.is_broken source.new)
+            (IsOutlinedIn (profile_of profile)) result }
+        ensures few { open_count self.new.reader ≤ 32 }
+    {
         self.reader
-            .restart(Profile::Two, Outlining::new(self.alloc, room));
+            .restart(profile, Outlining::new(self.alloc, room));
         match read_draft::<Outlining, R, L, Forget>(&mut self.reader, source, &mut Forget) {
             Ok(Some(read)) => Ok(Some(self.outlined(read))),
             Ok(None) => Ok(None),
@@ -104,4 +124,25 @@ pub fn read_outline_in<R: Source, L: Look<R>>(
     ensures { ReadsNext (R.left source.old) (R.left source.new) (R.is_broken source.old) (R.is_broken source.new) IsOutlined result }
 {
     OutlineReader::new(alloc).read::<R, L>(source, room)
+}
+
+/// Reads an outline as [`read_outline_in`] does, of a message in the profile.
+///
+/// ```text
+/// let outlined = read_outline_as::<_, Unseen>(alloc, Profile::Module, source, room)?;
+/// ```
+///
+/// # Errors
+///
+/// Those of [`read_message`](crate::read_message), in the profile.
+pub fn read_outline_as<R: Source, L: Look<R>>(
+    alloc: Global,
+    profile: Profile,
+    source: &mut R,
+    room: Outline,
+) -> Result<Option<Outlined>, ReadFailure>
+    ensures { ReadsNextIn (profile_of profile) (R.left source.old) (R.left source.new) (R.is_broken source.old) (R.is_broken source.new)
+        (IsOutlinedIn (profile_of profile)) result }
+{
+    OutlineReader::new(alloc).read_as::<R, L>(profile, source, room)
 }

@@ -1,23 +1,26 @@
 -- What the draft of an outline holds of the elements that have been read.
-use Rattle.std.specs.Prelude.{◌≡◌, ℕ, List, [], ◌∷◌, ◌++◌, map, Option, Some, None, slice_get}
+use Rattle.std.specs.Prelude.{◌≡◌, ℕ, Bool, true, false, List, [], ◌∷◌, ◌++◌, drop, map, Option, Some, None, slice_get}
 use Rattle.ber_core.specs.Identifier.{Tag}
 use Rattle.ill_schema.specs.declared.part.PartId.{PartId}
 use Rattle.ill_schema.specs.declared.part.Row.{Row}
 use Rattle.ill_schema.specs.Apdu.{Apdu, choice_of}
-use Rattle.ill_schema.specs.Table.{rows_of}
+use Rattle.ill_schema.specs.Table.{kind_of, rows_of}
 use Rattle.ill_schema.specs.Value.{entries_of}
-use Rattle.ill_read.specs.Outline.{AreEntries, IsMarked}
+use Rattle.ill_read.specs.Outline.{AreEntries, IsMarked, octets_marks}
 use Rattle.ill_elements.specs.Standing.{Level}
 use Rattle.ill_elements.specs.Due.{IsDueIn}
 use Rattle.ill_read.specs.code.Drafts.{rows_before, rows_left}
 use Rattle.ill_elements.specs.Due.{due_with}
-use Rattle.ill_read.specs.code.OctetDrafts.{AreOctets}
+use Rattle.ill_read.specs.code.OctetDrafts.{AreOctets, innermost}
+use Rattle.ill_read.specs.declared.octets.Octets.{Octets}
+use Rattle.ill_schema.specs.Content.{Content}
+use Rattle.ill_schema.specs.declared.node.Kind.{Kind}
 use Rattle.ill_elements.specs.declared.due.Next.{Next}
-use Rattle.ill_elements.specs.declared.due.Next.TheVariants.{Rows, Inner, Items, Either, Segments, Nothing, Root}
+use Rattle.ill_elements.specs.declared.due.Next.TheVariants.{Rows, Inner, Items, Either, Segments, BitSegments, Foreigns, Nothing, Root}
 use Rattle.ill_elements.specs.declared.due.Slot.{Slot}
 use Rattle.ill_elements.specs.declared.due.Slot.TheVariants.{Row as AtRow}
 use Rattle.ill_elements.specs.declared.element.Element.{Element as CodeElement}
-use Rattle.ill_elements.specs.declared.element.Element.TheVariants.{Leaf}
+use Rattle.ill_elements.specs.declared.element.Element.TheVariants.{BitString, Foreign, Leaf, ModuleLeaf, Wrapper}
 use Rattle.ill_read.specs.declared.mark.Mark.{Mark}
 use Rattle.ill_read.specs.declared.mark.Mark.TheVariants as mark
 use Rattle.ill_read.specs.declared.outline.Outlining.{Outlining}
@@ -42,6 +45,8 @@ abbrev pub first_marks : Next → CodeElement → List Mark
 first_marks (Rows node n) e = mark.Sequence ∷ []
 first_marks (Items node) e = mark.List ∷ []
 first_marks Segments (Leaf l) = mark.Leaf l ∷ []
+first_marks Segments (ModuleLeaf l) = mark.ModuleLeaf l ∷ []
+first_marks BitSegments BitString = mark.BitString ∷ []
 first_marks _ e = []
 
 -- the mark of a loose wrapper as a sequence, where the first row comes
@@ -58,6 +63,7 @@ late_marks _ = []
 abbrev pub last_marks : Next → List Mark
 last_marks (Inner w) = []
 last_marks (Root w) = []
+last_marks (Foreigns n) = []
 last_marks Nothing = []
 last_marks _ = mark.End ∷ []
 
@@ -85,16 +91,49 @@ abbrev pub AreLed : Tag → CodeElement → List Level → List Mark → List Ma
 AreLed tag element [] old new = new ≡ old
 AreLed tag element (l ∷ below) old new = IsLed tag element l.next old new
 
+abbrev pub is_any : Kind → Bool
+is_any Kind.Any = true
+is_any _ = false
+
+-- a wrapper of an open type, or an element of a foreign tree
+abbrev pub is_open_type : CodeElement → Bool
+is_open_type (Wrapper w) = is_any (kind_of w.node)
+is_open_type (Foreign n) = true
+is_open_type _ = false
+
+-- the marks of the entries in an element; a foreign tree has none before its wrapper ends
+abbrev pub AreOwnAs : Bool → List (Option Content) → List Mark → Type 0
+AreOwnAs true entries own = own ≡ []
+AreOwnAs false entries own = AreEntries (entries_of entries) own
+
+abbrev pub AreOwn : CodeElement → List (Option Content) → List Mark → Type 0
+AreOwn e entries own = AreOwnAs (is_open_type e) entries own
+
+-- the octets of a string that is open have marks, those of a BIT STRING when it ends
+abbrev pub text_marks : CodeElement → List ℕ → List Mark
+text_marks BitString text = []
+text_marks _ text = map mark.Octet text
+
+-- the marks of what only the draft of octets has until an element ends: bits, and a foreign tree in its wrapper
+abbrev pub foreign_marks : Bool → List ℕ → List Mark
+foreign_marks true octets = octets_marks mark.Foreign octets
+foreign_marks false octets = []
+
+abbrev pub held_marks : CodeElement → Octets → ℕ → List Mark
+held_marks BitString octets base = map mark.Octet octets.bits
+held_marks (Wrapper w) octets base = foreign_marks (is_any (kind_of w.node)) (drop base octets.octets)
+held_marks _ octets base = []
+
 -- the marks are those of the levels, outermost first
 abbrev pub AreFronts : List Level → List Mark → Type 0
 AreFronts [] ms = ms ≡ []
 AreFronts (l ∷ below) ms = (before : List Mark) × (led : List Mark) × (own : List Mark)
-    × (ms ≡ led ++ (first_marks l.next l.element ++ own)) × AreLed l.tag l.element below before led × AreEntries (entries_of l.entries) own × AreFronts below before
+    × (ms ≡ led ++ (first_marks l.next l.element ++ own)) × AreLed l.tag l.element below before led × AreOwn l.element l.entries own × AreFronts below before
 
 pub record AreOutlined (draft : Outlining) (levels : List Level) (text : List ℕ) : Type 0 where
   pub octets : AreOctets draft.octets levels text
   pub front : List Mark
-  pub joined : draft.marks.items ≡ front ++ map mark.Octet text
+  pub joined : draft.marks.items ≡ front ++ text_marks (innermost levels) text
   pub are : AreFronts levels front
 
 -- the marks are the APDU's
