@@ -1,6 +1,6 @@
 -- How long a text may be: by far no longer than the normal form allows, since that is within the limit.
 use Rattle.std.proofs.Common.{◌≡◌, ℕ, zero, suc, ◌+◌, ◌-◌, ◌*◌, ◌^◌, ◌<◌, ◌≤◌, ℤ, pos, negsuc, ◌&&◌, Bool, true, false, IsTrue, List, [], ◌∷◌, ◌++◌, length, Option, Some, None, refl, sym, subst, arith, codes, decimal, slice_get, length-append}
-use Rattle.std.specs.Prelude.{not, nat_eq, nat_le, flat_map, slice_index, ◌||◌, ◌/◌, ◌%◌, if◌then◌else◌}
+use Rattle.std.specs.Prelude.{not, nat_eq, nat_le, if◌then◌else◌}
 use Rattle.std.proofs.lemmas.Int.{ints}
 use Rattle.std.specs.Fmt.{signed_decimal}
 use Rattle.std.specs.List.{list_all}
@@ -9,34 +9,33 @@ use lib.Signed.{mag}
 use Rattle.std.proofs.Common.{neg_ℤ, ◌≤ℤ◌}
 use Rattle.itoa.proofs.Decimal.{length_wide}
 use Rattle.ber_core.specs.Der.{size, sizes}
-use Rattle.ber_core.specs.Identifier.{Tag, identifier}
-use Rattle.ber_core.specs.Length.{shortest_length}
-use Rattle.ber_core.specs.Tree.{Tree, Trees, primitive, constructed, none, more}
+use Rattle.ber_core.specs.Identifier.{Tag}
+use Rattle.ber_core.specs.Tree.{Tree, Trees, none, more}
 use Rattle.ber_core.proofs.Encodings.{length-encoding}
-use Rattle.ber_leaf.specs.Leaf.{Leaf, integer, enumerated, Holds, normal_content}
-use Rattle.ber_leaf.specs.Profile.{profile_two}
+use Rattle.ber_leaf.specs.Leaf.{Leaf, bit_string, integer, enumerated, Holds, cleared_last, normal_content}
+use Rattle.ber_leaf.specs.Profile.{Profile, profile_two}
 use Rattle.ber_leaf.specs.Simple.{Simple, flag, whole, date, time, printable, general, visible, null, oid, binary, bits, descriptor}
 use Rattle.ber_leaf.proofs.Integers.{whole_bounds}
 use Rattle.ill_schema.specs.declared.node.NodeId.{NodeId}
-use Rattle.ill_schema.specs.declared.node.NodeId.TheVariants.{Boolean, IllApdu}
+use Rattle.ill_schema.specs.declared.node.NodeId.TheVariants.{Boolean}
 use Rattle.ill_schema.specs.declared.node.Kind.{Kind}
 use Rattle.ill_schema.specs.declared.part.Presence.{Presence}
 use Rattle.ill_schema.specs.declared.part.Row.{Row}
-use Rattle.ill_schema.specs.Apdu.{Apdu, SpellsApdu, choice_of}
+use Rattle.ill_schema.specs.declared.profile.Profile.{Profile as Named}
+use Rattle.ill_schema.specs.Apdu.{Apdu, SpellsApdu, choice_of, root}
 use Rattle.ill_schema.specs.Content.{Content, simple, sequence, list, alternative, foreign, Entries, no_entries, absent, present, Items, no_items, item}
 use Rattle.ill_schema.specs.Fits.{Fits, FitRows, FitItems, FitsSimple}
 use Rattle.ill_schema.specs.Names.{names_of}
 use Rattle.ill_schema.specs.Normal.{normal_tree, normal_trees, normal_items}
+use Rattle.ill_schema.specs.Profiles.{profile_of}
 use Rattle.ill_schema.specs.Presence.{default_value, is_default, is_default_of, same_value}
 use Rattle.ill_schema.specs.Table.{kind_of, rows_of}
-use Rattle.ill_schema.specs.TableFacts.{are_of_two, is_of_two}
 use Rattle.ill_schema.specs.Tagging.{Tagging, untagged, implicit, explicit, explicit_or_bare, sequence_tag, tag_tree, tagging}
-use Rattle.ill_schema.proofs.KnownLeaves.{is_known, known_leaf}
 use Rattle.ill_schema.proofs.MeansFits.{means_apdu_fits}
-use Rattle.std.proofs.lemmas.Bool.{and_parts}
-use Rattle.ill_schema.proofs.Tags.{at_row, row_of_two, rows_of_two, two_not_any}
+use Rattle.ill_schema.proofs.Tags.{at_row}
 use Rattle.ill_text.specs.Numbers.{number_name, number_names}
-use Rattle.ill_text.specs.Shown.{Place, body_place, entry_lines, escaped, in_brackets, is_empty, item_lines, item_of, leaf_text, line, lines_of, name_or_none, part, quoted, row_name, shown_text, within}
+use Rattle.ill_text.specs.Shown.{Place, body_place_in, content_text, entry_lines, hexadecimal, in_brackets, is_empty, item_lines, item_of, leaf_text, line, lines_of, name_or_none, part, quoted, row_name, shown_text_in, tree_text, within}
+use Rattle.ill_text.proofs.OctetBounds.{constructed_size, content_size, hexadecimal_size, oid_size, primitive_size, quoted_size, some_size, tree_text_size}
 
 -- ---- names
 
@@ -61,7 +60,8 @@ name_size node i = short_at (names_of node).1 i (names_short node)
 
 within_size : (path name : List ℕ) → length (within path name) ≤ length path + length name + 1
 within_size [] name = omega arith
-within_size (a ∷ path) name = omega (arith, length-append (a ∷ path) (codes "." ++ name), length-append (codes ".") name)
+within_size (a ∷ path) [] = omega arith
+within_size (a ∷ path) (b ∷ name) = omega (arith, length-append (a ∷ path) (codes "." ++ b ∷ name))
 
 part_size : (p : Place) (i : ℕ) → length (part p i).path ≤ length p.path + 61
 part_size p i = omega (arith, within_size p.path (row_name p.node i), name_size p.node i)
@@ -74,23 +74,6 @@ item_size p i h =
 
 line_size : (path text : List ℕ) → length (line path text) ≡ length path + length text + 4
 line_size path text = omega (arith, length-append (path ++ codes " = " ++ text) (codes "\n"), length-append (path ++ codes " = ") text, length-append path (codes " = "))
-
-escape_size : (a b : Bool) (x y z : List ℕ) → length x ≤ 4 → length y ≤ 4 → length z ≤ 4 → length (if a then x else if b then y else z) ≤ 4
-escape_size true b x y z h k l = h
-escape_size false true x y z h k l = k
-escape_size false false x y z h k l = l
-
-escaped_one : (a : ℕ) → length (escaped a) ≤ 4
-escaped_one a =
-    escape_size (nat_eq a 0x22 || nat_eq a 0x5C) (nat_le 0x20 a && nat_le a 0x7E) (0x5C ∷ a ∷ []) (a ∷ [])
-    (0x5C ∷ 0x78 ∷ slice_index (codes "0123456789abcdef") (a / 16) ∷ slice_index (codes "0123456789abcdef") (a % 16) ∷ []) (omega arith) (omega arith) (omega arith)
-
-escaped_size : (o : List ℕ) → length (flat_map escaped o) ≤ 4 * length o
-escaped_size [] = omega arith
-escaped_size (a ∷ o) = omega (arith, escaped_size o, length-append (escaped a) (flat_map escaped o), escaped_one a)
-
-quoted_size : (o : List ℕ) → length (quoted o) ≤ 4 * length o + 2
-quoted_size o = omega (arith, escaped_size o, length-append (codes "\"" ++ flat_map escaped o) (codes "\""), length-append (codes "\"") (flat_map escaped o))
 
 numbers_short : (a b c d e : Bool) → IsTrue (all_short (if a then codes "simple" ∷ codes "chained" ∷ codes "partitioned" ∷ []
     else if b then codes "loan" ∷ codes "copy-non-returnable" ∷ codes "locations" ∷ codes "estimate" ∷ codes "responder-specific" ∷ []
@@ -128,68 +111,68 @@ flag_size row true = omega arith
 flag_size row false = omega arith
 
 -- a number is held as INTEGER or ENUMERATED
-number_size_of : (row : List ℕ) (z : ℤ) (leaf : Leaf) → Holds profile_two leaf (whole z) (normal_content (whole z)) → length (leaf_text row (whole z)) ≤ 85
-number_size_of row z integer h = whole_size row z (mag_bound z ((whole_bounds profile_two z).0 (normal_content (whole z), h)))
-number_size_of row z enumerated h = whole_size row z (mag_bound z ((whole_bounds profile_two z).0 (normal_content (whole z), h)))
-number_size_of row z _ h = absurd (let e = h.2 in cc)
+number_size_of : (q : Profile) (row : List ℕ) (z : ℤ) (leaf : Leaf) → Holds q leaf (whole z) (normal_content (whole z)) → length (leaf_text row (whole z)) ≤ 85
+number_size_of q row z integer h = whole_size row z (mag_bound z ((whole_bounds q z).0 (normal_content (whole z), h)))
+number_size_of q row z enumerated h = whole_size row z (mag_bound z ((whole_bounds q z).0 (normal_content (whole z), h)))
+number_size_of q row z _ h = absurd (let e = h.2 in cc)
 
-leaf_size : (row : List ℕ) (v : Simple) (node : NodeId) → IsTrue (is_of_two node) → FitsSimple profile_two v node → length (leaf_text row v) ≤ 4 * length (normal_content v) + 85
-leaf_size row (flag b) node two h = omega (arith, flag_size row b)
-leaf_size row (whole z) node two h = omega (arith, number_size_of row z h.0 h.2)
-leaf_size row (date o) node two h = omega arith
-leaf_size row (time o) node two h = omega arith
-leaf_size row (printable o) node two h = omega (arith, quoted_size o)
-leaf_size row (general o) node two h = omega (arith, quoted_size o, length-append (codes "general ") (quoted o))
-leaf_size row (visible o) node two h = omega (arith, quoted_size o, length-append (codes "visible ") (quoted o))
-leaf_size row null node two h = absurd (let known : IsTrue (is_known null) = known_leaf node null h.0 two h.1 in cc)
-leaf_size row (oid o) node two h = absurd (let known : IsTrue (is_known (oid o)) = known_leaf node (oid o) h.0 two h.1 in cc)
-leaf_size row (binary o) node two h = absurd (let known : IsTrue (is_known (binary o)) = known_leaf node (binary o) h.0 two h.1 in cc)
-leaf_size row (bits n o) node two h = absurd (let known : IsTrue (is_known (bits n o)) = known_leaf node (bits n o) h.0 two h.1 in cc)
-leaf_size row (descriptor o) node two h = absurd (let known : IsTrue (is_known (descriptor o)) = known_leaf node (descriptor o) h.0 two h.1 in cc)
+-- bits are held as BIT STRING, and are no more than their octets have
+bits_few : (q : Profile) (n : ℕ) (o : List ℕ) (leaf : Leaf) → Holds q leaf (bits n o) (normal_content (bits n o)) → n ≤ 8 * length o
+bits_few q n o bit_string h =
+    let e : bits n o ≡ bits (8 * length o - (8 * length o - n)) (cleared_last (8 * length o - n) o) = h.2 in
+    let same : n ≡ 8 * length o - (8 * length o - n) = cc in
+    omega (arith, same)
+bits_few q n o _ h = absurd (let e = h.2 in cc)
+
+bits_size : (row : List ℕ) (n : ℕ) (o : List ℕ) → n < 2 ^ 64 → length (leaf_text row (bits n o)) ≤ 2 * length o + 45
+bits_size row n o h = go (nat_eq n 0)
+  where
+    go : (b : Bool) → length (codes "bits " ++ decimal n ++ (if b then [] else codes " " ++ hexadecimal o)) ≤ 2 * length o + 45
+    go true = omega (arith, length_wide n (omega (arith, h)), length-append (codes "bits " ++ decimal n) [], length-append (codes "bits ") (decimal n))
+    go false =
+        omega (arith, length_wide n (omega (arith, h)), hexadecimal_size o, length-append (codes "bits " ++ decimal n) (codes " " ++ hexadecimal o), length-append (codes "bits ") (decimal n), length-append (codes " ") (hexadecimal o))
+
+leaf_size : (q : Profile) (row : List ℕ) (v : Simple) (node : NodeId) → FitsSimple q v node → length (normal_content v) < 2 ^ 60 → length (leaf_text row v) ≤ 40 * length (normal_content v) + 85
+leaf_size q row (flag b) node h few = omega (arith, flag_size row b)
+leaf_size q row (whole z) node h few = omega (arith, number_size_of q row z h.0 h.2)
+leaf_size q row (date o) node h few = omega arith
+leaf_size q row (time o) node h few = omega arith
+leaf_size q row (printable o) node h few = omega (arith, quoted_size o)
+leaf_size q row (general o) node h few = omega (arith, quoted_size o, length-append (codes "general ") (quoted o))
+leaf_size q row (visible o) node h few = omega (arith, quoted_size o, length-append (codes "visible ") (quoted o))
+leaf_size q row null node h few = omega arith
+leaf_size q row (oid o) node h few = omega (arith, oid_size o)
+leaf_size q row (binary o) node h few = omega (arith, content_size o, length-append (codes "octets ") (content_text o))
+leaf_size q row (bits n o) node h few = omega (arith, bits_size row n o (omega (arith, few, bits_few q n o h.0 h.2)))
+leaf_size q row (descriptor o) node h few = omega (arith, quoted_size o, length-append (codes "descriptor ") (quoted o))
 
 -- a default is no text
-same_size : (row : List ℕ) (v w : Simple) (node : NodeId) → FitsSimple profile_two v node → IsTrue (same_value v w) → length (leaf_text row v) ≤ 85
-same_size row (flag b) w node h e = omega (arith, flag_size row b)
-same_size row (whole z) w node h e = number_size_of row z h.0 h.2
-same_size row (date o) w node h e = absurd cc
-same_size row (time o) w node h e = absurd cc
-same_size row (printable o) w node h e = absurd cc
-same_size row (general o) w node h e = absurd cc
-same_size row (visible o) w node h e = absurd cc
-same_size row null w node h e = absurd cc
-same_size row (oid o) w node h e = absurd cc
-same_size row (binary o) w node h e = absurd cc
-same_size row (bits n o) w node h e = absurd cc
-same_size row (descriptor o) w node h e = absurd cc
+same_size : (q : Profile) (row : List ℕ) (v w : Simple) (node : NodeId) → FitsSimple q v node → IsTrue (same_value v w) → length (leaf_text row v) ≤ 85
+same_size q row (flag b) w node h e = omega (arith, flag_size row b)
+same_size q row (whole z) w node h e = number_size_of q row z h.0 h.2
+same_size q row (date o) w node h e = absurd cc
+same_size q row (time o) w node h e = absurd cc
+same_size q row (printable o) w node h e = absurd cc
+same_size q row (general o) w node h e = absurd cc
+same_size q row (visible o) w node h e = absurd cc
+same_size q row null w node h e = absurd cc
+same_size q row (oid o) w node h e = absurd cc
+same_size q row (binary o) w node h e = absurd cc
+same_size q row (bits n o) w node h e = absurd cc
+same_size q row (descriptor o) w node h e = absurd cc
 
-default_lines : (p : Place) (pr : Presence) (k : Kind) (c : Content) (node : NodeId) → Fits profile_two c node → IsTrue (is_default_of pr k c) → length (lines_of p c) ≤ length p.path + 89
-default_lines p (Presence.Default d) k (simple v) node h e =
-    omega (arith, same_size p.name v (default_value k d) node h e, line_size p.path (leaf_text p.name v))
-default_lines p (Presence.Default d) k (sequence es) node h e = absurd cc
-default_lines p (Presence.Default d) k (list is) node h e = absurd cc
-default_lines p (Presence.Default d) k (alternative n c) node h e = absurd cc
-default_lines p (Presence.Default d) k (foreign T) node h e = absurd cc
-default_lines p Presence.Must k c node h e = absurd cc
-default_lines p Presence.May k c node h e = absurd cc
-default_lines p Presence.LeftOut k c node h e = absurd cc
+default_lines : (q : Profile) (p : Place) (pr : Presence) (k : Kind) (c : Content) (node : NodeId) → Fits q c node → IsTrue (is_default_of pr k c) → length (lines_of p c) ≤ length p.path + 89
+default_lines q p (Presence.Default d) k (simple v) node h e =
+    omega (arith, same_size q p.name v (default_value k d) node h e, line_size p.path (leaf_text p.name v))
+default_lines q p (Presence.Default d) k (sequence es) node h e = absurd cc
+default_lines q p (Presence.Default d) k (list is) node h e = absurd cc
+default_lines q p (Presence.Default d) k (alternative n c) node h e = absurd cc
+default_lines q p (Presence.Default d) k (foreign T) node h e = absurd cc
+default_lines q p Presence.Must k c node h e = absurd cc
+default_lines q p Presence.May k c node h e = absurd cc
+default_lines q p Presence.LeftOut k c node h e = absurd cc
 
 -- ---- normal trees
-
-some_identifier : (t : Tag) (f : Bool) → 1 ≤ length (identifier t f)
-some_identifier t f = grind arith
-
-some_length : (n : ℕ) → 1 ≤ length (shortest_length n)
-some_length n = grind arith
-
-primitive_size : (t : Tag) (o : List ℕ) → length o + 2 ≤ size (primitive t o)
-primitive_size t o = omega (arith, some_identifier t false, some_length (length o))
-
-constructed_size : (t : Tag) (ts : Trees) → sizes ts + 2 ≤ size (constructed t ts)
-constructed_size t ts = omega (arith, some_identifier t true, some_length (sizes ts))
-
-some_size : (T : Tree) → 2 ≤ size T
-some_size (primitive t o) = omega (arith, primitive_size t o)
-some_size (constructed t ts) = omega (arith, constructed_size t ts)
 
 -- a tag only adds
 tagged_size : (g : Tagging) (own : Tag) (f : Tag → Tree) (n : ℕ) → ((t : Tag) → n ≤ size (f t)) → n ≤ size (tag_tree g own f)
@@ -233,12 +216,12 @@ little_more_path (list is) = omega arith
 little_more_path (alternative n c) = omega arith
 little_more_path (foreign T) = omega arith
 
-no_more_path : (c : Content) (node : NodeId) → Fits profile_two c node → IsTrue (not (is_choice (kind_of node))) → more_path c ≡ 0
-no_more_path (simple v) node h other = refl
-no_more_path (sequence es) node h other = refl
-no_more_path (list is) node h other = refl
-no_more_path (foreign T) node h other = refl
-no_more_path (alternative n c) node h other = absurd (let e = h.1.0 in apart (kind_of node) e other)
+no_more_path : (q : Profile) (c : Content) (node : NodeId) → Fits q c node → IsTrue (not (is_choice (kind_of node))) → more_path c ≡ 0
+no_more_path q (simple v) node h other = refl
+no_more_path q (sequence es) node h other = refl
+no_more_path q (list is) node h other = refl
+no_more_path q (foreign T) node h other = refl
+no_more_path q (alternative n c) node h other = absurd (let e = h.1.0 in apart (kind_of node) e other)
   where
     apart : (k : Kind) → k ≡ Kind.Choice → IsTrue (not (is_choice k)) → ⊥
     apart k e other = let f = subst (λ (x : Kind). IsTrue (not (is_choice x))) e other in cc
@@ -274,62 +257,63 @@ entry_trees is_default row c es rows = elim is_default as (λ _. Trees) [
   | false ↦ more (normal_tree c row.node (tagging profile_two row)) (normal_trees es rows)
 ]
 
-present_bound : (b : Bool) (row : Row) (c : Content) (es : Entries) (rows : List Row) (p : Place) (i : ℕ) → is_default row c ≡ b → Fits profile_two c row.node
+present_bound : (q : Profile) (b : Bool) (row : Row) (c : Content) (es : Entries) (rows : List Row) (p : Place) (i : ℕ) → is_default row c ≡ b → Fits q c row.node
     → length p.path + 122 + 100 * sizes (entry_trees b row c es rows) ≤ longest
     → (length (part p i).path + more_path c + 100 * size (normal_tree c row.node (tagging profile_two row)) ≤ longest → length (lines_of (part p i) c) ≤ octet_room * size (normal_tree c row.node (tagging profile_two row)))
     → (length p.path + 122 + 100 * sizes (normal_trees es rows) ≤ longest → length (entry_lines p (suc i) es) ≤ row_room * length rows + octet_room * sizes (normal_trees es rows))
     → length (lines_of (part p i) c ++ entry_lines p (suc i) es) ≤ row_room * suc (length rows) + octet_room * sizes (entry_trees b row c es rows)
-present_bound true row c es rows p i e h le first others =
-    let lines = default_lines (part p i) row.presence (kind_of row.node) c row.node h e in
+present_bound q true row c es rows p i e h le first others =
+    let lines = default_lines q (part p i) row.presence (kind_of row.node) c row.node h e in
     omega (arith, le, lines, part_size p i, others le, length-append (lines_of (part p i) c) (entry_lines p (suc i) es))
-present_bound false row c es rows p i e h le first others =
+present_bound q false row c es rows p i e h le first others =
     let room : length (part p i).path + more_path c + 100 * size (normal_tree c row.node (tagging profile_two row)) ≤ longest = omega (arith, le, part_size p i, little_more_path c) in
     omega (arith, first room, others (omega (arith, le)), length-append (lines_of (part p i) c) (entry_lines p (suc i) es))
 
 mutual
-  value_bound : (c : Content) (node : NodeId) (g : Tagging) (p : Place) → IsTrue (is_of_two node) → Fits profile_two c node → length p.path + more_path c + 100 * size (normal_tree c node g) ≤ longest
+  value_bound : (q : Profile) (c : Content) (node : NodeId) (g : Tagging) (p : Place) → Fits q c node → length p.path + more_path c + 100 * size (normal_tree c node g) ≤ longest
       → length (lines_of p c) ≤ octet_room * size (normal_tree c node g)
-  value_bound (simple v) node g p two h le =
+  value_bound q (simple v) node g p h le =
       let n : length (normal_content v) + 2 ≤ size (normal_tree (simple v) node g) = tagged_size g _ _ _ (λ t. primitive_size t (normal_content v)) in
-      omega (arith, le, n, leaf_size p.name v node two h, line_size p.path (leaf_text p.name v))
-  value_bound (sequence es) node g p two h le =
+      omega (arith, le, n, leaf_size q p.name v node h (omega (arith, le, n)), line_size p.path (leaf_text p.name v))
+  value_bound q (sequence es) node g p h le =
       let n : sizes (normal_trees es (rows_of node)) + 2 ≤ size (normal_tree (sequence es) node g) = tagged_size g _ _ _ (λ t. constructed_size t (normal_trees es (rows_of node))) in
-      let inside = entries_bound es (rows_of node) p 0 (rows_of_two node two) h.1 (omega (arith, le, n)) in
+      let inside = entries_bound q es (rows_of node) p 0 h.1 (omega (arith, le, n)) in
       sequence_bound es p (size (normal_tree (sequence es) node g)) (omega (arith, le)) (omega (arith, n)) (omega (arith, n, inside, rows_few node))
-  value_bound (list no_items) node g p two h le =
+  value_bound q (list no_items) node g p h le =
       omega (arith, le, some_size (normal_tree (list no_items) node g), line_size p.path (codes "[]"))
-  value_bound (list (item c is)) node g p two h le =
+  value_bound q (list (item c is)) node g p h le =
       let n : sizes (normal_items (item c is) (rows_of node)) + 2 ≤ size (normal_tree (list (item c is)) node g) = tagged_size g _ _ _ (λ t. constructed_size t (normal_items (item c is) (rows_of node))) in
-      omega (arith, n, items_bound (item c is) (rows_of node) p 0 (rows_of_two node two) h.1 (omega (arith, le, n)))
-  value_bound (foreign T) node g p two h le = absurd (two_not_any node two h.0)
-  value_bound (alternative n c) node g p two h le =
+      omega (arith, n, items_bound q (item c is) (rows_of node) p 0 h.1 (omega (arith, le, n)))
+  value_bound q (foreign T) node g p h le =
+      let n : size T ≤ size (normal_tree (foreign T) node g) = tagged_size g _ _ _ (λ t. omega arith) in
+      omega (arith, le, n, some_size T, tree_text_size T, line_size p.path (codes "foreign " ++ tree_text T), length-append (codes "foreign ") (tree_text T))
+  value_bound q (alternative n c) node g p h le =
       let row = h.0 in
       let s = alternative_size c node n g row h.1.1 in
-      let none = no_more_path c row.node h.2 (no_choice node n row h.1.0 h.1.1) in
-      omega (arith, s, value_bound c row.node (tagging profile_two row) (part p n) (row_of_two node n row two h.1.1) h.2 (omega (arith, le, s, none, part_size p n)))
+      let none = no_more_path q c row.node h.2 (no_choice node n row h.1.0 h.1.1) in
+      omega (arith, s, value_bound q c row.node (tagging profile_two row) (part p n) h.2 (omega (arith, le, s, none, part_size p n)))
 
-  entries_bound : (es : Entries) (rows : List Row) (p : Place) (i : ℕ) → IsTrue (are_of_two rows) → FitRows profile_two es rows → length p.path + 122 + 100 * sizes (normal_trees es rows) ≤ longest
+  entries_bound : (q : Profile) (es : Entries) (rows : List Row) (p : Place) (i : ℕ) → FitRows q es rows → length p.path + 122 + 100 * sizes (normal_trees es rows) ≤ longest
       → length (entry_lines p i es) ≤ row_room * length rows + octet_room * sizes (normal_trees es rows)
-  entries_bound no_entries [] p i ok h le = omega arith
-  entries_bound no_entries (row ∷ rows) p i ok h le = absurd h
-  entries_bound (absent es) [] p i ok h le = absurd h
-  entries_bound (absent es) (row ∷ rows) p i ok h le = omega (arith, entries_bound es rows p (suc i) (and_parts _ _ ok).1 h.1 le)
-  entries_bound (present c es) [] p i ok h le = absurd h
-  entries_bound (present c es) (row ∷ rows) p i ok h le =
-      let parts = and_parts _ _ ok in
-      present_bound (is_default row c) row c es rows p i refl h.1 le (λ fits. value_bound c row.node (tagging profile_two row) (part p i) parts.0 h.1 fits) (λ fits. entries_bound es rows p (suc i) parts.1 h.2 fits)
+  entries_bound q no_entries [] p i h le = omega arith
+  entries_bound q no_entries (row ∷ rows) p i h le = absurd h
+  entries_bound q (absent es) [] p i h le = absurd h
+  entries_bound q (absent es) (row ∷ rows) p i h le = omega (arith, entries_bound q es rows p (suc i) h.1 le)
+  entries_bound q (present c es) [] p i h le = absurd h
+  entries_bound q (present c es) (row ∷ rows) p i h le =
+      present_bound q (is_default row c) row c es rows p i refl h.1 le (λ fits. value_bound q c row.node (tagging profile_two row) (part p i) h.1 fits) (λ fits. entries_bound q es rows p (suc i) h.2 fits)
 
-  items_bound : (is : Items) (rows : List Row) (p : Place) (i : ℕ) → IsTrue (are_of_two rows) → FitItems profile_two is rows → length p.path + i + 164 + 100 * sizes (normal_items is rows) ≤ longest
+  items_bound : (q : Profile) (is : Items) (rows : List Row) (p : Place) (i : ℕ) → FitItems q is rows → length p.path + i + 164 + 100 * sizes (normal_items is rows) ≤ longest
       → length (item_lines p i is) ≤ octet_room * sizes (normal_items is rows)
-  items_bound no_items rows p i ok h le = omega arith
-  items_bound (item c is) [] p i ok h le = absurd (let e = h.1 in cc)
-  items_bound (item c is) (row ∷ rows) p i ok h le =
+  items_bound q no_items rows p i h le = omega arith
+  items_bound q (item c is) [] p i h le = absurd (let e = h.1 in cc)
+  items_bound q (item c is) (row ∷ rows) p i h le =
       let same : row ≡ h.0 = let e = h.1 in cc in
-      let fits : Fits profile_two c row.node = subst (λ (r : Row). Fits profile_two c r.node) (sym same) h.2 in
+      let fits : Fits q c row.node = subst (λ (r : Row). Fits q c r.node) (sym same) h.2 in
       let some = some_size (normal_tree c row.node (tagging profile_two row)) in
       let small : i < 2 ^ 64 = omega (arith, le) in
-      let first = value_bound c row.node (tagging profile_two row) (item_of p i) (and_parts _ _ ok).0 fits (omega (arith, le, some, item_size p i small, little_more_path c)) in
-      omega (arith, first, items_bound is (row ∷ rows) p (suc i) ok h.3 (omega (arith, le, some)), length-append (lines_of (item_of p i) c) (item_lines p (suc i) is))
+      let first = value_bound q c row.node (tagging profile_two row) (item_of p i) fits (omega (arith, le, some, item_size p i small, little_more_path c)) in
+      omega (arith, first, items_bound q is (row ∷ rows) p (suc i) h.3 (omega (arith, le, some)), length-append (lines_of (item_of p i) c) (item_lines p (suc i) is))
 
 -- the text of a message
 head_size : (i : ℕ) (name : List ℕ) → i < 2 ^ 64 → length name ≤ 60 → length (codes "message " ++ decimal i ++ codes " " ++ name ++ codes "\n") ≤ 200
@@ -341,14 +325,15 @@ head_size i name small short =
     omega (arith, number, short, a, b, c, length-append (codes "message " ++ decimal i ++ codes " " ++ name) (codes "\n"))
 
 -- the text of an APDU that some octets spell
-pub text_bound : (i : ℕ) (a : Apdu) (b : List ℕ) → i < 2 ^ 64 → SpellsApdu profile_two a b → length (shown_text i a) < 2 ^ 62
-text_bound i a b small h =
-    let fits = means_apdu_fits profile_two a h.encodes.tree h.encodes.means in
+pub text_bound : (p : Named) (i : ℕ) (a : Apdu) (b : List ℕ) → i < 2 ^ 64 → SpellsApdu (profile_of p) a b → length (shown_text_in (profile_of p) i a) < 2 ^ 62
+text_bound p i a b small h =
+    let q = profile_of p in
+    let node = root q in
+    let fits = means_apdu_fits q a h.encodes.tree h.encodes.means in
     let row = fits.1.0 in
-    let name = row_name IllApdu (a.number - 1) in
-    let n : size (normal_tree (choice_of a) IllApdu untagged) ≤ 1_048_576 = omega (arith, h.normal_short, length-encoding (normal_tree (choice_of a) IllApdu untagged)) in
-    let s = alternative_size a.body IllApdu (a.number - 1) untagged row fits.1.1.1 in
-    let none = no_more_path a.body row.node fits.1.2 (no_choice IllApdu (a.number - 1) row fits.1.1.0 fits.1.1.1) in
-    let lines = value_bound a.body row.node (tagging profile_two row) (body_place a) (row_of_two IllApdu (a.number - 1) row refl fits.1.1.1) fits.1.2 (omega (arith, n, s, none)) in
-    let head = codes "message " ++ decimal i ++ codes " " ++ name ++ codes "\n" in
-    omega (arith, n, s, lines, head_size i name small (name_size IllApdu (a.number - 1)), length-append head (lines_of (body_place a) a.body))
+    let n : size (normal_tree (choice_of a) node untagged) ≤ 1_048_576 = omega (arith, h.normal_short, length-encoding (normal_tree (choice_of a) node untagged)) in
+    let s = alternative_size a.body node (a.number - 1) untagged row fits.1.1.1 in
+    let none = no_more_path q a.body row.node fits.1.2 (no_choice node (a.number - 1) row fits.1.1.0 fits.1.1.1) in
+    let lines = value_bound q a.body row.node (tagging profile_two row) (body_place_in q a) fits.1.2 (omega (arith, n, s, none)) in
+    let head = codes "message " ++ decimal i ++ codes " " ++ row_name node (a.number - 1) ++ codes "\n" in
+    omega (arith, n, s, lines, head_size i (row_name node (a.number - 1)) small (name_size node (a.number - 1)), length-append head (lines_of (body_place_in q a) a.body))

@@ -1,5 +1,10 @@
 pub mod Sent
 pub mod Lines
+pub mod OctetMarks
+pub mod Subidentifiers
+pub mod FilledOctets
 pub mod Messages
+pub mod OctetBounds
 pub mod Bounds
 pub mod LiftedTexts
+pub mod ForeignTrees

@@ -1,5 +1,6 @@
 -- What marks say, and the lines that are put for them.
-use Rattle.std.proofs.Common.{◌≡◌, ◌⊎◌, ℕ, suc, ◌+◌, ◌<◌, ◌≤◌, Bool, true, false, not, ◌&&◌, List, [], ◌∷◌, ◌++◌, length, take, drop, map, Option, Some, None, refl, sym, ap, ap₂, subst, ◌∙◌, inl, inr, arith, rules, append_assoc, append-nil, codes, decimal, length-append, Bor, get_or, ℤ}
+use Rattle.std.proofs.Common.{IsTrue, ◌≡◌, ◌⊎◌, ℕ, suc, ◌+◌, ◌<◌, ◌≤◌, Bool, true, false, not, ◌&&◌, List, [], ◌∷◌, ◌++◌, length, take, drop, map, Option, Some, None, refl, sym, ap, ap₂, subst, ◌∙◌, inl, inr, arith, rules, append_assoc, append-nil, codes, decimal, length-append, Bor, get_or, ℤ}
+use Rattle.std.specs.Bool.{◌==◌}
 use Rattle.std.specs.Prelude.{flat_map}
 use Rattle.std.proofs.lemmas.List.{take_more}
 use Rattle.std.proofs.lemmas.List.Concat.{flat_map-append}
@@ -7,30 +8,35 @@ use Rattle.ill_text.specs.Shown.{escaped}
 use Rattle.std.proofs.lemmas.List.{take_at, drop_at, length-drop}
 use Rattle.std.proofs.Math.Seq.{take-length}
 use Rattle.std.proofs.Common.{◌-◌}
-use Rattle.ber_leaf.specs.Content.{IsContent}
-use Rattle.ber_leaf.specs.Leaf.{enumerated, integer, value}
-use Rattle.ber_leaf.specs.Profile.{profile_two}
+use Rattle.ber_core.specs.Der.{encoding}
+use Rattle.ber_core.specs.Foreign.{foreign_levels, is_foreign}
+use Rattle.ber_core.specs.Tree.{Tree}
+use Rattle.ber_leaf.specs.Leaf.{Leaf, bit_string, enumerated, integer, value}
+use Rattle.ber_leaf.specs.Simple.{Simple}
+use Rattle.ill_schema.specs.Profiles.{profile_of}
+use Rattle.ill_schema.specs.declared.profile.Profile.{Profile as Named}
 use Rattle.ber_leaf.proofs.Integers.{integer_size}
-use Rattle.ber_leaf.proofs.Leaves.{no_fault}
 use Rattle.ill_schema.specs.declared.node.NodeId.{NodeId}
 use Rattle.ill_schema.specs.declared.part.Presence.{Presence}
 use Rattle.ill_schema.specs.declared.part.Row.{Row as TableRow}
 use Rattle.ill_schema.specs.Presence.{default_value}
 use Rattle.ill_schema.specs.Table.{kind_of}
 use Rattle.ill_schema.specs.Content.{Content, simple, sequence, list, alternative, foreign, Entries, no_entries, absent, present, Items, no_items, item}
-use Rattle.ill_elements.specs.LeafTypes.{leaf_is}
-use Rattle.ill_read.specs.Outline.{AreEntries, AreItems, IsMarked, IsPassed}
+use Rattle.ill_elements.specs.LeafTypes.{IsContentIn, leaf_is, module_leaf_is}
+use Rattle.ill_read.specs.Outline.{AreEntries, AreItems, IsMarked, IsPassed, leaf_marked}
 use Rattle.ill_read.specs.declared.mark.Mark.{Mark}
 use Rattle.ill_read.specs.declared.mark.Mark.TheVariants as mark
 use Rattle.ill_text.specs.Shown.{Place, entry_lines, is_empty, item_lines, item_of, line, lines_of, part, within}
+use Rattle.ill_text.specs.code.MarkedOctets.{SaysOctets, is_of_module}
 use Rattle.ill_text.specs.Marks.{IsEntry, entry_text, front_octets, is_at_end, is_there, octets_in, passed_in}
 use Rattle.ill_schema.specs.declared.part.PartId.{PartId}
 use Rattle.ill_elements.specs.declared.leaf_type.LeafType.{LeafType}
+use Rattle.ill_elements.specs.declared.leaf_type.ModuleLeaf.{ModuleLeaf}
 use Rattle.ill_text.specs.Shown.{row_name, row_node}
 use Rattle.ill_text.specs.code.Trails.{head_line, place_at}
-use Rattle.ill_text.specs.Shown.{shown_text}
-use Rattle.ill_schema.specs.Apdu.{Apdu}
-use Rattle.ill_schema.specs.declared.node.NodeId.TheVariants.{IllApdu}
+use Rattle.ill_text.specs.Shown.{shown_text_in}
+use Rattle.ber_leaf.specs.Profile.{Profile}
+use Rattle.ill_schema.specs.Apdu.{Apdu, root}
 use Rattle.std.proofs.Common.{slice_get}
 use Rattle.ill_text.specs.code.Sending.{Adds, Sending}
 use Rattle.ill_text.specs.code.Trails.{is_nothing, path_of}
@@ -48,13 +54,23 @@ path_of-Row outer name = search (rules, the_lemmas)
 pub path_of-Item : (outer : Bor Trail) (i : ℕ) → path_of (Item outer i) ≡ path_of outer.now ++ codes "[" ++ decimal i ++ codes "]"
 path_of-Item outer i = search (rules, the_lemmas)
 
-pub within_some : (path name : List ℕ) → is_nothing path ≡ false → within path name ≡ path ++ (codes "." ++ name)
-within_some [] name e = absurd cc
-within_some (a ∷ path) name e = refl
+pub within_some : (path name : List ℕ) → is_nothing path ≡ false → is_nothing name ≡ false → within path name ≡ path ++ (codes "." ++ name)
+within_some [] name e f = absurd cc
+within_some (a ∷ path) [] e f = absurd cc
+within_some (a ∷ path) (b ∷ name) e f = refl
+
+pub within_unnamed : (path name : List ℕ) → is_nothing name ≡ true → within path name ≡ path
+within_unnamed [] [] e = refl
+within_unnamed (a ∷ path) [] e = refl
+within_unnamed path (b ∷ name) e = absurd cc
 
 pub within_none : (path name : List ℕ) → is_nothing path ≡ true → within path name ≡ path ++ name
 within_none [] name e = refl
 within_none (a ∷ path) name e = absurd cc
+
+pub some_name : (name : List ℕ) → false ≡ (length name == 0) → is_nothing name ≡ false
+some_name [] e = absurd cc
+some_name (a ∷ name) e = refl
 
 -- ---- marks
 
@@ -80,14 +96,49 @@ leaf_parts o rest ms n e f =
       omega (arith, ap length e, length-append (map mark.Octet o) (mark.End ∷ rest), size),
     )
 
+-- what the marks of a value say, by the first of them
+abbrev pub Says : Mark → Content → List Mark → Type 0
+Says (mark.Passed part) c inside = IsPassed part (Some c) × (inside ≡ [])
+Says (mark.Alternative n) c inside = (d : Content) × (c ≡ alternative n d) × IsMarked d inside
+Says mark.Sequence c inside = (es : Entries) × (own : List Mark) × (c ≡ sequence es) × AreEntries es own × (inside ≡ own ++ mark.End ∷ [])
+Says mark.List c inside = (is : Items) × (own : List Mark) × (c ≡ list is) × AreItems is own × (inside ≡ own ++ mark.End ∷ [])
+Says mark.Foreign c inside = (T : Tree) × (c ≡ foreign T) × IsTrue (is_foreign foreign_levels T) × (inside ≡ map mark.Octet (encoding T) ++ mark.End ∷ [])
+Says (mark.Octet octet) c inside = ⊥
+Says mark.End c inside = ⊥
+Says m c inside = (l : Leaf) × (o : List ℕ) × (p : Named) × (leaf_marked m ≡ Some l) × IsContentIn p l o × (c ≡ simple (value l o)) × (inside ≡ map mark.Octet o ++ mark.End ∷ [])
+
+leaf_says : (m : Mark) (l : Leaf) (o : List ℕ) (p : Named) (v : Simple) → leaf_marked m ≡ Some l → IsContentIn p l o → v ≡ value l o → Says m (simple v) (map mark.Octet o ++ mark.End ∷ [])
+leaf_says (mark.Leaf k) l o p v is content holds = (l, o, p, is, content, ap simple holds, refl)
+leaf_says (mark.ModuleLeaf k) l o p v is content holds = (l, o, p, is, content, ap simple holds, refl)
+leaf_says mark.BitString l o p v is content holds = (l, o, p, is, content, ap simple holds, refl)
+leaf_says _ l o p v is content holds = absurd cc
+
+value_says : (c : Content) (ms : List Mark) → IsMarked c ms → (m : Mark) × (inside : List Mark) × (ms ≡ m ∷ inside) × Says m c inside
+value_says (simple v) ms (inl h) = (h.first, map mark.Octet h.octets ++ mark.End ∷ [], h.are, leaf_says h.first h.leaf h.octets h.profile v h.begins h.content h.holds)
+value_says (simple v) ms (inr h) = (mark.Passed h.0, [], h.1, (h.2, refl))
+value_says (sequence es) ms h = (mark.Sequence, h.0 ++ mark.End ∷ [], h.1, (es, h.0, refl, h.2, refl))
+value_says (list is) ms h = (mark.List, h.0 ++ mark.End ∷ [], h.1, (is, h.0, refl, h.2, refl))
+value_says (alternative n c) ms h = (mark.Alternative n, h.0, h.1, (c, refl, h.2))
+value_says (foreign T) ms h = (mark.Foreign, map mark.Octet (encoding T) ++ mark.End ∷ [], h.0, (T, refl, h.1, refl))
+
+-- a mark that begins a value
+abbrev pub begins : Mark → Bool
+begins (mark.Octet octet) = false
+begins mark.End = false
+begins _ = true
+
+says_begins : (m : Mark) (c : Content) (inside : List Mark) → Says m c inside → begins m ≡ true
+says_begins (mark.Octet octet) c inside h = absurd h
+says_begins mark.End c inside h = absurd h
+says_begins _ c inside h = refl
+
+begins_apart : (m : Mark) (ms : List Mark) → begins m ≡ true → is_at_end (m ∷ ms) ≡ false
+begins_apart mark.End ms h = absurd cc
+begins_apart _ ms h = refl
+
 -- a value begins with a mark that is no end
 pub no_end : (c : Content) (ms rest : List Mark) → IsMarked c ms → is_at_end (ms ++ rest) ≡ false
-no_end (simple v) ms rest (inl h) = ap (λ x. is_at_end (x ++ rest)) h.2
-no_end (simple v) ms rest (inr h) = ap (λ x. is_at_end (x ++ rest)) h.1
-no_end (sequence es) ms rest h = ap (λ x. is_at_end (x ++ rest)) h.1
-no_end (list is) ms rest h = ap (λ x. is_at_end (x ++ rest)) h.1
-no_end (alternative n c) ms rest h = ap (λ x. is_at_end (x ++ rest)) h.1
-no_end (foreign T) ms rest h = absurd h
+no_end c ms rest h = let v = value_says c ms h in ap (λ x. is_at_end (x ++ rest)) v.2 ∙ begins_apart v.0 (v.1 ++ rest) (says_begins v.0 c v.1 v.3)
 
 -- ---- entries
 
@@ -302,6 +353,9 @@ octets_join (mark.Octet octet ∷ xs) ys = ap (λ o. octet ∷ o) (octets_join x
 octets_join (mark.Passed part ∷ xs) ys = octets_join xs ys
 octets_join (mark.Alternative n ∷ xs) ys = octets_join xs ys
 octets_join (mark.Leaf l ∷ xs) ys = octets_join xs ys
+octets_join (mark.ModuleLeaf l ∷ xs) ys = octets_join xs ys
+octets_join (mark.BitString ∷ xs) ys = octets_join xs ys
+octets_join (mark.Foreign ∷ xs) ys = octets_join xs ys
 octets_join (mark.Sequence ∷ xs) ys = octets_join xs ys
 octets_join (mark.List ∷ xs) ys = octets_join xs ys
 octets_join (mark.End ∷ xs) ys = octets_join xs ys
@@ -317,6 +371,9 @@ other_mark (mark.Octet octet) h = absurd (h octet refl)
 other_mark (mark.Passed part) h = refl
 other_mark (mark.Alternative n) h = refl
 other_mark (mark.Leaf l) h = refl
+other_mark (mark.ModuleLeaf l) h = refl
+other_mark mark.BitString h = refl
+other_mark mark.Foreign h = refl
 other_mark mark.Sequence h = refl
 other_mark mark.List h = refl
 other_mark mark.End h = refl
@@ -346,11 +403,11 @@ line_quoted p o e =
     sym (append_assoc (p ++ codes " = " ++ o ++ e) (codes "\"") (codes "\n"))
     ∙ ap (λ x. x ++ codes "\n") (append_assoc (p ++ codes " = " ++ o) e (codes "\"") ∙ append_assoc (p ++ codes " = ") o (e ++ codes "\""))
 
-pub few_octets : (o : List ℕ) → IsContent integer o → (0 < length o) × (length o ≤ 8)
-few_octets o h = integer_size profile_two o (no_fault integer o h)
+pub few_octets : (p : Named) (o : List ℕ) → IsContentIn p integer o → (0 < length o) × (length o ≤ 8)
+few_octets p o h = integer_size (profile_of p) o h.1
 
-pub few_enumerated : (o : List ℕ) → IsContent enumerated o → (0 < length o) × (length o ≤ 8)
-few_enumerated o h = integer_size profile_two o (no_fault enumerated o h)
+pub few_enumerated : (p : Named) (o : List ℕ) → IsContentIn p enumerated o → (0 < length o) × (length o ≤ 8)
+few_enumerated p o h = integer_size (profile_of p) o h.1
 
 -- a row that has no default has no entry where it has no element
 pub no_default : (p : Presence) (node : NodeId) (e : Option Content) → ((d : ℤ) → p ≡ Presence.Default d → ⊥) → (elim p as (λ _. Option Content) [ Presence.Default d ↦ Some (simple (default_value (kind_of node) d)) | _ ↦ None ]) ≡ e → e ≡ None
@@ -382,82 +439,73 @@ tail_of m n xs ys e = (cc, cc)
 front : (ms rest tail marks : List Mark) (m : Mark) → ms ≡ m ∷ tail → marks ≡ ms ++ rest → marks ≡ m ∷ (tail ++ rest)
 front ms rest tail marks m e q = q ∙ ap (λ x. x ++ rest) e
 
+-- what a value says whose marks begin so
+begun : (c : Content) (ms rest tail : List Mark) (m : Mark) → IsMarked c ms → m ∷ tail ≡ ms ++ rest → (inside : List Mark) × Says m c inside × (tail ≡ inside ++ rest)
+begun c ms rest tail m h e =
+    let v = value_says c ms h in
+    let t = tail_of m v.0 tail (v.1 ++ rest) (front ms rest v.1 (m ∷ tail) v.0 v.2 e) in
+    (v.1, subst (λ x. Says x c v.1) (sym t.0) v.3, t.1)
+
+ended : (own inside rest tail : List Mark) → inside ≡ own ++ mark.End ∷ [] → tail ≡ inside ++ rest → tail ≡ own ++ (mark.End ∷ rest)
+ended own inside rest tail e q = q ∙ ap (λ ms. ms ++ rest) e ∙ append_assoc own (mark.End ∷ []) rest
+
 pub leaf_first : (c : Content) (ms rest tail : List Mark) (l : LeafType) → IsMarked c ms → mark.Leaf l ∷ tail ≡ ms ++ rest
-    → (o : List ℕ) × IsContent (leaf_is l) o × (c ≡ simple (value (leaf_is l) o)) × (tail ≡ map mark.Octet o ++ (mark.End ∷ rest))
-leaf_first (simple v) ms rest tail l (inl h) e =
-    let t = tail_of _ _ _ _ (front ms rest (map mark.Octet h.1 ++ mark.End ∷ []) (mark.Leaf l ∷ tail) (mark.Leaf h.0) h.2 e) in
-    let same : l ≡ h.0 = let q : mark.Leaf l ≡ mark.Leaf h.0 = t.0 in cc in
-    (h.1, subst (λ x. IsContent (leaf_is x) h.1) (sym same) h.3, ap simple h.4 ∙ ap (λ x. simple (value (leaf_is x) h.1)) (sym same), t.1 ∙ append_assoc (map mark.Octet h.1) (mark.End ∷ []) rest)
-leaf_first (simple v) ms rest tail l (inr h) e = absurd (let q : mark.Leaf l ≡ mark.Passed h.0 = (tail_of _ _ _ _ (front ms rest [] (mark.Leaf l ∷ tail) (mark.Passed h.0) h.1 e)).0 in cc)
-leaf_first (sequence es) ms rest tail l h e = absurd (let q : mark.Leaf l ≡ mark.Sequence = (tail_of _ _ _ _ (front ms rest (h.0 ++ mark.End ∷ []) (mark.Leaf l ∷ tail) mark.Sequence h.1 e)).0 in cc)
-leaf_first (list is) ms rest tail l h e = absurd (let q : mark.Leaf l ≡ mark.List = (tail_of _ _ _ _ (front ms rest (h.0 ++ mark.End ∷ []) (mark.Leaf l ∷ tail) mark.List h.1 e)).0 in cc)
-leaf_first (alternative n c) ms rest tail l h e = absurd (let q : mark.Leaf l ≡ mark.Alternative n = (tail_of _ _ _ _ (front ms rest h.0 (mark.Leaf l ∷ tail) (mark.Alternative n) h.1 e)).0 in cc)
-leaf_first (foreign T) ms rest tail l h e = absurd h
+    → (o : List ℕ) × (p : Named) × IsContentIn p (leaf_is l) o × (c ≡ simple (value (leaf_is l) o)) × (tail ≡ map mark.Octet o ++ (mark.End ∷ rest))
+leaf_first c ms rest tail l h e =
+    let b = begun c ms rest tail (mark.Leaf l) h e in
+    let s = b.1 in
+    let is : leaf_is l ≡ s.0 = let q : Some (leaf_is l) ≡ Some s.0 = s.3 in cc in
+    (s.1, s.2, subst (λ k. IsContentIn s.2 k s.1) (sym is) s.4, s.5 ∙ ap (λ k. simple (value k s.1)) (sym is), ended (map mark.Octet s.1) b.0 rest tail s.6 b.2)
+
+-- what only the module profile has
+pub module_first : (c : Content) (ms rest tail : List Mark) (m : Mark) → is_of_module m ≡ true → IsMarked c ms → m ∷ tail ≡ ms ++ rest → (o : List ℕ) × SaysOctets m c o × (tail ≡ map mark.Octet o ++ (mark.End ∷ rest))
+module_first c ms rest tail (mark.ModuleLeaf l) q h e =
+    let b = begun c ms rest tail (mark.ModuleLeaf l) h e in
+    let s = b.1 in
+    let is : module_leaf_is l ≡ s.0 = let q : Some (module_leaf_is l) ≡ Some s.0 = s.3 in cc in
+    (s.1, (s.2, subst (λ k. IsContentIn s.2 k s.1) (sym is) s.4, s.5 ∙ ap (λ k. simple (value k s.1)) (sym is)), ended (map mark.Octet s.1) b.0 rest tail s.6 b.2)
+module_first c ms rest tail mark.BitString q h e =
+    let b = begun c ms rest tail mark.BitString h e in
+    let s = b.1 in
+    let is : bit_string ≡ s.0 = let q : Some bit_string ≡ Some s.0 = s.3 in cc in
+    (s.1, (s.2, subst (λ k. IsContentIn s.2 k s.1) (sym is) s.4, s.5 ∙ ap (λ k. simple (value k s.1)) (sym is)), ended (map mark.Octet s.1) b.0 rest tail s.6 b.2)
+module_first c ms rest tail mark.Foreign q h e =
+    let b = begun c ms rest tail mark.Foreign h e in
+    let s = b.1 in
+    (encoding s.0, (s.0, s.2, s.1, refl), ended (map mark.Octet (encoding s.0)) b.0 rest tail s.3 b.2)
+module_first c ms rest tail _ q h e = absurd cc
+
+-- the octets after any other mark say nothing
+pub says_nothing : (m : Mark) (c : Content) (octets : List ℕ) → ((l : ModuleLeaf) → m ≡ mark.ModuleLeaf l → ⊥) → (m ≡ mark.BitString → ⊥) → (m ≡ mark.Foreign → ⊥) → SaysOctets m c octets → ⊥
+says_nothing (mark.ModuleLeaf l) c octets f b t is = f l refl
+says_nothing mark.BitString c octets f b t is = b refl
+says_nothing mark.Foreign c octets f b t is = t refl
+says_nothing _ c octets f b t is = is
 
 pub passed_first : (c : Content) (ms rest tail : List Mark) (p : PartId) → IsMarked c ms → mark.Passed p ∷ tail ≡ ms ++ rest → IsPassed p (Some c) × (tail ≡ rest)
-passed_first (simple v) ms rest tail p (inl h) e = absurd (let q : mark.Passed p ≡ mark.Leaf h.0 = (tail_of _ _ _ _ (front ms rest (map mark.Octet h.1 ++ mark.End ∷ []) (mark.Passed p ∷ tail) (mark.Leaf h.0) h.2 e)).0 in cc)
-passed_first (simple v) ms rest tail p (inr h) e =
-    let t = tail_of _ _ _ _ (front ms rest [] (mark.Passed p ∷ tail) (mark.Passed h.0) h.1 e) in
-    let same : p ≡ h.0 = let q : mark.Passed p ≡ mark.Passed h.0 = t.0 in cc in
-    (subst (λ x. IsPassed x (Some (simple v))) (sym same) h.2, t.1)
-passed_first (sequence es) ms rest tail p h e = absurd (let q : mark.Passed p ≡ mark.Sequence = (tail_of _ _ _ _ (front ms rest (h.0 ++ mark.End ∷ []) (mark.Passed p ∷ tail) mark.Sequence h.1 e)).0 in cc)
-passed_first (list is) ms rest tail p h e = absurd (let q : mark.Passed p ≡ mark.List = (tail_of _ _ _ _ (front ms rest (h.0 ++ mark.End ∷ []) (mark.Passed p ∷ tail) mark.List h.1 e)).0 in cc)
-passed_first (alternative n c) ms rest tail p h e = absurd (let q : mark.Passed p ≡ mark.Alternative n = (tail_of _ _ _ _ (front ms rest h.0 (mark.Passed p ∷ tail) (mark.Alternative n) h.1 e)).0 in cc)
-passed_first (foreign T) ms rest tail p h e = absurd h
+passed_first c ms rest tail p h e = let b = begun c ms rest tail (mark.Passed p) h e in (b.1.0, b.2 ∙ ap (λ ms. ms ++ rest) b.1.1)
 
 pub alternative_first : (c : Content) (ms rest tail : List Mark) (n : ℕ) → IsMarked c ms → mark.Alternative n ∷ tail ≡ ms ++ rest → (d : Content) × (inside : List Mark) × (c ≡ alternative n d) × IsMarked d inside × (tail ≡ inside ++ rest)
-alternative_first (simple v) ms rest tail n (inl h) e = absurd (let q : mark.Alternative n ≡ mark.Leaf h.0 = (tail_of _ _ _ _ (front ms rest (map mark.Octet h.1 ++ mark.End ∷ []) (mark.Alternative n ∷ tail) (mark.Leaf h.0) h.2 e)).0 in cc)
-alternative_first (simple v) ms rest tail n (inr h) e = absurd (let q : mark.Alternative n ≡ mark.Passed h.0 = (tail_of _ _ _ _ (front ms rest [] (mark.Alternative n ∷ tail) (mark.Passed h.0) h.1 e)).0 in cc)
-alternative_first (sequence es) ms rest tail n h e = absurd (let q : mark.Alternative n ≡ mark.Sequence = (tail_of _ _ _ _ (front ms rest (h.0 ++ mark.End ∷ []) (mark.Alternative n ∷ tail) mark.Sequence h.1 e)).0 in cc)
-alternative_first (list is) ms rest tail n h e = absurd (let q : mark.Alternative n ≡ mark.List = (tail_of _ _ _ _ (front ms rest (h.0 ++ mark.End ∷ []) (mark.Alternative n ∷ tail) mark.List h.1 e)).0 in cc)
-alternative_first (foreign T) ms rest tail n h e = absurd h
-alternative_first (alternative m c) ms rest tail n h e =
-    let t = tail_of _ _ _ _ (front ms rest h.0 (mark.Alternative n ∷ tail) (mark.Alternative m) h.1 e) in
-    let same : n ≡ m = let q : mark.Alternative n ≡ mark.Alternative m = t.0 in cc in
-    (c, h.0, ap (λ (x : ℕ). alternative x c) (sym same), h.2, t.1)
+alternative_first c ms rest tail n h e = let b = begun c ms rest tail (mark.Alternative n) h e in (b.1.0, b.0, b.1.1, b.1.2, b.2)
 
 pub sequence_first : (c : Content) (ms rest tail : List Mark) → IsMarked c ms → mark.Sequence ∷ tail ≡ ms ++ rest → (es : Entries) × (inside : List Mark) × (c ≡ sequence es) × AreEntries es inside × (tail ≡ inside ++ (mark.End ∷ rest))
-sequence_first (simple v) ms rest tail (inl h) e = absurd (let q : mark.Sequence ≡ mark.Leaf h.0 = (tail_of _ _ _ _ (front ms rest (map mark.Octet h.1 ++ mark.End ∷ []) (mark.Sequence ∷ tail) (mark.Leaf h.0) h.2 e)).0 in cc)
-sequence_first (simple v) ms rest tail (inr h) e = absurd (let q : mark.Sequence ≡ mark.Passed h.0 = (tail_of _ _ _ _ (front ms rest [] (mark.Sequence ∷ tail) (mark.Passed h.0) h.1 e)).0 in cc)
-sequence_first (sequence es) ms rest tail h e =
-    (es, h.0, refl, h.2, (tail_of _ _ _ _ (front ms rest (h.0 ++ mark.End ∷ []) (mark.Sequence ∷ tail) mark.Sequence h.1 e)).1 ∙ append_assoc h.0 (mark.End ∷ []) rest)
-sequence_first (list is) ms rest tail h e = absurd (let q : mark.Sequence ≡ mark.List = (tail_of _ _ _ _ (front ms rest (h.0 ++ mark.End ∷ []) (mark.Sequence ∷ tail) mark.List h.1 e)).0 in cc)
-sequence_first (alternative n c) ms rest tail h e = absurd (let q : mark.Sequence ≡ mark.Alternative n = (tail_of _ _ _ _ (front ms rest h.0 (mark.Sequence ∷ tail) (mark.Alternative n) h.1 e)).0 in cc)
-sequence_first (foreign T) ms rest tail h e = absurd h
+sequence_first c ms rest tail h e = let b = begun c ms rest tail mark.Sequence h e in (b.1.0, b.1.1, b.1.2, b.1.3, ended b.1.1 b.0 rest tail b.1.4 b.2)
 
 pub list_first : (c : Content) (ms rest tail : List Mark) → IsMarked c ms → mark.List ∷ tail ≡ ms ++ rest → (is : Items) × (inside : List Mark) × (c ≡ list is) × AreItems is inside × (tail ≡ inside ++ (mark.End ∷ rest))
-list_first (simple v) ms rest tail (inl h) e = absurd (let q : mark.List ≡ mark.Leaf h.0 = (tail_of _ _ _ _ (front ms rest (map mark.Octet h.1 ++ mark.End ∷ []) (mark.List ∷ tail) (mark.Leaf h.0) h.2 e)).0 in cc)
-list_first (simple v) ms rest tail (inr h) e = absurd (let q : mark.List ≡ mark.Passed h.0 = (tail_of _ _ _ _ (front ms rest [] (mark.List ∷ tail) (mark.Passed h.0) h.1 e)).0 in cc)
-list_first (sequence es) ms rest tail h e = absurd (let q : mark.List ≡ mark.Sequence = (tail_of _ _ _ _ (front ms rest (h.0 ++ mark.End ∷ []) (mark.List ∷ tail) mark.Sequence h.1 e)).0 in cc)
-list_first (list is) ms rest tail h e =
-    (is, h.0, refl, h.2, (tail_of _ _ _ _ (front ms rest (h.0 ++ mark.End ∷ []) (mark.List ∷ tail) mark.List h.1 e)).1 ∙ append_assoc h.0 (mark.End ∷ []) rest)
-list_first (alternative n c) ms rest tail h e = absurd (let q : mark.List ≡ mark.Alternative n = (tail_of _ _ _ _ (front ms rest h.0 (mark.List ∷ tail) (mark.Alternative n) h.1 e)).0 in cc)
-list_first (foreign T) ms rest tail h e = absurd h
-
--- a mark that begins a value
-abbrev pub begins : Mark → Bool
-begins (mark.Octet octet) = false
-begins mark.End = false
-begins _ = true
-
-value_begins : (c : Content) (ms : List Mark) → IsMarked c ms → (m : Mark) × (tail : List Mark) × (ms ≡ m ∷ tail) × (begins m ≡ true)
-value_begins (simple v) ms (inl h) = (_, _, h.2, refl)
-value_begins (simple v) ms (inr h) = (_, _, h.1, refl)
-value_begins (sequence es) ms h = (_, _, h.1, refl)
-value_begins (list is) ms h = (_, _, h.1, refl)
-value_begins (alternative n c) ms h = (_, _, h.1, refl)
-value_begins (foreign T) ms h = absurd h
+list_first c ms rest tail h e = let b = begun c ms rest tail mark.List h e in (b.1.0, b.1.1, b.1.2, b.1.3, ended b.1.1 b.0 rest tail b.1.4 b.2)
 
 pub none_begins : (c : Content) (ms rest tail : List Mark) (m : Mark) → begins m ≡ false → IsMarked c ms → m ∷ tail ≡ ms ++ rest → ⊥
-none_begins c ms rest tail m off h e =
-    let b = value_begins c ms h in
-    let same = (tail_of _ _ _ _ (front ms rest b.1 (m ∷ tail) b.0 b.2 e)).0 in
-    absurd (let q : false ≡ true = sym off ∙ ap begins same ∙ b.3 in cc)
+none_begins c ms rest tail m off h e = absurd (let q : false ≡ true = sym off ∙ says_begins m c _ (begun c ms rest tail m h e).1 in cc)
 
 pub nothing_begins : (c : Content) (ms rest marks : List Mark) → slice_get marks 0 ≡ None → IsMarked c ms → marks ≡ ms ++ rest → ⊥
 nothing_begins c ms rest marks none h e =
-    let b = value_begins c ms h in
-    absurd (let q : None ≡ Some b.0 = sym none ∙ ap (λ x. slice_get x 0) (front ms rest b.1 marks b.0 b.2 e) in cc)
+    let v = value_says c ms h in
+    absurd (let q : None ≡ Some v.0 = sym none ∙ ap (λ x. slice_get x 0) (front ms rest v.1 marks v.0 v.2 e) in cc)
+
+passed_at : (marks : List Mark) (p : PartId) → passed_in marks ≡ Some p → marks ≡ mark.Passed p ∷ drop 1 marks
+passed_at [] p is = absurd cc
+passed_at (mark.Passed q ∷ ms) p is = (let same : q ≡ p = cc in ap (λ x. mark.Passed x ∷ ms) same)
+passed_at (_ ∷ ms) p is = absurd cc
 
 -- an entry whose row was passed, and one that has an element
 passed_alone : (q : PartId) (p : PartId) (ms rest marks : List Mark) → ms ≡ mark.Passed q ∷ [] → marks ≡ ms ++ rest → passed_in marks ≡ Some p → (q ≡ p) × (drop 1 marks ≡ rest)
@@ -467,12 +515,7 @@ passed_alone q p ms rest marks e at is =
 
 pub entry_passed : (e : Option Content) (ms rest marks : List Mark) (p : PartId) → IsEntry e ms → marks ≡ ms ++ rest → passed_in marks ≡ Some p → IsPassed p e × (drop 1 marks ≡ rest)
 entry_passed None ms rest marks p h e is = let a = passed_alone h.0 p ms rest marks h.1 e is in (subst (λ x. IsPassed x None) a.0 h.2, a.1)
-entry_passed (Some (simple v)) ms rest marks p (inl h) e is = absurd (let x : None ≡ Some p = sym (ap passed_in (front ms rest _ marks _ h.2 e)) ∙ is in cc)
-entry_passed (Some (simple v)) ms rest marks p (inr h) e is = let a = passed_alone h.0 p ms rest marks h.1 e is in (subst (λ x. IsPassed x (Some (simple v))) a.0 h.2, a.1)
-entry_passed (Some (sequence es)) ms rest marks p h e is = absurd (let x : None ≡ Some p = sym (ap passed_in (front ms rest _ marks _ h.1 e)) ∙ is in cc)
-entry_passed (Some (list is')) ms rest marks p h e is = absurd (let x : None ≡ Some p = sym (ap passed_in (front ms rest _ marks _ h.1 e)) ∙ is in cc)
-entry_passed (Some (alternative n c)) ms rest marks p h e is = absurd (let x : None ≡ Some p = sym (ap passed_in (front ms rest _ marks _ h.1 e)) ∙ is in cc)
-entry_passed (Some (foreign T)) ms rest marks p h e is = absurd h
+entry_passed (Some c) ms rest marks p h e is = passed_first c ms rest (drop 1 marks) p h (sym (passed_at marks p is) ∙ e)
 
 pub entry_value : (e : Option Content) (ms rest marks : List Mark) → IsEntry e ms → marks ≡ ms ++ rest → passed_in marks ≡ None → (c : Content) × (e ≡ Some c) × IsMarked c ms
 entry_value None ms rest marks h e is = absurd (let x : Some h.0 ≡ None = sym (ap passed_in (front ms rest [] marks (mark.Passed h.0) h.1 e)) ∙ is in cc)
@@ -505,8 +548,9 @@ no_mark [] e = refl
 no_mark (m ∷ ms) e = absurd cc
 
 -- the text of a message: its first line, and the lines of its body
-pub body_lines : (i row : ℕ) (a : Apdu) (p : Place) → row ≡ a.number - 1 → p ≡ (let q : Place = record { path = []; name = []; node = row_node IllApdu row } in q)
-    → head_line i (row_name IllApdu row) ++ lines_of p a.body ≡ shown_text i a
-body_lines i row a p e q =
-    ap (λ x. head_line i (row_name IllApdu row) ++ lines_of x a.body) q
-    ∙ ap (λ (n : ℕ). head_line i (row_name IllApdu n) ++ lines_of (let r : Place = record { path = []; name = []; node = row_node IllApdu n } in r) a.body) e
+pub body_lines : (profile : Profile) (i row : ℕ) (node : NodeId) (a : Apdu) (p : Place) → node ≡ root profile → row ≡ a.number - 1
+    → p ≡ (let q : Place = record { path = []; name = []; node = row_node node row } in q)
+    → head_line i (row_name node row) ++ lines_of p a.body ≡ shown_text_in profile i a
+body_lines profile i row node a p is e q =
+    ap (λ x. head_line i (row_name node row) ++ lines_of x a.body) q
+    ∙ ap₂ (λ (m : NodeId) (n : ℕ). head_line i (row_name m n) ++ lines_of (let r : Place = record { path = []; name = []; node = row_node m n } in r) a.body) is e

@@ -4,10 +4,10 @@ use Rattle.std.specs.Fmt.{signed_decimal}
 use Rattle.std.specs.List.{list_all}
 use Rattle.ber_core.specs.Identifier.{identifier}
 use Rattle.ber_core.specs.Tree.{Tree, Trees, primitive, constructed, none, more}
-use Rattle.ber_leaf.specs.Profile.{Profile}
+use Rattle.ber_leaf.specs.Profile.{Profile, is_graphic, profile_two}
 use Rattle.ber_leaf.specs.Simple.{Simple, flag, whole, date, time, printable, general, visible, null, oid, binary, bits, descriptor}
 use Rattle.ill_schema.specs.declared.node.NodeId.{NodeId}
-use Rattle.ill_schema.specs.declared.node.NodeId.TheVariants.{LeftOut, IllApdu}
+use Rattle.ill_schema.specs.declared.node.NodeId.TheVariants.{LeftOut}
 use Rattle.ill_schema.specs.declared.part.Row.{Row}
 use Rattle.ill_schema.specs.Apdu.{Apdu, root}
 use Rattle.ill_schema.specs.Content.{Content, simple, sequence, list, alternative, foreign, Entries, no_entries, absent, present, Items, no_items, item}
@@ -15,12 +15,16 @@ use Rattle.ill_schema.specs.Names.{names_of}
 use Rattle.ill_schema.specs.Table.{rows_of}
 use Rattle.ill_text.specs.Numbers.{number_name}
 
+-- an octet as two hexadecimal digits
+abbrev pub digits : ℕ → List ℕ
+digits octet = slice_index (codes "0123456789abcdef") (octet / 16) ∷ slice_index (codes "0123456789abcdef") (octet % 16) ∷ []
+
 -- `"` and `\` after a `\`, and what isn't printable ASCII as `\x` and two digits
 abbrev pub escaped : ℕ → List ℕ
 escaped octet =
     if nat_eq octet 0x22 || nat_eq octet 0x5C then 0x5C ∷ octet ∷ []
     else if nat_le 0x20 octet && nat_le octet 0x7E then octet ∷ []
-    else 0x5C ∷ 0x78 ∷ slice_index (codes "0123456789abcdef") (octet / 16) ∷ slice_index (codes "0123456789abcdef") (octet % 16) ∷ []
+    else 0x5C ∷ 0x78 ∷ digits octet
 
 abbrev pub quoted : List ℕ → List ℕ
 quoted text = codes "\"" ++ flat_map escaped text ++ codes "\""
@@ -29,13 +33,12 @@ abbrev pub in_brackets : Option (List ℕ) → List ℕ
 in_brackets None = []
 in_brackets (Some name) = codes " (" ++ name ++ codes ")"
 
--- each octet as two hexadecimal digits
 abbrev pub hexadecimal : List ℕ → List ℕ
-hexadecimal octets = flat_map (λ octet. slice_index (codes "0123456789abcdef") (octet / 16) ∷ slice_index (codes "0123456789abcdef") (octet % 16) ∷ []) octets
+hexadecimal octets = flat_map digits octets
 
 -- octets of no known meaning: in quotes where all octets are printable ASCII, else in hexadecimal
 abbrev pub content_text : List ℕ → List ℕ
-content_text octets = if list_all (λ octet. nat_le 0x20 octet && nat_le octet 0x7E) octets then quoted octets else hexadecimal octets
+content_text octets = if list_all is_graphic octets then quoted octets else hexadecimal octets
 
 -- the numbers of the subidentifiers: seven bits of each octet, most significant first, where an octet below 80 is the last (X.690, 8.19.2)
 abbrev pub numbers_after : ℕ → List ℕ → List ℕ
@@ -108,9 +111,10 @@ row_name node i = name_or_none (slice_get (names_of node).1 i)
 abbrev pub row_node : NodeId → ℕ → NodeId
 row_node node i = node_or_left_out (slice_get (rows_of node) i)
 
--- names are joined by dots
+-- names are joined by dots; a row without a name adds none
 abbrev pub within : List ℕ → List ℕ → List ℕ
 within [] name = name
+within path [] = path
 within (letter ∷ path) name = (letter ∷ path) ++ (codes "." ++ name)
 
 -- the place of a row of a sequence or choice
@@ -151,16 +155,17 @@ abbrev mutual
   item_lines p i no_items = []
   item_lines p i (item c is) = lines_of (item_of p i) c ++ item_lines p (suc i) is
 
--- the body is in the row of ILL-APDU that the APDU's number, from 1, says
-abbrev pub body_place : Apdu → Place
-body_place a = record { path = []; name = []; node = row_node IllApdu (a.number - 1) }
+-- the body is in the row of the type of messages that the APDU's number, from 1, says
+abbrev pub body_place_in : Profile → Apdu → Place
+body_place_in p a = record { path = []; name = []; node = row_node (root p) (a.number - 1) }
 
--- the text of an APDU that is message i
-abbrev pub shown_text : ℕ → Apdu → List ℕ
-shown_text i a = codes "message " ++ decimal i ++ codes " " ++ row_name IllApdu (a.number - 1) ++ codes "\n" ++ lines_of (body_place a) a.body
-
--- the same in a profile, by the type of its messages
+-- the text of an APDU of the profile that is message i
 abbrev pub shown_text_in : Profile → ℕ → Apdu → List ℕ
-shown_text_in p i a =
-    codes "message " ++ decimal i ++ codes " " ++ row_name (root p) (a.number - 1) ++ codes "\n"
-    ++ lines_of (record { path = []; name = []; node = row_node (root p) (a.number - 1) }) a.body
+shown_text_in p i a = codes "message " ++ decimal i ++ codes " " ++ row_name (root p) (a.number - 1) ++ codes "\n" ++ lines_of (body_place_in p a) a.body
+
+-- the same in profile 2
+abbrev pub body_place : Apdu → Place
+body_place a = body_place_in profile_two a
+
+abbrev pub shown_text : ℕ → Apdu → List ℕ
+shown_text i a = shown_text_in profile_two i a

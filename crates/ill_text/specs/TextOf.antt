@@ -1,15 +1,21 @@
 -- What the text of a message is.
 use Rattle.std.specs.Prelude.{◌≡◌, ℕ, ◌^◌, ◌<◌, List, length}
-use Rattle.ber_leaf.specs.Profile.{profile_two}
+use Rattle.ber_leaf.specs.Profile.{Profile, profile_two}
 use Rattle.ill_schema.specs.Apdu.{Apdu, SpellsApdu}
+use Rattle.ill_schema.specs.Profiles.{profile_of}
 use Rattle.ill_read.specs.Outline.{IsOutlineOf}
-use Rattle.ill_text.specs.Shown.{shown_text}
+use Rattle.ill_text.specs.Shown.{shown_text_in}
 use Rattle.ill_text.specs.declared.text.Text.{Text}
 
--- the octets spell an APDU
+-- the octets spell an APDU in the profile
+abbrev pub IsSpellingIn : Profile → List ℕ → Type 0
+IsSpellingIn p octets = (a : Apdu) × SpellsApdu p a octets
+
+-- the same in profile 2
 abbrev pub IsSpelling : List ℕ → Type 0
-IsSpelling octets = (a : Apdu) × SpellsApdu profile_two a octets
+IsSpelling octets = IsSpellingIn profile_two octets
 
 -- these octets are the text
 abbrev pub IsTextOf : Text → List ℕ → Type 0
-IsTextOf text octets = (a : Apdu) × IsOutlineOf text.outline a × (octets ≡ shown_text text.number a) × (length octets < 2 ^ 62)
+IsTextOf text octets =
+    (a : Apdu) × IsOutlineOf text.outline a × (octets ≡ shown_text_in (profile_of text.profile) text.number a) × (length octets < 2 ^ 62)

@@ -2,14 +2,14 @@
 ghost use Rattle.std.specs.Prelude.{◌≡◌, ◌++◌, ◌<◌, ◌≤◌, [], length, not, nat_eq, codes, flat_map, take, ◌∷◌, IsTrue, Option};
 ghost use Rattle.std.specs.Fmt.{signed_decimal};
 ghost use Rattle.std.specs.List.{list_all};
-ghost use Rattle.ber_leaf.specs.Content.{IsContent};
+ghost use Rattle.ill_schema.specs.declared.profile.Profile.{Profile as Named};
 ghost use Rattle.ber_leaf.specs.Leaf.{integer_of, value};
 ghost use Rattle.ber_leaf.specs.Simple.{flag, whole};
 ghost use Rattle.ill_schema.specs.Content.{Content};
 ghost use Rattle.ill_schema.specs.Presence.{default_value};
 ghost use Rattle.ill_schema.specs.Table.{kind_of};
 ghost use Rattle.ill_schema.specs.declared.node.NodeId.{NodeId};
-ghost use Rattle.ill_elements.specs.LeafTypes.{leaf_is};
+ghost use Rattle.ill_elements.specs.LeafTypes.{IsContentIn, leaf_is};
 ghost use Rattle.ill_read.specs.Outline.{IsPassed};
 ghost use Rattle.ill_text.specs.Numbers.{number_name};
 ghost use Rattle.ill_text.specs.Shown.{escaped, in_brackets, leaf_text, line};
@@ -27,7 +27,7 @@ use ill_read::{LeafType, Mark};
 use ill_schema::{Kind, LeafKind, NodeId, PartId, Presence, kind, row};
 use itoa::Buffer;
 
-const DIGITS: &[u8; 16] = b"0123456789abcdef";
+pub const DIGITS: &[u8; 16] = b"0123456789abcdef";
 
 /// Puts the line of a leaf whose octets the marks begin with, in a row of this name, and returns how many octets it has.
 #[inline(always)]
@@ -41,7 +41,7 @@ pub fn put_leaf<W: Sink>(
 ) -> usize
     ensures exact { result ≡ front_octets marks.now }
     ensures within { result ≤ length marks.now }
-    ensures adds { IsContent (leaf_is leaf) (octets_in (take result marks.now)) → Adds (line (path_of trail.now) (leaf_text name.now (value (leaf_is leaf) (octets_in (take result marks.now)))))
+    ensures adds { (p : Named) → IsContentIn p (leaf_is leaf) (octets_in (take result marks.now)) → Adds (line (path_of trail.now) (leaf_text name.now (value (leaf_is leaf) (octets_in (take result marks.now)))))
         (sending (W.contents sink.old) (W.is_broken sink.old) out.old) (sending (W.contents sink.new) (W.is_broken sink.new) out.new) }
     ensures stays { IsTrue (W.is_broken sink.old) → IsTrue (W.is_broken sink.new) }
 {
@@ -210,7 +210,7 @@ fn put_name<W: Sink>(row: &str, number: i64, out: &mut Out, sink: &mut W)
 
 /// Puts a line with the string that the marks begin with in quotation marks, after what it opens with, and returns how many octets it has.
 #[inline(always)]
-fn put_quoted<W: Sink>(
+pub fn put_quoted<W: Sink>(
     trail: &Trail<'_>,
     opening: &str,
     marks: &[Mark],
@@ -232,7 +232,7 @@ fn put_quoted<W: Sink>(
 }
 
 /// Puts the octets that come first, escaped, and returns how many there are.
-fn put_escaped<W: Sink>(marks: &[Mark], out: &mut Out, sink: &mut W) -> usize
+pub fn put_escaped<W: Sink>(marks: &[Mark], out: &mut Out, sink: &mut W) -> usize
     ensures exact { result ≡ front_octets marks.now }
     ensures within { result ≤ length marks.now }
     ensures adds { Adds (flat_map escaped (octets_in (take result marks.now))) (sending (W.contents sink.old) (W.is_broken sink.old) out.old) (sending (W.contents sink.new) (W.is_broken sink.new) out.new) }

@@ -7,9 +7,11 @@
 //! ```
 #![tactic(auto)]
 
+mod foreign;
 mod laws;
 mod leaf;
 mod message;
+mod module_leaf;
 mod number;
 mod octets;
 mod outgoing;
@@ -20,7 +22,7 @@ mod trail;
 
 pub use laws::lifted_texts_are_the_same;
 pub use leaf::{front_octets, is_set, number_in};
-pub use message::{outline_of, show_text};
+pub use message::{outline_as, outline_of, show_text};
 pub use number::number_name;
 pub use part::{row_name, row_node};
 pub use show::{after_first, alternative, at_end, first_mark, passed};

@@ -3,14 +3,15 @@ ghost use Rattle.std.specs.Prelude.{◌≡◌, ℕ, List, IfOk};
 ghost use Rattle.ber_leaf.specs.Profile.{profile_two};
 ghost use Rattle.ill_schema.specs.Apdu.{Apdu, SpellsApdu};
 ghost use Rattle.ill_schema.specs.Message.{apdu_of};
+ghost use Rattle.ill_schema.specs.Profiles.{profile_of};
 ghost use Rattle.ill_read.specs.Outline.{IsOutlineOf};
 ghost use Rattle.ill_text.specs.Shown.{shown_text};
-ghost use Rattle.ill_text.specs.TextOf.{IsSpelling};
+ghost use Rattle.ill_text.specs.TextOf.{IsSpelling, IsSpellingIn};
 
 use crate::text::Text;
 use ber_core::{AtHand, FromSlice};
 use ill_read::{Outline, OutlineReader, ReadFailure};
-use ill_schema::Message;
+use ill_schema::{Message, Profile};
 use ill_write::normal_bytes;
 use std::alloc::{AllocError, Global};
 
@@ -60,8 +61,34 @@ pub fn outline_of(
     requires { IsSpelling octets.now }
     ensures { (a : Apdu) → SpellsApdu profile_two a octets.now → IfOk result (λ outline. IsOutlineOf outline a) }
 {
+    outline_as(reader, Profile::Two, octets, room)
+}
+
+/// The outline of the message in the profile that the octets are, as [`outline_of`] makes it.
+///
+/// # Errors
+///
+/// Only out of memory.
+///
+/// # Examples
+///
+/// ```
+/// let mut reader = OutlineReader::new(alloc);
+/// let outline = outline_as(&mut reader, Profile::Module, &octets, Outline::new(alloc))?;
+/// let text = Text::new_as(Profile::Module, 1, outline).octets(alloc)?;
+/// ```
+pub fn outline_as(
+    reader: &mut OutlineReader,
+    profile: Profile,
+    octets: &[u8],
+    room: Outline,
+) -> Result<Outline, AllocError>
+    requires { IsSpellingIn (profile_of profile) octets.now }
+    ensures { (a : Apdu) → SpellsApdu (profile_of profile) a octets.now
+        → IfOk result (λ outline. IsOutlineOf outline a) }
+{
     let mut source = FromSlice::new(octets);
-    match reader.read::<FromSlice<'_>, AtHand>(&mut source, room) {
+    match reader.read_as::<FromSlice<'_>, AtHand>(profile, &mut source, room) {
         Ok(Some(read)) => Ok(read.outline),
         Ok(None) => unreachable!(),
         Err(ReadFailure::Refused(_)) => unreachable!(),

@@ -6,12 +6,15 @@ ghost use Rattle.ill_read.specs.declared.mark.Mark.{Mark};
 ghost use Rattle.ill_text.specs.Marks.{IsEntry, alternative_in, entry_text, is_at_end, is_there, passed_in};
 ghost use Rattle.ill_text.specs.code.Sending.{Adds, sending};
 ghost use Rattle.ill_text.specs.code.Trails.{path_of, place_at};
-ghost use Rattle.ill_text.specs.Shown.{item_of, leaf_text, line, lines_of, part};
-ghost use Rattle.ber_leaf.specs.Content.{IsContent};
+ghost use Rattle.ill_text.specs.Shown.{Place, item_of, leaf_text, line, lines_of, part};
+ghost use Rattle.ill_schema.specs.declared.profile.Profile.{Profile as Named};
+ghost use Rattle.ill_text.specs.code.MarkedOctets.{SaysOctets};
 ghost use Rattle.ber_leaf.specs.Leaf.{value};
-ghost use Rattle.ill_elements.specs.LeafTypes.{leaf_is};
+ghost use Rattle.ill_elements.specs.LeafTypes.{IsContentIn, leaf_is};
 
+use crate::foreign::put_foreign;
 use crate::leaf::{has_default, put_default, put_leaf};
+use crate::module_leaf::{put_bits, put_module_leaf};
 use crate::outgoing::Out;
 use crate::part::{row_name, row_node};
 use crate::trail::{Trail, put_line};
@@ -42,6 +45,9 @@ pub fn put_value<'m, W: Sink>(
     let rest = after_first(marks);
     match first {
         Mark::Leaf(leaf) => put_marked_leaf(leaf, rest, trail, name, out, sink),
+        Mark::ModuleLeaf(_) | Mark::BitString | Mark::Foreign => {
+            put_module_line(first, rest, trail, out, sink)
+        }
         Mark::Passed(part) => {
             put_default(part, trail, name, out, sink);
             rest
@@ -64,12 +70,37 @@ fn put_marked_leaf<'m, W: Sink>(
     out: &mut Out,
     sink: &mut W,
 ) -> &'m [Mark]
-    ensures adds { (octets : List ℕ) (rest : List Mark) → IsContent (leaf_is leaf) octets → marks.now ≡ map Mark.Octet octets ++ (Mark.End ∷ rest) → (result.now ≡ rest)
+    ensures adds { (p : Named) (octets : List ℕ) (rest : List Mark) → IsContentIn p (leaf_is leaf) octets → marks.now ≡ map Mark.Octet octets ++ (Mark.End ∷ rest) → (result.now ≡ rest)
         × Adds (line (path_of trail.now) (leaf_text name.now (value (leaf_is leaf) octets))) (sending (W.contents sink.old) (W.is_broken sink.old) out.old) (sending (W.contents sink.new) (W.is_broken sink.new) out.new) }
     ensures shorter { length result.now ≤ length marks.now }
     ensures stays { IsTrue (W.is_broken sink.old) → IsTrue (W.is_broken sink.new) }
 {
     let count = put_leaf(leaf, marks, trail, name, out, sink);
+    &marks[(count + 1).min(marks.len())..]
+}
+
+/// Puts the line of what only the module profile has: of a leaf, or of a foreign tree, whose octets come after this mark. Returns the
+/// marks after it.
+#[inline(never)]
+fn put_module_line<'m, W: Sink>(
+    first: Mark,
+    marks: &'m [Mark],
+    trail: &Trail<'_>,
+    out: &mut Out,
+    sink: &mut W,
+) -> &'m [Mark]
+    ensures adds { (c : Content) (octets : List ℕ) (rest : List Mark) (p : Place) → p.path ≡ path_of trail.now → SaysOctets first c octets
+        → marks.now ≡ map Mark.Octet octets ++ (Mark.End ∷ rest) → (result.now ≡ rest)
+        × Adds (lines_of p c) (sending (W.contents sink.old) (W.is_broken sink.old) out.old) (sending (W.contents sink.new) (W.is_broken sink.new) out.new) }
+    ensures shorter { length result.now ≤ length marks.now }
+    ensures stays { IsTrue (W.is_broken sink.old) → IsTrue (W.is_broken sink.new) }
+{
+    let count = match first {
+        Mark::ModuleLeaf(leaf) => put_module_leaf(leaf, marks, trail, out, sink),
+        Mark::BitString => put_bits(marks, trail, out, sink),
+        Mark::Foreign => put_foreign(marks, trail, out, sink),
+        _ => 0,
+    };
     &marks[(count + 1).min(marks.len())..]
 }
 

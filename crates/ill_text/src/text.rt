@@ -4,7 +4,8 @@ ghost use Rattle.std.specs.Io.KnownBytes.{Appends};
 ghost use Rattle.ber_leaf.specs.Profile.{profile_two};
 ghost use Rattle.ill_schema.specs.Apdu.{Apdu, SpellsApdu, choice_of};
 ghost use Rattle.ill_read.specs.Outline.{IsMarked, IsOutlineOf};
-ghost use Rattle.ill_text.specs.Shown.{shown_text};
+ghost use Rattle.ill_schema.specs.Profiles.{profile_of};
+ghost use Rattle.ill_text.specs.Shown.{shown_text, shown_text_in};
 ghost use Rattle.ill_text.specs.TextOf.{IsTextOf};
 ghost use Rattle.ill_text.specs.code.Sending.{Adds, sending};
 ghost use Rattle.ill_text.specs.code.Trails.{head_line};
@@ -16,13 +17,14 @@ use crate::show::{after_first, alternative, put_value};
 use crate::trail::Trail;
 use ber_core::Sink;
 use ill_read::{Mark, Outline};
-use ill_schema::NodeId;
+use ill_schema::Profile;
 use itoa::Buffer;
 use std::alloc::{AllocError, Global};
 
 /// The text of a message under a number: `message`, the number and the APDU's name, and then a line for each leaf, its path and its value.
 #[derive(Drop)]
 pub struct Text {
+    profile: Profile,
     number: u32,
     outline: Outline,
 }
@@ -32,12 +34,35 @@ impl Text {
     pub fn new(number: u32, outline: Outline) -> Text
         ensures { (a : Apdu) (octets : List ℕ) → SpellsApdu profile_two a octets → IsOutlineOf outline a → IsTextOf result (shown_text number a) }
     {
-        Text { number, outline }
+        Text::new_as(Profile::Two, number, outline)
+    }
+
+    /// The text of the message in the profile that the outline is of, under this number.
+    ///
+    /// # Examples
+    ///
+    /// ```
+    /// let outline = outline_as(&mut reader, Profile::Module, &octets, Outline::new(alloc))?;
+    /// let text = Text::new_as(Profile::Module, 1, outline).octets(alloc)?;
+    /// ```
+    pub fn new_as(profile: Profile, number: u32, outline: Outline) -> Text
+        ensures { (a : Apdu) (octets : List ℕ) → SpellsApdu (profile_of profile) a octets → IsOutlineOf outline a
+            → IsTextOf result (shown_text_in (profile_of profile) number a) }
+    {
+        Text {
+            profile,
+            number,
+            outline,
+        }
     }
 
     /// The outline, whose memory can be used again.
     pub fn into_outline(self) -> Outline {
-        let Text { number: _, outline } = self;
+        let Text {
+            profile: _,
+            number: _,
+            outline,
+        } = self;
         outline
     }
 
@@ -73,7 +98,7 @@ impl Text {
         ensures stays { IsTrue (W.is_broken sink.old) → IsTrue (W.is_broken sink.new) }
     {
         let mut out = Out::new();
-        put_text(self.number, &self.outline, &mut out, sink);
+        put_text(self.profile, self.number, &self.outline, &mut out, sink);
         if out.is_broken() {
             return Err(out.written());
         }
@@ -82,24 +107,31 @@ impl Text {
 }
 
 /// Puts the text of the message that the outline is of.
-fn put_text<W: Sink>(number: u32, outline: &Outline, out: &mut Out, sink: &mut W)
-    ensures adds { (a : Apdu) → IsOutlineOf outline.now a → Adds (shown_text number a) (sending (W.contents sink.old) (W.is_broken sink.old) out.old) (sending (W.contents sink.new) (W.is_broken sink.new) out.new) }
+fn put_text<W: Sink>(profile: Profile, number: u32, outline: &Outline, out: &mut Out, sink: &mut W)
+    ensures adds { (a : Apdu) → IsOutlineOf outline.now a
+        → Adds (shown_text_in (profile_of profile) number a)
+        (sending (W.contents sink.old) (W.is_broken sink.old) out.old)
+        (sending (W.contents sink.new) (W.is_broken sink.new) out.new) }
     ensures empty { out.new.broken ≡ false → out.new.len ≡ 0 }
     ensures stays { IsTrue (W.is_broken sink.old) → IsTrue (W.is_broken sink.new) }
 {
-    put_marks(number, outline.marks(), out, sink);
+    put_marks(profile, number, outline.marks(), out, sink);
     out.flush(sink);
 }
 
 /// Puts the text of the message that the marks are of.
-fn put_marks<W: Sink>(number: u32, marks: &[Mark], out: &mut Out, sink: &mut W)
-    ensures adds { (a : Apdu) → IsMarked (choice_of a) marks.now → Adds (shown_text number a) (sending (W.contents sink.old) (W.is_broken sink.old) out.old) (sending (W.contents sink.new) (W.is_broken sink.new) out.new) }
+fn put_marks<W: Sink>(profile: Profile, number: u32, marks: &[Mark], out: &mut Out, sink: &mut W)
+    ensures adds { (a : Apdu) → IsMarked (choice_of a) marks.now
+        → Adds (shown_text_in (profile_of profile) number a)
+        (sending (W.contents sink.old) (W.is_broken sink.old) out.old)
+        (sending (W.contents sink.new) (W.is_broken sink.new) out.new) }
     ensures stays { IsTrue (W.is_broken sink.old) → IsTrue (W.is_broken sink.new) }
 {
     match alternative(marks) {
         Some(row) => {
-            put_head(number, row_name(NodeId::ILL_APDU, row as usize), out, sink);
-            let node = row_node(NodeId::ILL_APDU, row as usize);
+            let root = profile.root();
+            put_head(number, row_name(root, row as usize), out, sink);
+            let node = row_node(root, row as usize);
             let _ = put_value(after_first(marks), &Trail::Start, "", node, out, sink);
         }
         None => {}

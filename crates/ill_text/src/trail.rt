@@ -12,7 +12,7 @@ use itoa::Buffer;
 #[derive(Clone, Copy)]
 pub enum Trail<'a> {
     Start,
-    /// The name of a row.
+    /// The name of a row, empty where it has none.
     Row(&'a Trail<'a>, &'a str),
     /// The index of an item of a list.
     Item(&'a Trail<'a>, usize),
@@ -28,14 +28,15 @@ pub fn put_path<W: Sink>(trail: &Trail<'_>, out: &mut Out, sink: &mut W) -> bool
     match trail {
         Trail::Start => false,
         Trail::Row(outer, name) => {
-            if put_path(outer, out, sink) {
-                out.put(sink, b".");
-                out.put(sink, name.as_bytes());
-                true
-            } else {
-                out.put(sink, name.as_bytes());
-                !name.is_empty()
+            let some = put_path(outer, out, sink);
+            if name.is_empty() {
+                return some;
             }
+            if some {
+                out.put(sink, b".");
+            }
+            out.put(sink, name.as_bytes());
+            true
         }
         Trail::Item(outer, i) => {
             let _ = put_path(outer, out, sink);

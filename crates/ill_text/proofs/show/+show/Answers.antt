@@ -1,9 +1,10 @@
-use Rattle.std.proofs.Common.{◌≡◌, ◌∙◌, refl, ap, sym, true, false, not, ◌∷◌, [], Some, drop, arith, rules, Bool}
+use Rattle.std.proofs.Common.{inl, inr, ◌≡◌, ◌∙◌, refl, ap, sym, true, false, not, ◌∷◌, [], Some, drop, arith, rules, Bool}
 use Rattle.ill_read.specs.declared.mark.Mark.TheVariants as mark
 use Rattle.ill_text.specs.Shown.{lines_of, part}
+use Rattle.ill_text.specs.code.MarkedOctets.{is_of_module}
 use Rattle.ill_text.specs.Marks.{entry_text, is_there}
 use Rattle.ill_text.specs.code.Trails.{place_at}
-use Rattle.ill_text.proofs.Lines.{alternative_first, entries_ended, entries_more, entries_none, entry_absent, entry_there, item_place, items_end, items_line, items_more, items_none, items_some, leaf_first, list_first, no_mark, none_begins, not_false, not_some, not_true, nothing_begins, part_place, passed_first, sequence_first, sequence_none, sequence_some, some_left, starts}
+use Rattle.ill_text.proofs.Lines.{alternative_first, entries_ended, entries_more, entries_none, entry_absent, entry_there, item_place, items_end, items_line, items_more, items_none, items_some, leaf_first, list_first, module_first, no_mark, none_begins, not_false, not_some, not_true, nothing_begins, part_place, passed_first, sequence_first, sequence_none, sequence_some, some_left, starts}
 use Rattle.ill_text.proofs.Sent.{adds_as, adds_nothing}
 use Rattle.ill_text.proofs.show.+show.Goals as goal
 
@@ -114,8 +115,16 @@ put_value-returns-in-Leaf-clause-adds g t c x ms rest h q =
     let tail = drop 1 c.args.marks.now in
     let all = starts c.args.marks.now c.in-Some.first (sym c.first_mark.ensures ∙ c.in-Some.is) ∙ ap (λ m. m ∷ tail) c.in-Leaf.is in
     let f = leaf_first x ms rest tail c.in-Leaf.leaf h (sym all ∙ q) in
-    let done = c.put_marked_leaf.ensures.adds f.0 rest f.1 (c.after_first-rest.ensures ∙ f.3) in
-    (done.0, adds_as _ _ _ _ (ap (lines_of (place_at c.args.trail.now c.args.name.now c.args.node)) (sym f.2)) done.1)
+    let done = c.put_marked_leaf.ensures.adds f.1 f.0 rest f.2 (c.after_first-rest.ensures ∙ f.4) in
+    (done.0, adds_as _ _ _ _ (ap (lines_of (place_at c.args.trail.now c.args.name.now c.args.node)) (sym f.3)) done.1)
+
+pub put_value-returns-in-ModuleLeaf-clause-adds : goal.put_value-returns-in-ModuleLeaf-clause-adds
+put_value-returns-in-ModuleLeaf-clause-adds g t c x ms rest h q =
+    let tail = drop 1 c.args.marks.now in
+    let all = starts c.args.marks.now c.in-Some.first (sym c.first_mark.ensures ∙ c.in-Some.is) in
+    let is : is_of_module c.in-Some.first ≡ true = elim c.in-ModuleLeaf.is [ inl y ↦ ap is_of_module y.1 | inr y ↦ elim y [ inl z ↦ ap is_of_module z | inr z ↦ ap is_of_module z ] ] in
+    let f = module_first x ms rest tail c.in-Some.first is h (sym all ∙ q) in
+    c.put_module_line.ensures.adds x f.0 rest (place_at c.args.trail.now c.args.name.now c.args.node) refl f.1 (c.after_first-rest.ensures ∙ f.2)
 
 pub put_value-returns-in-Passed-clause-adds : goal.put_value-returns-in-Passed-clause-adds
 put_value-returns-in-Passed-clause-adds g t c x ms rest h q =

@@ -1,0 +1,8 @@
+use Rattle.std.proofs.Common.{sym, ap}
+use Rattle.ill_text.specs.Shown.{hexadecimal}
+use Rattle.ill_text.proofs.Lines.{other_mark}
+use Rattle.ill_text.proofs.Sent.{adds_as, adds_nothing}
+use Rattle.ill_text.proofs.module_leaf.put_mark_digits.Goals as goal
+
+pub returns-in_default : goal.returns-in_default
+returns-in_default g c = record { adds = adds_as _ _ _ _ (sym (ap hexadecimal (other_mark c.args.mark (λ o e. c.in_default.not-Octet o e)))) (adds_nothing _); stays = λ h. h }

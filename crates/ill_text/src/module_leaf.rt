@@ -1,0 +1,355 @@
+//! Leaves of the module profile as lines.
+ghost use Rattle.std.specs.Prelude.{◌≡◌, ◌≤◌, ◌<◌, ℕ, ◌+◌, ◌-◌, ◌*◌, ◌/◌, ◌^◌, min, true, List, [], ◌∷◌, ◌++◌, codes, decimal, flat_map, length, map, take, IsTrue, MatchOption, IfSome};
+ghost use Rattle.std.specs.List.{list_all};
+ghost use Rattle.ber_leaf.specs.Leaf.{bit_count, bit_octets, bit_string, cleared, cleared_last, is_bits, value};
+ghost use Rattle.ber_leaf.specs.Profile.{is_graphic};
+ghost use Rattle.ill_schema.specs.declared.profile.Profile.{Profile as Named};
+ghost use Rattle.ill_elements.specs.LeafTypes.{IsContentIn, module_leaf_is};
+ghost use Rattle.ill_read.specs.declared.mark.Mark.{Mark};
+ghost use Rattle.ill_text.specs.Shown.{components, content_text, hexadecimal, leaf_text, line, oid_text, with_dots};
+ghost use Rattle.ill_text.specs.Marks.{front_octets, octets_in};
+ghost use Rattle.ill_text.specs.code.Bits.{filled_text};
+ghost use Rattle.ill_text.specs.code.ObjectIdentifiers.{IsFirst, are_small, dotted, numbers_in};
+ghost use Rattle.ill_text.specs.code.Sending.{Adds, sending};
+ghost use Rattle.ill_text.specs.code.Trails.{path_of};
+
+use crate::leaf::{DIGITS, front_octets, put_escaped, put_quoted};
+use crate::outgoing::Out;
+use crate::trail::{Trail, put_line, put_path};
+use ber_core::Sink;
+use ill_elements::ModuleLeaf;
+use ill_read::Mark;
+use itoa::Buffer;
+
+/// Puts the line of a leaf whose octets the marks begin with, and returns how many octets it has.
+pub fn put_module_leaf<W: Sink>(
+    leaf: ModuleLeaf,
+    marks: &[Mark],
+    trail: &Trail<'_>,
+    out: &mut Out,
+    sink: &mut W,
+) -> usize
+    ensures exact { result ≡ front_octets marks.now }
+    ensures within { result ≤ length marks.now }
+    ensures adds { (p : Named) (name : List ℕ)
+        → IsContentIn p (module_leaf_is leaf) (octets_in (take result marks.now))
+        → Adds (line (path_of trail.now) (leaf_text name (value (module_leaf_is leaf) (octets_in (take result marks.now)))))
+        (sending (W.contents sink.old) (W.is_broken sink.old) out.old)
+        (sending (W.contents sink.new) (W.is_broken sink.new) out.new) }
+    ensures stays { IsTrue (W.is_broken sink.old) → IsTrue (W.is_broken sink.new) }
+{
+    match leaf {
+        ModuleLeaf::Null => {
+            put_line(trail, b"NULL", out, sink);
+            front_octets(marks)
+        }
+        ModuleLeaf::ObjectIdentifier => put_object_identifier(trail, marks, out, sink),
+        ModuleLeaf::OctetString => put_octet_string(trail, marks, out, sink),
+        ModuleLeaf::ObjectDescriptor => put_quoted(trail, "descriptor \"", marks, out, sink),
+    }
+}
+
+/// Puts the line of a BIT STRING whose octets the marks begin with, and returns how many octets it has.
+pub fn put_bits<W: Sink>(marks: &[Mark], trail: &Trail<'_>, out: &mut Out, sink: &mut W) -> usize
+    ensures exact { result ≡ front_octets marks.now }
+    ensures within { result ≤ length marks.now }
+    ensures adds { (p : Named) (name : List ℕ)
+        → IsContentIn p bit_string (octets_in (take result marks.now))
+        → Adds (line (path_of trail.now) (leaf_text name (value bit_string (octets_in (take result marks.now)))))
+        (sending (W.contents sink.old) (W.is_broken sink.old) out.old)
+        (sending (W.contents sink.new) (W.is_broken sink.new) out.new) }
+    ensures stays { IsTrue (W.is_broken sink.old) → IsTrue (W.is_broken sink.new) }
+{
+    let count = front_octets(marks);
+    let _ = put_path(trail, out, sink);
+    out.put(sink, b" = bits ");
+    put_bit_content(&marks[..count], out, sink);
+    out.put(sink, b"\n");
+    count
+}
+
+/// Puts how many bits there are, and the octets that they fill.
+fn put_bit_content<W: Sink>(marks: &[Mark], out: &mut Out, sink: &mut W)
+    ensures adds { (octets : List ℕ) → IsTrue (is_bits octets) → marks.now ≡ map Mark.Octet octets
+        → Adds (decimal (bit_count octets) ++ filled_text (bit_octets octets))
+        (sending (W.contents sink.old) (W.is_broken sink.old) out.old)
+        (sending (W.contents sink.new) (W.is_broken sink.new) out.new) }
+    ensures stays { IsTrue (W.is_broken sink.old) → IsTrue (W.is_broken sink.new) }
+{
+    let Some((first, filled)) = marks.split_first() else {
+        return;
+    };
+    let Mark::Octet(unused) = *first else {
+        return;
+    };
+    let number = (8 * filled.len() as u128).saturating_sub(unused as u128);
+    let mut buffer = Buffer::new();
+    out.put(sink, buffer.format(number).as_bytes());
+    put_filled(unused, filled, out, sink);
+}
+
+/// Puts the octets that bits fill, if there are any, with the unused bits 0.
+fn put_filled<W: Sink>(unused: u8, marks: &[Mark], out: &mut Out, sink: &mut W)
+    ensures adds { (octets : List ℕ) → unused ≤ 7 → marks.now ≡ map Mark.Octet octets
+        → Adds (filled_text (cleared_last unused octets))
+        (sending (W.contents sink.old) (W.is_broken sink.old) out.old)
+        (sending (W.contents sink.new) (W.is_broken sink.new) out.new) }
+    ensures stays { IsTrue (W.is_broken sink.old) → IsTrue (W.is_broken sink.new) }
+{
+    let Some((last, front)) = marks.split_last() else {
+        return;
+    };
+    out.put(sink, b" ");
+    put_hexadecimal(front, out, sink);
+    put_last(unused, *last, out, sink);
+}
+
+/// Puts the last octet that bits fill.
+fn put_last<W: Sink>(unused: u8, mark: Mark, out: &mut Out, sink: &mut W)
+    ensures adds { (octet : ℕ) → unused ≤ 7 → mark ≡ Mark.Octet octet
+        → Adds (hexadecimal (cleared unused octet ∷ []))
+        (sending (W.contents sink.old) (W.is_broken sink.old) out.old)
+        (sending (W.contents sink.new) (W.is_broken sink.new) out.new) }
+    ensures stays { IsTrue (W.is_broken sink.old) → IsTrue (W.is_broken sink.new) }
+{
+    match mark {
+        Mark::Octet(octet) => put_digits(cleared(unused, octet), out, sink),
+        _ => {}
+    }
+}
+
+/// The octet with its last bits 0, as many as are unused.
+fn cleared(unused: u8, octet: u8) -> u8
+    ensures { unused ≤ 7 → result ≡ cleared unused octet }
+{
+    let unused = unused.min(7);
+    octet >> unused << unused
+}
+
+/// Puts the line of an OBJECT IDENTIFIER whose octets the marks begin with, and returns how many octets it has.
+fn put_object_identifier<W: Sink>(
+    trail: &Trail<'_>,
+    marks: &[Mark],
+    out: &mut Out,
+    sink: &mut W,
+) -> usize
+    ensures exact { result ≡ front_octets marks.now }
+    ensures within { result ≤ length marks.now }
+    ensures adds { Adds (line (path_of trail.now) (oid_text (octets_in (take result marks.now))))
+        (sending (W.contents sink.old) (W.is_broken sink.old) out.old)
+        (sending (W.contents sink.new) (W.is_broken sink.new) out.new) }
+    ensures stays { IsTrue (W.is_broken sink.old) → IsTrue (W.is_broken sink.new) }
+{
+    let count = front_octets(marks);
+    let _ = put_path(trail, out, sink);
+    out.put(sink, b" = ");
+    put_oid(&marks[..count], out, sink);
+    out.put(sink, b"\n");
+    count
+}
+
+/// Puts the line of an OCTET STRING whose octets the marks begin with, and returns how many octets it has.
+fn put_octet_string<W: Sink>(
+    trail: &Trail<'_>,
+    marks: &[Mark],
+    out: &mut Out,
+    sink: &mut W,
+) -> usize
+    ensures exact { result ≡ front_octets marks.now }
+    ensures within { result ≤ length marks.now }
+    ensures adds { Adds (line (path_of trail.now) (codes "octets " ++ content_text (octets_in (take result marks.now))))
+        (sending (W.contents sink.old) (W.is_broken sink.old) out.old)
+        (sending (W.contents sink.new) (W.is_broken sink.new) out.new) }
+    ensures stays { IsTrue (W.is_broken sink.old) → IsTrue (W.is_broken sink.new) }
+{
+    let count = front_octets(marks);
+    let _ = put_path(trail, out, sink);
+    out.put(sink, b" = octets ");
+    put_content(&marks[..count], out, sink);
+    out.put(sink, b"\n");
+    count
+}
+
+/// Puts octets of no known meaning: in quotation marks where all are printable ASCII, else in hexadecimal.
+pub fn put_content<W: Sink>(marks: &[Mark], out: &mut Out, sink: &mut W)
+    ensures adds { (octets : List ℕ) → marks.now ≡ map Mark.Octet octets
+        → Adds (content_text octets)
+        (sending (W.contents sink.old) (W.is_broken sink.old) out.old)
+        (sending (W.contents sink.new) (W.is_broken sink.new) out.new) }
+    ensures stays { IsTrue (W.is_broken sink.old) → IsTrue (W.is_broken sink.new) }
+{
+    if !are_graphic(marks) {
+        put_hexadecimal(marks, out, sink);
+        return;
+    }
+    out.put(sink, b"\"");
+    let _ = put_escaped(marks, out, sink);
+    out.put(sink, b"\"");
+}
+
+/// Whether all octets are printable ASCII.
+fn are_graphic(marks: &[Mark]) -> bool
+    ensures { result ≡ list_all is_graphic (octets_in marks.now) }
+{
+    for mark in marks {
+        if !is_graphic(*mark) {
+            return false;
+        }
+    }
+    true
+}
+
+fn is_graphic(mark: Mark) -> bool
+    ensures { result ≡ list_all is_graphic (octets_in (mark ∷ [])) }
+{
+    match mark {
+        Mark::Octet(octet) => 0x20 <= octet && octet <= 0x7E,
+        _ => true,
+    }
+}
+
+/// Puts each octet as two hexadecimal digits.
+pub fn put_hexadecimal<W: Sink>(marks: &[Mark], out: &mut Out, sink: &mut W)
+    ensures adds { Adds (hexadecimal (octets_in marks.now))
+        (sending (W.contents sink.old) (W.is_broken sink.old) out.old)
+        (sending (W.contents sink.new) (W.is_broken sink.new) out.new) }
+    ensures stays { IsTrue (W.is_broken sink.old) → IsTrue (W.is_broken sink.new) }
+{
+    for mark in marks {
+        put_mark_digits(*mark, out, sink);
+    }
+}
+
+fn put_mark_digits<W: Sink>(mark: Mark, out: &mut Out, sink: &mut W)
+    ensures adds { Adds (hexadecimal (octets_in (mark ∷ [])))
+        (sending (W.contents sink.old) (W.is_broken sink.old) out.old)
+        (sending (W.contents sink.new) (W.is_broken sink.new) out.new) }
+    ensures stays { IsTrue (W.is_broken sink.old) → IsTrue (W.is_broken sink.new) }
+{
+    match mark {
+        Mark::Octet(octet) => put_digits(octet, out, sink),
+        _ => {}
+    }
+}
+
+/// Puts an octet as two hexadecimal digits.
+fn put_digits<W: Sink>(octet: u8, out: &mut Out, sink: &mut W)
+    ensures adds { Adds (hexadecimal (octet ∷ []))
+        (sending (W.contents sink.old) (W.is_broken sink.old) out.old)
+        (sending (W.contents sink.new) (W.is_broken sink.new) out.new) }
+    ensures stays { IsTrue (W.is_broken sink.old) → IsTrue (W.is_broken sink.new) }
+{
+    let high = DIGITS[(octet / 16) as usize];
+    let low = DIGITS[(octet % 16) as usize];
+    out.put(sink, &[high, low]);
+}
+
+/// Puts an OBJECT IDENTIFIER: in decimals, or in hexadecimal where a number takes more than 63 bits.
+fn put_oid<W: Sink>(marks: &[Mark], out: &mut Out, sink: &mut W)
+    ensures adds { Adds (oid_text (octets_in marks.now))
+        (sending (W.contents sink.old) (W.is_broken sink.old) out.old)
+        (sending (W.contents sink.new) (W.is_broken sink.new) out.new) }
+    ensures stays { IsTrue (W.is_broken sink.old) → IsTrue (W.is_broken sink.new) }
+{
+    if are_small(marks) {
+        put_components(marks, out, sink);
+        return;
+    }
+    out.put(sink, b"oid ");
+    put_hexadecimal(marks, out, sink);
+}
+
+/// Whether no number takes more than 63 bits.
+fn are_small(marks: &[Mark]) -> bool
+    ensures { result ≡ are_small (numbers_in marks.now) }
+{
+    let mut left = marks;
+    'numbers: while let Some((number, rest)) = first_number(left) {
+        if number >= 1 << 63 {
+            return false;
+        }
+        left = rest;
+    }
+    true
+}
+
+/// Puts the components, of which the first number stands for two.
+fn put_components<W: Sink>(marks: &[Mark], out: &mut Out, sink: &mut W)
+    ensures adds { are_small (numbers_in marks.now) ≡ true
+        → Adds (with_dots (components (numbers_in marks.now)))
+        (sending (W.contents sink.old) (W.is_broken sink.old) out.old)
+        (sending (W.contents sink.new) (W.is_broken sink.new) out.new) }
+    ensures stays { IsTrue (W.is_broken sink.old) → IsTrue (W.is_broken sink.new) }
+{
+    let Some((number, rest)) = first_number(marks) else {
+        return;
+    };
+    put_first_two(number, out, sink);
+    put_numbers(rest, out, sink);
+}
+
+/// Puts the two components for which the first number stands.
+fn put_first_two<W: Sink>(number: u64, out: &mut Out, sink: &mut W)
+    ensures adds { Adds (decimal (min 2 (number / 40)) ++ (codes "." ++ decimal (number - 40 * min 2 (number / 40))))
+        (sending (W.contents sink.old) (W.is_broken sink.old) out.old)
+        (sending (W.contents sink.new) (W.is_broken sink.new) out.new) }
+    ensures stays { IsTrue (W.is_broken sink.old) → IsTrue (W.is_broken sink.new) }
+{
+    let first = (number / 40).min(2);
+    let mut buffer = Buffer::new();
+    out.put(sink, buffer.format(first).as_bytes());
+    put_dotted(number - 40 * first, out, sink);
+}
+
+/// Puts each number after a dot.
+fn put_numbers<W: Sink>(marks: &[Mark], out: &mut Out, sink: &mut W)
+    ensures adds { are_small (numbers_in marks.now) ≡ true
+        → Adds (flat_map dotted (numbers_in marks.now))
+        (sending (W.contents sink.old) (W.is_broken sink.old) out.old)
+        (sending (W.contents sink.new) (W.is_broken sink.new) out.new) }
+    ensures stays { IsTrue (W.is_broken sink.old) → IsTrue (W.is_broken sink.new) }
+{
+    let mut left = marks;
+    'numbers: while let Some((number, rest)) = first_number(left) {
+        put_dotted(number, out, sink);
+        left = rest;
+    }
+}
+
+fn put_dotted<W: Sink>(number: u64, out: &mut Out, sink: &mut W)
+    ensures adds { Adds (dotted number)
+        (sending (W.contents sink.old) (W.is_broken sink.old) out.old)
+        (sending (W.contents sink.new) (W.is_broken sink.new) out.new) }
+    ensures stays { IsTrue (W.is_broken sink.old) → IsTrue (W.is_broken sink.new) }
+{
+    let mut buffer = Buffer::new();
+    out.put(sink, b".");
+    out.put(sink, buffer.format(number).as_bytes());
+}
+
+/// The number of the subidentifier that the octets begin with, as far as 64 bits hold it, and the marks after it.
+fn first_number(marks: &[Mark]) -> Option<(u64, &[Mark])>
+    ensures first { MatchOption result (numbers_in marks.now ≡ []) (λ r. IsFirst (numbers_in marks.now) r.0 (numbers_in r.1.now)) }
+    ensures shorter { IfSome result (λ r. length r.1.now < length marks.now) }
+{
+    let mut number = 0;
+    let mut count = 0;
+    for mark in marks {
+        count += 1;
+        match *mark {
+            Mark::Octet(octet) if octet < 128 => {
+                return Some((extended(number, octet), &marks[count..]));
+            }
+            Mark::Octet(octet) => number = extended(number, octet - 128),
+            _ => {}
+        }
+    }
+    None
+}
+
+/// The number with seven bits more.
+fn extended(number: u64, bits: u8) -> u64
+    ensures { result ≡ min (128 * number + bits) (2 ^ 64 - 1) }
+{
+    number.saturating_mul(128).saturating_add(u64::from(bits))
+}
