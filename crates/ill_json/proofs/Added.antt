@@ -27,3 +27,8 @@ adds_one t a b f w = λ ok. (sym f ∙ ok, w)
 pub adds_failed : (ts : List Token) (a b : Out) → b.failed ≡ true → Adds ts a b
 unfolding Adds
 adds_failed ts a b f = λ ok. absurd (let q : true ≡ false = sym f ∙ ok in cc)
+
+-- another buffer for characters changes nothing
+pub adds_from : (ts : List Token) (a b c : Out) → b.failed ≡ a.failed → b.writer.tokens ≡ a.writer.tokens → Adds ts b c → Adds ts a c
+unfolding Adds
+adds_from ts a b c f w h = λ ok. let did = h ok in (sym f ∙ did.0, did.1 ∙ ap (λ (put : List Token). put ++ ts) w)

@@ -1,4 +1,6 @@
 pub mod Added
 pub mod Tokens
+pub mod Identifiers
 pub mod InAscii
+pub mod ModuleLeaves
 pub mod OneToOne

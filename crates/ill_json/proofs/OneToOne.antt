@@ -33,7 +33,7 @@ use Rattle.ill_schema.proofs.Tags.{row_of_two, two_not_any}
 use Rattle.ill_schema.specs.declared.node.Kind.{Kind}
 use Rattle.ill_schema.specs.declared.node.LeafKind.{LeafKind}
 use Rattle.ill_schema.specs.declared.node.NodeId.{NodeId}
-use Rattle.ill_schema.specs.declared.node.NodeId.TheVariants.{Boolean, IllApdu}
+use Rattle.ill_schema.specs.declared.node.NodeId.TheVariants.{Boolean, IllApdu, TaggedExternal}
 use Rattle.ill_schema.specs.declared.part.Row.{Row}
 use Rattle.ill_schema.specs.Apdu.{Apdu, choice_of}
 use Rattle.ill_schema.specs.Content.{Content, simple, sequence, list, alternative, foreign, Entries, no_entries, absent, present, Items, no_items, item}
@@ -44,7 +44,7 @@ use Rattle.ill_schema.specs.TableFacts.{is_of_two}
 use Rattle.ill_schema.specs.Tagging.{leaf_of}
 use Rattle.ill_text.specs.Numbers.{number_name, number_names}
 use Rattle.ill_text.specs.Shown.{name_or_none, node_or_left_out, row_name, row_node}
-use Rattle.ill_json.specs.Json.{characters, entry_members, item_values, json_line_of, leaf_json, line_json, number_json, plain, value_json, with_file}
+use Rattle.ill_json.specs.Json.{characters, entry_members, in_member, item_values, json_line_of, leaf_json, line_json, number_json, plain, value_json, with_file}
 use Rattle.ill_json.specs.declared.line.Head.{Head}
 use Rattle.ill_json.proofs.InAscii.{AreTexts-json_tokens, HasTexts, IsUtf8-are_low, are_low, in_ascii, in_ascii-cons, tokens-in_ascii}
 
@@ -239,6 +239,26 @@ name_once (n ∷ names) zero (suc j) x h e f = let q : x ≡ n = cc in absurd (n
 name_once (n ∷ names) (suc i) zero x h e f = let q : x ≡ n = cc in absurd (not_new n names i h (e ∙ ap (λ (y : List ℕ). Some y) q))
 name_once (n ∷ names) (suc i) (suc j) x h e f = ap (λ (k : ℕ). suc k) (name_once names i j x (both (not (list_any (bytes_eq n) names)) (all_new names) h).1 e f)
 
+abbrev all_named : List (List ℕ) → Bool
+all_named [] = true
+all_named ([] ∷ names) = false
+all_named ((letter ∷ name) ∷ names) = all_named names
+
+-- each row of a node of profile 2 has a name
+names_there : (node : NodeId) → IsTrue (is_of_two node) → IsTrue (all_named (names_of node).1)
+names_there TaggedExternal two = absurd cc
+names_there _ two = refl
+
+in_member-named : (names : List (List ℕ)) (i : ℕ) (name : List ℕ) (v : Json) → IsTrue (all_named names) → slice_get names i ≡ Some name → in_member name v ≡ json.object (json.member name v json.no_members)
+in_member-named names i [] v h e = absurd (no_empty names i h e)
+  where
+    no_empty : (names : List (List ℕ)) (i : ℕ) → IsTrue (all_named names) → slice_get names i ≡ Some [] → ⊥
+    no_empty [] i h e = absurd cc
+    no_empty ([] ∷ names) i h e = absurd cc
+    no_empty ((letter ∷ name) ∷ names) zero h e = absurd cc
+    no_empty ((letter ∷ name) ∷ names) (suc i) h e = no_empty names i h e
+in_member-named names i (letter ∷ name) v h e = refl
+
 enough_after : (m n : ℕ) → IsTrue (nat_le (suc m) (suc n)) → IsTrue (nat_le m n)
 enough_after m n h = grind (arith, nat_tests)
 
@@ -252,6 +272,12 @@ row_once : (node : NodeId) (i j : ℕ) (r s : Row) → slice_get (rows_of node) 
 row_once node i j r s h k e =
     name_once (names_of node).1 i j (row_name node i) (names_new node) (name_at (names_of node).1 (rows_of node) i r (names_enough node) h)
     (name_at (names_of node).1 (rows_of node) j s (names_enough node) k ∙ ap (λ (x : List ℕ). Some x) (sym e))
+
+-- an alternative of a choice of profile 2 is an object
+alternative_named : (node : NodeId) (n : ℕ) (row : Row) (c : Content) → IsTrue (is_of_two node) → slice_get (rows_of node) n ≡ Some row
+    → value_json [] node (alternative n c) ≡ json.object (json.member (row_name node n) (value_json (row_name node n) (row_node node n) c) json.no_members)
+alternative_named node n row c two e =
+    in_member-named (names_of node).1 n (row_name node n) _ (names_there node two) (name_at (names_of node).1 (rows_of node) n row (names_enough node) e)
 
 -- ---- values
 
@@ -329,7 +355,8 @@ mutual
   value_once p row node (sequence es) (sequence fs) two h k e = ap sequence (entries_once p node 0 (rows_of node) es fs two (from_all (rows_of node)) h.1 k.1 (object_same _ _ e))
   value_once p row node (list is) (list js) two h k e = ap list (items_once p row node is js two h.1 k.1 (let q : item_values row (row_node node 0) is ≡ item_values row (row_node node 0) js = cc in q))
   value_once p row node (alternative n c) (alternative m d) two h k e =
-      let parts = member_same _ _ _ _ _ _ (object_same _ _ e) in
+      let objects = sym (alternative_named node n h.0 c two h.1.1) ∙ e ∙ alternative_named node m k.0 d two k.1.1 in
+      let parts = member_same _ _ _ _ _ _ (object_same _ _ objects) in
       let same = row_once node n m h.0 k.0 h.1.1 k.1.1 parts.0 in
       let body = parts.1 ∙ ap (λ (x : ℕ). value_json (row_name node x) (row_node node x) d) (sym same) in
       let fits = subst (λ (x : ℕ). Fits p d (row_node node x)) (sym same) (row_fits p node m d k.0 k.1.1 k.2) in
@@ -467,6 +494,10 @@ leaf_written p row k (binary o) l known e h = absurd cc
 leaf_written p row k (bits n o) l known e h = absurd cc
 leaf_written p row k (descriptor o) l known e h = absurd cc
 
+member_written : (name : List ℕ) (v : Json) → IsUtf8 name → IsWritten v → IsWritten (in_member name v)
+member_written [] v u h = h
+member_written (letter ∷ name) v u h = ((h.0, tt), (u, h.1, tt))
+
 mutual
   value_written : (p : Profile) (row : List ℕ) (node : NodeId) (c : Content) → IsTrue (is_of_two node) → Fits p c node → IsWritten (value_json row node c)
   value_written p row node (simple v) two h = leaf_written p row (kind_of node) v h.0 (known_leaf node v h.0 two h.1) h.1 h.2
@@ -474,7 +505,7 @@ mutual
   value_written p row node (list is) two h = items_written p row node is two h.1
   value_written p row node (alternative n c) two h =
       let v = value_written p (row_name node n) (row_node node n) c (two_at node n h.0 two h.1.1) (row_fits p node n c h.0 h.1.1 h.2) in
-      ((v.0, tt), (IsUtf8-row_name node n, v.1, tt))
+      member_written (row_name node n) _ (IsUtf8-row_name node n) v
   value_written p row node (foreign T) two h = absurd (two_not_any node two h.0)
 
   entries_written : (p : Profile) (node : NodeId) (i : ℕ) (rows : List Row) (es : Entries) → IsTrue (is_of_two node) → From rows i (rows_of node) → FitRows p es rows → IsWritten (json.object (entry_members node i es))

@@ -1,22 +1,25 @@
 -- What marks say, and the tokens that are put for them.
-use Rattle.std.proofs.Common.{◌≡◌, ℕ, suc, ◌+◌, ◌-◌, true, false, List, [], ◌∷◌, ◌++◌, length, take, drop, codes, flat_map, Option, Some, None, refl, sym, ap, ap₂, ◌∙◌, arith, append_assoc, append-nil, ◌<◌, get_or}
+use Rattle.std.proofs.Common.{◌≡◌, ℕ, suc, ◌+◌, ◌-◌, true, false, List, [], ◌∷◌, ◌++◌, length, take, drop, codes, flat_map, Option, Some, None, refl, sym, ap, ap₂, ◌∙◌, arith, append_assoc, append-nil, ◌<◌, ◌==◌, get_or}
 use Rattle.std.specs.Char.{encode_utf8}
 use Rattle.std.specs.Str.{chars}
+use Rattle.std.proofs.lemmas.Bool.Decides.{nat_tests}
 use Rattle.std.proofs.lemmas.List.Concat.{flat_map-append}
+use Rattle.json.specs.Json.{Json}
 use Rattle.json.specs.Token.{Token, begin_object, end_array, end_object, key}
 use Rattle.json.specs.Print.{print}
 use Rattle.json.specs.Tree.{items_tokens, json_tokens, members_tokens}
 use Rattle.ill_schema.specs.declared.node.NodeId.{NodeId}
-use Rattle.ill_schema.specs.declared.node.NodeId.TheVariants.{IllApdu}
+use Rattle.ber_leaf.specs.Profile.{Profile}
+use Rattle.ill_schema.specs.Apdu.{root}
 use Rattle.ill_schema.specs.Apdu.{Apdu}
-use Rattle.ill_schema.specs.Content.{Content, Entries, no_entries, absent, present, Items, no_items, item}
+use Rattle.ill_schema.specs.Content.{Content, alternative, Entries, no_entries, absent, present, Items, no_items, item}
 use Rattle.ill_read.specs.Outline.{AreEntries, AreItems, IsMarked}
 use Rattle.ill_read.specs.declared.mark.Mark.{Mark}
 use Rattle.ill_read.specs.declared.mark.Mark.TheVariants as mark
-use Rattle.ill_text.specs.Shown.{row_name, row_node}
+use Rattle.ill_text.specs.Shown.{hexadecimal, row_name, row_node}
 use Rattle.ill_text.specs.Marks.{IsEntry, is_at_end, is_there, octets_in}
 use Rattle.ill_text.proofs.Lines.{mark_step, no_entry, no_item}
-use Rattle.ill_json.specs.Json.{characters, entry_members, item_values, json_line_of, line_json, plain, value_json}
+use Rattle.ill_json.specs.Json.{characters, entry_members, in_member, item_values, json_line_in, line_json_in, plain, value_json}
 use Rattle.ill_json.specs.code.Adding.{Adds, entry_tokens, file_tokens, head_tokens, part_tokens, value_tokens}
 use Rattle.ill_json.specs.declared.line.Head.{Head}
 use Rattle.ill_json.specs.declared.writing.Out.{Out}
@@ -157,10 +160,29 @@ items_ended o row node is rest left a b c r end put =
 pub character_step : (xs : List Mark) (i : ℕ) (d : Mark) → i < length xs → characters (octets_in (take (i + 1) xs)) ≡ characters (octets_in (take i xs)) ++ characters (octets_in (get_or xs i d ∷ []))
 character_step xs i d h = ap characters (mark_step xs i d h) ∙ flat_map-append encode_utf8 (octets_in (take i xs)) (octets_in (get_or xs i d ∷ []))
 
+pub hexadecimal_step : (xs : List Mark) (i : ℕ) (d : Mark) → i < length xs → hexadecimal (octets_in (take (i + 1) xs)) ≡ hexadecimal (octets_in (take i xs)) ++ hexadecimal (octets_in (get_or xs i d ∷ []))
+hexadecimal_step xs i d h = ap hexadecimal (mark_step xs i d h) ∙ search flat_map-append
+
 -- ---- members
 
 pub member : (name : List ℕ) (node inner : NodeId) (i : ℕ) (c : Content) → name ≡ row_name node i → inner ≡ row_node node i → key name ∷ json_tokens (value_json name inner c) ≡ part_tokens node i c
 member name node inner i c n k = ap₂ (λ (x : List ℕ) (y : NodeId). key x ∷ json_tokens (value_json x y c)) n k
+
+in_member-alone : (name : List ℕ) (v : Json) → (length name == 0) ≡ true → in_member name v ≡ v
+in_member-alone [] v e = refl
+in_member-alone (letter ∷ name) v e = absurd (let none : length (letter ∷ name) ≡ 0 = grind (arith, nat_tests) in omega (arith, none))
+
+in_member-named : (name : List ℕ) (v : Json) → (length name == 0) ≡ false → json_tokens (in_member name v) ≡ begin_object ∷ key name ∷ json_tokens v ++ end_object ∷ []
+in_member-named [] v e = absurd cc
+in_member-named (letter ∷ name) v e = refl
+
+-- an alternative whose row has no name is its value
+pub alone : (name : List ℕ) (node inner : NodeId) (i : ℕ) (c : Content) (row : List ℕ) → name ≡ row_name node i → inner ≡ row_node node i → (length name == 0) ≡ true → value_json name inner c ≡ value_json row node (alternative i c)
+alone name node inner i c row n k e = sym (in_member-alone name (value_json name inner c) e) ∙ ap₂ (λ (x : List ℕ) (y : NodeId). in_member x (value_json x y c)) n k
+
+-- any other is an object
+pub in_object : (name : List ℕ) (node : NodeId) (i : ℕ) (c : Content) (row : List ℕ) → name ≡ row_name node i → (length name == 0) ≡ false → begin_object ∷ part_tokens node i c ++ end_object ∷ [] ≡ json_tokens (value_json row node (alternative i c))
+in_object name node i c row n e = sym (in_member-named (row_name node i) (value_json (row_name node i) (row_node node i) c) (ap (λ (x : List ℕ). length x == 0) (sym n) ∙ e))
 
 pub entry_default : (name : List ℕ) (node : NodeId) (i : ℕ) (e : Option Content) → name ≡ row_name node i → is_there e ≡ true → key name ∷ value_tokens name (row_node node i) e ≡ entry_tokens node i e
 entry_default name node i None n there = absurd cc
@@ -172,23 +194,23 @@ entry_nothing node i (Some c) there = absurd cc
 
 -- ---- the whole line
 
-line_whole : (file : Option (List ℕ)) (head : Head) (a : Apdu) (row : ℕ) → row ≡ a.number - 1
-    → begin_object ∷ file_tokens file ++ head_tokens head (row_name IllApdu row) ++ key (codes "value") ∷ [] ++ json_tokens (value_json [] (row_node IllApdu row) a.body) ++ end_object ∷ [] ≡ json_tokens (line_json file head a)
-line_whole None head a row e = ap (λ (n : ℕ). begin_object ∷ head_tokens head (row_name IllApdu n) ++ key (codes "value") ∷ [] ++ json_tokens (value_json [] (row_node IllApdu n) a.body) ++ end_object ∷ []) e
-line_whole (Some name) head a row e = ap (λ (n : ℕ). begin_object ∷ file_tokens (Some name) ++ head_tokens head (row_name IllApdu n) ++ key (codes "value") ∷ [] ++ json_tokens (value_json [] (row_node IllApdu n) a.body) ++ end_object ∷ []) e
+line_whole : (p : Profile) (file : Option (List ℕ)) (head : Head) (a : Apdu) (row : ℕ) → row ≡ a.number - 1
+    → begin_object ∷ file_tokens file ++ head_tokens head (row_name (root p) row) ++ key (codes "value") ∷ [] ++ json_tokens (value_json [] (row_node (root p) row) a.body) ++ end_object ∷ [] ≡ json_tokens (line_json_in p file head a)
+line_whole p None head a row e = ap (λ (n : ℕ). begin_object ∷ head_tokens head (row_name (root p) n) ++ key (codes "value") ∷ [] ++ json_tokens (value_json [] (row_node (root p) n) a.body) ++ end_object ∷ []) e
+line_whole p (Some name) head a row e = ap (λ (n : ℕ). begin_object ∷ file_tokens (Some name) ++ head_tokens head (row_name (root p) n) ++ key (codes "value") ∷ [] ++ json_tokens (value_json [] (row_node (root p) n) a.body) ++ end_object ∷ []) e
 
-pub line_same : (file : Option (List ℕ)) (head : Head) (a : Apdu) (name : List ℕ) (node : NodeId) (row : ℕ) → name ≡ row_name IllApdu row → node ≡ row_node IllApdu row → row ≡ a.number - 1
-    → begin_object ∷ file_tokens file ++ head_tokens head name ++ key (codes "value") ∷ [] ++ json_tokens (value_json [] node a.body) ++ end_object ∷ [] ≡ json_tokens (line_json file head a)
-line_same file head a name node row n k e =
-    ap₂ (λ (x : List ℕ) (y : NodeId). begin_object ∷ file_tokens file ++ head_tokens head x ++ key (codes "value") ∷ [] ++ json_tokens (value_json [] y a.body) ++ end_object ∷ []) n k ∙ line_whole file head a row e
+pub line_same : (p : Profile) (file : Option (List ℕ)) (head : Head) (a : Apdu) (name : List ℕ) (node : NodeId) (row : ℕ) → name ≡ row_name (root p) row → node ≡ row_node (root p) row → row ≡ a.number - 1
+    → begin_object ∷ file_tokens file ++ head_tokens head name ++ key (codes "value") ∷ [] ++ json_tokens (value_json [] node a.body) ++ end_object ∷ [] ≡ json_tokens (line_json_in p file head a)
+line_same p file head a name node row n k e =
+    ap₂ (λ (x : List ℕ) (y : NodeId). begin_object ∷ file_tokens file ++ head_tokens head x ++ key (codes "value") ∷ [] ++ json_tokens (value_json [] y a.body) ++ end_object ∷ []) n k ∙ line_whole p file head a row e
 
 -- ---- the whole text
 
 pub one_more : (a b c x y z : List ℕ) → b ≡ a ++ x → c ≡ b ++ y → z ≡ x ++ y → c ≡ a ++ z
 one_more a b c x y z h k e = k ∙ ap (λ (t : List ℕ). t ++ y) h ∙ append_assoc a x y ∙ ap (λ (t : List ℕ). a ++ t) (sym e)
 
-pub line_text : (file : Option (List ℕ)) (head : Head) (a : Apdu) (o p : Out) → o.writer.tokens ≡ [] → Adds (json_tokens (line_json file head a)) o p → p.failed ≡ false
-    → flat_map plain (chars (print p.writer.tokens)) ++ codes "\n" ≡ json_line_of file head a
+pub line_text : (q : Profile) (file : Option (List ℕ)) (head : Head) (a : Apdu) (o p : Out) → o.writer.tokens ≡ [] → Adds (json_tokens (line_json_in q file head a)) o p → p.failed ≡ false
+    → flat_map plain (chars (print p.writer.tokens)) ++ codes "\n" ≡ json_line_in q file head a
 unfolding Adds
-line_text file head a o p empty adds whole =
-    ap (λ (ts : List Token). flat_map plain (chars (print ts)) ++ codes "\n") ((adds whole).1 ∙ ap (λ (ts : List Token). ts ++ json_tokens (line_json file head a)) empty)
+line_text q file head a o p empty adds whole =
+    ap (λ (ts : List Token). flat_map plain (chars (print ts)) ++ codes "\n") ((adds whole).1 ∙ ap (λ (ts : List Token). ts ++ json_tokens (line_json_in q file head a)) empty)

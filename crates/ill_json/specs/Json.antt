@@ -11,8 +11,8 @@ use Rattle.json.specs.Tree.{json_tokens}
 use Rattle.ber_core.specs.Der.{encoding}
 use Rattle.ber_leaf.specs.Simple.{Simple, flag, whole, date, time, printable, general, visible, null, oid, binary, bits, descriptor}
 use Rattle.ill_schema.specs.declared.node.NodeId.{NodeId}
-use Rattle.ill_schema.specs.declared.node.NodeId.TheVariants.{IllApdu}
-use Rattle.ill_schema.specs.Apdu.{Apdu}
+use Rattle.ber_leaf.specs.Profile.{Profile, profile_two}
+use Rattle.ill_schema.specs.Apdu.{Apdu, root}
 use Rattle.ill_schema.specs.Content.{Content, simple, sequence, list, alternative, foreign, Entries, no_entries, absent, present, Items, no_items, item}
 use Rattle.ill_text.specs.Numbers.{number_name}
 use Rattle.ill_text.specs.Shown.{hexadecimal, oid_text, row_name, row_node}
@@ -46,13 +46,18 @@ leaf_json row (binary octets) = object (member (codes "octets") (string (hexadec
 leaf_json row (bits n octets) = object (member (codes "bits") (number (decimal n)) (member (codes "octets") (string (hexadecimal octets)) no_members))
 leaf_json row (descriptor octets) = string (characters octets)
 
+-- the value under a name; alone where there is none, as under the tag of an EXTERNAL
+abbrev pub in_member : List ℕ → Json → Json
+in_member [] value = value
+in_member (letter ∷ name) value = object (member (letter ∷ name) value no_members)
+
 abbrev mutual
   -- a value of this type, in a row of this name; a foreign tree by its octets in DER, in hexadecimal
   pub value_json : List ℕ → NodeId → Content → Json
   value_json row node (simple v) = leaf_json row v
   value_json row node (sequence es) = object (entry_members node 0 es)
   value_json row node (list is) = array (item_values row (row_node node 0) is)
-  value_json row node (alternative n c) = object (member (row_name node n) (value_json (row_name node n) (row_node node n) c) no_members)
+  value_json row node (alternative n c) = in_member (row_name node n) (value_json (row_name node n) (row_node node n) c)
   value_json row node (foreign T) = object (member (codes "foreign") (string (hexadecimal (encoding T))) no_members)
 
   -- the entries from row i on; an absent one is no member
@@ -71,15 +76,18 @@ abbrev pub with_file : Option (List ℕ) → Members → Members
 with_file None ms = ms
 with_file (Some name) ms = member (codes "file") (string name) ms
 
--- the APDU is in the row of ILL-APDU that its number, from 1, says
-abbrev pub line_json : Option (List ℕ) → Head → Apdu → Json
-line_json file head a = object (with_file file
+-- the APDU of the profile is in the row of ILL-APDU that its number, from 1, says
+abbrev pub line_json_in : Profile → Option (List ℕ) → Head → Apdu → Json
+line_json_in p file head a = object (with_file file
     (member (codes "number") (number (decimal head.number))
     (member (codes "offset") (number (decimal head.offset))
     (member (codes "octets") (number (decimal head.octets))
-    (member (codes "apdu") (string (row_name IllApdu (a.number - 1)))
+    (member (codes "apdu") (string (row_name (root p) (a.number - 1)))
     (member (codes "normal") (boolean head.is_normal)
-    (member (codes "value") (value_json [] (row_node IllApdu (a.number - 1)) a.body) no_members)))))))
+    (member (codes "value") (value_json [] (row_node (root p) (a.number - 1)) a.body) no_members)))))))
+
+abbrev pub line_json : Option (List ℕ) → Head → Apdu → Json
+line_json file head a = line_json_in profile_two file head a
 
 -- a unit of UTF-16 by its number (RFC 8259, section 7), in four digits
 abbrev pub unit_text : ℕ → List ℕ
@@ -90,5 +98,9 @@ abbrev pub plain : ℕ → List ℕ
 plain c = if nat_lt c 0x7F then c ∷ [] else flat_map unit_text (encode_utf16 c)
 
 -- the text in ASCII, and a line feed
+abbrev pub json_line_in : Profile → Option (List ℕ) → Head → Apdu → List ℕ
+json_line_in p file head a = flat_map plain (chars (print (json_tokens (line_json_in p file head a)))) ++ codes "\n"
+
+-- the same in profile 2
 abbrev pub json_line_of : Option (List ℕ) → Head → Apdu → List ℕ
-json_line_of file head a = flat_map plain (chars (print (json_tokens (line_json file head a)))) ++ codes "\n"
+json_line_of file head a = json_line_in profile_two file head a

@@ -1,13 +1,13 @@
 //! Leaves as tokens.
 ghost use Rattle.std.specs.Prelude.{◌≡◌, Option, Some};
 ghost use Rattle.json.specs.Tree.{json_tokens};
-ghost use Rattle.ber_leaf.specs.Content.{IsContent};
+ghost use Rattle.ill_schema.specs.declared.profile.Profile.{Profile as Named};
 ghost use Rattle.ber_leaf.specs.Leaf.{value};
 ghost use Rattle.ill_schema.specs.Content.{Content};
 ghost use Rattle.ill_schema.specs.Presence.{default_value};
 ghost use Rattle.ill_schema.specs.Table.{kind_of};
 ghost use Rattle.ill_schema.specs.declared.node.NodeId.{NodeId};
-ghost use Rattle.ill_elements.specs.LeafTypes.{leaf_is};
+ghost use Rattle.ill_elements.specs.LeafTypes.{IsContentIn, leaf_is};
 ghost use Rattle.ill_read.specs.Outline.{IsPassed};
 ghost use Rattle.ill_text.specs.Numbers.{number_name};
 ghost use Rattle.ill_text.specs.Marks.{is_there, octets_in};
@@ -22,7 +22,7 @@ use json::Token;
 
 /// Puts a leaf with these octets, in a row of this name.
 pub fn put_leaf(leaf: LeafType, octets: &[Mark], name: &str, out: &mut Out)
-    ensures { IsContent (leaf_is leaf) (octets_in octets.now) → Adds (json_tokens (leaf_json name.now (value (leaf_is leaf) (octets_in octets.now)))) out.old out.new }
+    ensures { (p : Named) → IsContentIn p (leaf_is leaf) (octets_in octets.now) → Adds (json_tokens (leaf_json name.now (value (leaf_is leaf) (octets_in octets.now)))) out.old out.new }
 {
     match leaf {
         LeafType::Boolean => out.put(Token::Bool(is_set(octets))),

@@ -8,9 +8,12 @@
 #![tactic(auto)]
 
 mod ascii;
+mod hexadecimal;
+mod identifier;
 mod leaf;
 mod line;
+mod module_leaf;
 mod value;
 mod writing;
 
-pub use line::{Head, json_line};
+pub use line::{Head, json_line, json_line_as};

@@ -2,15 +2,15 @@
 ghost use Rattle.std.specs.Prelude.{◌≡◌, ◌++◌, IfOk, option_map};
 ghost use Rattle.json.specs.Tree.{json_tokens};
 ghost use Rattle.ill_schema.specs.Apdu.{Apdu, choice_of};
-ghost use Rattle.ill_schema.specs.declared.node.NodeId.TheVariants.{IllApdu};
+ghost use Rattle.ill_schema.specs.Profiles.{profile_of};
 ghost use Rattle.ill_read.specs.Outline.{IsMarked, IsOutlineOf};
-ghost use Rattle.ill_json.specs.Json.{json_line_of, line_json};
+ghost use Rattle.ill_json.specs.Json.{json_line_in, json_line_of, line_json_in};
 ghost use Rattle.ill_json.specs.code.Adding.{Adds, file_tokens, head_tokens};
 
 use crate::value::put_value;
 use crate::writing::Out;
 use ill_read::{Mark, Outline};
-use ill_schema::NodeId;
+use ill_schema::Profile;
 use ill_text::{after_first, alternative, row_name, row_node};
 use json::Token;
 use std::alloc::{AllocError, Global};
@@ -56,21 +56,54 @@ pub fn json_line(
 ) -> Result<Vec<u8>, AllocError>
     ensures { (a : Apdu) → IsOutlineOf outline.now a → IfOk result (λ line. line.items ≡ json_line_of (option_map (λ name. name.now) file.entry) head a) }
 {
+    json_line_as(alloc, Profile::Two, room, file, head, outline)
+}
+
+/// The line of JSON of a message in the profile, as [`json_line`] gives it.
+///
+/// Of what only the module profile has, a NULL is null; an OBJECT IDENTIFIER is its text, as
+/// `"1.2.840.10003.5.10"`; an OCTET STRING is an object of `octets`, in hexadecimal; a BIT STRING is an
+/// object of `bits`, their number, and `octets`; an ObjectDescriptor is a string; a foreign tree is an
+/// object of `foreign`, the octets of its encoding in DER, in hexadecimal. EXTERNAL is an object of its
+/// own rows.
+///
+/// # Errors
+///
+/// Only out of memory.
+///
+/// # Examples
+///
+/// ```text
+/// let line = json_line_as(alloc, Profile::Module, room, None, head, &outline)?;
+/// ```
+pub fn json_line_as(
+    alloc: Global,
+    profile: Profile,
+    room: Vec<u8>,
+    file: Option<&str>,
+    head: Head,
+    outline: &Outline,
+) -> Result<Vec<u8>, AllocError>
+    ensures { (a : Apdu) → IsOutlineOf outline.now a → IfOk result (λ line. line.items
+        ≡ json_line_in (profile_of profile) (option_map (λ name. name.now) file.entry) head a) }
+{
     let mut out = Out::new(alloc, room);
-    put_line(file, head, outline.marks(), &mut out);
+    put_line(profile, file, head, outline.marks(), &mut out);
     out.into_line(alloc)
 }
 
 /// Puts the object of the message that the marks are of.
-fn put_line(file: Option<&str>, head: Head, marks: &[Mark], out: &mut Out)
-    ensures { (a : Apdu) → IsMarked (choice_of a) marks.now → Adds (json_tokens (line_json (option_map (λ name. name.now) file.entry) head a)) out.old out.new }
+fn put_line(profile: Profile, file: Option<&str>, head: Head, marks: &[Mark], out: &mut Out)
+    ensures { (a : Apdu) → IsMarked (choice_of a) marks.now
+        → Adds (json_tokens (line_json_in (profile_of profile) (option_map (λ name. name.now) file.entry) head a)) out.old out.new }
 {
     match alternative(marks) {
         Some(row) => {
             out.put(Token::BeginObject);
             put_file(file, out);
-            put_head(head, row_name(NodeId::ILL_APDU, row as usize), out);
-            let node = row_node(NodeId::ILL_APDU, row as usize);
+            let root = profile.root();
+            put_head(head, row_name(root, row as usize), out);
+            let node = row_node(root, row as usize);
             out.put(Token::Key("value"));
             let _ = put_value(after_first(marks), "", node, out);
             out.put(Token::EndObject);

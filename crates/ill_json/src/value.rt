@@ -1,17 +1,20 @@
 //! Outlines as tokens.
 ghost use Rattle.std.specs.Prelude.{◌≡◌, ◌<◌, ◌≤◌, ℕ, List, [], ◌∷◌, ◌++◌, length, map, Option};
-ghost use Rattle.ber_leaf.specs.Content.{IsContent};
+ghost use Rattle.ill_schema.specs.declared.node.NodeId.{NodeId};
+ghost use Rattle.ill_schema.specs.declared.profile.Profile.{Profile as Named};
+ghost use Rattle.ill_text.specs.code.MarkedOctets.{SaysOctets};
 ghost use Rattle.ber_leaf.specs.Leaf.{value};
 ghost use Rattle.ill_schema.specs.Content.{Content, Entries, Items, alternative, list, sequence};
-ghost use Rattle.ill_elements.specs.LeafTypes.{leaf_is};
+ghost use Rattle.ill_elements.specs.LeafTypes.{IsContentIn, leaf_is};
 ghost use Rattle.ill_read.specs.Outline.{AreEntries, AreItems, IsMarked, IsPassed};
 ghost use Rattle.ill_read.specs.declared.mark.Mark.{Mark};
-ghost use Rattle.ill_text.specs.Marks.{IsEntry};
+ghost use Rattle.ill_text.specs.Marks.{IsEntry, octets_in};
 ghost use Rattle.json.specs.Tree.{json_tokens};
 ghost use Rattle.ill_json.specs.Json.{leaf_json, value_json};
 ghost use Rattle.ill_json.specs.code.Adding.{Adds, entry_tokens, part_tokens};
 
 use crate::leaf::{has_default, put_default, put_leaf};
+use crate::module_leaf::{put_bits, put_foreign, put_module_leaf};
 use crate::writing::Out;
 use ill_read::{LeafType, Mark};
 use ill_schema::{NodeId, PartId};
@@ -32,6 +35,9 @@ pub fn put_value<'m>(marks: &'m [Mark], name: &str, node: NodeId, out: &mut Out)
     let rest = after_first(marks);
     match first {
         Mark::Leaf(leaf) => put_marked_leaf(leaf, rest, name, out),
+        Mark::ModuleLeaf(_) | Mark::BitString | Mark::Foreign => {
+            put_module_value(first, rest, out)
+        }
         Mark::Passed(part) => {
             put_default(part, name, out);
             rest
@@ -46,7 +52,7 @@ pub fn put_value<'m>(marks: &'m [Mark], name: &str, node: NodeId, out: &mut Out)
 
 /// Puts a leaf whose octets the marks begin with, and returns the marks after it.
 fn put_marked_leaf<'m>(leaf: LeafType, marks: &'m [Mark], name: &str, out: &mut Out) -> &'m [Mark]
-    ensures adds { (octets : List ℕ) (rest : List Mark) → IsContent (leaf_is leaf) octets → marks.now ≡ map Mark.Octet octets ++ (Mark.End ∷ rest) → (result.now ≡ rest)
+    ensures adds { (p : Named) (octets : List ℕ) (rest : List Mark) → IsContentIn p (leaf_is leaf) octets → marks.now ≡ map Mark.Octet octets ++ (Mark.End ∷ rest) → (result.now ≡ rest)
         × Adds (json_tokens (leaf_json name.now (value (leaf_is leaf) octets))) out.old out.new }
     ensures shorter { length result.now ≤ length marks.now }
 {
@@ -55,7 +61,30 @@ fn put_marked_leaf<'m>(leaf: LeafType, marks: &'m [Mark], name: &str, out: &mut 
     &marks[(count + 1).min(marks.len())..]
 }
 
-/// Puts an object with the alternative of row i, and returns the marks after it.
+/// Puts what only the module profile has: a leaf, or a foreign tree, whose octets come after this mark. Returns the marks after it.
+fn put_module_value<'m>(first: Mark, marks: &'m [Mark], out: &mut Out) -> &'m [Mark]
+    ensures adds { (c : Content) (name octets : List ℕ) (node : NodeId) (rest : List Mark) → SaysOctets first c octets
+        → marks.now ≡ map Mark.Octet octets ++ (Mark.End ∷ rest) → (result.now ≡ rest) × Adds (json_tokens (value_json name node c)) out.old out.new }
+    ensures shorter { length result.now ≤ length marks.now }
+{
+    let count = front_octets(marks);
+    put_module_octets(first, &marks[..count], out);
+    &marks[(count + 1).min(marks.len())..]
+}
+
+/// Puts what these octets say after the mark.
+fn put_module_octets(first: Mark, octets: &[Mark], out: &mut Out)
+    ensures { (c : Content) (name : List ℕ) (node : NodeId) → SaysOctets first c (octets_in octets.now) → Adds (json_tokens (value_json name node c)) out.old out.new }
+{
+    match first {
+        Mark::ModuleLeaf(leaf) => put_module_leaf(leaf, octets, out),
+        Mark::BitString => put_bits(octets, out),
+        Mark::Foreign => put_foreign(octets, out),
+        _ => {}
+    }
+}
+
+/// Puts an object with the alternative of row i, or its value alone where the row has no name, and returns the marks after it.
 #[cycle(value)]
 fn put_alternative<'m>(marks: &'m [Mark], node: NodeId, i: usize, out: &mut Out) -> &'m [Mark]
     ensures adds { (c : Content) (name : List ℕ) (ms rest : List Mark) → IsMarked c ms → marks.now ≡ ms ++ rest → (result.now ≡ rest)
@@ -63,6 +92,10 @@ fn put_alternative<'m>(marks: &'m [Mark], node: NodeId, i: usize, out: &mut Out)
     ensures shorter { 0 < length marks.now → length result.now < length marks.now }
     ensures no_longer { length result.now ≤ length marks.now }
 {
+    let name = row_name(node, i);
+    if name.is_empty() {
+        return put_value(marks, name, row_node(node, i), out);
+    }
     out.put(Token::BeginObject);
     let rest = put_part(marks, node, i, out);
     out.put(Token::EndObject);

@@ -1,14 +1,17 @@
 //! The text that is made, a token at a time.
-ghost use Rattle.std.specs.Prelude.{◌≡◌, ◌++◌, [], ◌∷◌, false, codes, decimal, flat_map, IfOk, OnOk, string_bytes, vec_capacity};
+ghost use Rattle.std.specs.Prelude.{◌≡◌, ◌++◌, ℕ, List, [], ◌∷◌, false, codes, decimal, flat_map, IfOk, OnOk, string_bytes, vec_capacity};
 ghost use Rattle.std.specs.Fmt.{signed_decimal};
 ghost use Rattle.std.specs.Str.{chars};
 ghost use Rattle.json.specs.Print.{IsPrintable, print};
 ghost use Rattle.json.specs.Reads.{token_of};
-ghost use Rattle.json.specs.Token.{number, string};
+ghost use Rattle.json.specs.Token.{Token as Put, number, string};
 ghost use Rattle.ill_text.specs.Marks.{octets_in};
+ghost use Rattle.ill_text.specs.Shown.{hexadecimal, oid_text};
 ghost use Rattle.ill_json.specs.Json.{characters, plain};
 
 use crate::ascii::into_ascii;
+use crate::hexadecimal::{add_hexadecimal, add_octets};
+use crate::identifier::add_identifier;
 use ill_read::Mark;
 use json::{Token, Writer};
 use std::alloc::{AllocError, Global};
@@ -19,6 +22,7 @@ pub struct Out {
     writer: Writer,
     // Nothing comes before the tokens.
     ghost alone: { writer.before ≡ [] },
+    alloc: Global,
     /// Memory for a string.
     characters: String,
     failed: bool,
@@ -37,6 +41,7 @@ impl Out {
         room.clear();
         Out {
             writer: Writer::new(room),
+            alloc,
             characters: String::new(alloc),
             failed: false,
         }
@@ -48,6 +53,7 @@ impl Out {
     {
         let Out {
             writer,
+            alloc: _,
             characters: _,
             failed,
         } = self;
@@ -92,13 +98,58 @@ impl Out {
         ensures { Adds (string (characters (octets_in octets.now)) ∷ []) self.old self.new }
     {
         self.characters.clear();
-        if add_characters(&mut self.characters, octets).is_err() {
+        let made = add_characters(&mut self.characters, octets);
+        self.put_made(made);
+    }
+
+    /// Puts a string: each octet of the marks in hexadecimal.
+    pub fn hexadecimal(&mut self, octets: &[Mark])
+        ensures { Adds (string (hexadecimal (octets_in octets.now)) ∷ []) self.old self.new }
+    {
+        self.characters.clear();
+        let made = add_hexadecimal(&mut self.characters, octets);
+        self.put_made(made);
+    }
+
+    /// Puts a string: each octet in hexadecimal.
+    pub fn hexadecimal_of(&mut self, octets: &[u8])
+        ensures { Adds (string (hexadecimal octets.now) ∷ []) self.old self.new }
+    {
+        self.characters.clear();
+        let made = add_octets(&mut self.characters, octets);
+        self.put_made(made);
+    }
+
+    /// Puts the text of an OBJECT IDENTIFIER as a string.
+    pub fn identifier(&mut self, octets: &[Mark])
+        ensures { Adds (string (oid_text (octets_in octets.now)) ∷ []) self.old self.new }
+    {
+        self.characters.clear();
+        let made = add_identifier(&mut self.characters, octets);
+        self.put_made(made);
+    }
+
+    /// Puts the characters as a string, or notes that memory was refused for them.
+    fn put_made(&mut self, made: Result<(), AllocError>)
+        ensures { (text : List ℕ) → OnOk made (string_bytes self.old.characters ≡ text) → Adds (string text ∷ []) self.old self.new }
+    {
+        if made.is_err() || self.writer.token(Token::String(&self.characters)).is_err() {
             self.failed = true;
-            return;
         }
-        if self.writer.token(Token::String(&self.characters)).is_err() {
-            self.failed = true;
-        }
+    }
+
+    /// Where it takes its memory.
+    pub fn alloc(&self) -> Global
+        ensures { result ≡ self.now.alloc }
+    {
+        self.alloc
+    }
+
+    /// Notes that memory was refused.
+    pub fn fail(&mut self)
+        ensures { (ts : List Put) → Adds ts self.old self.new }
+    {
+        self.failed = true;
     }
 }
 

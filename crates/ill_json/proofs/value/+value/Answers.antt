@@ -1,12 +1,13 @@
-use Rattle.std.proofs.Common.{◌≡◌, ◌∙◌, refl, ap, sym, true, false, ◌∷◌, [], Some, drop, arith, rules}
+use Rattle.std.proofs.Common.{inl, inr, ◌≡◌, ◌∙◌, refl, ap, sym, true, false, ◌∷◌, [], Some, drop, arith, rules}
+use Rattle.ill_text.specs.code.MarkedOctets.{is_of_module}
 use Rattle.json.specs.Token.{begin_array, begin_object}
 use Rattle.ill_read.specs.declared.mark.Mark.TheVariants as mark
-use Rattle.ill_text.proofs.Lines.{alternative_first, entry_passed, entry_value, leaf_first, list_first, no_mark, none_begins, not_some, nothing_begins, passed_first, sequence_first, some_left, starts}
+use Rattle.ill_text.proofs.Lines.{alternative_first, entry_passed, entry_value, leaf_first, list_first, module_first, no_mark, none_begins, not_some, nothing_begins, passed_first, sequence_first, some_left, starts}
 use Rattle.json.specs.Tree.{items_tokens, json_tokens}
 use Rattle.ill_json.specs.Json.{item_values, value_json}
 use Rattle.ill_json.specs.code.Adding.{entry_tokens}
 use Rattle.ill_json.proofs.Added.{adds_as, adds_then}
-use Rattle.ill_json.proofs.Tokens.{entries_ended, entries_more, entries_none, items_ended, items_more, items_none, member}
+use Rattle.ill_json.proofs.Tokens.{alone, entries_ended, entries_more, entries_none, in_object, items_ended, items_more, items_none, member}
 use Rattle.ill_json.proofs.value.+value.Goals as goal
 
 pub put_entries-rows-init : goal.put_entries-rows-init
@@ -38,10 +39,17 @@ put_part-returns-clause-adds t c x ms rest h e =
     let done = c.put_value.ensures.adds x ms rest h e in
     (done.0, adds_as _ _ _ _ (member c.row_name-name.result.now c.args.node c.row_node.result c.args.i x c.row_name-name.ensures c.row_node.ensures) (adds_then _ _ _ _ _ c.put.ensures done.1))
 
+pub put_alternative-returns-then-is_empty-clause-adds : goal.put_alternative-returns-then-is_empty-clause-adds
+put_alternative-returns-then-is_empty-clause-adds t c x name ms rest h e =
+    let empty = sym c.is_empty.ensures ∙ c.if-is_empty.true in
+    let done = c.put_value.ensures.adds x ms rest h e in
+    (done.0, adds_as _ _ _ _ (ap json_tokens (alone _ c.args.node _ c.args.i x name c.row_name-name.ensures c.row_node.ensures empty)) done.1)
+
 pub put_alternative-returns-clause-adds : goal.put_alternative-returns-clause-adds
 put_alternative-returns-clause-adds t c x name ms rest h e =
+    let some = sym c.is_empty.ensures ∙ c.if-is_empty.false in
     let done = c.put_part-rest.ensures.adds x ms rest h e in
-    (done.0, adds_then _ _ _ _ _ (adds_then _ _ _ _ _ c.put.ensures done.1) c.put-2.ensures)
+    (done.0, adds_as _ _ _ _ (in_object _ c.args.node c.args.i x name c.row_name-name.ensures some) (adds_then _ _ _ _ _ (adds_then _ _ _ _ _ c.put.ensures done.1) c.put-2.ensures))
 
 pub put_entry-returns-in-Some-clause-adds : goal.put_entry-returns-in-Some-clause-adds
 put_entry-returns-in-Some-clause-adds t c e ms rest h q =
@@ -80,8 +88,16 @@ put_value-returns-in-Leaf-clause-adds t c x ms rest h q =
     let tail = drop 1 c.args.marks.now in
     let all = starts c.args.marks.now c.in-Some.first (sym c.first_mark.ensures ∙ c.in-Some.is) ∙ ap (λ m. m ∷ tail) c.in-Leaf.is in
     let f = leaf_first x ms rest tail c.in-Leaf.leaf h (sym all ∙ q) in
-    let done = c.put_marked_leaf.ensures.adds f.0 rest f.1 (c.after_first-rest.ensures ∙ f.3) in
-    (done.0, adds_as _ _ _ _ (ap (λ y. json_tokens (value_json c.args.name.now c.args.node y)) (sym f.2)) done.1)
+    let done = c.put_marked_leaf.ensures.adds f.1 f.0 rest f.2 (c.after_first-rest.ensures ∙ f.4) in
+    (done.0, adds_as _ _ _ _ (ap (λ y. json_tokens (value_json c.args.name.now c.args.node y)) (sym f.3)) done.1)
+
+pub put_value-returns-in-ModuleLeaf-clause-adds : goal.put_value-returns-in-ModuleLeaf-clause-adds
+put_value-returns-in-ModuleLeaf-clause-adds t c x ms rest h q =
+    let tail = drop 1 c.args.marks.now in
+    let all = starts c.args.marks.now c.in-Some.first (sym c.first_mark.ensures ∙ c.in-Some.is) in
+    let is : is_of_module c.in-Some.first ≡ true = elim c.in-ModuleLeaf.is [ inl y ↦ ap is_of_module y.1 | inr y ↦ elim y [ inl z ↦ ap is_of_module z | inr z ↦ ap is_of_module z ] ] in
+    let f = module_first x ms rest tail c.in-Some.first is h (sym all ∙ q) in
+    c.put_module_value.ensures.adds x c.args.name.now f.0 c.args.node rest f.1 (c.after_first-rest.ensures ∙ f.2)
 
 pub put_value-returns-in-Passed-clause-adds : goal.put_value-returns-in-Passed-clause-adds
 put_value-returns-in-Passed-clause-adds t c x ms rest h q =

@@ -1,18 +1,11 @@
-use Rattle.std.proofs.Common.{◌≡◌, ◌∙◌, ◌∷◌, [], refl, ap, rules}
-use Rattle.std.specs.Prelude.{string_bytes}
-use Rattle.json.specs.Token.{string}
+use Rattle.std.proofs.Common.{◌∙◌, ◌++◌, ap, refl}
+use Rattle.std.proofs.lemmas.Result.{on_ok_weaker}
 use Rattle.ill_text.specs.Marks.{octets_in}
 use Rattle.ill_json.specs.Json.{characters}
-use Rattle.ill_json.proofs.Added.{adds_as, adds_failed, adds_one}
+use Rattle.ill_json.proofs.Added.{adds_from}
 use Rattle.ill_json.proofs.writing.Out.octets.Goals as goal
 
-pub returns-then-is_err : goal.returns-then-is_err
-returns-then-is_err c = adds_failed _ _ _ refl
-
-pub returns-then-is_err-2 : goal.returns-then-is_err-2
-returns-then-is_err-2 c = adds_failed _ _ _ refl
-
-pub returns-else-is_err-2 : goal.returns-else-is_err-2
-returns-else-is_err-2 c =
-    let text : string_bytes c.add_characters.new.text ≡ characters (octets_in c.args.octets.now) = search rules in
-    adds_as _ _ _ _ (ap (λ s. string s ∷ []) (c.deref.ensures ∙ text)) (adds_one _ _ _ refl (search rules))
+pub returns : goal.returns
+returns c =
+    let text = characters (octets_in c.args.octets.now) in
+    adds_from _ _ _ _ refl refl (c.put_made.ensures text (on_ok_weaker c.add_characters-made.result (λ made. made ∙ ap (λ bytes. bytes ++ text) c.clear.ensures.bytes) c.add_characters-made.ensures))
