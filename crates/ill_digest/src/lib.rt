@@ -7,11 +7,13 @@
 
 ghost use Rattle.std.specs.Prelude.{◌≡◌, IfOk, IfErr};
 ghost use Rattle.ber_leaf.specs.Profile.{profile_two};
-ghost use Rattle.ill_schema.specs.Apdu.{Apdu, SpellsApdu, normal_form};
-ghost use Rattle.ill_read.specs.Answers.{IfRefused, RefusesWhole};
+ghost use Rattle.ill_schema.specs.Apdu.{Apdu, SpellsApdu, normal_form, normal_form_in};
+ghost use Rattle.ill_schema.specs.Profiles.{profile_of};
+ghost use Rattle.ill_read.specs.Answers.{IfRefused, RefusesWhole, RefusesWholeIn};
 ghost use Rattle.sha2.specs.Sha256.{sha256};
 
-use ill_normal::{Failure, decode_normal};
+use ill_normal::{Failure, decode_normal_as};
+use ill_schema::Profile;
 use sha2::{Digest, Sha256};
 use std::alloc::Global;
 
@@ -31,13 +33,35 @@ pub fn normal_digest(normal: &[u8]) -> [u8; 32]
 ///
 /// # Errors
 ///
-/// Why the octets are not exactly one message, as of [`decode_normal`]; or out of memory.
+/// Why the octets are not exactly one message, as of [`decode_normal`](ill_normal::decode_normal); or out of memory.
 pub fn message_digest(alloc: Global, octets: &[u8]) -> Result<[u8; 32], Failure>
     ensures digest { IfOk result (λ digest. (a : Apdu) × SpellsApdu profile_two a octets.now × (digest ≡ sha256 (normal_form a))) }
     ensures refused { IfErr result (λ e. IfRefused e (RefusesWhole octets.now)) }
     // A spelling has a digest, unless memory runs out.
     ensures accepts { (a : Apdu) → SpellsApdu profile_two a octets.now → IfErr result (λ e. e ≡ Failure.OutOfMemory) }
 {
-    let normal = decode_normal(alloc, octets)?;
+    message_digest_as(alloc, Profile::Two, octets)
+}
+
+/// The digest of the message in the profile that the whole slice is.
+///
+/// ```text
+/// let digest = message_digest_as(alloc, Profile::Module, octets)?;
+/// ```
+///
+/// # Errors
+///
+/// Those of [`message_digest`], in the profile.
+pub fn message_digest_as(
+    alloc: Global,
+    profile: Profile,
+    octets: &[u8],
+) -> Result<[u8; 32], Failure>
+    ensures digest { IfOk result (λ digest. (a : Apdu) × SpellsApdu (profile_of profile) a octets.now × (digest ≡ sha256 (normal_form_in (profile_of profile) a))) }
+    ensures refused { IfErr result (λ e. IfRefused e (RefusesWholeIn (profile_of profile) octets.now)) }
+    // A spelling has a digest, unless memory runs out.
+    ensures accepts { (a : Apdu) → SpellsApdu (profile_of profile) a octets.now → IfErr result (λ e. e ≡ Failure.OutOfMemory) }
+{
+    let normal = decode_normal_as(alloc, profile, octets)?;
     Ok(normal_digest(&normal.octets))
 }
