@@ -1,22 +1,23 @@
 //! Contracts that leave one result: what two calls on the same arguments return is proved equal of their contracts alone. So a body
 //! that returns anything else doesn't meet its contract. That memory was refused, and that a source or the sink broke, are the results
 //! that may come besides.
-ghost use Rattle.std.specs.Prelude.{◌≡◌, ◌≤◌, ◌+◌, ℕ, Bool, [], Ok, Err, true, false, IfOk, IfErr, length};
+ghost use Rattle.std.specs.Prelude.{◌≡◌, ◌≤◌, ◌+◌, ℕ, Bool, List, [], Ok, Err, true, false, IfOk, IfErr, length};
 ghost use Rattle.ber_leaf.specs.Profile.{profile_two};
 ghost use Rattle.ill_jobs.specs.Ran.{IsFault};
 ghost use Rattle.ill_read.specs.Outline.{IsOutlineOf};
-ghost use Rattle.ill_schema.specs.Apdu.{Apdu, choice_of};
+ghost use Rattle.ill_schema.specs.Apdu.{Apdu, SpellsApdu, choice_of};
+ghost use Rattle.ill_schema.specs.Profiles.{profile_of};
 ghost use Rattle.ill_schema.specs.Fits.{FitsApdu};
 ghost use Rattle.ill_schema.specs.Message.{apdu_of};
 
 use ber_core::{Pieces, Room, Sink, Source, Unseen};
 use ill_jobs::{Job, Ran, RunFault, Verdict, Work, run, run_by, run_same, run_work};
-use ill_json::{Head, json_line};
+use ill_json::{Head, json_line, json_line_as};
 use ill_lines::{LineJob, LinesFault, run_lines};
 use ill_normal::{Refusal, Side};
 use ill_read::Outline;
-use ill_schema::Message;
-use ill_text::show_text;
+use ill_schema::{Message, Profile};
+use ill_text::{Text, show_text};
 use std::alloc::{AllocError, Global};
 
 /// Two messages of one APDU are shown by one text.
@@ -32,6 +33,40 @@ fn apdus_are_shown_in_one_way(
     Ok((
         show_text(alloc, number, message)?,
         show_text(alloc, number, other)?,
+    ))
+}
+
+/// Two outlines of one APDU have one text in each profile.
+fn outlines_have_one_text(
+    profile: Profile,
+    number: u32,
+    outline: Outline,
+    other: Outline,
+    alloc: Global,
+) -> Result<(Vec<u8>, Vec<u8>), AllocError>
+    requires { (a : Apdu) × (octets : List ℕ) × SpellsApdu (profile_of profile) a octets × IsOutlineOf outline a × IsOutlineOf other a }
+    ensures { IfOk result (λ texts. texts.0.items ≡ texts.1.items) }
+{
+    Ok((
+        Text::new_as(profile, number, outline).octets(alloc)?,
+        Text::new_as(profile, number, other).octets(alloc)?,
+    ))
+}
+
+/// Two outlines of one APDU have one line of JSON in each profile.
+fn outlines_have_one_line_of_json(
+    profile: Profile,
+    file: Option<&str>,
+    head: Head,
+    outline: &Outline,
+    other: &Outline,
+    alloc: Global,
+) -> Result<(Vec<u8>, Vec<u8>), AllocError>
+    ensures { (a : Apdu) → IsOutlineOf outline.now a → IsOutlineOf other.now a → IfOk result (λ lines. lines.0.items ≡ lines.1.items) }
+{
+    Ok((
+        json_line_as(alloc, profile, Vec::new(alloc), file, head, outline)?,
+        json_line_as(alloc, profile, Vec::new(alloc), file, head, other)?,
     ))
 }
 

@@ -1,7 +1,8 @@
 //! What `json_line` says, row by row.
 use ber_core::{AtHand, FromSlice};
-use ill_json::{Head, json_line};
-use ill_read::{Outline, read_outline_in};
+use ill_json::{Head, json_line, json_line_as};
+use ill_read::{Outline, read_outline_as};
+use ill_schema::Profile;
 use std::alloc::Global;
 use std::test::Fail;
 use test_support::octets_of;
@@ -49,10 +50,30 @@ const ROWS: [(&str, Option<&str>, u32, u64, u32, bool, &str); 4] = [
     ),
 ];
 
+/// Messages of the module profile that are in normal form: their octets, how many there are, and the line of each.
+const MODULE_ROWS: [(&str, u32, &str); 3] = [
+    (
+        "742d302b800102a10aa1031b0147a2031b0151a20ca00a80083230323430323239bf310b3009800101a20430020500",
+        47,
+        "{\"number\":1,\"offset\":0,\"octets\":47,\"apdu\":\"Expired\",\"normal\":true,\"value\":{\"protocol-version-num\":2,\"transaction-id\":{\"transaction-group-qualifier\":{\"general\":\"G\"},\"transaction-qualifier\":{\"general\":\"Q\"}},\"service-date-time\":{\"date-time-of-this-service\":{\"date\":\"20240229\"}},\"expired-extensions\":[{\"identifier\":1,\"critical\":false,\"item\":{\"foreign\":\"30020500\"}}]}}\n",
+    ),
+    (
+        "70233021800102a10aa1031b0147a2031b0151a20ca00a80083230323430323239a5028100",
+        37,
+        "{\"number\":1,\"offset\":0,\"octets\":37,\"apdu\":\"Damaged\",\"normal\":true,\"value\":{\"protocol-version-num\":2,\"transaction-id\":{\"transaction-group-qualifier\":{\"general\":\"G\"},\"transaction-qualifier\":{\"general\":\"Q\"}},\"service-date-time\":{\"date-time-of-this-service\":{\"date\":\"20240229\"}},\"damaged-details\":{\"damaged-portion\":{\"complete-document\":null}}}}\n",
+    ),
+    (
+        "6a6f306d800102a10aa1031b0147a2031b0151a20ca00a80083230323430323239b143281a06072a8648ce13050a02010507044d41524381065831323334352812a010300e0201051b03612262a002050031002811060b69ffffffffffffffffff7f820203f89f25083230323430323239",
+        113,
+        "{\"number\":1,\"offset\":0,\"octets\":113,\"apdu\":\"Returned\",\"normal\":true,\"value\":{\"protocol-version-num\":2,\"transaction-id\":{\"transaction-group-qualifier\":{\"general\":\"G\"},\"transaction-qualifier\":{\"general\":\"Q\"}},\"service-date-time\":{\"date-time-of-this-service\":{\"date\":\"20240229\"}},\"supplemental-item-description\":[{\"direct-reference\":\"1.2.840.10003.5.10\",\"indirect-reference\":5,\"data-value-descriptor\":\"MARC\",\"encoding\":{\"octet-aligned\":{\"octets\":\"583132333435\"}}},{\"encoding\":{\"single-asn1-type\":{\"foreign\":\"300e0201051b03612262a00205003100\"}}},{\"direct-reference\":\"oid 69ffffffffffffffffff7f\",\"encoding\":{\"arbitrary\":{\"bits\":5,\"octets\":\"f8\"}}}],\"date-returned\":\"20240229\"}}\n",
+    ),
+];
+
 /// The outline of the message that the octets are.
-fn outline(alloc: Global, octets: &[u8]) -> Result<Outline, Fail> {
+fn outline(alloc: Global, profile: Profile, octets: &[u8]) -> Result<Outline, Fail> {
     let mut source = FromSlice::new(octets);
-    match read_outline_in::<FromSlice<'_>, AtHand>(alloc, &mut source, Outline::new(alloc)) {
+    let room = Outline::new(alloc);
+    match read_outline_as::<FromSlice<'_>, AtHand>(alloc, profile, &mut source, room) {
         Ok(Some(read)) => Ok(read.outline),
         _ => Err(Fail::from("not read")),
     }
@@ -63,7 +84,7 @@ fn each_line_of_json(rt: HostRuntime) -> Result<(), Fail> {
     let alloc = rt.alloc();
     for (input, file, number, offset, count, is_normal, wanted) in &ROWS {
         let octets = octets_of(alloc, input)?;
-        let outline = outline(alloc, &octets)?;
+        let outline = outline(alloc, Profile::Two, &octets)?;
         let head = Head {
             number: *number,
             offset: *offset,
@@ -71,6 +92,24 @@ fn each_line_of_json(rt: HostRuntime) -> Result<(), Fail> {
             is_normal: *is_normal,
         };
         let line = json_line(alloc, octets, *file, head, &outline)?;
+        assert!(rt; line.as_slice() == wanted.as_bytes(), "{input}");
+    }
+    Ok(())
+}
+
+#[test]
+fn each_line_of_json_of_the_module(rt: HostRuntime) -> Result<(), Fail> {
+    let alloc = rt.alloc();
+    for (input, count, wanted) in &MODULE_ROWS {
+        let octets = octets_of(alloc, input)?;
+        let outline = outline(alloc, Profile::Module, &octets)?;
+        let head = Head {
+            number: 1,
+            offset: 0,
+            octets: *count,
+            is_normal: true,
+        };
+        let line = json_line_as(alloc, Profile::Module, octets, None, head, &outline)?;
         assert!(rt; line.as_slice() == wanted.as_bytes(), "{input}");
     }
     Ok(())

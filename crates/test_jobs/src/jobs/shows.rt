@@ -1,6 +1,9 @@
 //! What `show_text` says of messages.
+use ber_core::{Pieces, Unseen};
 use ill_normal::decode;
-use ill_text::show_text;
+use ill_read::{Outline, read_outline_as};
+use ill_schema::Profile;
+use ill_text::{Text, show_text};
 use std::alloc::Global;
 use std::test::Fail;
 use test_support::{message, octets_of};
@@ -59,6 +62,31 @@ static ROWS: [(&str, &str, Wanted); 7] = [
     ),
 ];
 
+/// Messages of the module profile.
+static MODULE_ROWS: [(&str, &str, Wanted); 3] = [
+    (
+        "externals-shown",
+        "6a6f306d800102a10aa1031b0147a2031b0151a20ca00a80083230323430323239b143281a06072a8648ce13050a02010507044d41524381065831323334352812a010300e0201051b03612262a002050031002811060b69ffffffffffffffffff7f820203f89f25083230323430323239",
+        Wanted::Text(
+            "message 1 Returned\nprotocol-version-num = 2\ntransaction-id.transaction-group-qualifier = general \"G\"\ntransaction-id.transaction-qualifier = general \"Q\"\nservice-date-time.date-time-of-this-service.date = 20240229\nsupplemental-item-description[0].direct-reference = 1.2.840.10003.5.10\nsupplemental-item-description[0].indirect-reference = 5\nsupplemental-item-description[0].data-value-descriptor = descriptor \"MARC\"\nsupplemental-item-description[0].encoding.octet-aligned = octets \"X12345\"\nsupplemental-item-description[1].encoding.single-asn1-type = foreign 30{02:05 1b:\"a\\\"b\" a0{05:\"\"} 31{}}\nsupplemental-item-description[2].direct-reference = oid 69ffffffffffffffffff7f\nsupplemental-item-description[2].encoding.arbitrary = bits 5 f8\ndate-returned = 20240229\n",
+        ),
+    ),
+    (
+        "damaged-whole-shown",
+        "70233021800102a10aa1031b0147a2031b0151a20ca00a80083230323430323239a5028100",
+        Wanted::Text(
+            "message 1 Damaged\nprotocol-version-num = 2\ntransaction-id.transaction-group-qualifier = general \"G\"\ntransaction-id.transaction-qualifier = general \"Q\"\nservice-date-time.date-time-of-this-service.date = 20240229\ndamaged-details.damaged-portion.complete-document = NULL\n",
+        ),
+    ),
+    (
+        "extension-shown",
+        "742d302b800102a10aa1031b0147a2031b0151a20ca00a80083230323430323239bf310b3009800101a20430020500",
+        Wanted::Text(
+            "message 1 Expired\nprotocol-version-num = 2\ntransaction-id.transaction-group-qualifier = general \"G\"\ntransaction-id.transaction-qualifier = general \"Q\"\nservice-date-time.date-time-of-this-service.date = 20240229\nexpired-extensions[0].identifier = 1\nexpired-extensions[0].critical = FALSE\nexpired-extensions[0].item = foreign 30{05:\"\"}\n",
+        ),
+    ),
+];
+
 /// Whether a text is the whole, or has the line.
 fn is_shown(text: &[u8], wanted: &Wanted) -> bool {
     match wanted {
@@ -87,6 +115,41 @@ fn comes_true(alloc: Global, input: &str, wanted: &Wanted) -> Result<bool, Fail>
 fn each_message_has_its_text(rt: HostRuntime) -> Result<(), Fail> {
     for (name, input, wanted) in &ROWS {
         assert!(rt; comes_true(rt.alloc(), input, wanted)?, "{name}");
+    }
+    Ok(())
+}
+
+/// The text of the message that comes in pieces of one octet.
+fn text_in(alloc: Global, profile: Profile, octets: &[u8]) -> Result<Vec<u8>, Fail> {
+    let mut source = Pieces::new(octets, 1, None);
+    match read_outline_as::<_, Unseen>(alloc, profile, &mut source, Outline::new(alloc)) {
+        Ok(Some(read)) => Ok(Text::new_as(profile, 1, read.outline).octets(alloc)?),
+        _ => Err(Fail::from("not read")),
+    }
+}
+
+#[test]
+fn each_message_of_the_module_has_its_text(rt: HostRuntime) -> Result<(), Fail> {
+    let alloc = rt.alloc();
+    for (name, input, wanted) in &MODULE_ROWS {
+        let octets = octets_of(alloc, input)?;
+        assert!(rt;
+            is_shown(&text_in(alloc, Profile::Module, &octets)?, wanted),
+            "{name}"
+        );
+    }
+    Ok(())
+}
+
+#[test]
+fn each_message_of_profile_2_has_its_text_as_an_outline(rt: HostRuntime) -> Result<(), Fail> {
+    let alloc = rt.alloc();
+    for (name, input, wanted) in &ROWS {
+        let octets = octets_of(alloc, input)?;
+        assert!(rt;
+            is_shown(&text_in(alloc, Profile::Two, &octets)?, wanted),
+            "{name}"
+        );
     }
     Ok(())
 }
