@@ -8,7 +8,7 @@ import re
 import sys
 from pathlib import Path
 
-from tables import CHOICES, LISTS, NAMES, ROWS, reached
+from tables import ALL_LISTS, ALL_ROWS, CHOICES, NAMES, ROOTS, reached
 
 LETTERS = dict(
     zip("BIEDTPSNOCKRF", "Boolean Integer Enumerated IsoDate IsoTime PrintableString IllString Null ObjectIdentifier OctetString BitString ObjectDescriptor Any".split())
@@ -97,18 +97,18 @@ def same_type(document, kind, node, explicit):
     """What differs between a type of the document and a node."""
     if isinstance(kind, tuple) or kind in document.lists:
         inside = kind[0] if isinstance(kind, tuple) else document.lists[kind]
-        return [] if node in LISTS and not same_type(document, inside, ROWS[node][0].node, False) else [f"{kind}: {node}"]
+        return [] if node in ALL_LISTS and not same_type(document, inside, ALL_ROWS[node][0].node, False) else [f"{kind}: {node}"]
     if kind in LETTERS:
         return [] if LETTERS[kind] == node else [f"{kind}: {node}"]
     if node == "TaggedExternal":
-        node = ROWS[node][0].node
+        node = ALL_ROWS[node][0].node
     return [] if NAMES[node][0] == kind else [f"{kind}: {node}"]
 
 
 def compare(document, node):
     """What differs between a node and the document's."""
     name, names = NAMES[node]
-    if node in LISTS or node == "TaggedExternal" or name == "ILL-APDU":
+    if node in ALL_LISTS or node == "TaggedExternal" or name == "ILL-APDU":
         return []
     rows = document.rows.get(name)
     if rows is None:
@@ -118,7 +118,7 @@ def compare(document, node):
     if [row[2] for row in rows] != names:
         return [f"{name}: names {names}, {[row[2] for row in rows]}"]
     found = []
-    for (tag, mark, title, kind, explicit), row in zip(rows, ROWS[node], strict=True):
+    for (tag, mark, title, kind, explicit), row in zip(rows, ALL_ROWS[node], strict=True):
         presence = "Default" if mark and mark[0] == "=" else PRESENCE[mark]
         default = {"FALSE": "0", "TRUE": "1"}.get(mark[1:], mark[1:]) if presence == "Default" else ""
         if name == "Results":
@@ -140,11 +140,11 @@ def compare(document, node):
 def main():
     document = Document()
     failed = 0
-    for file, root in zip(sys.argv[1:], ["IllApdu", "ModuleIllApdu"]):
+    for file, root in zip(sys.argv[1:], ROOTS.values()):
         document.read(Path(file).read_text())
         nodes = reached(root)
-        found = [what for node in nodes if node in ROWS for what in compare(document, node)]
-        print(f"{root}: {len(nodes)} nodes, {sum(len(ROWS.get(node, [])) for node in nodes)} rows, {len(found)} differences")
+        found = [what for node in nodes if node in ALL_ROWS for what in compare(document, node)]
+        print(f"{root}: {len(nodes)} nodes, {sum(len(ALL_ROWS.get(node, [])) for node in nodes)} rows, {len(found)} differences")
         for what in found:
             print(" ", what)
         failed += len(found)

@@ -2,9 +2,9 @@
 
 Goes by the tables of crates/ill_schema/src, and by nothing else of the crates.
 """
-from tables import CHOICES, LEAVES, LISTS, ROWS
+from tables import ALL_LISTS, ALL_ROWS, CHOICES, LEAVES, Bits
 
-CLASSES = {"universal": 0x00, "application": 0x40, "context": 0x80}
+CLASSES = {"universal": 0x00, "application": 0x40, "context": 0x80, "private": 0xC0}
 STRINGS = {"general": 27, "visible": 26}
 
 
@@ -36,6 +36,12 @@ class Writer:
     def text(self, tag, octets):
         return self.element(tag, False, octets)
 
+    def bits(self, tag, bits):
+        return self.element(tag, False, self.bit_content(bits))
+
+    def bit_content(self, bits):
+        return bytes([unused(bits)]) + bits.octets
+
     def flag(self, value):
         return b"\xff" if value else b"\0"
 
@@ -56,19 +62,42 @@ class Writer:
 
     def value(self, node, value, tag):
         if node in CHOICES:
-            return self.row(ROWS[node][value[0]], value[1])
+            return self.row(ALL_ROWS[node][value[0]], value[1])
         if node == "IllString":
             return self.text(("universal", STRINGS[value[0]]), value[1].encode("latin-1"))
-        if node in ROWS:
+        if node == "Any":
+            return self.tree(value)
+        if node in ALL_ROWS:
             return self.element(tag or ("universal", 16), True, self.contents(node, value))
-        tag = tag or ("universal", LEAVES[node])
+        return self.leaf(node, value, tag or ("universal", LEAVES[node]))
+
+    def leaf(self, node, value, tag):
         if isinstance(value, str):
-            return self.text(tag, value.encode())
+            return self.text(tag, value.encode("latin-1"))
+        if node == "OctetString":
+            return self.text(tag, value)
+        if node == "BitString":
+            return self.bits(tag, value)
+        if node == "Null":
+            return self.element(tag, False, b"")
+        if node == "ObjectIdentifier":
+            return self.element(tag, False, value)
         return self.element(tag, False, self.flag(value) if isinstance(value, bool) else whole(value))
 
+    def tree(self, tree):
+        """A foreign tree, of which only the lengths are not part of the value."""
+        if isinstance(tree.contents, bytes):
+            return self.element(tree.tag, False, tree.contents)
+        return self.element(tree.tag, True, b"".join(map(self.tree, tree.contents)))
+
     def contents(self, node, value):
-        rows = ROWS[node] * len(value) if node in LISTS else ROWS[node]
+        rows = ALL_ROWS[node] * len(value) if node in ALL_LISTS else ALL_ROWS[node]
         return b"".join(self.row(row, entry) for row, entry in zip(rows, value) if entry is not None)
+
+
+def unused(bits):
+    """How many bits of the last octet are none of the value."""
+    return -bits.count % 8
 
 
 def whole(number):
@@ -79,7 +108,7 @@ def whole(number):
 
 
 class Speller(Writer):
-    """Any spelling: lengths in any form, strings in segments, any octet but 00 for TRUE, defaults written or not, bare wrappers."""
+    """Any spelling: lengths in any form, strings in segments, any octet but 00 for TRUE, unused bits, defaults written or not, bare wrappers."""
 
     def __init__(self, chance):
         self.chance = chance
@@ -108,6 +137,31 @@ class Speller(Writer):
             part = self.segments(octets[:size], depth - 1) if deeper else octets[:size]
             result += self.element(("universal", 4), deeper, part)
             octets = octets[size:]
+        return result
+
+    def bits(self, tag, bits):
+        if self.chance.random() < 0.4:
+            return self.element(tag, True, self.bit_segments(bits, 3))
+        return super().bits(tag, bits)
+
+    def bit_content(self, bits):
+        """Octets whose unused bits have any value."""
+        octets = bytearray(bits.octets)
+        if unused(bits):
+            octets[-1] |= self.chance.randrange(1 << unused(bits))
+        return bytes([unused(bits)]) + octets
+
+    def bit_segments(self, bits, depth):
+        """Segments that are BIT STRINGs (X.690, 8.6.4). None follows one that has unused bits."""
+        result = b""
+        while bits.count or self.chance.random() < 0.2:
+            size = self.chance.randint(0, max(1, len(bits.octets)))
+            part = Bits(min(bits.count, 8 * size), bits.octets[:size])
+            deeper = depth > 0 and self.chance.random() < 0.3
+            result += self.element(("universal", 3), deeper, self.bit_segments(part, depth - 1) if deeper else self.bit_content(part))
+            if unused(part):
+                break
+            bits = Bits(bits.count - part.count, bits.octets[size:])
         return result
 
     def flag(self, value):

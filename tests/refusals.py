@@ -1,7 +1,8 @@
 #!/usr/bin/env python3
 """Spelled APDUs are changed at random, and `illcanon check` has to refuse each at the offset and for the cause that the judge of judge.py gives.
 
-Needs the program built. Usage: refusals.py [SEED [COUNT]]. Prints the seed, with which a run is made again.
+Needs the program built. Usage: refusals.py [SEED [COUNT [PROFILE]]], PROFILE being `2`, the default, or `module`. Prints the seed, with which a
+run is made again.
 """
 import random
 import subprocess
@@ -10,15 +11,15 @@ from collections import Counter
 
 from encoder import Speller
 from judge import Judge, Refused
-from tables import PROGRAM, random_value, seed_and_count
+from tables import PROGRAM, ROOTS, profile_and_words, random_value, seed_and_count
 
 
-def wanted(octets):
+def wanted(octets, profile):
     """The line on standard error, empty where all are messages."""
     message = 1
     while octets:
         try:
-            octets = octets[Judge(octets).message()[1] :]
+            octets = octets[Judge(octets, profile).message()[1] :]
         except Refused as fault:
             return fault.line(message)
         message += 1
@@ -49,18 +50,21 @@ def changed(chance, octets):
 
 def main():
     seed, count = seed_and_count()
+    profile, words = profile_and_words()
+    root = ROOTS[profile]
     chance = random.Random(seed)
     causes, wrong = Counter(), 0
     for _ in range(count):
-        spelled = Speller(chance).value("IllApdu", random_value(chance, "IllApdu"), None)
+        spelled = Speller(chance).value(root, random_value(chance, root), None)
         octets = changed(chance, spelled)
-        line = wanted(octets)
+        line = wanted(octets, profile)
         causes[line.split()[7] if line else "none"] += 1
-        done = subprocess.run([PROGRAM, "check", "-"], input=octets, capture_output=True)
+        done = subprocess.run([PROGRAM, "check", *words, "-"], input=octets, capture_output=True)
         if done.stderr.decode() != line or line and done.returncode != 1:
             wrong += 1
             print(f"{octets.hex()}: wanted {line!r}, got {done.stderr!r} and status {done.returncode}")
-    print(f"seed {seed}: {count} inputs, {wrong} not judged so;", ", ".join(f"{cause} {times}" for cause, times in causes.most_common()))
+    counts = ", ".join(f"{cause} {times}" for cause, times in causes.most_common())
+    print(f"seed {seed}, profile {profile}: {count} inputs, {wrong} not judged so; {counts}")
     sys.exit(1 if wrong else 0)
 
 

@@ -1,7 +1,8 @@
 #!/usr/bin/env python3
 """Compares with another encoder: random APDUs, each spelled at random, must come to the normal form that is written here.
 
-Needs the program built. Usage: spellings.py [SEED [COUNT]]. Prints the seed, with which a run is made again.
+Needs the program built. Usage: spellings.py [SEED [COUNT [PROFILE]]], PROFILE being `2`, the default, or `module`. Prints the seed, with which a
+run is made again.
 """
 import random
 import subprocess
@@ -10,19 +11,21 @@ import tempfile
 from pathlib import Path
 
 from encoder import Speller, Writer
-from tables import PROGRAM, random_value, seed_and_count
+from tables import PROGRAM, ROOTS, profile_and_words, random_value, seed_and_count
 
 
 def main():
     seed, count = seed_and_count()
+    profile, words = profile_and_words()
+    root = ROOTS[profile]
     chance = random.Random(seed)
-    apdus = [random_value(chance, "IllApdu") for _ in range(count)]
+    apdus = [random_value(chance, root) for _ in range(count)]
     with tempfile.TemporaryDirectory() as folder:
         spelled, normal = Path(folder, "spelled"), Path(folder, "normal")
-        spelled.write_bytes(b"".join(Speller(chance).value("IllApdu", apdu, None) for apdu in apdus))
-        done = subprocess.run([PROGRAM, "canonicalise", spelled, normal], stderr=subprocess.PIPE, text=True)
-        right = normal.read_bytes() == b"".join(Writer().value("IllApdu", apdu, None) for apdu in apdus)
-    print(f"seed {seed}: {count} APDUs,", "all right" if right and done.returncode == 0 else f"not right: {done.stderr}")
+        spelled.write_bytes(b"".join(Speller(chance).value(root, apdu, None) for apdu in apdus))
+        done = subprocess.run([PROGRAM, "canonicalise", *words, spelled, normal], stderr=subprocess.PIPE, text=True)
+        right = normal.read_bytes() == b"".join(Writer().value(root, apdu, None) for apdu in apdus)
+    print(f"seed {seed}, profile {profile}: {count} APDUs,", "all right" if right and done.returncode == 0 else f"not right: {done.stderr}")
     sys.exit(0 if right and done.returncode == 0 else 1)
 
 
