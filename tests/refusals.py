@@ -11,7 +11,10 @@ from collections import Counter
 
 from encoder import Speller
 from judge import Judge, Refused
-from tables import PROGRAM, ROOTS, profile_and_words, random_value, seed_and_count
+from tables import PROGRAM, ROOTS, Tree, profile_and_words, random_value, seed_and_count
+
+LEVELS = 20
+SEQUENCE = ("universal", 16)
 
 
 def wanted(octets, profile):
@@ -24,6 +27,31 @@ def wanted(octets, profile):
             return fault.line(message)
         message += 1
     return ""
+
+
+class Misspeller(Speller):
+    """A speller that now and then spells what only the module profile has with a content that is none, or with too many levels."""
+
+    def errs(self):
+        return self.chance.random() < 0.15
+
+    def leaf(self, node, value, tag):
+        if node == "Null" and self.errs():
+            return self.element(tag, False, b"\0")
+        if node == "ObjectIdentifier" and self.errs():
+            return self.element(tag, False, self.chance.choice([b"", b"\x80" + value, value + b"\x80\x01", value + b"\x81"]))
+        return super().leaf(node, value, tag)
+
+    def bit_content(self, bits):
+        if self.errs():
+            return self.chance.choice([b"", b"\x01", bytes([self.chance.randint(8, 255)]) + bits.octets, b"\x04\xf0"])
+        return super().bit_content(bits)
+
+    def value(self, node, value, tag):
+        if node == "Any" and self.errs():
+            for _ in range(self.chance.choice([LEVELS - 2, LEVELS - 1, LEVELS])):
+                value = Tree(SEQUENCE, [value])
+        return super().value(node, value, tag)
 
 
 def changed(chance, octets):
@@ -48,6 +76,14 @@ def changed(chance, octets):
     return bytes(octets)
 
 
+def misspelled(chance, root, profile):
+    """An APDU that is spelled and then changed, or that is not spelled well to begin with."""
+    apdu = random_value(chance, root)
+    if profile == "module" and chance.random() < 0.5:
+        return Misspeller(chance).value(root, apdu, None)
+    return changed(chance, Speller(chance).value(root, apdu, None))
+
+
 def main():
     seed, count = seed_and_count()
     profile, words = profile_and_words()
@@ -55,8 +91,7 @@ def main():
     chance = random.Random(seed)
     causes, wrong = Counter(), 0
     for _ in range(count):
-        spelled = Speller(chance).value(root, random_value(chance, root), None)
-        octets = changed(chance, spelled)
+        octets = misspelled(chance, root, profile)
         line = wanted(octets, profile)
         causes[line.split()[7] if line else "none"] += 1
         done = subprocess.run([PROGRAM, "check", *words, "-"], input=octets, capture_output=True)
