@@ -84,8 +84,18 @@ impl Octets {
     }
 
     /// Opens a string that only the module profile has, or a segment of one.
-    #[inline(never)]
+    // What opens is copied for the call here, so that other elements do without the copy.
+    #[inline(always)]
     fn open_module_string(&mut self, opening: Opening) -> Result<usize, AllocError>
+        requires { IsModuleString (read_as opening.found) }
+        ensures { (next : Next) → IfOk result (λ base. HasOpened AreOctets self.old next opening base self.new) }
+    {
+        self.open_apart(opening)
+    }
+
+    /// Does the same, apart from what most elements need.
+    #[inline(never)]
+    fn open_apart(&mut self, opening: Opening) -> Result<usize, AllocError>
         requires { IsModuleString (read_as opening.found) }
         ensures { (next : Next) → IfOk result (λ base. HasOpened AreOctets self.old next opening base self.new) }
     {

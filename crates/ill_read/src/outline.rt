@@ -224,11 +224,13 @@ impl Draft for Outlining {
     #[inline(always)]
     fn open(&mut self, profile: Profile, place: At, opening: Opening) -> Result<usize, AllocError> {
         let element = Element::of(opening.found);
-        if let Element::Segment | Element::BitSegment = element {
-            return self.octets.open(profile, place, opening);
+        match element {
+            Element::Segment | Element::BitSegment => {}
+            _ => {
+                lead(&mut self.marks, place, opening.found)?;
+                begin(&mut self.marks, element)?;
+            }
         }
-        lead(&mut self.marks, place, opening.found)?;
-        begin(&mut self.marks, element)?;
         self.octets.open(profile, place, opening)
     }
 

@@ -13,7 +13,7 @@ use std::alloc::AllocError;
 
 impl<D: Draft> Path<D> {
     ghost use Rattle.ill_elements.specs.Due.{read_as};
-    ghost use Rattle.ill_read.specs.code.Drafts.{IsModuleElement};
+    ghost use Rattle.ill_read.specs.code.Drafts.{IsModuleElement, IsNoLeaf};
     ghost use Rattle.ill_elements.specs.Two.{is_found_of, is_place_of};
     ghost use Rattle.ill_elements.specs.declared.element.Element.{Element as CodeElement};
     ghost use Rattle.ill_elements.specs.Standing.{depth_of};
@@ -76,6 +76,35 @@ impl<D: Draft> Path<D> {
     {
         match Element::of(reading.found) {
             Element::Leaf(leaf) => self.take_leaf(reading, leaf, start, content),
+            _ => self.take_rest(reading, start, content),
+        }
+    }
+
+    /// Takes the content of an element that is no leaf of profile 2.
+    // What is read is copied for the call here, so that a leaf does without the copy.
+    #[inline(always)]
+    fn take_rest(&mut self, reading: Reading, start: u32, content: &[u8]) -> Result<bool, Failure>
+        requires takes { D.takes self.old.frames.profile }
+        requires is_of { IsTrue (is_found_of self.old.frames.profile reading.found) }
+        requires rest { IsNoLeaf (read_as reading.found) }
+        ensures exact { ReadsExactly D.holds self.old reading start content.now self.new result }
+        ensures depth { depth_of self.new.frames ≡ depth_of self.old.frames }
+        ensures profile { self.new.frames.profile ≡ self.old.frames.profile }
+    {
+        self.take_apart(reading, start, content)
+    }
+
+    /// Does the same, apart from what most elements need.
+    #[inline(never)]
+    fn take_apart(&mut self, reading: Reading, start: u32, content: &[u8]) -> Result<bool, Failure>
+        requires takes { D.takes self.old.frames.profile }
+        requires is_of { IsTrue (is_found_of self.old.frames.profile reading.found) }
+        requires rest { IsNoLeaf (read_as reading.found) }
+        ensures exact { ReadsExactly D.holds self.old reading start content.now self.new result }
+        ensures depth { depth_of self.new.frames ≡ depth_of self.old.frames }
+        ensures profile { self.new.frames.profile ≡ self.old.frames.profile }
+    {
+        match Element::of(reading.found) {
             Element::ModuleLeaf(_) | Element::BitString | Element::Foreign(_) => {
                 self.take_other(reading, start, content)
             }
@@ -117,7 +146,6 @@ impl<D: Draft> Path<D> {
     }
 
     /// Takes the content of an element that only the module profile has.
-    #[inline(never)]
     fn take_other(&mut self, reading: Reading, start: u32, content: &[u8]) -> Result<bool, Failure>
         requires takes { D.takes self.old.frames.profile }
         requires is_of { IsTrue (is_found_of self.old.frames.profile reading.found) }

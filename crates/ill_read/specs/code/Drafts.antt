@@ -133,6 +133,10 @@ HasLeaf p holds old next r leaf octets new = shape_at (next_place r.found) ≡ b
 abbrev pub IsRightContent : Named → CodeElement → List ℕ → Type 0
 IsRightContent p e octets = IsTrue (are_octets octets) × (element_fault (profile_of p) (element_is e) octets ≡ None)
 
+-- an element that is no leaf of profile 2
+abbrev pub IsNoLeaf : CodeElement → Type 0
+IsNoLeaf e = (l : LeafType) → e ≡ Leaf l → ⊥
+
 -- an element that only the module profile has, and no segment
 abbrev pub IsModuleElement : CodeElement → Type 0
 IsModuleElement (ModuleLeaf l) = Unit {0}

@@ -6,8 +6,8 @@ use Rattle.ill_elements.specs.declared.element.Element.TheVariants.{BitSegment, 
 use Rattle.ill_read.specs.code.OctetDrafts.{form_of}
 use Rattle.ill_read.specs.declared.octets.Octets.{Octets}
 use Rattle.ill_read.proofs.OctetDrafts.{bit_segment_opened, module_string_form, module_string_whole, octets_opened}
-use Rattle.ill_read.proofs.octets.Octets.open_module_string.Goals as goal
-use Rattle.ill_read.proofs.octets.Octets.open_module_string.Goals.{in-BitString+in_ok-begin-in-BitString, in_default}
+use Rattle.ill_read.proofs.octets.Octets.open_apart.Goals as goal
+use Rattle.ill_read.proofs.octets.Octets.open_apart.Goals.{in-BitString+in_ok-begin-in-BitString, in_default}
 
 pub returns-in-BitSegment : goal.returns-in-BitSegment
 returns-in-BitSegment c next =
