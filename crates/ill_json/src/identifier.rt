@@ -23,7 +23,7 @@ pub fn add_identifier(text: &mut String, octets: &[Mark]) -> Result<(), AllocErr
     }
 }
 
-/// Whether each subidentifier is below 2 ^ 63.
+/// Tells whether each subidentifier is below 2 to the power 63.
 pub fn are_short(octets: &[Mark]) -> bool
     ensures { result ≡ list_all is_short (numbers_after 0 (octets_in octets.now)) }
 {
@@ -100,7 +100,7 @@ fn number_with(number: u64, mark: Mark) -> u64
     }
 }
 
-/// Whether a number ends with the octet (X.690, 8.19.2).
+/// Tells whether a number ends with the octet (X.690, 8.19.2).
 fn ends_number(mark: Mark) -> bool
     ensures { result ≡ ends_number mark }
 {

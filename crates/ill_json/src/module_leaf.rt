@@ -57,7 +57,7 @@ fn put_bits_of(content: Vec<u8>, out: &mut Out)
     };
     match u64::try_from(bits.bit_len()) {
         Ok(count) => put_counted(count, bits.octets(), out),
-        // No memory has so many octets.
+        // More bits than a message can have.
         Err(_) => out.fail(),
     }
 }

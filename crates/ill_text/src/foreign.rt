@@ -20,7 +20,7 @@ use crate::trail::{Trail, put_path};
 use ber_core::Sink;
 use ill_read::Mark;
 
-/// How many levels a foreign tree may have.
+/// The most levels that a foreign tree may have.
 const LEVELS: u8 = 20;
 
 /// Puts the line of a foreign tree whose octets the marks begin with, and returns how many octets it has.
@@ -109,7 +109,7 @@ fn split_identifier(marks: &[Mark]) -> (&[Mark], &[Mark])
     marks.split_at(identifier_size(marks))
 }
 
-/// How many octets an identifier has that comes first.
+/// The number of octets of the identifier that comes first.
 fn identifier_size(marks: &[Mark]) -> usize
     ensures exact { (tag : Tag) (form : Bool) (rest : List ℕ) → HasIdentifier tag form
         → marks.now ≡ map Mark.Octet (identifier tag form ++ rest)
@@ -126,7 +126,7 @@ fn identifier_size(marks: &[Mark]) -> usize
     1
 }
 
-/// How many marks there are up to the last octet of a number, which is the first below 80.
+/// The number of marks up to the last octet of a number, which is the first below 80.
 fn number_size(marks: &[Mark]) -> usize
     ensures exact { result ≡ up_to_last marks.now }
     ensures within { result ≤ length marks.now }
@@ -150,7 +150,7 @@ fn is_last(mark: Mark) -> bool
     }
 }
 
-/// Whether an identifier is of the constructed form.
+/// Tells whether an identifier is of the constructed form.
 fn is_constructed(marks: &[Mark]) -> bool
     ensures { (tag : Tag) (form : Bool) → HasIdentifier tag form
         → marks.now ≡ map Mark.Octet (identifier tag form) → result ≡ form }
@@ -161,7 +161,7 @@ fn is_constructed(marks: &[Mark]) -> bool
     }
 }
 
-/// The octet that a mark is; 0 where it is none.
+/// The octet of a mark, or 0 where the mark has no octet.
 fn octet_in(mark: Mark) -> u8
     ensures { (octet : ℕ) → mark ≡ Mark.Octet octet → result ≡ octet }
 {

@@ -187,7 +187,7 @@ pub fn put_content<W: Sink>(marks: &[Mark], out: &mut Out, sink: &mut W)
     out.put(sink, b"\"");
 }
 
-/// Whether all octets are printable ASCII.
+/// Tells whether all octets are printable ASCII.
 fn are_graphic(marks: &[Mark]) -> bool
     ensures { result ≡ list_all is_graphic (octets_in marks.now) }
 {
@@ -259,7 +259,7 @@ fn put_oid<W: Sink>(marks: &[Mark], out: &mut Out, sink: &mut W)
     put_hexadecimal(marks, out, sink);
 }
 
-/// Whether no number takes more than 63 bits.
+/// Tells whether each number is below 2 to the power 63.
 fn are_small(marks: &[Mark]) -> bool
     ensures { result ≡ are_small (numbers_in marks.now) }
 {
