@@ -1,11 +1,11 @@
 -- Normal forms are canonical.
 use Rattle.std.proofs.Common.{◌≡◌, ◌↔◌, ℕ, ◌<◌, ◌≤◌, ◌^◌, List, [], length, Err, refl, sym, subst, ap, ◌∙◌, inl, inr, arith, lit<}
-use Rattle.ber_leaf.specs.Profile.{Profile, profile_two}
+use Rattle.ber_leaf.specs.Profile.{Profile}
 use Rattle.ill_schema.specs.Profiles.{profile_of}
 use Rattle.ill_schema.specs.declared.profile.Profile.{Profile as Named}
-use Rattle.ill_schema.specs.declared.profile.Profile.TheVariants.{Two}
+use Rattle.ill_schema.specs.declared.profile.Profile.TheVariants.{Two, Module}
 use Rattle.std.proofs.lemmas.List.{take_all}
-use Rattle.ill_schema.specs.Apdu.{Apdu, SpellsApdu, Accepts, normal_form, normal_form_in}
+use Rattle.ill_schema.specs.Apdu.{Apdu, SpellsApdu, Accepts, normal_form_in}
 use Rattle.ill_schema.specs.declared.refusal.Cause.{Cause}
 use Rattle.ill_schema.proofs.MeansFits.{means_apdu_fits}
 use Rattle.ill_schema.proofs.Encodings.{normal_spells, normal_unique}
@@ -30,21 +30,32 @@ one_normal q a b x y h k e =
     normal_unique p a b (means_apdu_fits p a h.encodes.tree h.encodes.means) (means_apdu_fits p b k.encodes.tree k.encodes.means)
     (short (length (normal_form_in p a)) h.normal_short) (short (length (normal_form_in p b)) k.normal_short) e
 
-pub exactly : (a b : Apdu) (x y : List ℕ) → SpellsApdu profile_two a x → SpellsApdu profile_two b y → (normal_form a ≡ normal_form b) ↔ (a ≡ b)
-exactly a b x y h k = (one_normal Two a b x y h k, ap normal_form)
+small_limit : (q : Named) → (profile_of q).limit < 256 ^ 126
+small_limit Two = lit< tt
+small_limit Module = lit< tt
 
-pub spells_normal : (a : Apdu) (x : List ℕ) → SpellsApdu profile_two a x → SpellsApdu profile_two a (normal_form a)
-spells_normal a x h = normal_spells profile_two a (means_apdu_fits profile_two a h.encodes.tree h.encodes.means) (lit< tt) h.normal_short
+module _ (q : Named) where
+  abbrev p : Profile
+  p = profile_of q
 
-pub accepts_normal : (a : Apdu) (x : List ℕ) → SpellsApdu profile_two a x → Accepts profile_two (normal_form a) a (length (normal_form a))
-accepts_normal a x h = whole_accepted profile_two a (normal_form a) (spells_normal a x h)
+  pub exactly : (a b : Apdu) (x y : List ℕ) → SpellsApdu p a x → SpellsApdu p b y → (normal_form_in p a ≡ normal_form_in p b) ↔ (a ≡ b)
+  exactly a b x y h k = (one_normal q a b x y h k, ap (normal_form_in p))
+
+  pub spells_normal : (a : Apdu) (x : List ℕ) → SpellsApdu p a x → SpellsApdu p a (normal_form_in p a)
+  spells_normal a x h = normal_spells p a (means_apdu_fits p a h.encodes.tree h.encodes.means) (small_limit q) h.normal_short
+
+  pub accepts_normal : (a : Apdu) (x : List ℕ) → SpellsApdu p a x → Accepts p (normal_form_in p a) a (length (normal_form_in p a))
+  accepts_normal a x h = whole_accepted p a (normal_form_in p a) (spells_normal a x h)
 
 -- octets spell one APDU
 pub spells_once : {p : Profile} (a b : Apdu) (s : List ℕ) → SpellsApdu p a s → SpellsApdu p b s → a ≡ b
 spells_once {p = p} a b s h k = (one_message p a b s s [] [] h.encodes k.encodes refl).0
 
-pub own_normal : (a b : Apdu) (x : List ℕ) → SpellsApdu profile_two a x → SpellsApdu profile_two b (normal_form a) → normal_form b ≡ normal_form a
-own_normal a b x h k = ap normal_form (spells_once b a (normal_form a) k (spells_normal a x h))
+pub own_normal : (q : Named) (a b : Apdu) (x : List ℕ) → SpellsApdu (profile_of q) a x → SpellsApdu (profile_of q) b (normal_form_in (profile_of q) a)
+    → normal_form_in (profile_of q) b ≡ normal_form_in (profile_of q) a
+own_normal q a b x h k =
+    let p = profile_of q in
+    ap (normal_form_in p) (spells_once b a (normal_form_in p a) k (spells_normal q a x h))
 
 -- what is refused whole is no spelling
 pub refuses_whole : {p : Profile} (s : List ℕ) (f : Fault) (a : Apdu) → RefusesWholeIn p s f → SpellsApdu p a s → ⊥

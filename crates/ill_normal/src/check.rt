@@ -55,7 +55,8 @@ pub fn check_one_as<R: Source>(
     ensures accepts { IfSome (R.left source.old) (λ s. (a : Apdu) (n : ℕ) → Accepts (profile_of profile) s a n → AnswersSome result) }
 {
     let mut reader = NormalReader::new(alloc);
-    let Some(found) = check_in::<R, Unseen>(alloc, profile, &mut reader, source, Vec::new(alloc))?
+    let room = Vec::new(alloc);
+    let Some(found) = check_one_in_as::<R, Unseen>(alloc, profile, &mut reader, source, room)?
     else {
         return Ok(None);
     };
@@ -99,12 +100,16 @@ pub fn check_one_in<R: Source, L: Look<R>>(
     // A spelling at the front is checked, unless memory or the source failed.
     ensures accepts { IfSome (R.left source.old) (λ s. (a : Apdu) (n : ℕ) → Accepts profile_two s a n → AnswersSome result) }
 {
-    check_in::<R, L>(alloc, Profile::Two, reader, source, room)
+    check_one_in_as::<R, L>(alloc, Profile::Two, reader, source, room)
 }
 
 /// Checks a message in the profile as [`check_one_in`] does.
+///
+/// # Errors
+///
+/// Those of [`check_one`], in the profile.
 #[inline(always)]
-fn check_in<R: Source, L: Look<R>>(
+pub fn check_one_in_as<R: Source, L: Look<R>>(
     alloc: Global,
     profile: Profile,
     reader: &mut NormalReader,

@@ -23,7 +23,7 @@ pub use ber_core::{
 pub use ber_leaf::{
     DateText, GeneralText, IllString, LeafFault, PrintableText, TimeText, VisibleText,
 };
-pub use check::{Checked, check_one, check_one_as, check_one_by, check_one_in};
+pub use check::{Checked, check_one, check_one_as, check_one_by, check_one_in, check_one_in_as};
 pub use compare::{Side, is_normal, is_normal_as, same_message, same_message_as};
 pub use failure::{NormalFailure, StreamCause, StreamFailure};
 pub use ill_read::{
@@ -33,7 +33,8 @@ pub use ill_read::{
 };
 pub use ill_schema::{
     Cause, Kind, LIMIT, LeafKind, Message, Mode, NodeId, PartId, Presence, Profile, Refusal, Row,
-    Unfit, Value, apdu_name, apdu_node, kind, part_name, row, rows,
+    Unfit, Value, apdu_name, apdu_name_as, apdu_node, apdu_node_as, kind, kind_as, part_name,
+    part_name_as, row, row_as, rows, rows_as,
 };
 pub use laws::{
     normal_form_is_accepted, normal_form_is_its_own, normal_forms_are_equal_exactly_if_apdus_are,

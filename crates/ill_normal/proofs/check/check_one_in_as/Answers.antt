@@ -12,7 +12,7 @@ use Rattle.ill_schema.specs.Profiles.{profile_of}
 use Rattle.ill_normal.proofs.Canonical.{spells_once}
 use Rattle.ill_normal.proofs.DescribedMessages.{described}
 use Rattle.ill_normal.proofs.InputAnswers.{none_is_no_spelling, read_fails_accepts}
-use Rattle.ill_normal.proofs.check.check_in.Goals as goal
+use Rattle.ill_normal.proofs.check.check_one_in_as.Goals as goal
 
 pub returns-in_err-normal-clause-accepts : goal.returns-in_err-normal-clause-accepts
 returns-in_err-normal-clause-accepts g c =
