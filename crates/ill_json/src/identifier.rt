@@ -12,6 +12,17 @@ use std::alloc::AllocError;
 
 /// Adds the text of an OBJECT IDENTIFIER with these octets: its components in decimals, or its octets where a number
 /// takes more than 63 bits.
+///
+/// # Errors
+///
+/// Only out of memory.
+///
+/// # Examples
+///
+/// ```
+/// let mut text = String::new(alloc);
+/// add_identifier(&mut text, &[Mark::Octet(0x2A), Mark::Octet(0x03)])?; // 1.2.3
+/// ```
 pub fn add_identifier(text: &mut String, octets: &[Mark]) -> Result<(), AllocError>
     ensures { OnOk result (string_bytes text.new ≡ string_bytes text.old ++ oid_text (octets_in octets.now)) }
 {

@@ -16,4 +16,5 @@ mod module_leaf;
 mod value;
 mod writing;
 
+pub use identifier::add_identifier;
 pub use line::{Head, json_line, json_line_as};
