@@ -4,10 +4,11 @@ use Rattle.std.specs.List.{list_all}
 use Rattle.std.specs.Io.KnownBytes.{Appends}
 use Rattle.std.proofs.KnownBytes.{Appends-trans}
 use Rattle.std.proofs.Math.Seq.{take-append-add}
-use Rattle.ber_leaf.specs.Profile.{profile_two}
+use Rattle.ber_leaf.specs.Profile.{Profile}
+use Rattle.ill_schema.specs.Profiles.{profile_of}
 use Rattle.ill_read.specs.declared.failure.ReadFailure.{ReadFailure}
 use Rattle.ill_normal.specs.Calls.{Taking, taking, Putting, putting}
-use Rattle.ill_normal.specs.Messages.{Spelling, position, position_after, good_of, PassesAll, BreaksWithinIn, EndsIn, EndsAfter, TakesNoFurther, part_of}
+use Rattle.ill_normal.specs.Messages.{Spelling, position, position_after, good_of, PassesAllIn, BreaksWithinIn, EndsIn, EndsAfterIn, TakesNoFurtherIn, part_of}
 use Rattle.ill_normal.specs.declared.messages.Position.{Position}
 use Rattle.ill_normal.specs.declared.messages.Passed.{Passed}
 use Rattle.ill_normal.specs.declared.messages.Stopped.{Stopped}
@@ -15,7 +16,7 @@ use Rattle.ill_normal.specs.declared.messages.Why.{Why}
 use Rattle.ill_normal.proofs.WrittenMessages.{output_push}
 use Rattle.ill_jobs.specs.declared.job.Work.{Work}
 use Rattle.ill_jobs.specs.declared.job.Job.{Job}
-use Rattle.ill_jobs.specs.Output.{message_output, output, counts_as_good, counts_of, verdict_if, verdict_of}
+use Rattle.ill_jobs.specs.Output.{message_output, output, counts_as_good, counts_of, is_counted_good, verdict_if, verdict_of}
 use Rattle.ill_jobs.specs.Ran.{Writes, BrokeAt, Stops, StopsAfter, Done}
 use Rattle.ill_jobs.specs.code.Endings.{counts_with, fault_after, run_fault, verdict_by}
 
@@ -28,21 +29,24 @@ all_true [] = refl
 all_true (m ∷ ms) = all_true ms
 
 module _ (work : Work) where
+  abbrev q : Profile
+  q = profile_of work.profile
+
   -- the job asks for what was counted, or for nothing
-  is_verdict : (job : Job) (compares : Bool) (ms : List Spelling) → verdict_by job (list_all (counts_as_good job compares) ms) ≡ verdict_of job ms
+  is_verdict : (job : Job) (compares : Bool) (ms : List Spelling) → verdict_by job (list_all (counts_as_good q job compares) ms) ≡ verdict_of q job ms
   is_verdict Job.Check compares ms = refl
   is_verdict Job.Show compares ms = sym (ap verdict_if (all_true ms))
   is_verdict Job.Json compares ms = sym (ap verdict_if (all_true ms))
   is_verdict Job.Digest compares ms = sym (ap verdict_if (all_true ms))
   is_verdict Job.Canonicalise compares ms = sym (ap verdict_if (all_true ms))
 
-  same_counts : (octets : List ℕ) (ms : List Spelling) (messages good size : ℕ) → messages ≡ length ms → good ≡ good_of (counts_as_good work.job work.compares) ms → size ≡ length octets
+  same_counts : (octets : List ℕ) (ms : List Spelling) (messages good size : ℕ) → messages ≡ length ms → good ≡ good_of (is_counted_good work) ms → size ≡ length octets
       → counts_with messages good size ≡ counts_of work octets ms
   same_counts octets ms messages good size a b c =
       ap (λ (n : ℕ). counts_with n good size) a ∙ ap (λ (n : ℕ). counts_with (length ms) n size) b
-      ∙ ap (counts_with (length ms) (good_of (counts_as_good work.job work.compares) ms)) c
+      ∙ ap (counts_with (length ms) (good_of (is_counted_good work) ms)) c
 
-  pub done_all : (left left' held held' : Option (List ℕ)) (p : Passed) → PassesAll (message_output work) (counts_as_good work.job work.compares) left left' held held' p
+  pub done_all : (left left' held held' : Option (List ℕ)) (p : Passed) → PassesAllIn q (message_output work) (is_counted_good work) left left' held held' p
       → Done work left left' held held' (counts_with p.whole p.good p.octets) (verdict_by work.job p.all_good)
   done_all left left' held held' p h = record {
     messages = h.messages;
@@ -56,7 +60,7 @@ module _ (work : Work) where
   -- the sink broke within a message
   broke_within : (left : Option (List ℕ)) (source : Taking) (sink : Putting) (first : Option (List ℕ)) (ms : List Spelling) (n written : ℕ)
       → Writes work left source.left first sink.held ms → written ≡ length (output work ms) + n
-      → BreaksWithinIn profile_two (message_output work (position_after start ms)) source sink n → BrokeAt work source.left source.left' first sink.held' ms written
+      → BreaksWithinIn q (message_output work (position_after start ms)) source sink n → BrokeAt work source.left source.left' first sink.held' ms written
   broke_within left source sink first ms n written w size b =
       let text = message_output work (position_after start ms) in
       let m = b.message in
@@ -75,17 +79,17 @@ module _ (work : Work) where
 
   stops : (left : Option (List ℕ)) (source : Taking) (sink : Putting) (first : Option (List ℕ)) (ms : List Spelling) (whole written : ℕ) (why : Why)
       → Writes work left source.left first sink.held ms → whole ≡ length ms → written ≡ length (output work ms) + part_of why
-      → EndsIn profile_two (message_output work) source sink whole (position_after start ms) why → Stops work source sink first ms (fault_after whole written why)
+      → EndsIn q (message_output work) source sink whole (position_after start ms) why → Stops work source sink first ms (fault_after whole written why)
   stops left source sink first ms whole written (Why.Read (ReadFailure.Refused refusal)) w count size h =
       (ap (λ (n : ℕ). n + 1) count, omega (arith, count, h.0), h.1, h.2)
   stops left source sink first ms whole written (Why.Read ReadFailure.OutOfMemory) w count size h = (omega (arith, count, h.0), h.1)
   stops left source sink first ms whole written (Why.Read ReadFailure.ReadFault) w count size h =
-      (omega (arith, count, h.0), h.1, subst (λ (n : ℕ). TakesNoFurther n source.left source.left') count h.2, h.3)
+      (omega (arith, count, h.0), h.1, subst (λ (n : ℕ). TakesNoFurtherIn q n source.left source.left') count h.2, h.3)
   stops left source sink first ms whole written (Why.Write n) w count size h =
       (omega (arith, count, h.0), h.1.broken, broke_within left source sink first ms n written w size h.1)
   stops left source sink first ms whole written Why.TooMany w count size h = (omega (arith, count, h.0), h.1, h.2)
 
-  pub stops_after : (source : Taking) (sink : Putting) (e : Stopped) → EndsAfter (message_output work) (counts_as_good work.job work.compares) source sink e
+  pub stops_after : (source : Taking) (sink : Putting) (e : Stopped) → EndsAfterIn q (message_output work) (is_counted_good work) source sink e
       → StopsAfter work source sink (counts_with e.whole e.good e.before) (run_fault e)
   stops_after source sink e h = record {
     messages = h.messages;
@@ -97,12 +101,12 @@ module _ (work : Work) where
     stops = stops source.left (taking h.rest source.left' source.broken) (putting h.grown sink.held' sink.broken) sink.held h.messages e.whole e.written e.why h.writes h.count h.written h.ends;
   }
 
-  few : (source : Taking) (sink : Putting) (whole : ℕ) (next : Position) (why : Why) → EndsIn profile_two (message_output work) source sink whole next why → whole ≤ 1_000_000
+  few : (source : Taking) (sink : Putting) (whole : ℕ) (next : Position) (why : Why) → EndsIn q (message_output work) source sink whole next why → whole ≤ 1_000_000
   few source sink whole next (Why.Read (ReadFailure.Refused refusal)) h = omega (arith, h.0)
   few source sink whole next (Why.Read ReadFailure.OutOfMemory) h = omega (arith, h.0)
   few source sink whole next (Why.Read ReadFailure.ReadFault) h = omega (arith, h.0)
   few source sink whole next (Why.Write n) h = omega (arith, h.0)
   few source sink whole next Why.TooMany h = omega (arith, h.0)
 
-  pub few_before : (source : Taking) (sink : Putting) (e : Stopped) → EndsAfter (message_output work) (counts_as_good work.job work.compares) source sink e → e.whole < 4_294_967_295
+  pub few_before : (source : Taking) (sink : Putting) (e : Stopped) → EndsAfterIn q (message_output work) (is_counted_good work) source sink e → e.whole < 4_294_967_295
   few_before source sink e h = let le = few _ _ e.whole _ e.why h.ends in omega (arith, le)

@@ -3,10 +3,10 @@ use Rattle.std.proofs.Common.{◌≡◌, ◌⊎◌, ◌↔◌, ℕ, Bool, true, 
 use Rattle.std.specs.Io.KnownBytes.{IsAtEnd}
 use Rattle.std.proofs.lemmas.Bool.{cases_lt}
 use Rattle.std.proofs.lemmas.List.{take_all, take_at}
-use Rattle.ber_leaf.specs.Profile.{profile_two}
+use Rattle.ber_leaf.specs.Profile.{Profile}
 use Rattle.ill_schema.specs.Apdu.{Apdu, SpellsApdu}
 use Rattle.ill_refusals.specs.Fault.{Fault, fault_of}
-use Rattle.ill_normal.specs.Compared.{RefusesSide}
+use Rattle.ill_normal.specs.Compared.{RefusesSideIn}
 use Rattle.ill_normal.specs.declared.compare.Side.{Side}
 use Rattle.ill_normal.proofs.InputAnswers.{front}
 use Rattle.ill_normal.proofs.Canonical.{spells_once, refuses_whole, refuses_once}
@@ -59,24 +59,24 @@ second_unread hex x (Some s) left' None other' o e r h = tt
 second_unread hex x (Some s) left' (Some t) other' o e r h =
     (λ fault k. absurd (not_both (side_octets hex s) o fault (side_is hex s left' o r) k), λ o' fault k l. unread_fault hex x t other' e fault h l)
 
-module _ (x y : List ℕ) where
-  refused_apart : (side : Side) (f : Fault) (a b : Apdu) → SpellsApdu profile_two a x → SpellsApdu profile_two b y → RefusesSide x y side f → ⊥
+module _ (p : Profile) (x y : List ℕ) where
+  refused_apart : (side : Side) (f : Fault) (a b : Apdu) → SpellsApdu p a x → SpellsApdu p b y → RefusesSideIn p x y side f → ⊥
   refused_apart Side.First f a b h k r = refuses_whole x f a r h
   refused_apart Side.Second f a b h k r = refuses_whole y f b r.1 k
 
-  refused_once : (side other : Side) (f g : Fault) → RefusesSide x y side f → RefusesSide x y other g → (side ≡ other) × (f ≡ g)
+  refused_once : (side other : Side) (f g : Fault) → RefusesSideIn p x y side f → RefusesSideIn p x y other g → (side ≡ other) × (f ≡ g)
   refused_once Side.First Side.First f g r q = (refl, refuses_once x f g r q)
   refused_once Side.First Side.Second f g r q = absurd (refuses_whole x f q.0.0 r q.0.1)
   refused_once Side.Second Side.First f g r q = absurd (refuses_whole x g r.0.0 q r.0.1)
   refused_once Side.Second Side.Second f g r q = (refl, refuses_once y f g r.1 q.1)
 
-  says_same : (v : Verdict) → Compares x y v → (a b : Apdu) → SpellsApdu profile_two a x → SpellsApdu profile_two b y → (v ≡ Verdict.Good) ↔ (a ≡ b)
+  says_same : (v : Verdict) → Compares p x y v → (a b : Apdu) → SpellsApdu p a x → SpellsApdu p b y → (v ≡ Verdict.Good) ↔ (a ≡ b)
   says_same v c a b h k =
       let e = spells_once a c.0 x h c.2 in
       let f = spells_once b c.1 y k c.3 in
       (λ g. e ∙ c.4.0 g ∙ sym f, λ same. c.4.1 (sym e ∙ same ∙ f))
 
-  not_compared : (e : RunFault) → NotCompared x y e → (a b : Apdu) → SpellsApdu profile_two a x → SpellsApdu profile_two b y → IsFault e
+  not_compared : (e : RunFault) → NotCompared p x y e → (a b : Apdu) → SpellsApdu p a x → SpellsApdu p b y → IsFault e
   not_compared (RunFault.RefusedSide side refusal) n a b h k = absurd (refused_apart side (fault_of refusal) a b h k n)
   not_compared RunFault.OutOfMemory n a b h k = tt
   not_compared RunFault.ReadFault n a b h k = tt
@@ -87,7 +87,7 @@ module _ (x y : List ℕ) where
   not_compared RunFault.TooManyMessages n a b h k = absurd n
   not_compared (RunFault.WriteFault i) n a b h k = absurd n
 
-  not_refused : (e : RunFault) → NotCompared x y e → (side : Side) (f : Fault) → RefusesSide x y side f → IsRefusedSide e side f
+  not_refused : (e : RunFault) → NotCompared p x y e → (side : Side) (f : Fault) → RefusesSideIn p x y side f → IsRefusedSide e side f
   not_refused (RunFault.RefusedSide which refusal) n side f r = refused_once which side (fault_of refusal) f n r
   not_refused RunFault.OutOfMemory n side f r = tt
   not_refused RunFault.ReadFault n side f r = tt
@@ -99,25 +99,25 @@ module _ (x y : List ℕ) where
   not_refused (RunFault.WriteFault i) n side f r = absurd n
 
 -- what is said of the octets that were read is said of the inputs
-pub both_same : (hex : Bool) (left left' other other' : Option (List ℕ)) (x y : List ℕ) → ReadsSide hex left left' x → ReadsSide hex other other' y → (answer : Result Verdict RunFault)
-    → ((a b : Apdu) → SpellsApdu profile_two a x → SpellsApdu profile_two b y → SaysSame answer (a ≡ b))
-    → IfSome left (λ s. IfSome other (λ t. ComparesBoth hex s t answer))
-both_same hex None left' other other' x y rx ry answer h = tt
-both_same hex (Some s) left' None other' x y rx ry answer h = tt
-both_same hex (Some s) left' (Some t) other' x y rx ry answer h = λ x' y' a b ex ey ha hb.
+pub both_same : (p : Profile) (hex : Bool) (left left' other other' : Option (List ℕ)) (x y : List ℕ) → ReadsSide hex left left' x → ReadsSide hex other other' y → (answer : Result Verdict RunFault)
+    → ((a b : Apdu) → SpellsApdu p a x → SpellsApdu p b y → SaysSame answer (a ≡ b))
+    → IfSome left (λ s. IfSome other (λ t. ComparesBoth p hex s t answer))
+both_same p hex None left' other other' x y rx ry answer h = tt
+both_same p hex (Some s) left' None other' x y rx ry answer h = tt
+both_same p hex (Some s) left' (Some t) other' x y rx ry answer h = λ x' y' a b ex ey ha hb.
     let e = same_ok (side_octets hex s) x' x ex (side_is hex s left' x rx) in
     let f = same_ok (side_octets hex t) y' y ey (side_is hex t other' y ry) in
-    h a b (subst (SpellsApdu profile_two a) e ha) (subst (SpellsApdu profile_two b) f hb)
+    h a b (subst (SpellsApdu p a) e ha) (subst (SpellsApdu p b) f hb)
 
-pub one_refused : (hex : Bool) (left left' other other' : Option (List ℕ)) (x y : List ℕ) → ReadsSide hex left left' x → ReadsSide hex other other' y → (answer : Result Verdict RunFault)
-    → ((side : Side) (f : Fault) → RefusesSide x y side f → AnswersSide answer side f)
-    → IfSome left (λ s. IfSome other (λ t. RefusesOne hex s t answer))
-one_refused hex None left' other other' x y rx ry answer h = tt
-one_refused hex (Some s) left' None other' x y rx ry answer h = tt
-one_refused hex (Some s) left' (Some t) other' x y rx ry answer h = λ x' y' side f ex ey r.
+pub one_refused : (p : Profile) (hex : Bool) (left left' other other' : Option (List ℕ)) (x y : List ℕ) → ReadsSide hex left left' x → ReadsSide hex other other' y → (answer : Result Verdict RunFault)
+    → ((side : Side) (f : Fault) → RefusesSideIn p x y side f → AnswersSide answer side f)
+    → IfSome left (λ s. IfSome other (λ t. RefusesOne p hex s t answer))
+one_refused p hex None left' other other' x y rx ry answer h = tt
+one_refused p hex (Some s) left' None other' x y rx ry answer h = tt
+one_refused p hex (Some s) left' (Some t) other' x y rx ry answer h = λ x' y' side f ex ey r.
     let e = same_ok (side_octets hex s) x' x ex (side_is hex s left' x rx) in
     let g = same_ok (side_octets hex t) y' y ey (side_is hex t other' y ry) in
-    h side f (subst (λ z. RefusesSide x z side f) g (subst (λ z. RefusesSide z y' side f) e r))
+    h side f (subst (λ z. RefusesSideIn p x z side f) g (subst (λ z. RefusesSideIn p z y' side f) e r))
 
 -- sides that were read are no texts that stand for nothing
 both_read : (hex : Bool) (left left' other other' : Option (List ℕ)) (x y : List ℕ) → ReadsSide hex left left' x → ReadsSide hex other other' y → (answer : Result Verdict RunFault)
@@ -129,18 +129,18 @@ both_read hex (Some s) left' (Some t) other' x y rx ry answer = (
   λ o fault k l. absurd (not_both (side_octets hex t) y fault (side_is hex t other' y ry) l),
 )
 
-module _ (hex : Bool) (left left' other other' : Option (List ℕ)) (x y : List ℕ) (rx : ReadsSide hex left left' x) (ry : ReadsSide hex other other' y) where
-  pub ok_compares : (v : Verdict) → Compares x y v → IfSome left (λ s. IfSome other (λ t. ComparesBoth hex s t (Ok v)))
-  ok_compares v c = both_same hex left left' other other' x y rx ry (Ok v) (λ a b h k. says_same x y v c a b h k)
+module _ (p : Profile) (hex : Bool) (left left' other other' : Option (List ℕ)) (x y : List ℕ) (rx : ReadsSide hex left left' x) (ry : ReadsSide hex other other' y) where
+  pub ok_compares : (v : Verdict) → Compares p x y v → IfSome left (λ s. IfSome other (λ t. ComparesBoth p hex s t (Ok v)))
+  ok_compares v c = both_same p hex left left' other other' x y rx ry (Ok v) (λ a b h k. says_same p x y v c a b h k)
 
-  pub ok_refuses : (v : Verdict) → Compares x y v → IfSome left (λ s. IfSome other (λ t. RefusesOne hex s t (Ok v)))
-  ok_refuses v c = one_refused hex left left' other other' x y rx ry (Ok v) (λ side f r. refused_apart x y side f c.0 c.1 c.2 c.3 r)
+  pub ok_refuses : (v : Verdict) → Compares p x y v → IfSome left (λ s. IfSome other (λ t. RefusesOne p hex s t (Ok v)))
+  ok_refuses v c = one_refused p hex left left' other other' x y rx ry (Ok v) (λ side f r. refused_apart p x y side f c.0 c.1 c.2 c.3 r)
 
-  pub err_compares : (e : RunFault) → NotCompared x y e → IfSome left (λ s. IfSome other (λ t. ComparesBoth hex s t (Err e)))
-  err_compares e n = both_same hex left left' other other' x y rx ry (Err e) (λ a b h k. not_compared x y e n a b h k)
+  pub err_compares : (e : RunFault) → NotCompared p x y e → IfSome left (λ s. IfSome other (λ t. ComparesBoth p hex s t (Err e)))
+  err_compares e n = both_same p hex left left' other other' x y rx ry (Err e) (λ a b h k. not_compared p x y e n a b h k)
 
-  pub err_refuses : (e : RunFault) → NotCompared x y e → IfSome left (λ s. IfSome other (λ t. RefusesOne hex s t (Err e)))
-  err_refuses e n = one_refused hex left left' other other' x y rx ry (Err e) (λ side f r. not_refused x y e n side f r)
+  pub err_refuses : (e : RunFault) → NotCompared p x y e → IfSome left (λ s. IfSome other (λ t. RefusesOne p hex s t (Err e)))
+  err_refuses e n = one_refused p hex left left' other other' x y rx ry (Err e) (λ side f r. not_refused p x y e n side f r)
 
   pub texts_read : (answer : Result Verdict RunFault) → IfSome left (λ s. IfSome other (λ t. RefusesTexts hex s t answer))
   texts_read answer = both_read hex left left' other other' x y rx ry answer

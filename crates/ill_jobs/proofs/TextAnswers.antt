@@ -4,6 +4,8 @@ use Rattle.std.specs.Prelude.{IfOk, IfErr, if◌then◌else◌}
 use Rattle.std.specs.Io.KnownBytes.{IsAtEnd}
 use Rattle.std.proofs.lemmas.Bool.{cases_lt, lt-ltb}
 use Rattle.hex.specs.Hex.{decode_of}
+use Rattle.ber_leaf.specs.Profile.{Profile}
+use Rattle.ill_schema.specs.Profiles.{profile_of}
 use Rattle.ill_refusals.specs.Fault.{Fault}
 use Rattle.ill_normal.proofs.InputAnswers.{front}
 use Rattle.ill_normal.specs.Calls.{taking, putting}
@@ -13,7 +15,7 @@ use Rattle.ill_jobs.specs.declared.job.Verdict.{Verdict}
 use Rattle.ill_jobs.specs.declared.job.Work.{Work}
 use Rattle.ill_jobs.specs.declared.fault.RunFault.{RunFault}
 use Rattle.ill_jobs.specs.Hexadecimal.{hex_octets, with_fault, without_blanks, TakesText}
-use Rattle.ill_normal.specs.Messages.{AreSpelled}
+use Rattle.ill_normal.specs.Messages.{AreSpelledIn}
 use Rattle.ill_jobs.specs.Ran.{Done, StopsAfter, TextOf, NoHex, FailsText, IsUnread, IsFault, IsRefused, DoesMessages, RefusesFirst, RefusesMore, RefusesText}
 use Rattle.ill_jobs.proofs.JobAnswers.{does, refuses, refuses_more}
 
@@ -43,24 +45,27 @@ pub not_both : (r : Result (List ℕ) RunFault) (a : List ℕ) (e : RunFault) �
 not_both r a e h k = cc
 
 module _ (work : Work) (held held' : Option (List ℕ)) (x y : Bool) (answer : Result Verdict RunFault) (counts : Counts) where
+  abbrev q : Profile
+  q = profile_of work.profile
+
   -- octets as they are
   pub plain_does : (left left' : Option (List ℕ)) → IfOk answer (Done work left left' held held' counts) → IfErr answer (StopsAfter work (taking left left' x) (putting held held' y) counts)
-      → IfSome left (λ s. DoesMessages work.job false s answer)
+      → IfSome left (λ s. DoesMessages q work.job false s answer)
   plain_does None left' d n = tt
   plain_does (Some s) left' d n = λ octets ms e h le.
-      does work s left' held held' counts x y answer d n ms (subst (λ z. AreSpelled z ms []) (sym (same_ok (Ok s) s octets refl e)) h) le
+      does work s left' held held' counts x y answer d n ms (subst (λ z. AreSpelledIn q z ms []) (sym (same_ok (Ok s) s octets refl e)) h) le
 
   pub plain_refuses : (left left' : Option (List ℕ)) → IfOk answer (Done work left left' held held' counts) → IfErr answer (StopsAfter work (taking left left' x) (putting held held' y) counts)
-      → IfSome left (λ s. RefusesFirst false s answer)
+      → IfSome left (λ s. RefusesFirst q false s answer)
   plain_refuses None left' d n = tt
   plain_refuses (Some s) left' d n = λ octets rest ms f e h lt some only.
-      refuses work s left' held held' counts x y answer d n rest ms f (subst (λ z. AreSpelled z ms rest) (sym (same_ok (Ok s) s octets refl e)) h) lt some only
+      refuses work s left' held held' counts x y answer d n rest ms f (subst (λ z. AreSpelledIn q z ms rest) (sym (same_ok (Ok s) s octets refl e)) h) lt some only
 
   pub plain_more : (left left' : Option (List ℕ)) → IfOk answer (Done work left left' held held' counts) → IfErr answer (StopsAfter work (taking left left' x) (putting held held' y) counts)
-      → IfSome left (λ s. RefusesMore false s answer)
+      → IfSome left (λ s. RefusesMore q false s answer)
   plain_more None left' d n = tt
   plain_more (Some s) left' d n = λ octets rest ms e h many some.
-      refuses_more work s left' held held' counts x y answer d n rest ms (subst (λ z. AreSpelled z ms rest) (sym (same_ok (Ok s) s octets refl e)) h) many some
+      refuses_more work s left' held held' counts x y answer d n rest ms (subst (λ z. AreSpelledIn q z ms rest) (sym (same_ok (Ok s) s octets refl e)) h) many some
 
   pub plain_text : (left : Option (List ℕ)) → IfSome left (λ s. RefusesText false s answer)
   plain_text None = tt
@@ -72,20 +77,20 @@ module _ (work : Work) (held held' : Option (List ℕ)) (x y : Bool) (answer : R
     stands : (s : List ℕ) (left' : Option (List ℕ)) → TextOf (Some s) left' octets → hex_octets s ≡ Ok octets
     stands s left' t = same_octets s left' t.text t.taken ∙ t.stands
 
-    pub text_does : (left left' : Option (List ℕ)) → TextOf left left' octets → IfSome left (λ s. DoesMessages work.job true s answer)
+    pub text_does : (left left' : Option (List ℕ)) → TextOf left left' octets → IfSome left (λ s. DoesMessages q work.job true s answer)
     text_does None left' t = tt
     text_does (Some s) left' t = λ o ms e h le.
-        does work octets rest held held' counts x y answer d n ms (subst (λ z. AreSpelled z ms []) (same_ok (hex_octets s) o octets e (stands s left' t)) h) le
+        does work octets rest held held' counts x y answer d n ms (subst (λ z. AreSpelledIn q z ms []) (same_ok (hex_octets s) o octets e (stands s left' t)) h) le
 
-    pub text_refuses : (left left' : Option (List ℕ)) → TextOf left left' octets → IfSome left (λ s. RefusesFirst true s answer)
+    pub text_refuses : (left left' : Option (List ℕ)) → TextOf left left' octets → IfSome left (λ s. RefusesFirst q true s answer)
     text_refuses None left' t = tt
     text_refuses (Some s) left' t = λ o r ms f e h lt some only.
-        refuses work octets rest held held' counts x y answer d n r ms f (subst (λ z. AreSpelled z ms r) (same_ok (hex_octets s) o octets e (stands s left' t)) h) lt some only
+        refuses work octets rest held held' counts x y answer d n r ms f (subst (λ z. AreSpelledIn q z ms r) (same_ok (hex_octets s) o octets e (stands s left' t)) h) lt some only
 
-    pub text_more : (left left' : Option (List ℕ)) → TextOf left left' octets → IfSome left (λ s. RefusesMore true s answer)
+    pub text_more : (left left' : Option (List ℕ)) → TextOf left left' octets → IfSome left (λ s. RefusesMore q true s answer)
     text_more None left' t = tt
     text_more (Some s) left' t = λ o r ms e h many some.
-        refuses_more work octets rest held held' counts x y answer d n r ms (subst (λ z. AreSpelled z ms r) (same_ok (hex_octets s) o octets e (stands s left' t)) h) many some
+        refuses_more work octets rest held held' counts x y answer d n r ms (subst (λ z. AreSpelledIn q z ms r) (same_ok (hex_octets s) o octets e (stands s left' t)) h) many some
 
     pub text_stands : (left left' : Option (List ℕ)) → TextOf left left' octets → IfSome left (λ s. RefusesText true s answer)
     text_stands None left' t = tt
@@ -114,21 +119,21 @@ refused_or n left left' x RunFault.TooManyMessages i f h = absurd h
 refused_or n left left' x (RunFault.WriteFault count) i f h = absurd h
 
 -- a text that was not read, or stands for nothing
-module _ (job : Job) (x : Bool) (e : RunFault) where
+module _ (q : Profile) (job : Job) (x : Bool) (e : RunFault) where
   stands_not : (s : List ℕ) (left' : Option (List ℕ)) → NoHex (Some s) left' e → hex_octets s ≡ Err e
   stands_not s left' t = same_octets s left' t.text t.taken ∙ t.stands
 
-  pub unread_does : (left left' : Option (List ℕ)) → FailsText left left' x e → IfSome left (λ s. DoesMessages job true s (Err e))
+  pub unread_does : (left left' : Option (List ℕ)) → FailsText left left' x e → IfSome left (λ s. DoesMessages q job true s (Err e))
   unread_does None left' h = tt
   unread_does (Some s) left' (inl t) = λ o ms k h le. absurd (not_both (hex_octets s) o e k (stands_not s left' t))
   unread_does (Some s) left' (inr u) = λ o ms k h le. is_fault 4_194_305 (Some s) left' x e u
 
-  pub unread_refuses : (left left' : Option (List ℕ)) → FailsText left left' x e → IfSome left (λ s. RefusesFirst true s (Err e))
+  pub unread_refuses : (left left' : Option (List ℕ)) → FailsText left left' x e → IfSome left (λ s. RefusesFirst q true s (Err e))
   unread_refuses None left' h = tt
   unread_refuses (Some s) left' (inl t) = λ o r ms f k h lt some only. absurd (not_both (hex_octets s) o e k (stands_not s left' t))
   unread_refuses (Some s) left' (inr u) = λ o r ms f k h lt some only. refused_or 4_194_305 (Some s) left' x e (length ms + 1) f u
 
-  pub unread_more : (left left' : Option (List ℕ)) → FailsText left left' x e → IfSome left (λ s. RefusesMore true s (Err e))
+  pub unread_more : (left left' : Option (List ℕ)) → FailsText left left' x e → IfSome left (λ s. RefusesMore q true s (Err e))
   unread_more None left' h = tt
   unread_more (Some s) left' (inl t) = λ o r ms k h many some. absurd (not_both (hex_octets s) o e k (stands_not s left' t))
   unread_more (Some s) left' (inr u) = λ o r ms k h many some. inr (is_fault 4_194_305 (Some s) left' x e u)

@@ -1,11 +1,11 @@
 -- What a comparison of two inputs does.
 use Rattle.std.specs.Prelude.{◌≡◌, ◌⊎◌, ◌↔◌, ℕ, ◌<◌, ◌≤◌, Bool, true, false, List, length, take, codes, Option, Result, Ok, Err, IsTrue}
 use Rattle.std.specs.Io.KnownBytes.{Consumes, Keeps, Appends, IsAtEnd}
-use Rattle.ber_leaf.specs.Profile.{profile_two}
+use Rattle.ber_leaf.specs.Profile.{Profile}
 use Rattle.ill_schema.specs.Apdu.{Apdu, SpellsApdu}
 use Rattle.ill_refusals.specs.Fault.{Fault, fault_of}
 use Rattle.ill_normal.specs.Calls.{Taking, Putting}
-use Rattle.ill_normal.specs.Compared.{RefusesSide}
+use Rattle.ill_normal.specs.Compared.{RefusesSideIn}
 use Rattle.ill_normal.specs.declared.compare.Side.{Side}
 use Rattle.ill_jobs.specs.declared.job.Verdict.{Verdict}
 use Rattle.ill_jobs.specs.declared.fault.RunFault.{RunFault}
@@ -27,14 +27,14 @@ SideFails true left left' source_broken fault = FailsText left left' source_brok
 SideFails false left left' source_broken fault = IsUnread 1_048_577 left left' source_broken fault
 
 -- each is one message, and they are good exactly if they are of one APDU
-abbrev pub Compares : List ℕ → List ℕ → Verdict → Type 0
-Compares s t verdict = (a : Apdu) × (b : Apdu) × SpellsApdu profile_two a s × SpellsApdu profile_two b t × ((verdict ≡ Verdict.Good) ↔ (a ≡ b))
+abbrev pub Compares : Profile → List ℕ → List ℕ → Verdict → Type 0
+Compares q s t verdict = (a : Apdu) × (b : Apdu) × SpellsApdu q a s × SpellsApdu q b t × ((verdict ≡ Verdict.Good) ↔ (a ≡ b))
 
 -- the first side that isn't one message, or out of memory
-abbrev pub NotCompared : List ℕ → List ℕ → RunFault → Type 0
-NotCompared s t (RunFault.RefusedSide side refusal) = RefusesSide s t side (fault_of refusal)
-NotCompared s t RunFault.OutOfMemory = Unit {0}
-NotCompared s t _ = ⊥
+abbrev pub NotCompared : Profile → List ℕ → List ℕ → RunFault → Type 0
+NotCompared q s t (RunFault.RefusedSide side refusal) = RefusesSideIn q s t side (fault_of refusal)
+NotCompared q s t RunFault.OutOfMemory = Unit {0}
+NotCompared q s t _ = ⊥
 
 -- of the line, only a first part was written
 abbrev pub BreaksLine : Verdict → Option (List ℕ) → Option (List ℕ) → Bool → RunFault → Type 0
@@ -42,29 +42,29 @@ BreaksLine verdict held held' sink_broken (RunFault.WriteFault n) =
     IsTrue sink_broken × Appends held held' (take n (verdict_line verdict)) × (n < length (verdict_line verdict))
 BreaksLine verdict held held' sink_broken _ = ⊥
 
-pub record SameDone (hex : Bool) (left left' other other' held held' : Option (List ℕ)) (verdict : Verdict) : Type 0 where
+pub record SameDone (q : Profile) (hex : Bool) (left left' other other' held held' : Option (List ℕ)) (verdict : Verdict) : Type 0 where
   pub first : List ℕ
   pub second : List ℕ
   pub reads_first : ReadsSide hex left left' first
   pub reads_second : ReadsSide hex other other' second
-  pub compares : Compares first second verdict
+  pub compares : Compares q first second verdict
   pub written : Appends held held' (verdict_line verdict)
 
 -- both inputs were read, and they were not compared, or the line was not written
-pub record SameStops (hex : Bool) (one other : Taking) (sink : Putting) (fault : RunFault) : Type 0 where
+pub record SameStops (q : Profile) (hex : Bool) (one other : Taking) (sink : Putting) (fault : RunFault) : Type 0 where
   pub first : List ℕ
   pub second : List ℕ
   pub reads_first : ReadsSide hex one.left one.left' first
   pub reads_second : ReadsSide hex other.left other.left' second
-  pub stops : (NotCompared first second fault × Keeps sink.held sink.held')
-      ⊎ ((verdict : Verdict) × Compares first second verdict × BreaksLine verdict sink.held sink.held' sink.broken fault)
+  pub stops : (NotCompared q first second fault × Keeps sink.held sink.held')
+      ⊎ ((verdict : Verdict) × Compares q first second verdict × BreaksLine verdict sink.held sink.held' sink.broken fault)
 
 -- the first input was not read, and nothing was asked of the second; or the second was not read; or both were
-abbrev pub SameFails : Bool → Taking → Taking → Putting → RunFault → Type 0
-SameFails hex one other sink fault =
+abbrev pub SameFails : Profile → Bool → Taking → Taking → Putting → RunFault → Type 0
+SameFails q hex one other sink fault =
     (SideFails hex one.left one.left' one.broken fault × Keeps other.left other.left' × Keeps sink.held sink.held')
     ⊎ (((first : List ℕ) × ReadsSide hex one.left one.left' first × SideFails hex other.left other.left' other.broken fault × Keeps sink.held sink.held')
-    ⊎ SameStops hex one other sink fault)
+    ⊎ SameStops q hex one other sink fault)
 
 -- the octets of an input that are compared
 abbrev pub side_octets : Bool → List ℕ → Result (List ℕ) RunFault
@@ -76,8 +76,8 @@ SaysSame (Ok verdict) same = (verdict ≡ Verdict.Good) ↔ same
 SaysSame (Err fault) same = IsFault fault
 
 -- two spellings are compared
-abbrev pub ComparesBoth : Bool → List ℕ → List ℕ → Result Verdict RunFault → Type 0
-ComparesBoth hex s t result = (x y : List ℕ) (a b : Apdu) → side_octets hex s ≡ Ok x → side_octets hex t ≡ Ok y → SpellsApdu profile_two a x → SpellsApdu profile_two b y
+abbrev pub ComparesBoth : Profile → Bool → List ℕ → List ℕ → Result Verdict RunFault → Type 0
+ComparesBoth q hex s t result = (x y : List ℕ) (a b : Apdu) → side_octets hex s ≡ Ok x → side_octets hex t ≡ Ok y → SpellsApdu q a x → SpellsApdu q b y
     → SaysSame result (a ≡ b)
 
 abbrev pub IsRefusedSide : RunFault → Side → Fault → Type 0
@@ -89,8 +89,8 @@ AnswersSide (Ok verdict) side f = ⊥
 AnswersSide (Err fault) side f = IsRefusedSide fault side f
 
 -- the first side that is refused is named
-abbrev pub RefusesOne : Bool → List ℕ → List ℕ → Result Verdict RunFault → Type 0
-RefusesOne hex s t result = (x y : List ℕ) (side : Side) (f : Fault) → side_octets hex s ≡ Ok x → side_octets hex t ≡ Ok y → RefusesSide x y side f → AnswersSide result side f
+abbrev pub RefusesOne : Profile → Bool → List ℕ → List ℕ → Result Verdict RunFault → Type 0
+RefusesOne q hex s t result = (x y : List ℕ) (side : Side) (f : Fault) → side_octets hex s ≡ Ok x → side_octets hex t ≡ Ok y → RefusesSideIn q x y side f → AnswersSide result side f
 
 -- the first text that stands for no octets is refused, before either is compared
 abbrev pub RefusesTexts : Bool → List ℕ → List ℕ → Result Verdict RunFault → Type 0

@@ -1,7 +1,7 @@
 -- What a job that goes on after a message that is refused does to its source, its sink and its reports.
 use Rattle.std.specs.Prelude.{◌≡◌, ◌⊎◌, ℕ, ◌+◌, ◌==◌, nat_eq, Bool, true, false, ◌&&◌, List, [], Some}
 use Rattle.std.specs.Io.KnownBytes.{Keeps}
-use Rattle.ber_leaf.specs.Profile.{profile_two}
+use Rattle.ill_schema.specs.Profiles.{profile_of}
 use Rattle.ill_normal.specs.Calls.{Taking, taking, Putting}
 use Rattle.ill_going.specs.declared.going.Gone.{Gone}
 use Rattle.ill_going.specs.declared.going.Halted.{Halted}
@@ -13,7 +13,7 @@ use Rattle.ill_jobs.specs.declared.job.Work.{Work}
 use Rattle.ill_jobs.specs.declared.going.Halt.{Halt}
 use Rattle.ill_jobs.specs.declared.job.Job.{Job}
 use Rattle.ill_jobs.specs.declared.job.Verdict.{Verdict}
-use Rattle.ill_jobs.specs.Output.{message_output, counts_as_good, verdict_if}
+use Rattle.ill_jobs.specs.Output.{message_output, is_counted_good, verdict_if}
 use Rattle.ill_jobs.specs.Ran.{TextOf, FailsText}
 
 -- why a job went no further, where this many octets were written
@@ -31,16 +31,16 @@ gone_before messages refused good octets =
 -- how far a job came that was halted, and why no further
 abbrev pub HaltsFor : Work → Taking → Putting → Reporting → Halt → Type 0
 HaltsFor work source sink reports halt =
-    (halted : Halted) × HaltsAfter profile_two (message_output work) (counts_as_good work.job work.compares) source sink reports halted
+    (halted : Halted) × HaltsAfter (profile_of work.profile) (message_output work) (is_counted_good work) source sink reports halted
     × (halt.fault ≡ halt_fault halted.written halted.why)
     × (halt.before ≡ gone_before halted.messages halted.refused halted.good halted.octets)
 
 -- the messages of an input were gone through, which is read as octets, or as hexadecimal text
 abbrev pub GoesOn : Bool → Work → Taking → Putting → Reporting → Gone → Type 0
-GoesOn false work source sink reports gone = GoesThrough profile_two (message_output work) (counts_as_good work.job work.compares) source sink reports gone
+GoesOn false work source sink reports gone = GoesThrough (profile_of work.profile) (message_output work) (is_counted_good work) source sink reports gone
 GoesOn true work source sink reports gone =
     (octets : List ℕ) × TextOf source.left source.left' octets
-    × ((rest : List ℕ) × GoesThrough profile_two (message_output work) (counts_as_good work.job work.compares) (taking (Some octets) (Some rest) false) sink reports gone)
+    × ((rest : List ℕ) × GoesThrough (profile_of work.profile) (message_output work) (is_counted_good work) (taking (Some octets) (Some rest) false) sink reports gone)
 
 -- they were not
 abbrev pub GoesOnFails : Bool → Work → Taking → Putting → Reporting → Halt → Type 0

@@ -4,10 +4,12 @@ use Rattle.std.specs.List.{list_all}
 use Rattle.std.specs.Str.{bytes_eq}
 use Rattle.hex.specs.Hex.{encode_lower}
 use Rattle.sha2.specs.Sha256.{sha256}
-use Rattle.ill_schema.specs.Apdu.{normal_form}
-use Rattle.ill_schema.specs.Names.{apdu_name_of}
-use Rattle.ill_text.specs.Shown.{name_or_none, shown_text}
-use Rattle.ill_json.specs.Json.{json_line_of}
+use Rattle.ber_leaf.specs.Profile.{Profile}
+use Rattle.ill_schema.specs.Apdu.{normal_form_in}
+use Rattle.ill_schema.specs.Names.{apdu_name_in}
+use Rattle.ill_schema.specs.Profiles.{profile_of}
+use Rattle.ill_text.specs.Shown.{name_or_none, shown_text_in}
+use Rattle.ill_json.specs.Json.{json_line_in}
 use Rattle.ill_json.specs.declared.line.Head.{Head}
 use Rattle.ill_normal.specs.Messages.{Spelling, first, output_from, good_of}
 use Rattle.ill_normal.specs.declared.messages.Position.{Position}
@@ -16,28 +18,30 @@ use Rattle.ill_jobs.specs.declared.job.Job.{Job}
 use Rattle.ill_jobs.specs.declared.job.Verdict.{Verdict}
 use Rattle.ill_jobs.specs.declared.job.Work.{Work}
 
--- the octets are the normal form
-abbrev pub is_normal : Spelling → Bool
-is_normal m = bytes_eq m.octets (normal_form m.apdu)
+-- the octets are the normal form in the profile
+abbrev pub is_normal : Profile → Spelling → Bool
+is_normal q m = bytes_eq m.octets (normal_form_in q m.apdu)
 
 abbrev pub check_end : Bool → ℕ → List ℕ
 check_end true size = codes "normal\n"
 check_end false size = codes "not normal, normal form " ++ decimal size ++ codes " octets\n"
 
--- what `check` says of message i, after a label: the number of its APDU, how many octets it had, whether they are its normal form, and how many that has
-abbrev pub line_of_check : List ℕ → ℕ → ℕ → ℕ → Bool → ℕ → List ℕ
-line_of_check label i number octets normal size = label ++ codes "message " ++ decimal i ++ codes ": " ++ name_or_none (apdu_name_of number) ++ codes ", "
+-- what `check` says of message i of the profile, after a label: the number of its APDU, how many octets it had, whether they are its normal form, and how
+-- many that has
+abbrev pub line_of_check : Profile → List ℕ → ℕ → ℕ → ℕ → Bool → ℕ → List ℕ
+line_of_check q label i number octets normal size =
+    label ++ codes "message " ++ decimal i ++ codes ": " ++ name_or_none (apdu_name_in q number) ++ codes ", "
     ++ decimal octets ++ codes " octets, " ++ check_end normal size
 
-abbrev pub check_line : List ℕ → ℕ → Spelling → List ℕ
-check_line label i m = line_of_check label i m.apdu.number (length m.octets) (is_normal m) (length (normal_form m.apdu))
+abbrev pub check_line : Profile → List ℕ → ℕ → Spelling → List ℕ
+check_line q label i m = line_of_check q label i m.apdu.number (length m.octets) (is_normal q m) (length (normal_form_in q m.apdu))
 
 -- what `digest` says of message i of the input of this name: the digest of its normal form (FIPS 180-4, 6.2), the name and the number
 abbrev pub line_of_digest : List ℕ → List ℕ → ℕ → List ℕ
 line_of_digest digest name i = encode_lower digest ++ codes "  " ++ name ++ codes ":" ++ decimal i ++ codes "\n"
 
-abbrev pub digest_line : List ℕ → ℕ → Spelling → List ℕ
-digest_line name i m = line_of_digest (sha256 (normal_form m.apdu)) name i
+abbrev pub digest_line : Profile → List ℕ → ℕ → Spelling → List ℕ
+digest_line q name i m = line_of_digest (sha256 (normal_form_in q m.apdu)) name i
 
 -- what the lines of an input begin with: its name, or nothing
 abbrev pub label_of : Bool → List ℕ → List ℕ
@@ -53,44 +57,55 @@ file_of false name = None
 abbrev pub head_of : Position → ℕ → Bool → Head
 head_of p octets normal = record { number = p.number; offset = p.offset; octets = octets; is_normal = normal }
 
--- what is written of the message at this position of the input of this name, which is named or not
-abbrev pub message_text : Job → Bool → List ℕ → Bool → Position → Spelling → List ℕ
-message_text Job.Show hex name named p m = label_of named name ++ shown_text p.number m.apdu
-message_text Job.Json hex name named p m = json_line_of (file_of named name) (head_of p (length m.octets) (is_normal m)) m.apdu
-message_text Job.Check hex name named p m = check_line (label_of named name) p.number m
-message_text Job.Digest hex name named p m = digest_line name p.number m
-message_text Job.Canonicalise false name named p m = normal_form m.apdu
-message_text Job.Canonicalise true name named p m = encode_lower (normal_form m.apdu) ++ codes "\n"
+-- what is written of the message of the profile at this position of the input of this name, which is named or not
+abbrev pub message_text : Profile → Job → Bool → List ℕ → Bool → Position → Spelling → List ℕ
+message_text q Job.Show hex name named p m = label_of named name ++ shown_text_in q p.number m.apdu
+message_text q Job.Json hex name named p m = json_line_in q (file_of named name) (head_of p (length m.octets) (is_normal q m)) m.apdu
+message_text q Job.Check hex name named p m = check_line q (label_of named name) p.number m
+message_text q Job.Digest hex name named p m = digest_line q name p.number m
+message_text q Job.Canonicalise false name named p m = normal_form_in q m.apdu
+message_text q Job.Canonicalise true name named p m = encode_lower (normal_form_in q m.apdu) ++ codes "\n"
+
+-- what a job writes of it, where this is the work
+abbrev pub text_by : Job → Work → Position → Spelling → List ℕ
+text_by job work = message_text (profile_of work.profile) job work.hex work.name.now work.is_named
 
 abbrev pub message_output : Work → Position → Spelling → List ℕ
-message_output work = message_text work.job work.hex work.name.now work.is_named
+message_output work = text_by work.job work
 
 -- what is written of the messages of an input
 abbrev pub output : Work → List Spelling → List ℕ
 output work ms = output_from (message_output work) first ms
 
 -- what `check` is asked for, and no other job
-abbrev pub is_good : Job → Spelling → Bool
-is_good Job.Check m = is_normal m
-is_good _ m = true
+abbrev pub is_good : Profile → Job → Spelling → Bool
+is_good q Job.Check m = is_normal q m
+is_good q _ m = true
 
 -- what counts as good: what is in normal form, where messages are compared, else every message
-abbrev pub good_if : Bool → Spelling → Bool
-good_if true m = is_normal m
-good_if false m = true
+abbrev pub good_if : Profile → Bool → Spelling → Bool
+good_if q true m = is_normal q m
+good_if q false m = true
 
-abbrev pub counts_as_good : Job → Bool → Spelling → Bool
-counts_as_good Job.Check compares m = is_normal m
-counts_as_good Job.Json compares m = is_normal m
-counts_as_good _ compares m = good_if compares m
+abbrev pub counts_as_good : Profile → Job → Bool → Spelling → Bool
+counts_as_good q Job.Check compares m = is_normal q m
+counts_as_good q Job.Json compares m = is_normal q m
+counts_as_good q _ compares m = good_if q compares m
+
+-- what counts as good to a job, where this is the work
+abbrev pub good_by : Job → Work → Spelling → Bool
+good_by job work = counts_as_good (profile_of work.profile) job work.compares
+
+abbrev pub is_counted_good : Work → Spelling → Bool
+is_counted_good work = good_by work.job work
 
 -- the numbers of messages that have these octets
 abbrev pub counts_of : Work → List ℕ → List Spelling → Counts
-counts_of work octets ms = record { messages = length ms; good = good_of (counts_as_good work.job work.compares) ms; octets = length octets }
+counts_of work octets ms = record { messages = length ms; good = good_of (is_counted_good work) ms; octets = length octets }
 
 abbrev pub verdict_if : Bool → Verdict
 verdict_if true = Verdict.Good
 verdict_if false = Verdict.NotGood
 
-abbrev pub verdict_of : Job → List Spelling → Verdict
-verdict_of job ms = verdict_if (list_all (is_good job) ms)
+abbrev pub verdict_of : Profile → Job → List Spelling → Verdict
+verdict_of q job ms = verdict_if (list_all (is_good q job) ms)

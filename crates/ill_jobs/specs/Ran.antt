@@ -1,8 +1,10 @@
 -- What a job does to its source and its sink.
 use Rattle.std.specs.Prelude.{◌≡◌, ◌⊎◌, ℕ, ◌+◌, ◌<◌, ◌≤◌, Bool, true, false, List, [], ◌∷◌, ◌++◌, length, take, codes, Option, Some, Result, Ok, Err, IfSome, IsTrue}
 use Rattle.std.specs.Io.KnownBytes.{Consumes, Keeps, Appends, IsAtEnd}
-use Rattle.ber_leaf.specs.Profile.{profile_two}
+use Rattle.ber_leaf.specs.Profile.{Profile}
 use Rattle.ill_schema.specs.Apdu.{SpellsApdu}
+use Rattle.ill_schema.specs.Profiles.{profile_of}
+use Rattle.ill_schema.specs.declared.profile.Profile.{Profile as Named}
 use Rattle.ill_refusals.specs.Fault.{Fault, fault_of}
 use Rattle.ill_read.specs.declared.failure.ReadFailure.{ReadFailure}
 use Rattle.ill_read.specs.Answers.{TakesFront}
@@ -13,7 +15,7 @@ use Rattle.ill_jobs.specs.declared.job.Job.{Job}
 use Rattle.ill_jobs.specs.declared.job.Verdict.{Verdict}
 use Rattle.ill_jobs.specs.declared.job.Work.{Work}
 use Rattle.ill_jobs.specs.declared.fault.RunFault.{RunFault}
-use Rattle.ill_normal.specs.Messages.{Spelling, AreSpelled, TakesNoFurther}
+use Rattle.ill_normal.specs.Messages.{Spelling, AreSpelledIn, TakesNoFurtherIn}
 use Rattle.ill_normal.specs.Messages as messages
 use Rattle.ill_jobs.specs.Output.{counts_of, message_output, output, verdict_of}
 use Rattle.ill_jobs.specs.Hexadecimal.{hex_octets, TakesText}
@@ -21,12 +23,12 @@ use Rattle.ill_jobs.specs.Unread.{TakesAtMost}
 
 -- the octets that were taken are these messages, and their output was written
 abbrev pub Writes : Work → Option (List ℕ) → Option (List ℕ) → Option (List ℕ) → Option (List ℕ) → List Spelling → Type 0
-Writes work left left' held held' ms = messages.WritesIn profile_two (message_output work) left left' held held' ms
+Writes work left left' held held' ms = messages.WritesIn (profile_of work.profile) (message_output work) left left' held held' ms
 
 -- where a sink broke: of the output, with that of one message more, the first n octets were written
 pub record BrokeAt (work : Work) (left left' held held' : Option (List ℕ)) (messages : List Spelling) (n : ℕ) : Type 0 where
   pub message : Spelling
-  pub spells : SpellsApdu profile_two message.apdu message.octets
+  pub spells : SpellsApdu (profile_of work.profile) message.apdu message.octets
   pub taken : Consumes left left' message.octets
   pub written : Appends held held' (take n (output work (messages ++ message ∷ [])))
   pub some : length (output work messages) ≤ n
@@ -36,12 +38,12 @@ pub record BrokeAt (work : Work) (left left' held held' : Option (List ℕ)) (me
 abbrev pub Stops : Work → Taking → Putting → Option (List ℕ) → List Spelling → RunFault → Type 0
 Stops work source sink first ms (RunFault.Refused message refusal) =
     (message ≡ length ms + 1) × (length ms < 1_000_000)
-    × IfSome source.left (λ s. (0 < length s) × OnlyRefuses profile_two s (fault_of refusal)) × Keeps sink.held sink.held'
+    × IfSome source.left (λ s. (0 < length s) × OnlyRefuses (profile_of work.profile) s (fault_of refusal)) × Keeps sink.held sink.held'
 Stops work source sink first ms RunFault.TooManyMessages =
     (length ms ≡ 1_000_000) × ((octet : ℕ) × Consumes source.left source.left' (octet ∷ [])) × Keeps sink.held sink.held'
 Stops work source sink first ms RunFault.OutOfMemory = (length ms < 1_000_000) × Keeps sink.held sink.held'
 Stops work source sink first ms RunFault.ReadFault =
-    (length ms ≤ 1_000_000) × IsTrue source.broken × TakesNoFurther (length ms) source.left source.left' × Keeps sink.held sink.held'
+    (length ms ≤ 1_000_000) × IsTrue source.broken × TakesNoFurtherIn (profile_of work.profile) (length ms) source.left source.left' × Keeps sink.held sink.held'
 Stops work source sink first ms (RunFault.WriteFault n) =
     (length ms < 1_000_000) × IsTrue sink.broken × BrokeAt work source.left source.left' first sink.held' ms n
 Stops work source sink first ms _ = ⊥
@@ -69,7 +71,7 @@ pub record Done (work : Work) (left left' held held' : Option (List ℕ)) (count
   pub counted : counts ≡ counts_of work writes.octets messages
   pub end : IsAtEnd left'
   pub few : length messages ≤ 1_000_000
-  pub is_verdict : verdict ≡ verdict_of work.job messages
+  pub is_verdict : verdict ≡ verdict_of (profile_of work.profile) work.job messages
 
 -- a text was taken that stands for these octets
 pub record TextOf (left left' : Option (List ℕ)) (octets : List ℕ) : Type 0 where
@@ -105,8 +107,9 @@ RunFails true work source sink counts fault =
     (FailsText source.left source.left' source.broken fault × Keeps sink.held sink.held' × (counts ≡ counts_of work [] []))
     ⊎ ((octets : List ℕ) × TextOf source.left source.left' octets × ((rest : List ℕ) × StopsAfter work (taking (Some octets) (Some rest) false) sink counts fault))
 
--- the work of a job on an input that no line names
-pub record IsUnnamed (job : Job) (hex : Bool) (work : Work) : Type 0 where
+-- the work of a job on an input that no line names, of messages of the profile
+pub record IsUnnamed (q : Named) (job : Job) (hex : Bool) (work : Work) : Type 0 where
+  pub profile : work.profile ≡ q
   pub same_job : work.job ≡ job
   pub same_hex : work.hex ≡ hex
   pub name : work.name.now ≡ codes "-"
@@ -114,16 +117,16 @@ pub record IsUnnamed (job : Job) (hex : Bool) (work : Work) : Type 0 where
   pub not_compared : work.compares ≡ false
 
 -- a job was done on an input that no line names
-pub record JobDone (job : Job) (hex : Bool) (source : Taking) (sink : Putting) (verdict : Verdict) : Type 0 where
+pub record JobDone (q : Named) (job : Job) (hex : Bool) (source : Taking) (sink : Putting) (verdict : Verdict) : Type 0 where
   pub work : Work
-  pub unnamed : IsUnnamed job hex work
+  pub unnamed : IsUnnamed q job hex work
   pub counts : Counts
   pub done : RunDone hex work source.left source.left' sink.held sink.held' counts verdict
 
 -- it was not
-pub record JobFails (job : Job) (hex : Bool) (source : Taking) (sink : Putting) (fault : RunFault) : Type 0 where
+pub record JobFails (q : Named) (job : Job) (hex : Bool) (source : Taking) (sink : Putting) (fault : RunFault) : Type 0 where
   pub work : Work
-  pub unnamed : IsUnnamed job hex work
+  pub unnamed : IsUnnamed q job hex work
   pub counts : Counts
   pub fails : RunFails hex work source sink counts fault
 
@@ -158,18 +161,18 @@ octets_of_input false s = Ok s
 octets_of_input true s = hex_octets s
 
 -- at most 1,000,000 messages to the end are done
-abbrev pub DoesMessages : Job → Bool → List ℕ → Result Verdict RunFault → Type 0
-DoesMessages job hex s result = (octets : List ℕ) (ms : List Spelling) → octets_of_input hex s ≡ Ok octets → AreSpelled octets ms [] → length ms ≤ 1_000_000
-    → AnswersVerdict result (verdict_of job ms)
+abbrev pub DoesMessages : Profile → Job → Bool → List ℕ → Result Verdict RunFault → Type 0
+DoesMessages q job hex s result = (octets : List ℕ) (ms : List Spelling) → octets_of_input hex s ≡ Ok octets → AreSpelledIn q octets ms []
+    → length ms ≤ 1_000_000 → AnswersVerdict result (verdict_of q job ms)
 
 -- the first message that is refused is named
-abbrev pub RefusesFirst : Bool → List ℕ → Result Verdict RunFault → Type 0
-RefusesFirst hex s result = (octets rest : List ℕ) (ms : List Spelling) (f : Fault) → octets_of_input hex s ≡ Ok octets → AreSpelled octets ms rest
-    → length ms < 1_000_000 → 0 < length rest → OnlyRefuses profile_two rest f → AnswersRefused result (length ms + 1) f
+abbrev pub RefusesFirst : Profile → Bool → List ℕ → Result Verdict RunFault → Type 0
+RefusesFirst q hex s result = (octets rest : List ℕ) (ms : List Spelling) (f : Fault) → octets_of_input hex s ≡ Ok octets → AreSpelledIn q octets ms rest
+    → length ms < 1_000_000 → 0 < length rest → OnlyRefuses q rest f → AnswersRefused result (length ms + 1) f
 
 -- more messages are too many
-abbrev pub RefusesMore : Bool → List ℕ → Result Verdict RunFault → Type 0
-RefusesMore hex s result = (octets rest : List ℕ) (ms : List Spelling) → octets_of_input hex s ≡ Ok octets → AreSpelled octets ms rest
+abbrev pub RefusesMore : Profile → Bool → List ℕ → Result Verdict RunFault → Type 0
+RefusesMore q hex s result = (octets rest : List ℕ) (ms : List Spelling) → octets_of_input hex s ≡ Ok octets → AreSpelledIn q octets ms rest
     → length ms ≡ 1_000_000 → 0 < length rest → AnswersFault result RunFault.TooManyMessages
 
 -- a text that stands for no octets is refused

@@ -1,9 +1,9 @@
 //! Jobs that go on after a message that is refused.
 ghost use Rattle.std.specs.Prelude.{◌≡◌, ◌+◌, ◌≤◌, IfOk, IfErr, IsTrue};
-ghost use Rattle.ber_leaf.specs.Profile.{profile_two};
+ghost use Rattle.ill_schema.specs.Profiles.{profile_of};
 ghost use Rattle.ill_normal.specs.Calls.{taking, putting};
 ghost use Rattle.ill_going.specs.Gone.{GoesThrough, reporting};
-ghost use Rattle.ill_jobs.specs.Output.{message_output, counts_as_good};
+ghost use Rattle.ill_jobs.specs.Output.{message_output, is_counted_good};
 ghost use Rattle.ill_jobs.specs.Going.{gone_before, halt_fault, GoesOn, GoesOnFails, HaltsFor, verdict_of_gone};
 
 use crate::fault::RunFault;
@@ -94,7 +94,7 @@ fn go_on<R: Source, L: Look<R>, W: Sink, T: Reports>(
     sink: &mut W,
     reports: &mut T,
 ) -> Result<Gone, Halt>
-    ensures through { IfOk result (GoesThrough profile_two (message_output work.entry) (counts_as_good work.entry.job work.entry.compares) (taking (R.left source.old) (R.left source.new) (R.is_broken source.new))
+    ensures through { IfOk result (GoesThrough (profile_of work.entry.profile) (message_output work.entry) (is_counted_good work.entry) (taking (R.left source.old) (R.left source.new) (R.is_broken source.new))
         (putting (W.contents sink.old) (W.contents sink.new) (W.is_broken sink.new)) (reporting (T.reported reports.old) (T.reported reports.new))) }
     ensures halts { IfErr result (HaltsFor work.entry (taking (R.left source.old) (R.left source.new) (R.is_broken source.new))
         (putting (W.contents sink.old) (W.contents sink.new) (W.is_broken sink.new)) (reporting (T.reported reports.old) (T.reported reports.new))) }

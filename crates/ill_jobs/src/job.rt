@@ -1,7 +1,9 @@
 //! What is to be done with the messages of an input, and what came of it.
 ghost use Rattle.std.specs.Prelude.{◌≡◌, codes, false};
+ghost use Rattle.ill_schema.specs.declared.profile.Profile.{Profile as Named};
 
 use crate::fault::RunFault;
+use ill_schema::Profile;
 
 /// What is written for each message of an input.
 #[derive(Clone, Copy, Debug, PartialEq, Eq)]
@@ -22,6 +24,8 @@ pub enum Job {
 #[derive(Clone, Copy, Debug, PartialEq, Eq)]
 pub struct Work<'a> {
     pub job: Job,
+    /// The profile that messages are read in.
+    pub profile: Profile,
     /// Whether the input is hexadecimal text, and each normal form is written as such, a line for each message.
     pub hex: bool,
     /// The name of the input.
@@ -33,9 +37,11 @@ pub struct Work<'a> {
 }
 
 impl Work<'_> {
-    /// The work on an input that no line needs to name, such as standard input: its name is `-`. Messages are compared by `Check` and `Json` alone.
+    /// The work on an input that no line needs to name, such as standard input: its name is `-`. Messages are read in profile 2, and
+    /// compared by `Check` and `Json` alone.
     pub fn new(job: Job, hex: bool) -> Work<'static>
         ensures job { result.job ≡ job }
+        ensures profile { result.profile ≡ Named.Two }
         ensures hex { result.hex ≡ hex }
         ensures name { result.name.now ≡ codes "-" }
         ensures not_named { result.is_named ≡ false }
@@ -43,6 +49,7 @@ impl Work<'_> {
     {
         Work {
             job,
+            profile: Profile::Two,
             hex,
             name: "-",
             is_named: false,

@@ -20,6 +20,6 @@ pub use going::{Halt, run_on, run_on_by, verdict_of};
 pub use hexadecimal::text_octets;
 pub use ill_going::{Gone, Report, Reports};
 pub use job::{Counts, Job, Ran, Verdict, Work};
-pub use messages::{run, run_by, run_work};
-pub use same::run_same;
+pub use messages::{run, run_as, run_by, run_work};
+pub use same::{run_same, run_same_as};
 pub use text::{Unread, read_most};

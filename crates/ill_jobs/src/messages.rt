@@ -1,5 +1,8 @@
 //! Jobs on the messages of one input.
 ghost use Rattle.std.specs.Prelude.{◌≡◌, ◌<◌, false, IfOk, IfErr, IfSome, IsTrue};
+ghost use Rattle.ber_leaf.specs.Profile.{profile_two};
+ghost use Rattle.ill_schema.specs.Profiles.{profile_of};
+ghost use Rattle.ill_schema.specs.declared.profile.Profile.{Profile as Named};
 ghost use Rattle.ill_normal.specs.Calls.{taking, putting};
 ghost use Rattle.ill_jobs.specs.declared.job.Counts.{Counts};
 ghost use Rattle.ill_jobs.specs.code.Endings.{counts_with, run_fault, verdict_by};
@@ -10,6 +13,7 @@ use crate::hexadecimal::read_hex;
 use crate::job::{Counts, Job, Ran, Verdict, Work};
 use ber_core::{AtHand, FromSlice, Look, Sink, Source, Unseen};
 use ill_normal::{ReadFailure, Stopped, Why, each_message};
+use ill_schema::Profile;
 use std::alloc::Global;
 
 /// Does a job with the messages of an input that no line names, one after another up to its end. With
@@ -35,21 +39,61 @@ pub fn run<R: Source, W: Sink>(
     sink: &mut W,
 ) -> Result<Verdict, RunFault>
     // The input was messages to its end, and their output was written.
-    ensures done { IfOk result (JobDone job hex
+    ensures done { IfOk result (JobDone Named.Two job hex
         (taking (R.left source.old) (R.left source.new) (R.is_broken source.new))
         (putting (W.contents sink.old) (W.contents sink.new) (W.is_broken sink.new))) }
-    ensures fails { IfErr result (JobFails job hex
+    ensures fails { IfErr result (JobFails Named.Two job hex
         (taking (R.left source.old) (R.left source.new) (R.is_broken source.new))
         (putting (W.contents sink.old) (W.contents sink.new) (W.is_broken sink.new))) }
     // Each input has one result, unless memory, the source or the sink fails.
-    ensures does { IfSome (R.left source.old) (λ s. DoesMessages job hex s result) }
-    ensures refuses { IfSome (R.left source.old) (λ s. RefusesFirst hex s result) }
-    ensures too_many { IfSome (R.left source.old) (λ s. RefusesMore hex s result) }
+    ensures does { IfSome (R.left source.old) (λ s. DoesMessages profile_two job hex s result) }
+    ensures refuses { IfSome (R.left source.old) (λ s. RefusesFirst profile_two hex s result) }
+    ensures too_many { IfSome (R.left source.old) (λ s. RefusesMore profile_two hex s result) }
     ensures no_hex { IfSome (R.left source.old) (λ s. RefusesText hex s result) }
     ensures source_stays { IsTrue (R.is_broken source.old) → IsTrue (R.is_broken source.new) }
     ensures sink_stays { IsTrue (W.is_broken sink.old) → IsTrue (W.is_broken sink.new) }
 {
-    let work = Work::new(job, hex);
+    run_as(alloc, Profile::Two, job, hex, source, sink)
+}
+
+/// Does a job as [`run`] does, with messages of the profile.
+///
+/// # Errors
+///
+/// Those of [`run`], in the profile.
+///
+/// # Examples
+///
+/// ```
+/// let verdict = run_as(alloc, Profile::Module, Job::Check, false, &mut source, &mut sink)?;
+/// ```
+pub fn run_as<R: Source, W: Sink>(
+    alloc: Global,
+    profile: Profile,
+    job: Job,
+    hex: bool,
+    source: &mut R,
+    sink: &mut W,
+) -> Result<Verdict, RunFault>
+    // The input was messages to its end, and their output was written.
+    ensures done { IfOk result (JobDone profile job hex
+        (taking (R.left source.old) (R.left source.new) (R.is_broken source.new))
+        (putting (W.contents sink.old) (W.contents sink.new) (W.is_broken sink.new))) }
+    ensures fails { IfErr result (JobFails profile job hex
+        (taking (R.left source.old) (R.left source.new) (R.is_broken source.new))
+        (putting (W.contents sink.old) (W.contents sink.new) (W.is_broken sink.new))) }
+    // Each input has one result, unless memory, the source or the sink fails.
+    ensures does { IfSome (R.left source.old) (λ s. DoesMessages (profile_of profile) job hex s result) }
+    ensures refuses { IfSome (R.left source.old) (λ s. RefusesFirst (profile_of profile) hex s result) }
+    ensures too_many { IfSome (R.left source.old) (λ s. RefusesMore (profile_of profile) hex s result) }
+    ensures no_hex { IfSome (R.left source.old) (λ s. RefusesText hex s result) }
+    ensures source_stays { IsTrue (R.is_broken source.old) → IsTrue (R.is_broken source.new) }
+    ensures sink_stays { IsTrue (W.is_broken sink.old) → IsTrue (W.is_broken sink.new) }
+{
+    let work = Work {
+        profile,
+        ..Work::new(job, hex)
+    };
     run_work(alloc, work, source, sink)
 }
 
@@ -78,9 +122,9 @@ pub fn run_work<R: Source, W: Sink>(
         (taking (R.left source.old) (R.left source.new) (R.is_broken source.new))
         (putting (W.contents sink.old) (W.contents sink.new) (W.is_broken sink.new)) counts fault) }
     // Each input has one result, unless memory, the source or the sink fails.
-    ensures does { IfSome (R.left source.old) (λ s. DoesMessages work.entry.job work.entry.hex s result) }
-    ensures refuses { IfSome (R.left source.old) (λ s. RefusesFirst work.entry.hex s result) }
-    ensures too_many { IfSome (R.left source.old) (λ s. RefusesMore work.entry.hex s result) }
+    ensures does { IfSome (R.left source.old) (λ s. DoesMessages (profile_of work.entry.profile) work.entry.job work.entry.hex s result) }
+    ensures refuses { IfSome (R.left source.old) (λ s. RefusesFirst (profile_of work.entry.profile) work.entry.hex s result) }
+    ensures too_many { IfSome (R.left source.old) (λ s. RefusesMore (profile_of work.entry.profile) work.entry.hex s result) }
     ensures no_hex { IfSome (R.left source.old) (λ s. RefusesText work.entry.hex s result) }
     ensures source_stays { IsTrue (R.is_broken source.old) → IsTrue (R.is_broken source.new) }
     ensures sink_stays { IsTrue (W.is_broken sink.old) → IsTrue (W.is_broken sink.new) }
@@ -107,9 +151,9 @@ pub fn run_by<R: Source, L: Look<R>, W: Sink>(
         (taking (R.left source.old) (R.left source.new) (R.is_broken source.new))
         (putting (W.contents sink.old) (W.contents sink.new) (W.is_broken sink.new)) result.counts) }
     // Each input has one result, unless memory, the source or the sink fails.
-    ensures does { IfSome (R.left source.old) (λ s. DoesMessages work.entry.job work.entry.hex s result.result) }
-    ensures refuses { IfSome (R.left source.old) (λ s. RefusesFirst work.entry.hex s result.result) }
-    ensures too_many { IfSome (R.left source.old) (λ s. RefusesMore work.entry.hex s result.result) }
+    ensures does { IfSome (R.left source.old) (λ s. DoesMessages (profile_of work.entry.profile) work.entry.job work.entry.hex s result.result) }
+    ensures refuses { IfSome (R.left source.old) (λ s. RefusesFirst (profile_of work.entry.profile) work.entry.hex s result.result) }
+    ensures too_many { IfSome (R.left source.old) (λ s. RefusesMore (profile_of work.entry.profile) work.entry.hex s result.result) }
     ensures no_hex { IfSome (R.left source.old) (λ s. RefusesText work.entry.hex s result.result) }
     ensures source_stays { IsTrue (R.is_broken source.old) → IsTrue (R.is_broken source.new) }
     ensures sink_stays { IsTrue (W.is_broken sink.old) → IsTrue (W.is_broken sink.new) }

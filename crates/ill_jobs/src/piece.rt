@@ -1,29 +1,28 @@
 //! What a job makes of one message.
 ghost use Rattle.std.specs.Prelude.{◌≡◌, ◌^◌, ◌≤◌, ℕ, List, ◌++◌, codes, length, option_map, IfOk, OnOk};
 ghost use Rattle.hex.specs.Hex.{encode_lower};
-ghost use Rattle.ill_read.specs.Answers.{ReadsNext};
+ghost use Rattle.ill_read.specs.Answers.{ReadsNextIn};
 ghost use Rattle.ill_read.specs.Outline.{IsOutlineOf};
-ghost use Rattle.ber_leaf.specs.Profile.{profile_two};
-ghost use Rattle.ill_schema.specs.Apdu.{Apdu, SpellsApdu, normal_form};
-ghost use Rattle.ill_schema.specs.declared.profile.Profile.{Profile as Named};
-ghost use Rattle.ill_text.specs.Shown.{shown_text};
+ghost use Rattle.ill_schema.specs.Apdu.{Apdu, SpellsApdu, normal_form_in};
+ghost use Rattle.ill_schema.specs.Profiles.{profile_of};
+ghost use Rattle.ill_text.specs.Shown.{shown_text_in};
 ghost use Rattle.ill_jobs.specs.declared.job.Job.{Job};
-ghost use Rattle.ill_normal.specs.Messages.{Makes};
-ghost use Rattle.ill_jobs.specs.Output.{check_end, counts_as_good, file_of, good_if, head_of, label_of, line_of_check, line_of_digest, message_output, message_text};
+ghost use Rattle.ill_jobs.specs.Output.{check_end, file_of, head_of, label_of, line_of_check, line_of_digest};
 ghost use Rattle.ill_jobs.specs.code.Finding.{IsFound};
-ghost use Rattle.ill_jobs.specs.code.Writing.{IsWritten};
+ghost use Rattle.ill_jobs.specs.code.Writing.{IsMade, IsMadeForm, IsWritten};
 
 use crate::job::{Job, Work};
 use crate::written::Written;
 use ber_core::{Look, Source};
 use ill_digest::normal_digest;
-use ill_json::{Head, json_line};
+use ill_json::{Head, json_line_as};
 use ill_normal::{
-    Checked, Maker, NormalForms, NormalReader, Piece, Position, ReadFailure, apdu_name,
-    check_one_in,
+    Checked, Maker, NormalFormsIn, NormalReader, Piece, Position, ReadFailure, apdu_name_as,
+    check_one_in_as,
 };
 use ill_read::{Outline, OutlineReader};
-use ill_text::{Text, outline_of};
+use ill_schema::Profile;
+use ill_text::{Text, outline_as};
 use itoa::Buffer;
 use std::alloc::{AllocError, Global};
 
@@ -42,13 +41,13 @@ impl Maker for Work<'_> {
 
     type Reader = Readers;
 
-    ghost use Rattle.ill_jobs.specs.Output.{counts_as_good, message_output};
+    ghost use Rattle.ill_jobs.specs.Output.{is_counted_good, message_output};
 
-    ghost profile = { λ _. Named.Two };
+    ghost profile = { λ work. work.profile };
 
     ghost text = { λ work. message_output work };
 
-    ghost is_good = { λ work. counts_as_good work.job work.compares };
+    ghost is_good = { λ work. is_counted_good work };
 
     fn reader(alloc: Global) -> Readers {
         Readers {
@@ -78,8 +77,8 @@ fn next_piece<R: Source, L: Look<R>>(
     source: &mut R,
     room: Written,
 ) -> Result<Option<Piece<Written>>, ReadFailure>
-    ensures { ReadsNext (R.left source.old) (R.left source.new) (R.is_broken source.old) (R.is_broken source.new)
-        (Makes IsWritten (message_output work.entry position) (counts_as_good work.entry.job work.entry.compares)) result }
+    ensures { ReadsNextIn (profile_of work.entry.profile) (R.left source.old) (R.left source.new) (R.is_broken source.old) (R.is_broken source.new)
+        (IsMade work.entry.job work.entry position) result }
 {
     match work.job {
         Job::Show => shown::<R, L>(alloc, readers, work, position, source, room),
@@ -107,11 +106,19 @@ fn shown<R: Source, L: Look<R>>(
     source: &mut R,
     room: Written,
 ) -> Result<Option<Piece<Written>>, ReadFailure>
-    ensures { ReadsNext (R.left source.old) (R.left source.new) (R.is_broken source.old) (R.is_broken source.new)
-        (Makes IsWritten (message_text Job.Show work.entry.hex work.entry.name.now work.entry.is_named position) (counts_as_good Job.Show work.entry.compares)) result }
+    ensures { ReadsNextIn (profile_of work.entry.profile) (R.left source.old) (R.left source.new) (R.is_broken source.old) (R.is_broken source.new)
+        (IsMade Job.Show work.entry position) result }
 {
     let (octets, outline) = room.into_both(alloc);
-    let Some(found) = outlined::<R, L>(alloc, readers, work.compares, source, outline)? else {
+    let Some(found) = outlined::<R, L>(
+        alloc,
+        readers,
+        work.profile,
+        work.compares,
+        source,
+        outline,
+    )?
+    else {
         return Ok(None);
     };
     let Found {
@@ -137,15 +144,22 @@ fn json<R: Source, L: Look<R>>(
     source: &mut R,
     room: Written,
 ) -> Result<Option<Piece<Written>>, ReadFailure>
-    ensures { ReadsNext (R.left source.old) (R.left source.new) (R.is_broken source.old) (R.is_broken source.new)
-        (Makes IsWritten (message_text Job.Json work.entry.hex work.entry.name.now work.entry.is_named position) (counts_as_good Job.Json work.entry.compares)) result }
+    ensures { ReadsNextIn (profile_of work.entry.profile) (R.left source.old) (R.left source.new) (R.is_broken source.old) (R.is_broken source.new)
+        (IsMade Job.Json work.entry position) result }
 {
     let (octets, outline) = room.into_both(alloc);
-    let Some(found) = outlined::<R, L>(alloc, readers, true, source, outline)? else {
+    let Some(found) = outlined::<R, L>(alloc, readers, work.profile, true, source, outline)? else {
         return Ok(None);
     };
     let head = head(position, &found);
-    match json_line(alloc, octets, file_of(work), head, &found.outline) {
+    match json_line_as(
+        alloc,
+        work.profile,
+        octets,
+        file_of(work),
+        head,
+        &found.outline,
+    ) {
         Ok(line) => Ok(Some(Piece {
             text: Written::Octets(line),
             is_good: found.is_good,
@@ -186,14 +200,16 @@ struct Found {
 fn outlined<R: Source, L: Look<R>>(
     alloc: Global,
     readers: &mut Readers,
+    profile: Profile,
     compares: bool,
     source: &mut R,
     room: Outline,
 ) -> Result<Option<Found>, ReadFailure>
-    ensures { ReadsNext (R.left source.old) (R.left source.new) (R.is_broken source.old) (R.is_broken source.new) (IsFound compares) result }
+    ensures { ReadsNextIn (profile_of profile) (R.left source.old) (R.left source.new) (R.is_broken source.old) (R.is_broken source.new)
+        (IsFound (profile_of profile) compares) result }
 {
     if !compares {
-        return match readers.outline.read::<R, L>(source, room) {
+        return match readers.outline.read_as::<R, L>(profile, source, room) {
             Ok(Some(read)) => Ok(Some(Found {
                 outline: read.outline,
                 octets: read.read,
@@ -204,10 +220,11 @@ fn outlined<R: Source, L: Look<R>>(
         };
     }
     let (reader, octets) = (&mut readers.normal, Vec::new(alloc));
-    let Some((found, normal)) = check_one_in::<R, L>(alloc, reader, source, octets)? else {
+    let Some((found, normal)) = check_one_in_as::<R, L>(alloc, profile, reader, source, octets)?
+    else {
         return Ok(None);
     };
-    match outline_of(&mut readers.outline, &normal, room) {
+    match outline_as(&mut readers.outline, profile, &normal, room) {
         Ok(outline) => Ok(Some(Found {
             outline,
             octets: found.octets,
@@ -226,11 +243,12 @@ fn labelled_text(
     number: u32,
     outline: Outline,
 ) -> Result<Written, AllocError>
-    ensures { (a : Apdu) (octets : List ℕ) → SpellsApdu profile_two a octets → IsOutlineOf outline a
-        → IfOk result (λ text. IsWritten text (label_of work.entry.is_named work.entry.name.now ++ shown_text number a)) }
+    ensures { (a : Apdu) (octets : List ℕ) → SpellsApdu (profile_of work.entry.profile) a octets → IsOutlineOf outline a
+        → IfOk result (λ text. IsWritten text
+        (label_of work.entry.is_named work.entry.name.now ++ shown_text_in (profile_of work.entry.profile) number a)) }
 {
     let mut label = label(room, work)?;
-    let text = Text::new(number, outline);
+    let text = Text::new_as(work.profile, number, outline);
     if label.len() > LONGEST {
         label.extend_from_slice(&text.octets(alloc)?)?;
         return Ok(Written::Octets(label));
@@ -260,10 +278,11 @@ fn checked<R: Source, L: Look<R>>(
     source: &mut R,
     room: Vec<u8>,
 ) -> Result<Option<Piece<Written>>, ReadFailure>
-    ensures { ReadsNext (R.left source.old) (R.left source.new) (R.is_broken source.old) (R.is_broken source.new)
-        (Makes IsWritten (message_text Job.Check work.entry.hex work.entry.name.now work.entry.is_named position) (counts_as_good Job.Check work.entry.compares)) result }
+    ensures { ReadsNextIn (profile_of work.entry.profile) (R.left source.old) (R.left source.new) (R.is_broken source.old) (R.is_broken source.new)
+        (IsMade Job.Check work.entry position) result }
 {
-    let Some((found, normal)) = check_one_in::<R, L>(alloc, reader, source, room)? else {
+    let Some((found, normal)) = check_one_in_as::<R, L>(alloc, work.profile, reader, source, room)?
+    else {
         return Ok(None);
     };
     match check_line(normal, work, position.number, found) {
@@ -283,9 +302,9 @@ fn check_line(
     number: u32,
     found: Checked,
 ) -> Result<Vec<u8>, AllocError>
-    ensures { IfOk result (λ line. line.items ≡ line_of_check (label_of work.entry.is_named work.entry.name.now) number found.apdu found.octets found.is_normal found.normal) }
+    ensures { IfOk result (λ line. line.items ≡ line_of_check (profile_of work.entry.profile) (label_of work.entry.is_named work.entry.name.now) number found.apdu found.octets found.is_normal found.normal) }
 {
-    let name = match apdu_name(found.apdu) {
+    let name = match apdu_name_as(work.profile, found.apdu) {
         Some(name) => name,
         None => "",
     };
@@ -322,10 +341,18 @@ fn digested<R: Source, L: Look<R>>(
     source: &mut R,
     room: Vec<u8>,
 ) -> Result<Option<Piece<Written>>, ReadFailure>
-    ensures { ReadsNext (R.left source.old) (R.left source.new) (R.is_broken source.old) (R.is_broken source.new)
-        (Makes IsWritten (message_text Job.Digest work.entry.hex work.entry.name.now work.entry.is_named position) (counts_as_good Job.Digest work.entry.compares)) result }
+    ensures { ReadsNextIn (profile_of work.entry.profile) (R.left source.old) (R.left source.new) (R.is_broken source.old) (R.is_broken source.new)
+        (IsMade Job.Digest work.entry position) result }
 {
-    let Some(normal) = normal_form::<R, L>(alloc, reader, work.compares, source, room)? else {
+    let Some(normal) = normal_form::<R, L>(
+        alloc,
+        reader,
+        work.profile,
+        work.compares,
+        source,
+        room,
+    )?
+    else {
         return Ok(None);
     };
     let Piece {
@@ -374,11 +401,19 @@ fn canonical<R: Source, L: Look<R>>(
     source: &mut R,
     room: Vec<u8>,
 ) -> Result<Option<Piece<Written>>, ReadFailure>
-    ensures { ReadsNext (R.left source.old) (R.left source.new) (R.is_broken source.old) (R.is_broken source.new)
-        (Makes IsWritten (message_text Job.Canonicalise work.entry.hex work.entry.name.now work.entry.is_named position) (counts_as_good Job.Canonicalise work.entry.compares)) result }
+    ensures { ReadsNextIn (profile_of work.entry.profile) (R.left source.old) (R.left source.new) (R.is_broken source.old) (R.is_broken source.new)
+        (IsMade Job.Canonicalise work.entry position) result }
 {
     let _ = position;
-    let Some(normal) = normal_form::<R, L>(alloc, reader, work.compares, source, room)? else {
+    let Some(normal) = normal_form::<R, L>(
+        alloc,
+        reader,
+        work.profile,
+        work.compares,
+        source,
+        room,
+    )?
+    else {
         return Ok(None);
     };
     if !work.hex {
@@ -402,21 +437,23 @@ fn canonical<R: Source, L: Look<R>>(
 fn normal_form<R: Source, L: Look<R>>(
     alloc: Global,
     reader: &mut NormalReader,
+    profile: Profile,
     compares: bool,
     source: &mut R,
     room: Vec<u8>,
 ) -> Result<Option<Piece<Vec<u8>>>, ReadFailure>
-    ensures { ReadsNext (R.left source.old) (R.left source.new) (R.is_broken source.old) (R.is_broken source.new)
-        (Makes (λ v octets. v.items ≡ octets) (λ m. normal_form m.apdu) (good_if compares)) result }
+    ensures { ReadsNextIn (profile_of profile) (R.left source.old) (R.left source.new) (R.is_broken source.old) (R.is_broken source.new)
+        (IsMadeForm profile compares) result }
 {
     if !compares {
         let position = Position {
             number: 1,
             offset: 0,
         };
-        return NormalForms.next::<R, L>(alloc, reader, position, source, room);
+        let forms = NormalFormsIn { profile };
+        return forms.next::<R, L>(alloc, reader, position, source, room);
     }
-    let Some((found, text)) = check_one_in::<R, L>(alloc, reader, source, room)? else {
+    let Some((found, text)) = check_one_in_as::<R, L>(alloc, profile, reader, source, room)? else {
         return Ok(None);
     };
     Ok(Some(Piece {

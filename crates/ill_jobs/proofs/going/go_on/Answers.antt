@@ -1,6 +1,5 @@
-use Rattle.ill_schema.specs.declared.profile.Profile.TheVariants.{Two}
 use Rattle.ill_going.proofs.GoneMessages.{halted_sum}
 use Rattle.ill_jobs.proofs.going.go_on.Goals as goal
 
 pub halted_job-requires : goal.halted_job-requires
-halted_job-requires g c = halted_sum Two _ _ _ _ _ c.in-Err.halted c.in-Err.ensures.halts
+halted_job-requires g c = halted_sum c.args.work.profile _ _ _ _ _ c.in-Err.halted c.in-Err.ensures.halts

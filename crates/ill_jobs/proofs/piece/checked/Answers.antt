@@ -5,4 +5,4 @@ use Rattle.ill_jobs.proofs.piece.checked.Goals as goal
 pub returns-in-Ok : goal.returns-in-Ok
 returns-in-Ok g c =
     reads_as _ _ _ _ _ _ (c.in-Some.found, c.in-Some.normal) _
-    (λ b h. makes_checked c.args.position c.args.work.name.now c.args.work.is_named c.args.work.compares c.in-Ok.text c.in-Some.found c.args.work.hex c.in-Ok.ensures b h.0) (rw c.in-Some.is at c.in_ok-found.ensures.next)
+    (λ b h. makes_checked c.args.work c.args.position c.in-Ok.text c.in-Some.found c.in-Ok.ensures b h.0) (rw c.in-Some.is at c.in_ok-found.ensures.next)

@@ -5,4 +5,4 @@ use Rattle.ill_jobs.proofs.piece.digested.Goals as goal
 pub returns-in-Ok : goal.returns-in-Ok
 returns-in-Ok g c =
     let line = rw (c.normal_digest-digest.ensures, c.deref.ensures.value) at c.in-Ok.ensures in
-    reads_as _ _ _ _ _ _ c.in-Some.normal _ (λ b h. makes_digest c.args.position c.args.work.name.now c.args.work.is_named c.args.work.compares c.in-Ok.text c.in-Some.normal c.args.work.hex line b h) (rw c.in-Some.is at c.in_ok-normal.ensures)
+    reads_as _ _ _ _ _ _ c.in-Some.normal _ (makes_digest c.args.work c.args.position c.in-Ok.text c.in-Some.normal line) (rw c.in-Some.is at c.in_ok-normal.ensures)
