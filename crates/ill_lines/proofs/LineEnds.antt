@@ -10,7 +10,7 @@ use Rattle.ill_jobs.proofs.TextAnswers.{same_octets}
 use Rattle.ill_lines.proofs.PartEnds.{no_end_join, no_end_more, part_ended}
 use Rattle.ill_lines.specs.Lines.{Answer, AreAnswers, IsResult, all_good, has_line_end, lines, output}
 use Rattle.ill_lines.specs.code.After.{Answers, IsSame, StandsAfter}
-use Rattle.ill_lines.specs.declared.job.LineJob.{LineJob}
+use Rattle.ill_lines.specs.declared.job.LineWork.{LineWork}
 use Rattle.ill_lines.specs.declared.lines.Lines.{Lines}
 
 abbrev pub texts : List Answer → List (List ℕ)
@@ -21,9 +21,9 @@ answer text result good = record { text = text; result = result; is_good = good 
 
 -- ---- results
 
-pub push_are : (job : LineJob) (answers : List Answer) (a : Answer) → AreAnswers job answers → IsResult job (hex_octets a.text) a.result a.is_good → AreAnswers job (answers ++ a ∷ [])
-push_are job [] a h k = (k, tt)
-push_are job (b ∷ answers) a h k = (h.0, push_are job answers a h.1 k)
+pub push_are : (work : LineWork) (answers : List Answer) (a : Answer) → AreAnswers work answers → IsResult work (hex_octets a.text) a.result a.is_good → AreAnswers work (answers ++ a ∷ [])
+push_are work [] a h k = (k, tt)
+push_are work (b ∷ answers) a h k = (h.0, push_are work answers a h.1 k)
 
 pub push_output : (answers : List Answer) (a : Answer) → output (answers ++ a ∷ []) ≡ output answers ++ (a.result ++ codes "\n")
 push_output [] a = append-nil (a.result ++ codes "\n")
@@ -102,8 +102,8 @@ parts_whole s octets i n =
 
 -- ---- steps
 
-module _ (job : LineJob) (s put : List ℕ) (old new : Lines) (h : StandsAfter job s put old) where
-  pub step_same : IsSame old new → StandsAfter job s put new
+module _ (work : LineWork) (s put : List ℕ) (old new : Lines) (h : StandsAfter work s put old) where
+  pub step_same : IsSame old new → StandsAfter work s put new
   step_same k = record {
     answers = h.answers;
     rest = h.rest;
@@ -116,7 +116,7 @@ module _ (job : LineJob) (s put : List ℕ) (old new : Lines) (h : StandsAfter j
   }
 
   pub step_keep : (octets : List ℕ) → has_line_end octets ≡ false → new.part.items ≡ take 4_194_305 (h.rest ++ octets) → new.ready.items ≡ old.ready.items → new.is_good ≡ old.is_good
-      → StandsAfter job (s ++ octets) put new
+      → StandsAfter work (s ++ octets) put new
   step_keep octets e kept ready good = record {
     answers = h.answers;
     rest = h.rest ++ octets;
@@ -129,18 +129,18 @@ module _ (job : LineJob) (s put : List ℕ) (old new : Lines) (h : StandsAfter j
   }
 
   -- the result of the line that was kept is that of the line
-  pub result_of_line : (k : Answers job old.part.items old new) → IsResult job (hex_octets h.rest) k.result k.is_good
-  result_of_line k = subst (λ o. IsResult job o k.result k.is_good) (ap hex_octets h.is_kept ∙ kept_stands h.rest) k.is_result
+  pub result_of_line : (k : Answers work old.part.items old new) → IsResult work (hex_octets h.rest) k.result k.is_good
+  result_of_line k = subst (λ o. IsResult work o k.result k.is_good) (ap hex_octets h.is_kept ∙ kept_stands h.rest) k.is_result
 
-  pub more_made : (k : Answers job old.part.items old new) → put ++ new.ready.items ≡ output (h.answers ++ answer h.rest k.result k.is_good ∷ [])
+  pub more_made : (k : Answers work old.part.items old new) → put ++ new.ready.items ≡ output (h.answers ++ answer h.rest k.result k.is_good ∷ [])
   more_made k =
       ap (λ l. put ++ l) (k.ready ∙ append_assoc old.ready.items k.result (codes "\n")) ∙ sym (append_assoc put old.ready.items (k.result ++ codes "\n"))
       ∙ ap (λ l. l ++ (k.result ++ codes "\n")) h.is_made ∙ sym (push_output h.answers (answer h.rest k.result k.is_good))
 
-  pub more_good : (k : Answers job old.part.items old new) → new.is_good ≡ all_good (h.answers ++ answer h.rest k.result k.is_good ∷ [])
+  pub more_good : (k : Answers work old.part.items old new) → new.is_good ≡ all_good (h.answers ++ answer h.rest k.result k.is_good ∷ [])
   more_good k = k.good ∙ ap (λ (b : Bool). b && k.is_good) h.is_good ∙ sym (push_good h.answers (answer h.rest k.result k.is_good))
 
-  pub step_end : Answers job old.part.items old new → StandsAfter job (s ++ 0x0A ∷ []) put new
+  pub step_end : Answers work old.part.items old new → StandsAfter work (s ++ 0x0A ∷ []) put new
   step_end k =
       let a = answer h.rest k.result k.is_good in record {
         answers = h.answers ++ a ∷ [];
@@ -149,7 +149,7 @@ module _ (job : LineJob) (s put : List ℕ) (old new : Lines) (h : StandsAfter j
             ∙ sym (append_assoc (texts h.answers) (h.rest ∷ []) (lines more)) ∙ ap (λ l. l ++ lines more) (sym (map-append (λ (x : Answer). x.text) h.answers (a ∷ [])));
         unended = refl;
         is_kept = k.part;
-        are = push_are job h.answers a h.are (result_of_line k);
+        are = push_are work h.answers a h.are (result_of_line k);
         is_made = more_made k;
         is_good = more_good k;
       }

@@ -7,25 +7,25 @@ use Rattle.std.proofs.Math.Seq.{take-append-add}
 use Rattle.ill_normal.specs.Calls.{putting}
 use Rattle.ill_lines.specs.Lines.{Answer, AreAnswers, EndsWithin, LinesDone, all_good, has_line_end, lines, output}
 use Rattle.ill_lines.specs.code.After.{Answers, HasWritten, IsAfter, StandsAfter}
-use Rattle.ill_lines.specs.declared.job.LineJob.{LineJob}
+use Rattle.ill_lines.specs.declared.job.LineWork.{LineWork}
 use Rattle.ill_lines.specs.declared.job.LinesFault.{LinesFault}
 use Rattle.ill_lines.specs.declared.lines.Lines.{Lines}
 use Rattle.ill_lines.proofs.PartEnds.{last_part}
 use Rattle.ill_lines.proofs.LineEnds.{answer, more_good, more_made, none_of, push_are, result_of_line, texts}
 
 -- these are the results of the first lines
-pub record Made (job : LineJob) (s rest made : List ℕ) (good : Bool) : Type 0 where
+pub record Made (work : LineWork) (s rest made : List ℕ) (good : Bool) : Type 0 where
   pub answers : List Answer
   pub of : lines s ≡ texts answers ++ lines rest
-  pub are : AreAnswers job answers
+  pub are : AreAnswers work answers
   pub is_made : made ≡ output answers
   pub is_good : good ≡ all_good answers
 
-module _ (job : LineJob) (s kept made : List ℕ) (good : Bool) (h : IsAfter job s kept made good) where
-  made_before : (more : List ℕ) → Made job (s ++ more) (h.rest ++ more) made good
+module _ (work : LineWork) (s kept made : List ℕ) (good : Bool) (h : IsAfter work s kept made good) where
+  made_before : (more : List ℕ) → Made work (s ++ more) (h.rest ++ more) made good
   made_before more = record { answers = h.answers; of = h.of more; are = h.are; is_made = h.is_made; is_good = h.is_good }
 
-  pub made_now : Made job s h.rest made good
+  pub made_now : Made work s h.rest made good
   made_now = record {
     answers = h.answers;
     of = ap lines (sym (append-nil s)) ∙ h.of [] ∙ ap (λ l. texts h.answers ++ lines l) (append-nil h.rest);
@@ -35,30 +35,30 @@ module _ (job : LineJob) (s kept made : List ℕ) (good : Bool) (h : IsAfter job
   }
 
 -- what was written is what was made
-pub made_written : (job : LineJob) (s : List ℕ) (first held : Option (List ℕ)) (now : Lines) → (h : HasWritten job s first held now) → Made job s h.2.rest h.0 now.is_good
-made_written job s first held now h =
-    subst (λ l. Made job s h.2.rest l now.is_good) (ap (λ l. h.0 ++ l) h.3 ∙ append-nil h.0) (made_now job s now.part.items (h.0 ++ now.ready.items) now.is_good h.2)
+pub made_written : (work : LineWork) (s : List ℕ) (first held : Option (List ℕ)) (now : Lines) → (h : HasWritten work s first held now) → Made work s h.2.rest h.0 now.is_good
+made_written work s first held now h =
+    subst (λ l. Made work s h.2.rest l now.is_good) (ap (λ l. h.0 ++ l) h.3 ∙ append-nil h.0) (made_now work s now.part.items (h.0 ++ now.ready.items) now.is_good h.2)
 
 -- octets were fed, all or the first ones
-module _ (job : LineJob) (s octets put : List ℕ) (now : Lines) where
-  pub made_all : StandsAfter job (s ++ octets) put now → (rest : List ℕ) × Made job (s ++ octets) rest (put ++ now.ready.items) now.is_good
-  made_all h = (h.rest, made_now job (s ++ octets) now.part.items (put ++ now.ready.items) now.is_good h)
+module _ (work : LineWork) (s octets put : List ℕ) (now : Lines) where
+  pub made_all : StandsAfter work (s ++ octets) put now → (rest : List ℕ) × Made work (s ++ octets) rest (put ++ now.ready.items) now.is_good
+  made_all h = (h.rest, made_now work (s ++ octets) now.part.items (put ++ now.ready.items) now.is_good h)
 
-  pub made_some : (n : ℕ) → StandsAfter job (s ++ take n octets) put now → (rest : List ℕ) × Made job (s ++ octets) rest (put ++ now.ready.items) now.is_good
+  pub made_some : (n : ℕ) → StandsAfter work (s ++ take n octets) put now → (rest : List ℕ) × Made work (s ++ octets) rest (put ++ now.ready.items) now.is_good
   made_some n h =
       let whole : (s ++ take n octets) ++ drop n octets ≡ s ++ octets = append_assoc s (take n octets) (drop n octets) ∙ ap (λ l. s ++ l) (take-append-drop n octets) in
       let rest = h.rest ++ drop n octets in
-      (rest, subst (λ l. Made job l rest (put ++ now.ready.items) now.is_good) whole (made_before job (s ++ take n octets) now.part.items (put ++ now.ready.items) now.is_good h (drop n octets)))
+      (rest, subst (λ l. Made work l rest (put ++ now.ready.items) now.is_good) whole (made_before work (s ++ take n octets) now.part.items (put ++ now.ready.items) now.is_good h (drop n octets)))
 
-  pub made_of_fed : {T E : Type 0} (r : Result T E) → OnOk r (StandsAfter job (s ++ octets) put now) → OnErr r ((n : ℕ) × StandsAfter job (s ++ take n octets) put now)
-      → (rest : List ℕ) × Made job (s ++ octets) rest (put ++ now.ready.items) now.is_good
+  pub made_of_fed : {T E : Type 0} (r : Result T E) → OnOk r (StandsAfter work (s ++ octets) put now) → OnErr r ((n : ℕ) × StandsAfter work (s ++ take n octets) put now)
+      → (rest : List ℕ) × Made work (s ++ octets) rest (put ++ now.ready.items) now.is_good
   made_of_fed (Ok t) h k = made_all h
   made_of_fed (Err e) h k = made_some k.0 k.1
 
 -- what was ready is written
-pub has_written : (job : LineJob) (s put : List ℕ) (first held held' : Option (List ℕ)) (old new : Lines) → StandsAfter job s put old → Appends first held put → Appends held held' old.ready.items
-    → new.ready.items ≡ [] → new.part.items ≡ old.part.items → new.is_good ≡ old.is_good → HasWritten job s first held' new
-has_written job s put first held held' old new h a b ready part good =
+pub has_written : (work : LineWork) (s put : List ℕ) (first held held' : Option (List ℕ)) (old new : Lines) → StandsAfter work s put old → Appends first held put → Appends held held' old.ready.items
+    → new.ready.items ≡ [] → new.part.items ≡ old.part.items → new.is_good ≡ old.is_good → HasWritten work s first held' new
+has_written work s put first held held' old new h a b ready part good =
     let all = put ++ old.ready.items in (
       all,
       Appends-trans first held held' put old.ready.items a b,
@@ -75,15 +75,15 @@ has_written job s put first held held' old new h a b ready part good =
       ready,
     )
 
-module _ (job : LineJob) (s rest : List ℕ) (good x y : Bool) (first held : Option (List ℕ)) where
-  pub ends_memory : (put : List ℕ) → Made job s rest put good → Appends first held put → EndsWithin job s x (putting first held y) LinesFault.OutOfMemory
+module _ (work : LineWork) (s rest : List ℕ) (good x y : Bool) (first held : Option (List ℕ)) where
+  pub ends_memory : (put : List ℕ) → Made work s rest put good → Appends first held put → EndsWithin work s x (putting first held y) LinesFault.OutOfMemory
   ends_memory put m a = record { answers = m.answers; rest = rest; of = m.of; are = m.are; ends = subst (Appends first held) m.is_made a }
 
-  pub ends_read : (put : List ℕ) → Made job s rest put good → Appends first held put → has_line_end rest ≡ false → IsTrue x → EndsWithin job s x (putting first held y) LinesFault.ReadFault
+  pub ends_read : (put : List ℕ) → Made work s rest put good → Appends first held put → has_line_end rest ≡ false → IsTrue x → EndsWithin work s x (putting first held y) LinesFault.ReadFault
   ends_read put m a none broke = record { answers = m.answers; rest = rest; of = m.of; are = m.are; ends = (broke, none, subst (Appends first held) m.is_made a) }
 
-  pub ends_write : (put ready : List ℕ) (held' : Option (List ℕ)) (n : ℕ) → Made job s rest (put ++ ready) good → Appends first held put → n < length ready → Appends held held' (take n ready) → IsTrue y
-      → EndsWithin job s x (putting first held' y) LinesFault.WriteFault
+  pub ends_write : (put ready : List ℕ) (held' : Option (List ℕ)) (n : ℕ) → Made work s rest (put ++ ready) good → Appends first held put → n < length ready → Appends held held' (take n ready) → IsTrue y
+      → EndsWithin work s x (putting first held' y) LinesFault.WriteFault
   ends_write put ready held' n m a lt b broke =
       let all : output m.answers ≡ put ++ ready = sym m.is_made in
       let less : length put + n < length (output m.answers) = omega (arith, lt, ap length all, length-append put ready) in
@@ -99,31 +99,31 @@ module _ (job : LineJob) (s rest : List ℕ) (good x y : Bool) (first held : Opt
 -- ---- the end of the input
 
 -- the line that has no end is answered
-pub made_last : (job : LineJob) (s put : List ℕ) (old new : Lines) → StandsAfter job s put old → 0 < length old.part.items → Answers job old.part.items old new → Made job s [] (put ++ new.ready.items) new.is_good
+pub made_last : (work : LineWork) (s put : List ℕ) (old new : Lines) → StandsAfter work s put old → 0 < length old.part.items → Answers work old.part.items old new → Made work s [] (put ++ new.ready.items) new.is_good
 unfolding made_now
-made_last job s put old new h some k =
+made_last work s put old new h some k =
     let a = answer h.rest k.result k.is_good in
-    let here = made_now job s old.part.items (put ++ old.ready.items) old.is_good h in
+    let here = made_now work s old.part.items (put ++ old.ready.items) old.is_good h in
     let longer : 0 < length h.rest = omega (arith, some, ap length h.is_kept, length-take 4_194_305 h.rest) in
     let line = ap (λ l. texts h.answers ++ l) (last_part 0x0A h.rest longer h.unended) in
     record {
       answers = h.answers ++ a ∷ [];
       of = here.of ∙ line ∙ sym (map-append (λ (b : Answer). b.text) h.answers (a ∷ [])) ∙ sym (append-nil (texts (h.answers ++ a ∷ [])));
-      are = push_are job h.answers a h.are (result_of_line job s put old new h k);
-      is_made = more_made job s put old new h k;
-      is_good = more_good job s put old new h k;
+      are = push_are work h.answers a h.are (result_of_line work s put old new h k);
+      is_made = more_made work s put old new h k;
+      is_good = more_good work s put old new h k;
     }
 
 -- there is no such line
-pub made_none : (job : LineJob) (s put : List ℕ) (now : Lines) → StandsAfter job s put now → now.part.items ≡ [] → Made job s [] (put ++ now.ready.items) now.is_good
-made_none job s put now h empty =
-    let here = made_now job s now.part.items (put ++ now.ready.items) now.is_good h in
+pub made_none : (work : LineWork) (s put : List ℕ) (now : Lines) → StandsAfter work s put now → now.part.items ≡ [] → Made work s [] (put ++ now.ready.items) now.is_good
+made_none work s put now h empty =
+    let here = made_now work s now.part.items (put ++ now.ready.items) now.is_good h in
     let none : h.rest ≡ [] = none_of h.rest (omega (arith, ap length (sym empty ∙ h.is_kept), length-take 4_194_305 h.rest)) in
-    subst (λ r. Made job s r (put ++ now.ready.items) now.is_good) none here
+    subst (λ r. Made work s r (put ++ now.ready.items) now.is_good) none here
 
-pub lines_done : (job : LineJob) (s put : List ℕ) (good : Bool) (left left' first held : Option (List ℕ)) → Made job s [] put good → Consumes left left' s → IsAtEnd left' → Appends first held put
-    → LinesDone job left left' first held good
-lines_done job s put good left left' first held m taken end a = record {
+pub lines_done : (work : LineWork) (s put : List ℕ) (good : Bool) (left left' first held : Option (List ℕ)) → Made work s [] put good → Consumes left left' s → IsAtEnd left' → Appends first held put
+    → LinesDone work left left' first held good
+lines_done work s put good left left' first held m taken end a = record {
   octets = s;
   answers = m.answers;
   taken = taken;
@@ -135,8 +135,8 @@ lines_done job s put good left left' first held m taken end a = record {
 }
 
 -- before the first octet
-pub at_start : (job : LineJob) (first : Option (List ℕ)) (now : Lines) → now.part.items ≡ [] → now.ready.items ≡ [] → now.is_good ≡ all_good [] → HasWritten job [] first first now
-at_start job first now part ready good = (
+pub at_start : (work : LineWork) (first : Option (List ℕ)) (now : Lines) → now.part.items ≡ [] → now.ready.items ≡ [] → now.is_good ≡ all_good [] → HasWritten work [] first first now
+at_start work first now part ready good = (
   [],
   Appends-nil first,
   record { answers = []; rest = []; of = λ more. refl; unended = refl; is_kept = part; are = tt; is_made = ready; is_good = good },

@@ -4,10 +4,12 @@ use Rattle.std.specs.List.{list_all}
 use Rattle.std.specs.Io.KnownBytes.{Consumes, Appends, IsAtEnd}
 use Rattle.hex.specs.Hex.{encode_lower}
 use Rattle.sha2.specs.Sha256.{sha256}
-use Rattle.ber_leaf.specs.Profile.{profile_two}
-use Rattle.ill_schema.specs.Apdu.{Apdu, SpellsApdu, normal_form}
+use Rattle.ber_leaf.specs.Profile.{Profile}
+use Rattle.ill_schema.specs.Apdu.{Apdu, SpellsApdu, normal_form_in}
+use Rattle.ill_schema.specs.Profiles.{profile_of}
+use Rattle.ill_schema.specs.declared.profile.Profile.{Profile as Named}
 use Rattle.ill_refusals.specs.Fault.{Fault}
-use Rattle.ill_read.specs.Answers.{RefusesWhole}
+use Rattle.ill_read.specs.Answers.{RefusesWholeIn}
 use Rattle.ill_normal.specs.Calls.{Taking, Putting}
 use Rattle.ill_normal.specs.Messages.{Spelling, spelling}
 use Rattle.ill_jobs.specs.Hexadecimal.{hex_octets}
@@ -16,6 +18,7 @@ use Rattle.ill_jobs.specs.declared.fault.RunFault.{RunFault}
 use Rattle.ill_lines.specs.Parts.{has_end, parts_by}
 use Rattle.ill_lines.specs.Words.{check_words, hex_words, refusal_words}
 use Rattle.ill_lines.specs.declared.job.LineJob.{LineJob}
+use Rattle.ill_lines.specs.declared.job.LineWork.{LineWork}
 use Rattle.ill_lines.specs.declared.job.LinesFault.{LinesFault}
 
 -- each line is ended by a line feed; the last may be ended by the end of the input
@@ -25,27 +28,36 @@ lines s = parts_by 0x0A s
 abbrev pub has_line_end : List ℕ → Bool
 has_line_end s = has_end 0x0A s
 
--- what is said of a message
-abbrev pub message_words : LineJob → Spelling → List ℕ
-message_words LineJob.Check m = check_words m.apdu.number (length m.octets) (is_normal m) (length (normal_form m.apdu))
-message_words LineJob.Digest m = encode_lower (sha256 (normal_form m.apdu))
-message_words LineJob.Canonicalise m = encode_lower (normal_form m.apdu)
+-- the work of a job in a profile
+abbrev pub line_work : Named → LineJob → LineWork
+line_work profile job = record { profile = profile; job = job }
+
+-- what is said of a message of the profile
+abbrev pub message_words : Profile → LineJob → Spelling → List ℕ
+message_words q LineJob.Check m = check_words q m.apdu.number (length m.octets) (is_normal q m) (length (normal_form_in q m.apdu))
+message_words q LineJob.Digest m = encode_lower (sha256 (normal_form_in q m.apdu))
+message_words q LineJob.Canonicalise m = encode_lower (normal_form_in q m.apdu)
 
 -- what `Check` is asked for, and no other job
-abbrev pub is_good_message : LineJob → Spelling → Bool
-is_good_message LineJob.Check m = is_normal m
-is_good_message _ m = true
+abbrev pub is_good_message : Profile → LineJob → Spelling → Bool
+is_good_message q LineJob.Check m = is_normal q m
+is_good_message q _ m = true
 
--- octets that are one message have its words, and others those of their one refusal
-abbrev pub IsResultOf : LineJob → List ℕ → List ℕ → Bool → Type 0
-IsResultOf job octets result is_good =
-    ((a : Apdu) × SpellsApdu profile_two a octets × (result ≡ message_words job (spelling a octets)) × (is_good ≡ is_good_message job (spelling a octets)))
-    ⊎ ((f : Fault) × RefusesWhole octets f × (result ≡ refusal_words f) × (is_good ≡ false))
+-- what is said of a message, and whether it is good
+pub record IsSaid (work : LineWork) (m : Spelling) (result : List ℕ) (is_good : Bool) : Type 0 where
+  pub words : result ≡ message_words (profile_of work.profile) work.job m
+  pub good : is_good ≡ is_good_message (profile_of work.profile) work.job m
+
+-- octets that are one message of the profile have its words, and others those of their one refusal
+abbrev pub IsResultOf : LineWork → List ℕ → List ℕ → Bool → Type 0
+IsResultOf work octets result is_good =
+    ((a : Apdu) × SpellsApdu (profile_of work.profile) a octets × IsSaid work (spelling a octets) result is_good)
+    ⊎ ((f : Fault) × RefusesWholeIn (profile_of work.profile) octets f × (result ≡ refusal_words f) × (is_good ≡ false))
 
 -- the result of a line, by what its text stands for
-abbrev pub IsResult : LineJob → Result (List ℕ) RunFault → List ℕ → Bool → Type 0
-IsResult job (Ok octets) result is_good = IsResultOf job octets result is_good
-IsResult job (Err fault) result is_good = (result ≡ hex_words fault) × (is_good ≡ false)
+abbrev pub IsResult : LineWork → Result (List ℕ) RunFault → List ℕ → Bool → Type 0
+IsResult work (Ok octets) result is_good = IsResultOf work octets result is_good
+IsResult work (Err fault) result is_good = (result ≡ hex_words fault) × (is_good ≡ false)
 
 -- a line, its result, and whether that is good
 pub record Answer : Type 0 where
@@ -53,9 +65,9 @@ pub record Answer : Type 0 where
   pub result : List ℕ
   pub is_good : Bool
 
-abbrev pub AreAnswers : LineJob → List Answer → Type 0
-AreAnswers job [] = Unit {0}
-AreAnswers job (a ∷ answers) = IsResult job (hex_octets a.text) a.result a.is_good × AreAnswers job answers
+abbrev pub AreAnswers : LineWork → List Answer → Type 0
+AreAnswers work [] = Unit {0}
+AreAnswers work (a ∷ answers) = IsResult work (hex_octets a.text) a.result a.is_good × AreAnswers work answers
 
 -- a line for each
 abbrev pub output : List Answer → List ℕ
@@ -66,13 +78,13 @@ abbrev pub all_good : List Answer → Bool
 all_good answers = list_all (λ a. a.is_good) answers
 
 -- the input was taken to its end, and the results of its lines were written
-pub record LinesDone (job : LineJob) (left left' held held' : Option (List ℕ)) (good : Bool) : Type 0 where
+pub record LinesDone (work : LineWork) (left left' held held' : Option (List ℕ)) (good : Bool) : Type 0 where
   pub octets : List ℕ
   pub answers : List Answer
   pub taken : Consumes left left' octets
   pub end : IsAtEnd left'
   pub of : lines octets ≡ map (λ a. a.text) answers
-  pub are : AreAnswers job answers
+  pub are : AreAnswers work answers
   pub written : Appends held held' (output answers)
   pub is_verdict : good ≡ all_good answers
 
@@ -85,12 +97,12 @@ Ends source_broken sink answers rest LinesFault.WriteFault =
     IsTrue sink.broken × ((n : ℕ) × (n < length (output answers)) × Appends sink.held sink.held' (take n (output answers)))
 
 -- these octets were taken, and the call ended early
-pub record EndsWithin (job : LineJob) (octets : List ℕ) (source_broken : Bool) (sink : Putting) (fault : LinesFault) : Type 0 where
+pub record EndsWithin (work : LineWork) (octets : List ℕ) (source_broken : Bool) (sink : Putting) (fault : LinesFault) : Type 0 where
   pub answers : List Answer
   pub rest : List ℕ
   pub of : lines octets ≡ map (λ a. a.text) answers ++ lines rest
-  pub are : AreAnswers job answers
+  pub are : AreAnswers work answers
   pub ends : Ends source_broken sink answers rest fault
 
-abbrev pub LinesFail : LineJob → Taking → Putting → LinesFault → Type 0
-LinesFail job source sink fault = (octets : List ℕ) × Consumes source.left source.left' octets × EndsWithin job octets source.broken sink fault
+abbrev pub LinesFail : LineWork → Taking → Putting → LinesFault → Type 0
+LinesFail work source sink fault = (octets : List ℕ) × Consumes source.left source.left' octets × EndsWithin work octets source.broken sink fault

@@ -1,4 +1,5 @@
 //! What is to be done with each line, and why it was not done.
+use ill_schema::Profile;
 use std::alloc::AllocError;
 
 /// What is returned for the message of a line.
@@ -10,6 +11,13 @@ pub enum LineJob {
     Digest,
     /// Its normal form, in hexadecimal.
     Canonicalise,
+}
+
+/// What is done with each line: the job, and the profile that messages are read in.
+#[derive(Clone, Copy, Debug, PartialEq, Eq)]
+pub struct LineWork {
+    pub profile: Profile,
+    pub job: LineJob,
 }
 
 /// Why an input was not read to its end, or not all results were written.

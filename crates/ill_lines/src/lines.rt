@@ -3,7 +3,7 @@ ghost use Rattle.std.specs.Prelude.{◌≡◌, ◌++◌, ◌<◌, ◌≤◌, ℕ
 ghost use Rattle.ill_lines.specs.Lines.{has_line_end};
 ghost use Rattle.ill_lines.specs.code.After.{Answers, IsSame, StandsAfter};
 
-use crate::job::LineJob;
+use crate::job::LineWork;
 use crate::result::result_of;
 use ill_normal::NormalReader;
 use std::alloc::{AllocError, Global};
@@ -44,31 +44,36 @@ impl Lines {
     /// # Errors
     ///
     /// Out of memory: some of the octets were not read, and the results of the lines before are there.
-    pub fn feed(&mut self, alloc: Global, job: LineJob, octets: &[u8]) -> Result<(), AllocError>
-        ensures all { (s put : List ℕ) → StandsAfter job s put self.old → OnOk result (StandsAfter job (s ++ octets.now) put self.new) }
-        ensures some { (s put : List ℕ) → StandsAfter job s put self.old → OnErr result ((n : ℕ) × StandsAfter job (s ++ take n octets.now) put self.new) }
+    pub fn feed(&mut self, alloc: Global, work: LineWork, octets: &[u8]) -> Result<(), AllocError>
+        ensures all { (s put : List ℕ) → StandsAfter work s put self.old → OnOk result (StandsAfter work (s ++ octets.now) put self.new) }
+        ensures some { (s put : List ℕ) → StandsAfter work s put self.old → OnErr result ((n : ℕ) × StandsAfter work (s ++ take n octets.now) put self.new) }
     {
         let mut at = 0;
         'lines: while at < octets.len() {
-            at += self.feed_line(alloc, job, &octets[at..])?;
+            at += self.feed_line(alloc, work, &octets[at..])?;
         }
         Ok(())
     }
 
     /// Reads the octets up to the first line feed, and returns how many it read.
     #[inline(always)]
-    fn feed_line(&mut self, alloc: Global, job: LineJob, octets: &[u8]) -> Result<usize, AllocError>
+    fn feed_line(
+        &mut self,
+        alloc: Global,
+        work: LineWork,
+        octets: &[u8],
+    ) -> Result<usize, AllocError>
         ensures bound { IfOk result (λ n. n ≤ length octets.now) }
         ensures more { 0 < length octets.now → IfOk result (λ n. 0 < n) }
-        ensures done { (s put : List ℕ) → StandsAfter job s put self.old → IfOk result (λ n. StandsAfter job (s ++ take n octets.now) put self.new) }
-        ensures some { (s put : List ℕ) → StandsAfter job s put self.old → OnErr result ((n : ℕ) × StandsAfter job (s ++ take n octets.now) put self.new) }
+        ensures done { (s put : List ℕ) → StandsAfter work s put self.old → IfOk result (λ n. StandsAfter work (s ++ take n octets.now) put self.new) }
+        ensures some { (s put : List ℕ) → StandsAfter work s put self.old → OnErr result ((n : ℕ) × StandsAfter work (s ++ take n octets.now) put self.new) }
     {
         let size = line_size(octets);
         self.keep(&octets[..size])?;
         if size == octets.len() {
             return Ok(size);
         }
-        self.end_line(alloc, job)?;
+        self.end_line(alloc, work)?;
         Ok(size + 1)
     }
 
@@ -93,11 +98,11 @@ impl Lines {
     /// # Errors
     ///
     /// Out of memory. Nothing has changed.
-    pub fn end_line(&mut self, alloc: Global, job: LineJob) -> Result<(), AllocError>
-        ensures answers { OnOk result (Answers job self.old.part.items self.old self.new) }
+    pub fn end_line(&mut self, alloc: Global, work: LineWork) -> Result<(), AllocError>
+        ensures answers { OnOk result (Answers work self.old.part.items self.old self.new) }
         ensures same { OnErr result (IsSame self.old self.new) }
     {
-        let found = result_of(alloc, &mut self.reader, job, &self.part)?;
+        let found = result_of(alloc, &mut self.reader, work, &self.part)?;
         let before = self.ready.len();
         self.ready.extend_from_slice(&found.words)?;
         if self.ready.push(b'\n').is_err() {

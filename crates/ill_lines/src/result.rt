@@ -1,18 +1,19 @@
 //! The result of one line.
 ghost use Rattle.std.specs.Prelude.{◌≡◌, ℕ, List, true, IfOk};
 ghost use Rattle.hex.specs.Hex.{encode_lower};
-ghost use Rattle.ber_leaf.specs.Profile.{profile_two};
-ghost use Rattle.ill_schema.specs.Apdu.{Apdu, SpellsApdu, normal_form};
+ghost use Rattle.ill_schema.specs.Apdu.{Apdu, SpellsApdu, normal_form_in};
+ghost use Rattle.ill_schema.specs.Profiles.{profile_of};
+ghost use Rattle.ill_schema.specs.declared.profile.Profile.{Profile as Named};
 ghost use Rattle.ill_normal.specs.Messages.{spelling};
 ghost use Rattle.ill_jobs.specs.Hexadecimal.{hex_octets};
-ghost use Rattle.ill_lines.specs.declared.job.LineJob.{LineJob};
-ghost use Rattle.ill_lines.specs.Lines.{IsResult, IsResultOf, is_good_message, message_words};
+ghost use Rattle.ill_lines.specs.Lines.{IsResult, IsResultOf, IsSaid, line_work};
+ghost use Rattle.ill_lines.specs.declared.job.LineJob.{LineJob as Job};
 
-use crate::job::LineJob;
+use crate::job::{LineJob, LineWork};
 use crate::words::{check_words, hex_words, refusal_words};
 use ill_digest::normal_digest;
 use ill_jobs::{RunFault, text_octets};
-use ill_normal::{Failure, NormalReader};
+use ill_normal::{Failure, NormalReader, Profile};
 use std::alloc::{AllocError, Global};
 
 /// The result of a line, and whether it is good.
@@ -26,13 +27,13 @@ pub struct LineResult {
 pub fn result_of(
     alloc: Global,
     reader: &mut NormalReader,
-    job: LineJob,
+    work: LineWork,
     text: &[u8],
 ) -> Result<LineResult, AllocError>
-    ensures { IfOk result (λ found. IsResult job (hex_octets text.now) found.words.items found.is_good) }
+    ensures { IfOk result (λ found. IsResult work (hex_octets text.now) found.words.items found.is_good) }
 {
     match text_octets(alloc, text) {
-        Ok(octets) => message_result(alloc, reader, job, &octets),
+        Ok(octets) => message_result(alloc, reader, work, &octets),
         Err(RunFault::OutOfMemory) => Err(AllocError),
         Err(fault) => Ok(LineResult {
             words: hex_words(alloc, fault)?,
@@ -45,13 +46,13 @@ pub fn result_of(
 fn message_result(
     alloc: Global,
     reader: &mut NormalReader,
-    job: LineJob,
+    work: LineWork,
     octets: &[u8],
 ) -> Result<LineResult, AllocError>
-    ensures { IfOk result (λ found. IsResultOf job octets.now found.words.items found.is_good) }
+    ensures { IfOk result (λ found. IsResultOf work octets.now found.words.items found.is_good) }
 {
-    match reader.decode(octets, Vec::new(alloc)) {
-        Ok(normal) => form_result(alloc, job, octets, &normal.octets),
+    match reader.decode_as(work.profile, octets, Vec::new(alloc)) {
+        Ok(normal) => form_result(alloc, work, octets, &normal.octets),
         Err(Failure::Refused(refusal)) => Ok(LineResult {
             words: refusal_words(alloc, refusal)?,
             is_good: false,
@@ -63,15 +64,15 @@ fn message_result(
 /// The result of a message with this normal form.
 fn form_result(
     alloc: Global,
-    job: LineJob,
+    work: LineWork,
     octets: &[u8],
     normal: &[u8],
 ) -> Result<LineResult, AllocError>
-    ensures { (a : Apdu) → SpellsApdu profile_two a octets.now → normal.now ≡ normal_form a → IfOk result (λ found.
-        (found.words.items ≡ message_words job (spelling a octets.now)) × (found.is_good ≡ is_good_message job (spelling a octets.now))) }
+    ensures { (a : Apdu) → SpellsApdu (profile_of work.profile) a octets.now → normal.now ≡ normal_form_in (profile_of work.profile) a
+        → IfOk result (λ found. IsSaid work (spelling a octets.now) found.words.items found.is_good) }
 {
-    match job {
-        LineJob::Check => check_result(alloc, octets, normal),
+    match work.job {
+        LineJob::Check => check_result(alloc, work.profile, octets, normal),
         LineJob::Digest => digits_result(alloc, &normal_digest(normal)),
         LineJob::Canonicalise => digits_result(alloc, normal),
     }
@@ -87,13 +88,19 @@ fn digits_result(alloc: Global, octets: &[u8]) -> Result<LineResult, AllocError>
     })
 }
 
-fn check_result(alloc: Global, octets: &[u8], normal: &[u8]) -> Result<LineResult, AllocError>
-    ensures { (a : Apdu) → SpellsApdu profile_two a octets.now → normal.now ≡ normal_form a → IfOk result (λ found.
-        (found.words.items ≡ message_words LineJob.Check (spelling a octets.now)) × (found.is_good ≡ is_good_message LineJob.Check (spelling a octets.now))) }
+fn check_result(
+    alloc: Global,
+    profile: Profile,
+    octets: &[u8],
+    normal: &[u8],
+) -> Result<LineResult, AllocError>
+    ensures { (a : Apdu) → SpellsApdu (profile_of profile) a octets.now → normal.now ≡ normal_form_in (profile_of profile) a
+        → IfOk result (λ found. IsSaid (line_work profile Job.Check) (spelling a octets.now) found.words.items found.is_good) }
 {
     let is_normal = octets == normal;
     let words = check_words(
         alloc,
+        profile,
         apdu_number(normal),
         octets.len(),
         is_normal,
@@ -107,7 +114,7 @@ fn check_result(alloc: Global, octets: &[u8], normal: &[u8]) -> Result<LineResul
 
 /// The number of the APDU whose normal form this is: its first octet is [APPLICATION number], constructed.
 fn apdu_number(normal: &[u8]) -> u8
-    ensures { (a : Apdu) (b : List ℕ) → SpellsApdu profile_two a b → normal.now ≡ normal_form a → result ≡ a.number }
+    ensures { (p : Named) (a : Apdu) (b : List ℕ) → SpellsApdu (profile_of p) a b → normal.now ≡ normal_form_in (profile_of p) a → result ≡ a.number }
 {
     match normal {
         [first, ..] => first % 32,

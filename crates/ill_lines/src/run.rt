@@ -2,13 +2,15 @@
 ghost use Rattle.std.specs.Prelude.{◌≡◌, ◌++◌, ◌<◌, ℕ, Bool, List, [], Option, take, length, IfOk, IfErr, OnOk, IsTrue};
 ghost use Rattle.std.specs.Io.KnownBytes.{Appends, Consumes, IsAtEnd};
 ghost use Rattle.ill_normal.specs.Calls.{putting, taking};
+ghost use Rattle.ill_schema.specs.declared.profile.Profile.{Profile as Named};
 ghost use Rattle.ill_lines.specs.declared.job.LinesFault.{LinesFault};
-ghost use Rattle.ill_lines.specs.Lines.{EndsWithin, LinesDone, LinesFail};
+ghost use Rattle.ill_lines.specs.Lines.{EndsWithin, LinesDone, LinesFail, line_work};
 ghost use Rattle.ill_lines.specs.code.After.{HasWritten};
 
-use crate::job::{LineJob, LinesFault};
+use crate::job::{LineJob, LineWork, LinesFault};
 use crate::lines::Lines;
 use ber_core::{Broken, Sink, Source};
+use ill_schema::Profile;
 use ill_write::put_all;
 use std::alloc::{AllocError, Global};
 
@@ -34,8 +36,51 @@ pub fn run_lines<R: Source, W: Sink>(
     source: &mut R,
     sink: &mut W,
 ) -> Result<bool, LinesFault>
-    ensures done { IfOk result (LinesDone job (R.left source.old) (R.left source.new) (W.contents sink.old) (W.contents sink.new)) }
-    ensures fails { IfErr result (LinesFail job (taking (R.left source.old) (R.left source.new) (R.is_broken source.new))
+    ensures done { IfOk result (LinesDone (line_work Named.Two job) (R.left source.old) (R.left source.new) (W.contents sink.old) (W.contents sink.new)) }
+    ensures fails { IfErr result (LinesFail (line_work Named.Two job) (taking (R.left source.old) (R.left source.new) (R.is_broken source.new))
+        (putting (W.contents sink.old) (W.contents sink.new) (W.is_broken sink.new))) }
+    ensures source_stays { IsTrue (R.is_broken source.old) → IsTrue (R.is_broken source.new) }
+    ensures sink_stays { IsTrue (W.is_broken sink.old) → IsTrue (W.is_broken sink.new) }
+{
+    run_lines_as(alloc, Profile::Two, job, source, sink)
+}
+
+/// Reads lines as [`run_lines`] does, of messages in the profile.
+///
+/// # Errors
+///
+/// Those of [`run_lines`].
+///
+/// # Examples
+///
+/// ```
+/// let all_good = run_lines_as(alloc, Profile::Module, LineJob::Check, &mut source, &mut sink)?;
+/// ```
+pub fn run_lines_as<R: Source, W: Sink>(
+    alloc: Global,
+    profile: Profile,
+    job: LineJob,
+    source: &mut R,
+    sink: &mut W,
+) -> Result<bool, LinesFault>
+    ensures done { IfOk result (LinesDone (line_work profile job) (R.left source.old) (R.left source.new) (W.contents sink.old) (W.contents sink.new)) }
+    ensures fails { IfErr result (LinesFail (line_work profile job) (taking (R.left source.old) (R.left source.new) (R.is_broken source.new))
+        (putting (W.contents sink.old) (W.contents sink.new) (W.is_broken sink.new))) }
+    ensures source_stays { IsTrue (R.is_broken source.old) → IsTrue (R.is_broken source.new) }
+    ensures sink_stays { IsTrue (W.is_broken sink.old) → IsTrue (W.is_broken sink.new) }
+{
+    run_work(alloc, LineWork { profile, job }, source, sink)
+}
+
+/// Does the work with each line.
+fn run_work<R: Source, W: Sink>(
+    alloc: Global,
+    work: LineWork,
+    source: &mut R,
+    sink: &mut W,
+) -> Result<bool, LinesFault>
+    ensures done { IfOk result (LinesDone work (R.left source.old) (R.left source.new) (W.contents sink.old) (W.contents sink.new)) }
+    ensures fails { IfErr result (LinesFail work (taking (R.left source.old) (R.left source.new) (R.is_broken source.new))
         (putting (W.contents sink.old) (W.contents sink.new) (W.is_broken sink.new))) }
     ensures source_stays { IsTrue (R.is_broken source.old) → IsTrue (R.is_broken source.new) }
     ensures sink_stays { IsTrue (W.is_broken sink.old) → IsTrue (W.is_broken sink.new) }
@@ -44,11 +89,11 @@ pub fn run_lines<R: Source, W: Sink>(
     let mut buffer = [0; CHUNK];
     for _ in 0..u64::MAX {
         let count = match source.take(&mut buffer) {
-            Ok(0) => return finish(alloc, job, &mut lines, sink),
+            Ok(0) => return finish(alloc, work, &mut lines, sink),
             Ok(count) => count,
             Err(Broken) => return Err(LinesFault::ReadFault),
         };
-        pass(alloc, job, &buffer[..count], &mut lines, sink)?;
+        pass(alloc, work, &buffer[..count], &mut lines, sink)?;
     }
     // After 2^64 calls no more is asked for.
     Err(LinesFault::OutOfMemory)
@@ -57,18 +102,18 @@ pub fn run_lines<R: Source, W: Sink>(
 /// Reads octets, and writes the results of the lines that end in them.
 fn pass<W: Sink>(
     alloc: Global,
-    job: LineJob,
+    work: LineWork,
     octets: &[u8],
     lines: &mut Lines,
     sink: &mut W,
 ) -> Result<(), LinesFault>
-    ensures done { (s : List ℕ) (first : Option (List ℕ)) → HasWritten job s first (W.contents sink.old) lines.old
-        → OnOk result (HasWritten job (s ++ octets.now) first (W.contents sink.new) lines.new) }
-    ensures fails { (s : List ℕ) (first : Option (List ℕ)) (x : Bool) → HasWritten job s first (W.contents sink.old) lines.old
-        → IfErr result (EndsWithin job (s ++ octets.now) x (putting first (W.contents sink.new) (W.is_broken sink.new))) }
+    ensures done { (s : List ℕ) (first : Option (List ℕ)) → HasWritten work s first (W.contents sink.old) lines.old
+        → OnOk result (HasWritten work (s ++ octets.now) first (W.contents sink.new) lines.new) }
+    ensures fails { (s : List ℕ) (first : Option (List ℕ)) (x : Bool) → HasWritten work s first (W.contents sink.old) lines.old
+        → IfErr result (EndsWithin work (s ++ octets.now) x (putting first (W.contents sink.new) (W.is_broken sink.new))) }
     ensures stays { IsTrue (W.is_broken sink.old) → IsTrue (W.is_broken sink.new) }
 {
-    let fed = lines.feed(alloc, job, octets);
+    let fed = lines.feed(alloc, work, octets);
     put_ready(lines, sink)?;
     match fed {
         Ok(()) => Ok(()),
@@ -79,20 +124,20 @@ fn pass<W: Sink>(
 /// Answers the last line, where it has no end, and writes its result.
 fn finish<W: Sink>(
     alloc: Global,
-    job: LineJob,
+    work: LineWork,
     lines: &mut Lines,
     sink: &mut W,
 ) -> Result<bool, LinesFault>
-    ensures done { (s : List ℕ) (first left left' : Option (List ℕ)) → Consumes left left' s → IsAtEnd left' → HasWritten job s first (W.contents sink.old) lines.old
-        → IfOk result (LinesDone job left left' first (W.contents sink.new)) }
-    ensures fails { (s : List ℕ) (first : Option (List ℕ)) (x : Bool) → HasWritten job s first (W.contents sink.old) lines.old
-        → IfErr result (EndsWithin job s x (putting first (W.contents sink.new) (W.is_broken sink.new))) }
+    ensures done { (s : List ℕ) (first left left' : Option (List ℕ)) → Consumes left left' s → IsAtEnd left' → HasWritten work s first (W.contents sink.old) lines.old
+        → IfOk result (LinesDone work left left' first (W.contents sink.new)) }
+    ensures fails { (s : List ℕ) (first : Option (List ℕ)) (x : Bool) → HasWritten work s first (W.contents sink.old) lines.old
+        → IfErr result (EndsWithin work s x (putting first (W.contents sink.new) (W.is_broken sink.new))) }
     ensures stays { IsTrue (W.is_broken sink.old) → IsTrue (W.is_broken sink.new) }
 {
     if lines.part.is_empty() {
         return Ok(lines.is_good);
     }
-    lines.end_line(alloc, job)?;
+    lines.end_line(alloc, work)?;
     put_ready(lines, sink)?;
     Ok(lines.is_good)
 }

@@ -1,11 +1,12 @@
 //! The words of a line: what a message is, or why the line is not a message.
 ghost use Rattle.std.specs.Prelude.{◌≡◌, IfOk, OnOk, ◌++◌};
 ghost use Rattle.ill_schema.specs.Names.{part_name_of};
+ghost use Rattle.ill_schema.specs.Profiles.{profile_of};
 ghost use Rattle.ill_refusals.specs.Fault.{fault_of};
 ghost use Rattle.ill_lines.specs.Words.{cause_name, cause_words, check_words, hex_words, part_words, refusal_words};
 
 use ill_jobs::RunFault;
-use ill_normal::{Cause, PartId, Refusal, apdu_name, part_name};
+use ill_normal::{Cause, PartId, Profile, Refusal, apdu_name_as, part_name};
 use itoa::Buffer;
 use std::alloc::{AllocError, Global};
 
@@ -90,17 +91,18 @@ pub fn hex_words(alloc: Global, fault: RunFault) -> Result<Vec<u8>, AllocError>
     Ok(words)
 }
 
-/// Whether a message is its normal form: the number of its APDU, how many octets it has, and how many its normal form has.
+/// Whether a message of the profile is its normal form: the number of its APDU, how many octets it has, and how many its normal form has.
 pub fn check_words(
     alloc: Global,
+    profile: Profile,
     apdu: u8,
     octets: usize,
     is_normal: bool,
     normal: usize,
 ) -> Result<Vec<u8>, AllocError>
-    ensures { IfOk result (λ words. words.items ≡ check_words apdu octets is_normal normal) }
+    ensures { IfOk result (λ words. words.items ≡ check_words (profile_of profile) apdu octets is_normal normal) }
 {
-    let name = match apdu_name(apdu) {
+    let name = match apdu_name_as(profile, apdu) {
         Some(name) => name,
         None => "",
     };

@@ -4,5 +4,5 @@ use Rattle.ill_lines.proofs.result.result_of.Goals as goal
 
 pub returns-in-Ok : goal.returns-in-Ok
 returns-in-Ok c =
-    let found = subst (λ l. IfOk c.message_result.result (λ found. IsResult c.args.job (Ok l) found.words.items found.is_good)) c.deref.ensures.value c.message_result.ensures in
-    subst (λ o. IfOk c.message_result.result (λ found. IsResult c.args.job o found.words.items found.is_good)) (sym c.in-Ok.ensures.octets) found
+    let found = subst (λ l. IfOk c.message_result.result (λ found. IsResult c.args.work (Ok l) found.words.items found.is_good)) c.deref.ensures.value c.message_result.ensures in
+    subst (λ o. IfOk c.message_result.result (λ found. IsResult c.args.work o found.words.items found.is_good)) (sym c.in-Ok.ensures.octets) found

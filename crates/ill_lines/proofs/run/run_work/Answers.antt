@@ -3,11 +3,11 @@ use Rattle.std.specs.Io.KnownBytes.{Consumes}
 use Rattle.std.proofs.KnownBytes.{Consumes-kept, Consumes-nil, Consumes-trans}
 use Rattle.std.proofs.lemmas.Result.{err_from_is_err_and, IfErr-weaker}
 use Rattle.ill_lines.proofs.MadeResults.{at_start, ends_memory, ends_read, made_written}
-use Rattle.ill_lines.proofs.run.run_lines.Goals as goal
+use Rattle.ill_lines.proofs.run.run_work.Goals as goal
 
 pub loop-init : goal.loop-init
 loop-init g c = record {
-  taken = ([], Consumes-nil (g.R.Source.left c.args.source.now), at_start c.args.job (g.W.Sink.contents c.args.sink.now) c.new-lines.result c.new-lines.ensures.part c.new-lines.ensures.ready c.new-lines.ensures.good);
+  taken = ([], Consumes-nil (g.R.Source.left c.args.source.now), at_start c.args.work (g.W.Sink.contents c.args.sink.now) c.new-lines.result c.new-lines.ensures.part c.new-lines.ensures.ready c.new-lines.ensures.good);
   source_stays = λ t. t;
   sink_stays = λ t. t;
 }
@@ -27,11 +27,11 @@ returns-in-Err-clause-fails g c =
     let now = c.loop.invariant.taken in
     let first = g.W.Sink.contents c.args.sink.now in
     let held = g.W.Sink.contents c.loop.sink in
-    let made = made_written c.args.job now.0 first held c.loop.lines now.2 in
+    let made = made_written c.args.work now.0 first held c.loop.lines now.2 in
     let left = g.R.Source.left c.args.source.now in (
       now.0,
       Consumes-kept left (g.R.Source.left c.loop.source) (g.R.Source.left c.take.new.self) now.0 now.1 c.in-Err.ensures.octets,
-      ends_read c.args.job now.0 now.2.2.rest c.loop.lines.is_good (g.R.Source.is_broken c.take.new.self) _ first held now.2.0 made now.2.1 now.2.2.unended (c.in-Err.ensures.breaks.0 refl),
+      ends_read c.args.work now.0 now.2.2.rest c.loop.lines.is_good (g.R.Source.is_broken c.take.new.self) _ first held now.2.0 made now.2.1 now.2.2.unended (c.in-Err.ensures.breaks.0 refl),
     )
 
 pub returns-in_err-pass-clause-fails : goal.returns-in_err-pass-clause-fails
@@ -58,4 +58,4 @@ returns-clause-fails g c =
     let now = c.loop.invariant.taken in
     let first = g.W.Sink.contents c.args.sink.now in
     let held = g.W.Sink.contents c.loop.sink in
-    (now.0, now.1, ends_memory c.args.job now.0 now.2.2.rest c.loop.lines.is_good _ _ first held now.2.0 (made_written c.args.job now.0 first held c.loop.lines now.2) now.2.1)
+    (now.0, now.1, ends_memory c.args.work now.0 now.2.2.rest c.loop.lines.is_good _ _ first held now.2.0 (made_written c.args.work now.0 first held c.loop.lines now.2) now.2.1)

@@ -11,7 +11,7 @@ returns-in_err-at-clause-some c s put h =
     let octets = c.args.octets.now in
     let at = c.lines.at in
     let some = c.in_err-at.ensures.some (s ++ take at octets) put (c.lines.invariant.stands s put h) in
-    rw p.1 (at + some.0, subst (λ l. StandsAfter c.args.job l put c.feed_line.new.self) (parts_whole s octets at some.0) some.1)
+    rw p.1 (at + some.0, subst (λ l. StandsAfter c.args.work l put c.feed_line.new.self) (parts_whole s octets at some.0) some.1)
 
 pub lines-preserved : goal.lines-preserved
 lines-preserved c =
@@ -19,6 +19,6 @@ lines-preserved c =
     let at = c.lines.at in
     let n = c.in_ok-at.field-0 in record {
       bound = omega (arith, c.in_ok-at.ensures.bound, c.lines.invariant.bound, length-drop at octets, ap length (from_place octets at));
-      stands = λ s put h. subst (λ l. StandsAfter c.args.job l put c.feed_line.new.self) (parts_whole s octets at n)
+      stands = λ s put h. subst (λ l. StandsAfter c.args.work l put c.feed_line.new.self) (parts_whole s octets at n)
           (c.in_ok-at.ensures.done (s ++ take at octets) put (c.lines.invariant.stands s put h));
     }

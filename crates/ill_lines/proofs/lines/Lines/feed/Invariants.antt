@@ -5,7 +5,7 @@ use Rattle.ill_lines.proofs.lines.Lines.feed.Given as goal
 abbrev pub invariant-lines : goal.invariant-lines
 invariant-lines l = record {
   bound : l.at ≤ length l.octets;
-  stands : (s put : List ℕ) → StandsAfter l.job s put l.fn.self → StandsAfter l.job (s ++ take l.at l.octets) put l.self;
+  stands : (s put : List ℕ) → StandsAfter l.work s put l.fn.self → StandsAfter l.work (s ++ take l.at l.octets) put l.self;
 }
 
 abbrev pub decreases-lines : goal.decreases-lines
