@@ -1,8 +1,9 @@
 -- What a dump does to its source and its sink. Of the text that is written only what each message begins with has a definition.
 use Rattle.std.specs.Prelude.{◌≡◌, ◌⊎◌, ℕ, suc, ◌+◌, ◌<◌, ◌≤◌, Bool, true, false, List, [], ◌∷◌, ◌++◌, length, codes, decimal, Option, Some, IfSome, IsTrue}
 use Rattle.std.specs.Io.KnownBytes.{Consumes, Keeps, Appends, IsAtEnd}
-use Rattle.ber_leaf.specs.Profile.{profile_two}
+use Rattle.ber_leaf.specs.Profile.{Profile}
 use Rattle.ill_schema.specs.Apdu.{Apdu, IsStream}
+use Rattle.ill_schema.specs.Profiles.{profile_of}
 use Rattle.ill_refusals.specs.Fault.{fault_of}
 use Rattle.ill_refusals.specs.Outcome.{OnlyRefuses}
 use Rattle.ill_jobs.specs.declared.fault.RunFault.{RunFault}
@@ -29,7 +30,7 @@ pub record Dumps (dump : Dump) (n : ℕ) (held held' : Option (List ℕ)) : Type
 pub record AreDumped (dump : Dump) (left left' held held' : Option (List ℕ)) : Type 0 where
   pub apdus : List Apdu
   pub octets : List ℕ
-  pub stream : IsStream profile_two octets apdus []
+  pub stream : IsStream (profile_of dump.profile) octets apdus []
   pub taken : Consumes left left' octets
   pub end : IsAtEnd left'
   pub few : length apdus ≤ 1_000_000
@@ -43,12 +44,13 @@ DumpDone true dump left left' held held' =
 
 -- the first message that is refused has this number, and the refusal is the one fault of what is left there; or 1,000,000 messages come before
 -- the end; or memory, the source or the sink failed
-abbrev pub StopsIn : List ℕ → RunFault → Type 0
-StopsIn s (RunFault.Refused message refusal) =
-    (apdus : List Apdu) × (rest : List ℕ) × IsStream profile_two s apdus rest × (message ≡ length apdus + 1)
-    × (0 < length rest) × OnlyRefuses profile_two rest (fault_of refusal)
-StopsIn s RunFault.TooManyMessages = (apdus : List Apdu) × (rest : List ℕ) × IsStream profile_two s apdus rest × (length apdus ≡ 1_000_000) × (0 < length rest)
-StopsIn s fault = IsFault fault
+abbrev pub StopsIn : Profile → List ℕ → RunFault → Type 0
+StopsIn q s (RunFault.Refused message refusal) =
+    (apdus : List Apdu) × (rest : List ℕ) × IsStream q s apdus rest × (message ≡ length apdus + 1)
+    × (0 < length rest) × OnlyRefuses q rest (fault_of refusal)
+StopsIn q s RunFault.TooManyMessages =
+    (apdus : List Apdu) × (rest : List ℕ) × IsStream q s apdus rest × (length apdus ≡ 1_000_000) × (0 < length rest)
+StopsIn q s fault = IsFault fault
 
 -- the messages up to the one that is refused were written, and it, too; or 1,000,000 of them
 abbrev pub DumpsUpTo : Dump → RunFault → Option (List ℕ) → Option (List ℕ) → Type 0
@@ -58,10 +60,10 @@ DumpsUpTo dump fault held held' = Unit {0}
 
 -- an input that is read as octets, or as hexadecimal text, ends in this fault; where a text isn't read nothing is written
 abbrev pub DumpFails : Bool → Dump → Option (List ℕ) → Option (List ℕ) → Bool → Option (List ℕ) → Option (List ℕ) → RunFault → Type 0
-DumpFails false dump left left' broken held held' fault = IfSome left (λ s. StopsIn s fault) × DumpsUpTo dump fault held held'
+DumpFails false dump left left' broken held held' fault = IfSome left (λ s. StopsIn (profile_of dump.profile) s fault) × DumpsUpTo dump fault held held'
 DumpFails true dump left left' broken held held' fault =
     (FailsText left left' broken fault × Keeps held held')
-    ⊎ ((octets : List ℕ) × TextOf left left' octets × StopsIn octets fault × DumpsUpTo dump fault held held')
+    ⊎ ((octets : List ℕ) × TextOf left left' octets × StopsIn (profile_of dump.profile) octets fault × DumpsUpTo dump fault held held')
 
 -- after a write fault the sink is broken
 abbrev pub BreaksSink : RunFault → Bool → Type 0

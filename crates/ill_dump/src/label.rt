@@ -16,10 +16,12 @@ pub enum Label {
     Item(PartId, usize),
     /// That of its type: the row's name is that of the element round it.
     Type(&'static str),
+    /// Its class and number: those of an element of a foreign tree.
+    Tag(Class, u32),
 }
 
-/// The name of what was found in an element of this node, after `items` elements.
-pub fn label_of(found: Found, round: NodeId, items: usize) -> Label {
+/// The name of what was found by this identifier in an element of this node, after `items` elements.
+pub fn label_of(found: Found, id: Id, round: NodeId, items: usize) -> Label {
     let part = found.part();
     match found.slot() {
         Slot::Row => match found.alternative() {
@@ -34,7 +36,8 @@ pub fn label_of(found: Found, round: NodeId, items: usize) -> Label {
             Some(_) => Label::Row(part),
             None => Label::Type(type_name(found.what())),
         },
-        Slot::Segment | Slot::Root | Slot::Foreign => Label::Type(type_name(found.what())),
+        Slot::Segment => Label::Type(type_name(found.what())),
+        Slot::Root | Slot::Foreign => Label::Tag(id.class(), id.number()),
     }
 }
 
@@ -70,7 +73,7 @@ fn row_name(part: PartId) -> &'static str {
 impl Label {
     /// Whether the name is one of the tables.
     pub fn is_named(self) -> bool {
-        !matches!(self, Label::Type(_))
+        !matches!(self, Label::Type(_) | Label::Tag(_, _))
     }
 
     pub fn put(self, lines: &mut Lines) -> Result<(), AllocError> {
@@ -88,18 +91,19 @@ impl Label {
                 lines.text("]")
             }
             Label::Type(name) => lines.text(name),
+            Label::Tag(class, number) => put_tag(lines, class, number),
         }
     }
 }
 
 /// A tag as it is written in ASN.1.
-pub fn put_tag(lines: &mut Lines, id: Id) -> Result<(), AllocError> {
-    lines.text(match id.class() {
+pub fn put_tag(lines: &mut Lines, class: Class, number: u32) -> Result<(), AllocError> {
+    lines.text(match class {
         Class::Universal => "[UNIVERSAL ",
         Class::Application => "[APPLICATION ",
         Class::Context => "[",
         Class::Private => "[PRIVATE ",
     })?;
-    lines.number(i64::from(id.number()))?;
+    lines.number(i64::from(number))?;
     lines.text("]")
 }

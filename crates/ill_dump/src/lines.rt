@@ -97,4 +97,15 @@ impl Lines {
         }
         self.octets.extend_from_slice(b"\"")
     }
+
+    /// Octets of no known meaning: in quotation marks where all are printable ASCII, else in hexadecimal without blanks.
+    pub fn content(&mut self, octets: &[u8]) -> Result<(), AllocError> {
+        if octets.iter().all(|octet| matches!(*octet, b' '..=b'~')) {
+            return self.quoted(octets);
+        }
+        for octet in octets {
+            self.octet(*octet)?;
+        }
+        Ok(())
+    }
 }

@@ -5,8 +5,8 @@ use crate::label::{Label, label_of, put_tag};
 use crate::lines::Lines;
 use crate::walk::Walk;
 use ber_core::{Class, Id, Len};
-use ill_cells::What;
-use ill_schema::{Cause, Refusal};
+use ill_cells::{At, What};
+use ill_schema::{Cause, Kind, NodeId, Profile, Refusal, kind};
 use std::alloc::AllocError;
 
 /// The tags that are tried where it is said what is due: class, first and last number. The tables have no others.
@@ -25,7 +25,7 @@ pub fn put_lines(
 ) -> Result<(), AllocError> {
     put_refusal(lines, refusal)?;
     lines.text("    ")?;
-    lines.text(cause_text(refusal.cause))?;
+    lines.text(text_of(walk, refusal.cause))?;
     lines.text("\n")?;
     if refusal.cause == Cause::NormalTooLong {
         return Ok(());
@@ -34,9 +34,48 @@ pub fn put_lines(
     put_path(lines, walk, begun, refusal.cause)?;
     put_found(lines, octets, begun, refusal)?;
     match refusal.cause {
-        Cause::UnexpectedTag | Cause::Missing(_) => put_due(lines, walk),
+        Cause::UnexpectedTag | Cause::Missing(_) => put_due(lines, walk)?,
+        _ => {}
+    }
+    put_hint(lines, walk, refusal.cause)
+}
+
+/// What a cause says, at the place that was reached.
+fn text_of(walk: &Walk, cause: Cause) -> &'static str {
+    match cause {
+        Cause::TooDeep if is_foreign(walk.place()) => {
+            "a value of an open type would have more than 20 levels"
+        }
+        cause => cause_text(cause),
+    }
+}
+
+/// Tells whether a place is in the wrapper of an open type, before its value, or in a foreign tree.
+fn is_foreign(place: At) -> bool {
+    kind(place.node()) == Kind::Any
+}
+
+/// That the module profile reads what profile 2 leaves out or tags in another way, where this may be so.
+fn put_hint(lines: &mut Lines, walk: &Walk, cause: Cause) -> Result<(), AllocError> {
+    if walk.profile() != Profile::Two {
+        return Ok(());
+    }
+    let node = walk.place().node();
+    match cause {
+        Cause::LeftOut(_) => lines.text("    --profile module reads this part\n"),
+        Cause::WrongForm | Cause::UnexpectedTag if is_retagged(node) => {
+            lines.text("    --profile module has other tags here\n")
+        }
         _ => Ok(()),
     }
+}
+
+/// Tells whether the module profile has other tags in a node of profile 2, or a row more.
+fn is_retagged(node: NodeId) -> bool {
+    matches!(
+        &node,
+        NodeId::UnitsPerMedium | NodeId::WillSupply | NodeId::Conditional
+    )
 }
 
 /// The octets from a place up to a bound.
@@ -76,7 +115,7 @@ fn label_of_found(walk: &Walk, begun: Begun, cause: Cause) -> Option<Label> {
     }
     let (id, _) = begun.id?;
     let place = walk.place();
-    let label = label_of(place.find(id)?, place.node(), walk.items());
+    let label = label_of(place.find(id)?, id, place.node(), walk.items());
     label.is_named().then_some(label)
 }
 
@@ -111,7 +150,7 @@ fn put_header(
     let Some((id, id_size)) = begun.id else {
         return lines.hex(first(rest, begun.size));
     };
-    put_tag(lines, id)?;
+    put_tag(lines, id.class(), id.number())?;
     lines.text(if id.constructed() {
         " constructed: "
     } else {
@@ -145,6 +184,9 @@ fn first(octets: &[u8], count: usize) -> &[u8] {
 
 /// What was due: a line for each tag, and one for the end of the element, where nothing is missing in it.
 fn put_due(lines: &mut Lines, walk: &Walk) -> Result<(), AllocError> {
+    if is_foreign(walk.place()) {
+        return lines.text("    due one element of any tag\n");
+    }
     for (class, low, high) in TAGS {
         for number in low..=high {
             if let Some(id) = Id::new(class, true, number) {
@@ -164,9 +206,9 @@ fn put_due_tag(lines: &mut Lines, walk: &Walk, id: Id) -> Result<(), AllocError>
         return Ok(());
     };
     lines.text("    due ")?;
-    put_tag(lines, id)?;
+    put_tag(lines, id.class(), id.number())?;
     lines.text(" ")?;
-    label_of(found, place.node(), walk.items()).put(lines)?;
+    label_of(found, id, place.node(), walk.items()).put(lines)?;
     if found.what() == What::LeftOut {
         lines.text(" (not read)")?;
     }

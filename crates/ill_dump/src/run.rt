@@ -1,6 +1,7 @@
 //! The messages of an input, one after another.
 ghost use Rattle.std.specs.Prelude.{◌≡◌, ◌++◌, [], Ok, IfOk, IfErr, IfSome, IsTrue, OnOk};
 ghost use Rattle.std.specs.Io.KnownBytes.{Appends};
+ghost use Rattle.ill_schema.specs.Profiles.{profile_of};
 ghost use Rattle.ill_jobs.specs.declared.fault.RunFault.{RunFault};
 ghost use Rattle.ill_jobs.specs.Output.{label_of};
 ghost use Rattle.ill_jobs.specs.Ran.{FailsText, IsFault, TextOf};
@@ -17,7 +18,7 @@ use ber_core::{AtHand, FromSlice, Look, Sink, Source};
 use ill_cells::At;
 use ill_jobs::{RunFault, read_most, text_octets};
 use ill_read::{Normal, NormalReader, ReadFailure};
-use ill_schema::Refusal;
+use ill_schema::{Profile, Refusal};
 use ill_write::put_all;
 use std::alloc::{AllocError, Global};
 
@@ -33,6 +34,8 @@ const FULL: usize = 4096;
 /// How an input is read, and how the first line of each message names it.
 #[derive(Clone, Copy, Debug)]
 pub struct Dump<'a> {
+    /// The profile that messages are read in.
+    pub profile: Profile,
     /// Whether the input is hexadecimal text.
     pub hex: bool,
     /// The name of the input.
@@ -89,7 +92,7 @@ fn dump_messages<R: Source, L: Look<R>, W: Sink>(
 ) -> Result<(), RunFault>
     ensures done { OnOk result (AreDumped dump.entry
         (R.left source.old) (R.left source.new) (W.contents sink.old) (W.contents sink.new)) }
-    ensures stops { IfErr result (λ fault. IfSome (R.left source.old) (λ s. StopsIn s fault)) }
+    ensures stops { IfErr result (λ fault. IfSome (R.left source.old) (λ s. StopsIn (profile_of dump.entry.profile) s fault)) }
     ensures dumps { IfErr result (λ fault. DumpsUpTo dump.entry fault (W.contents sink.old) (W.contents sink.new)) }
     ensures breaks { IfErr result (λ fault. BreaksSink fault (W.is_broken sink.new)) }
     ensures source_stays { IsTrue (R.is_broken source.old) → IsTrue (R.is_broken source.new) }
@@ -106,7 +109,7 @@ fn dump_messages<R: Source, L: Look<R>, W: Sink>(
     for before in 0..MESSAGES {
         let message = before + 1;
         kept.clear();
-        let read = reader.read_kept::<R, L>(source, room, &mut kept);
+        let read = reader.read_kept_as::<R, L>(dump.profile, source, room, &mut kept);
         match read {
             Ok(Some(normal)) => {
                 put_message(alloc, dump, message, &kept, &normal, &mut out, sink)?;
@@ -197,8 +200,8 @@ fn put_message<W: Sink>(
     ensures stays { IsTrue (W.is_broken sink.old) → IsTrue (W.is_broken sink.new) }
 {
     made(put_head(dump, message, &mut out.head))?;
-    made(put_check(octets, &normal.octets, &mut out.lines))?;
-    let mut walk = Walk::new(alloc);
+    made(put_check(dump, octets, &normal.octets, &mut out.lines))?;
+    let mut walk = Walk::new(alloc, dump.profile);
     put_elements(&mut walk, octets, octets.len(), out, sink)?;
     out.put(sink)
 }
@@ -248,7 +251,7 @@ fn put_refused<W: Sink>(
 {
     made(put_head(dump, message, &mut out.head))?;
     made(out.lines.text("refused\n"))?;
-    let mut walk = Walk::new(alloc);
+    let mut walk = Walk::new(alloc, dump.profile);
     put_elements(&mut walk, octets, refusal.at as usize, out, sink)?;
     made(refusal::put_lines(&mut out.lines, &walk, octets, refusal))?;
     out.put(sink)
@@ -301,8 +304,13 @@ fn put_label(dump: Dump<'_>, lines: &mut Lines) -> Result<(), AllocError>
 }
 
 /// The rest of the line of a message: its APDU, its size, and whether it is in normal form.
-fn put_check(octets: &[u8], normal: &[u8], lines: &mut Lines) -> Result<(), AllocError> {
-    put_apdu(octets, lines)?;
+fn put_check(
+    dump: Dump<'_>,
+    octets: &[u8],
+    normal: &[u8],
+    lines: &mut Lines,
+) -> Result<(), AllocError> {
+    put_apdu(dump.profile, octets, lines)?;
     lines.text(", ")?;
     lines.count(octets.len())?;
     if octets == normal {
@@ -314,13 +322,13 @@ fn put_check(octets: &[u8], normal: &[u8], lines: &mut Lines) -> Result<(), Allo
 }
 
 /// The name of the APDU that the octets begin.
-fn put_apdu(octets: &[u8], lines: &mut Lines) -> Result<(), AllocError> {
-    let top = At::top();
+fn put_apdu(profile: Profile, octets: &[u8], lines: &mut Lines) -> Result<(), AllocError> {
+    let top = At::top_of(profile);
     let Some((id, _)) = begin(octets).id else {
         return Ok(());
     };
     match top.find(id) {
-        Some(found) => label_of(found, top.node(), 0).put(lines),
+        Some(found) => label_of(found, id, top.node(), 0).put(lines),
         None => Ok(()),
     }
 }

@@ -1,7 +1,9 @@
 //! The values of leaves.
 use crate::lines::Lines;
+use ber_leaf::{BitString, Leaf, ObjectIdentifier};
 use ill_cells::What;
-use ill_read::LeafType;
+use ill_json::add_identifier;
+use ill_read::{LeafType, Mark};
 use ill_schema::{PartId, Profile, Value, is_default, row};
 use std::alloc::{AllocError, Global};
 
@@ -65,5 +67,77 @@ fn put_value(
     match row(part) {
         Some(row) => Ok(is_default(row, &value)),
         None => Ok(false),
+    }
+}
+
+/// Tells whether a constructed element is a string in segments.
+pub fn is_string(what: What) -> bool {
+    match what {
+        What::OctetString | What::BitString | What::ObjectDescriptor => true,
+        _ => leaf_type(what).is_some(),
+    }
+}
+
+/// The content of a primitive element that is no leaf of profile 2.
+pub fn put_module_leaf(
+    lines: &mut Lines,
+    alloc: Global,
+    what: What,
+    content: &[u8],
+) -> Result<(), AllocError> {
+    match what {
+        What::Null if content.is_empty() => lines.text("NULL"),
+        What::ObjectIdentifier if ObjectIdentifier::check(content).is_none() => {
+            put_identifier(lines, alloc, content)
+        }
+        What::BitString | What::BitSegment if BitString::check(content).is_none() => {
+            put_bits(lines, content)
+        }
+        What::Null | What::ObjectIdentifier | What::BitString | What::BitSegment => {
+            lines.hex(content)
+        }
+        What::OctetString | What::Foreign => lines.content(content),
+        _ => lines.quoted(content),
+    }
+}
+
+/// An OBJECT IDENTIFIER, its numbers with dots between them.
+fn put_identifier(lines: &mut Lines, alloc: Global, content: &[u8]) -> Result<(), AllocError> {
+    let mut marks = Vec::new(alloc);
+    for octet in content {
+        marks.push(Mark::Octet(*octet))?;
+    }
+    let mut text = String::new(alloc);
+    add_identifier(&mut text, &marks)?;
+    lines.text(&text)
+}
+
+/// How many bits there are, and the octets that they fill.
+fn put_bits(lines: &mut Lines, content: &[u8]) -> Result<(), AllocError> {
+    let Some((unused, filled)) = content.split_first() else {
+        return Ok(());
+    };
+    lines.text("bits ")?;
+    lines.count(
+        filled
+            .len()
+            .saturating_mul(8)
+            .saturating_sub(*unused as usize),
+    )?;
+    if filled.is_empty() {
+        return Ok(());
+    }
+    lines.text(" ")?;
+    for octet in filled {
+        lines.octet(*octet)?;
+    }
+    Ok(())
+}
+
+/// Tells whether unused bits of a BIT STRING with this content are not 0.
+pub fn has_unused_bits_set(content: &[u8]) -> bool {
+    match content {
+        [unused, .., last] if *unused < 8 => *last as u16 % (1 << *unused) != 0,
+        _ => false,
     }
 }

@@ -3,10 +3,10 @@ use crate::found::{Begun, begin};
 use crate::label::{Label, label_of};
 use crate::lines::Lines;
 use crate::note::Notes;
-use crate::value::{leaf_type, put_leaf};
+use crate::value::{has_unused_bits_set, is_string, leaf_type, put_leaf, put_module_leaf};
 use ber_core::{Header, Len};
 use ill_cells::{At, Found, What};
-use ill_schema::LIMIT;
+use ill_schema::{LIMIT, Profile};
 use std::alloc::{AllocError, Global};
 
 /// An element that is open.
@@ -25,6 +25,7 @@ struct Open {
 #[derive(Drop)]
 pub struct Walk {
     alloc: Global,
+    profile: Profile,
     open: Vec<Open>,
     at: usize,
 }
@@ -41,9 +42,10 @@ struct Element {
 }
 
 impl Walk {
-    pub fn new(alloc: Global) -> Walk {
+    pub fn new(alloc: Global, profile: Profile) -> Walk {
         Walk {
             alloc,
+            profile,
             open: Vec::new(alloc),
             at: 0,
         }
@@ -53,8 +55,13 @@ impl Walk {
     pub fn place(&self) -> At {
         match self.open.as_slice().last() {
             Some(open) => open.place,
-            None => At::top(),
+            None => At::top_of(self.profile),
         }
+    }
+
+    /// The profile that the message is read in.
+    pub fn profile(&self) -> Profile {
+        self.profile
     }
 
     /// How many elements the innermost one has so far.
@@ -160,7 +167,7 @@ impl Walk {
         Some(Element {
             found,
             header,
-            label: label_of(found, place.node(), self.items()),
+            label: label_of(found, id, place.node(), self.items()),
             id_size,
             size: begun.size,
         })
@@ -205,7 +212,8 @@ impl Walk {
             What::LooseWrapper if self.is_bare(element, octets, stop) => {
                 notes.note(lines, "without inner SEQUENCE")
             }
-            what if leaf_type(what).is_some() => notes.note(lines, "in segments"),
+            What::BitSegment => notes.note(lines, "segment"),
+            what if is_string(what) => notes.note(lines, "in segments"),
             _ => Ok(()),
         }
     }
@@ -239,16 +247,18 @@ impl Walk {
         let is_default = match leaf_type(what) {
             Some(leaf) => put_leaf(lines, self.alloc, leaf, element.found.part(), content)?,
             None => {
-                lines.quoted(content)?;
+                put_module_leaf(lines, self.alloc, what, content)?;
                 false
             }
         };
         notes.length(lines, element.header.len, length)?;
-        if what == What::Segment {
-            notes.note(lines, "segment")?;
+        match what {
+            What::Segment | What::BitSegment => notes.note(lines, "segment")?,
+            What::Boolean => notes.flag(lines, content)?,
+            _ => {}
         }
-        if what == What::Boolean {
-            notes.flag(lines, content)?;
+        if matches!(what, What::BitString | What::BitSegment) && has_unused_bits_set(content) {
+            notes.note(lines, "unused bits are not 0")?;
         }
         if is_default {
             notes.note(lines, "default written")?;
