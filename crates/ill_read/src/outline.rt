@@ -149,15 +149,26 @@ fn put_octets(marks: &mut Vec<Mark>, octets: &[u8]) -> Result<(), AllocError>
     Ok(())
 }
 
+/// Marks what has only octets, which begins with this mark. Room is made once.
+#[inline(always)]
+fn put_content(marks: &mut Vec<Mark>, first: Mark, octets: &[u8]) -> Result<(), AllocError>
+    ensures { OnOk result (marks.new.items ≡ marks.old.items ++ octets_marks first octets.now) }
+{
+    marks.reserve(octets.len() + 2)?;
+    marks.push_reserved(first);
+    for octet in octets {
+        marks.push_reserved(Mark::Octet(*octet));
+    }
+    marks.push_reserved(Mark::End);
+    Ok(())
+}
+
 /// Marks a foreign tree, which has these octets.
 #[inline(never)]
 fn put_foreign(marks: &mut Vec<Mark>, octets: &[u8]) -> Result<(), AllocError>
     ensures { OnOk result (marks.new.items ≡ marks.old.items ++ octets_marks Mark.Foreign octets.now) }
 {
-    marks.push(Mark::Foreign)?;
-    put_octets(marks, octets)?;
-    marks.push(Mark::End)?;
-    Ok(())
+    put_content(marks, Mark::Foreign, octets)
 }
 
 /// Passes the rows before an element at the slot, where this may come next in the element round it. The first row in a loose wrapper
@@ -260,9 +271,7 @@ impl Draft for Outlining {
         self.octets.leaf(profile, place, reading, leaf, content)?;
         let marks = &mut self.marks;
         lead(marks, place, reading.found)?;
-        marks.push(Mark::Leaf(leaf))?;
-        put_octets(marks, content)?;
-        marks.push(Mark::End)?;
+        put_content(marks, Mark::Leaf(leaf), content)?;
         Ok(())
     }
 

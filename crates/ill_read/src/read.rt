@@ -18,8 +18,8 @@ use ber_core::{Broken, Look, Source, Unseen};
 use ill_schema::{Cause, LIMIT, Message, Profile};
 use std::alloc::Global;
 
-/// How many octets are asked of a source at once.
-const CHUNK: usize = 1024;
+/// The number of octets that are asked of a source at once, where it shows none. They are cleared for each message, so they are few.
+const CHUNK: usize = 128;
 
 /// Reads the message at the front of what is left, and takes its octets and no more; None where the input ends before any octet.
 ///
