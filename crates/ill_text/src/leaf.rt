@@ -264,7 +264,7 @@ fn put_octet<W: Sink>(octet: u8, out: &mut Out, sink: &mut W)
     ensures stays { IsTrue (W.is_broken sink.old) → IsTrue (W.is_broken sink.new) }
 {
     match octet {
-        b' ' | b'!' | b'#'..=b'[' | b']'..=b'~' => out.put(sink, &[octet]),
+        b' ' | b'!' | b'#'..=b'[' | b']'..=b'~' => out.put_octet(sink, octet),
         _ => put_escape(octet, out, sink),
     }
 }
@@ -323,7 +323,7 @@ fn put_mark<W: Sink>(mark: Mark, out: &mut Out, sink: &mut W)
     ensures stays { IsTrue (W.is_broken sink.old) → IsTrue (W.is_broken sink.new) }
 {
     match mark {
-        Mark::Octet(octet) => out.put(sink, &[octet]),
+        Mark::Octet(octet) => out.put_octet(sink, octet),
         _ => {}
     }
 }

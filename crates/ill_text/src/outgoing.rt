@@ -20,7 +20,7 @@ pub struct Out {
 }
 
 impl Out {
-    ghost use Rattle.std.specs.Prelude.{◌≡◌, ◌+◌, ◌-◌, ◌<◌, List, [], Option, length, false, true, IsTrue};
+    ghost use Rattle.std.specs.Prelude.{◌≡◌, ◌+◌, ◌-◌, ◌<◌, List, [], ◌∷◌, Option, length, false, true, IsTrue};
     ghost use Rattle.ill_text.specs.code.Sending.{Adds, Stands, counted, sending};
 
     /// Nothing is put yet.
@@ -103,6 +103,19 @@ impl Out {
         self.put_more(sink, octets);
     }
 
+    /// Puts one octet, or keeps it until there are more.
+    #[inline(always)]
+    pub fn put_octet<W: Sink>(&mut self, sink: &mut W, octet: u8)
+        ensures adds { Adds (octet ∷ []) (sending (W.contents sink.old) (W.is_broken sink.old) self.old) (sending (W.contents sink.new) (W.is_broken sink.new) self.new) }
+        ensures stays { IsTrue (W.is_broken sink.old) → IsTrue (W.is_broken sink.new) }
+    {
+        if self.len < ROOM {
+            self.keep_octet(octet);
+            return;
+        }
+        self.put_more(sink, &[octet]);
+    }
+
     /// Puts what waits, and then octets.
     #[inline(never)]
     fn put_more<W: Sink>(&mut self, sink: &mut W, octets: &[u8])
@@ -118,6 +131,16 @@ impl Out {
             return;
         }
         self.keep(octets);
+    }
+
+    /// Keeps an octet for which there is room.
+    #[inline(always)]
+    fn keep_octet(&mut self, octet: u8)
+        requires room { self.old.len < 1024 }
+        ensures { (reported : Option (List _)) (b : _) → Adds (octet ∷ []) (sending reported b self.old) (sending reported b self.new) }
+    {
+        self.waiting[self.len] = octet;
+        self.len += 1;
     }
 
     /// Keeps octets for which there is room. There is no room once the sink broke.
