@@ -7,7 +7,7 @@ use Rattle.std.specs.Str.{bytes_eq}
 use Rattle.std.proofs.lemmas.Bool.{and_parts}
 use Rattle.std.proofs.lemmas.Slice.Eq.{bytes_eq-Decides}
 use Rattle.clap.specs.Faults.{built_fault, check_fault, entered_fault, fault_of, level_fault, other_fault, turn_fault, walk_fault, word_fault}
-use Rattle.clap.specs.Kinds.{Kinds, check_kinds, or_else}
+use Rattle.clap.specs.Kinds.{Kinds, check_kinds}
 use Rattle.clap.specs.Lexer.{long_of, short_of}
 use Rattle.clap.specs.Simple.{App, Shape, argument_words, built, entered, label_of, names_of, rows_at, subcommand_of}
 use Rattle.clap.specs.Takes.{is_given}
@@ -18,12 +18,7 @@ use Rattle.ill_orders.specs.code.Commands.{HasBoth, IsCommand}
 use Rattle.ill_orders.specs.declared.orders.Verb.{Verb}
 use Rattle.clap.proofs.SimpleLemmas.{is_nil}
 use Rattle.ill_orders.proofs.Found.{find_passes}
-use Rattle.ill_orders.proofs.Filled.{are_files_and_flags, given_value}
-
--- neither of two steps has a fault
-neither : (a b : Kinds) → or_else a b ≡ [] → (a ≡ []) × (b ≡ [])
-neither [] b h = (refl, h)
-neither (k ∷ kinds) b h = absurd cc
+use Rattle.ill_orders.proofs.Filled.{are_good, given_value, has_profile, level_sound, named_profile, neither, IsSound}
 
 -- ---- the walk stops at no `help`
 
@@ -105,15 +100,6 @@ walk_stays s names (word ∷ words) w on f n =
 
 -- ---- one level
 
-level_passes : (s : Shape) (names : Names) (h : Held) (words : List Text) (named : Bool) (below : Kinds) → level_fault s names h words named below ≡ []
-    → (walk_fault s names (walk_from h) words ≡ []) × (below ≡ []) × (check_fault s (finished s.rules (walk s.rules names h words).held) named ≡ [])
-level_passes s names h words named below f =
-    let one = neither _ _ f in
-    let two = neither _ _ one.1 in
-    let three = neither _ _ two.1 in
-    let four = neither _ _ three.1 in
-    (one.0, two.0, four.1)
-
 no_kinds : (x y z : Bool) → check_kinds x y z ≡ [] → (y ≡ false) × (z ≡ false)
 no_kinds true y z f = absurd cc
 no_kinds false true z f = absurd cc
@@ -151,14 +137,17 @@ given_if_required s rows id required f = any s.rules required (negated s.subcomm
 abbrev verbs : List Verb
 verbs = Verb.Show ∷ Verb.Check ∷ Verb.Digest ∷ Verb.Dump ∷ Verb.Same ∷ Verb.Canonicalise ∷ []
 
--- `same` has flags, and two files that are required
-abbrev has_both : List Rule → Bool
-has_both rules = are_files_and_flags rules && (list_any (λ a. a.required && bytes_eq a.id (codes "first")) rules && list_any (λ a. a.required && bytes_eq a.id (codes "second")) rules)
+-- two files are required
+abbrev wants_both : List Rule → Bool
+wants_both rules = list_any (λ a. a.required && bytes_eq a.id (codes "first")) rules && list_any (λ a. a.required && bytes_eq a.id (codes "second")) rules
 
--- a command has a name of ours, or is a topic of `help`, or `help` itself
+-- a command has a name of ours, and a profile, and `same` wants its two files
+abbrev is_ours : Shape → Bool
+is_ours s = list_any (λ verb. bytes_eq s.name (verb_name verb)) verbs && (has_profile s.rules && (not (bytes_eq s.name (codes "same")) || wants_both s.rules))
+
+-- a command is one of ours, or a topic of `help`, or `help` itself
 abbrev is_known : Shape → Bool
-is_known s = (s.subcommand_required || (list_any (λ verb. bytes_eq s.name (verb_name verb)) verbs || (bytes_eq s.name (codes "help") && is_empty s.aliases)))
-    && (not (bytes_eq s.name (codes "same")) || has_both s.rules)
+is_known s = s.subcommand_required || (is_ours s || (bytes_eq s.name (codes "help") && is_empty s.aliases))
 
 verb_of : (name : Text) (list : List Verb) → list_any (λ verb. bytes_eq name (verb_name verb)) list ≡ true → (verb : Verb) × (name ≡ verb_name verb)
 verb_of name [] h = absurd cc
@@ -181,46 +170,56 @@ not_help s name met help never =
     either true e = refl
     either false e = e
 
-own_name : (s : Shape) (name : Text) (rows : List Row) → is_known s ≡ true → answers_to name (label_of s) ≡ true → bytes_eq name (codes "help") ≡ false → check_fault s rows false ≡ []
-    → (verb : Verb) × (s.name ≡ verb_name verb)
-own_name s name rows known met never f =
-    go s.subcommand_required (list_any (λ verb. bytes_eq s.name (verb_name verb)) verbs) (bytes_eq s.name (codes "help") && is_empty s.aliases) refl refl refl (and_parts _ _ known).0
+ours : (s : Shape) (name : Text) (rows : List Row) → is_known s ≡ true → answers_to name (label_of s) ≡ true → bytes_eq name (codes "help") ≡ false → check_fault s rows false ≡ []
+    → is_ours s ≡ true
+ours s name rows known met never f = go s.subcommand_required (is_ours s) (bytes_eq s.name (codes "help") && is_empty s.aliases) refl refl known
   where
-    go : (x y z : Bool) → s.subcommand_required ≡ x → list_any (λ verb. bytes_eq s.name (verb_name verb)) verbs ≡ y → (bytes_eq s.name (codes "help") && is_empty s.aliases) ≡ z
-        → (x || (y || z)) ≡ true → (verb : Verb) × (s.name ≡ verb_name verb)
-    go true y z required own help h = let not_named : false ≡ true = is_named s rows false required f in absurd cc
-    go false true z required own help h = verb_of s.name verbs own
-    go false false true required own help h = absurd (not_help s name met help never)
-    go false false false required own help h = absurd cc
+    go : (x y z : Bool) → s.subcommand_required ≡ x → (bytes_eq s.name (codes "help") && is_empty s.aliases) ≡ z → (x || (y || z)) ≡ true → y ≡ true
+    go true y z required help h = let not_named : false ≡ true = is_named s rows false required f in absurd cc
+    go false true z required help h = refl
+    go false false true required help h = absurd (not_help s name met help never)
+    go false false false required help h = absurd cc
 
-both_given : (s : Shape) (words : List Text) → is_known s ≡ true → check_fault s (rows_after s.rules [] words) false ≡ [] → s.name ≡ codes "same" → HasBoth (rows_after s.rules [] words)
-both_given s words known f same =
+both_given : (s : Shape) (words : List Text) → are_good s.rules ≡ true → (not (bytes_eq s.name (codes "same")) || wants_both s.rules) ≡ true → IsSound s [] nothing_held words false []
+    → s.name ≡ codes "same" → HasBoth (rows_after s.rules [] words)
+both_given s words good wants f same =
     let rows = rows_after s.rules [] words in
     let is : bytes_eq s.name (codes "same") ≡ true = (bytes_eq-Decides s.name (codes "same")).1 same in
-    let either : (not (bytes_eq s.name (codes "same")) || has_both s.rules) ≡ true = (and_parts _ _ known).1 in
-    let has : has_both s.rules ≡ true = rw is at either in
-    let files = and_parts (are_files_and_flags s.rules) _ has in
-    let two = and_parts (list_any (λ a. a.required && bytes_eq a.id (codes "first")) s.rules) _ files.1 in (
-      given_value s.rules [] words (codes "first") files.0 (given_if_required s rows (codes "first") two.0 f),
-      given_value s.rules [] words (codes "second") files.0 (given_if_required s rows (codes "second") two.1 f),
+    let both : wants_both s.rules ≡ true = rw is at wants in
+    let two = and_parts (list_any (λ a. a.required && bytes_eq a.id (codes "first")) s.rules) _ both in (
+      given_value s words (codes "first") good f (given_if_required s rows (codes "first") two.0 f.rows_pass),
+      given_value s words (codes "second") good f (given_if_required s rows (codes "second") two.1 f.rows_pass),
     )
+
+is_command : (s : Shape) (words : List Text) → is_ours s ≡ true → IsSound s [] nothing_held words false [] → IsCommand (Some (s.name, rows_after s.rules [] words))
+is_command s words own f =
+    let parts = and_parts (list_any (λ verb. bytes_eq s.name (verb_name verb)) verbs) _ own in
+    let rules = and_parts (has_profile s.rules) _ parts.1 in
+    record {
+      name = s.name;
+      rows = rows_after s.rules [] words;
+      is = refl;
+      known = verb_of s.name verbs parts.0;
+      profile = named_profile s words rules.0 f;
+      both = both_given s words (and_parts (are_good s.rules) _ rules.0).0 rules.1 f;
+    }
 
 -- an application whose commands are ours, or topics of `help`, or `help`, and which wants one
 built_command : (a : App) (words : List Text) → a.top.subcommand_required ≡ true → a.top.disable_help_subcommand ≡ false → list_all is_known a.subs ≡ true
     → built_fault a nothing_held words ≡ [] → IsCommand (entered a (walk a.top.rules (names_of a) nothing_held words).stopped)
 built_command a words required on known f =
     let stop = (walk a.top.rules (names_of a) nothing_held words).stopped in
-    let level = level_passes a.top (names_of a) nothing_held words (is_some (entered a stop)) (entered_fault a stop) f in
-    met stop (walk_stays a.top (names_of a) words (walk_from nothing_held) on level.0 tt) (is_named a.top (finished a.top.rules (walk a.top.rules (names_of a) nothing_held words).held) _ required level.2) level.1
+    let level = level_sound a.top (names_of a) nothing_held words (is_some (entered a stop)) (entered_fault a stop) f in
+    met stop (walk_stays a.top (names_of a) words (walk_from nothing_held) on level.words_pass tt)
+    (is_named a.top (finished a.top.rules (walk a.top.rules (names_of a) nothing_held words).held) _ required level.rows_pass) level.below_passes
   where
     sub : (p : Text × List Text) (found : Option Shape) → bytes_eq p.0 (codes "help") ≡ false
         → IfSome found (λ s. (answers_to p.0 (label_of s) ≡ true) × (is_known s ≡ true)) → is_some (option_map (λ s. rows_at s p.1) found) ≡ true
         → option_map_or (λ s. level_fault s [] nothing_held p.1 false []) found [] ≡ [] → IsCommand (option_map (λ s. rows_at s p.1) found)
     sub p None n k named f = absurd cc
     sub p (Some s) n k named f =
-        let level = level_passes s [] nothing_held p.1 false [] f in
-        let rows = rows_after s.rules [] p.1 in
-        record { name = s.name; rows = rows; is = refl; known = own_name s p.0 rows k.1 k.0 n level.2; both = both_given s p.1 k.1 level.2 }
+        let level = level_sound s [] nothing_held p.1 false [] f in
+        is_command s p.1 (ours s p.0 (rows_after s.rules [] p.1) k.1 k.0 n level.rows_pass) level
 
     met : (stop : Option (Text × List Text)) → IsNoHelp stop → is_some (entered a stop) ≡ true → entered_fault a stop ≡ [] → IsCommand (entered a stop)
     met None n named f = absurd cc

@@ -2,3 +2,4 @@ pub mod Canonicalised
 pub mod Command
 pub mod Filled
 pub mod Found
+pub mod Placed

@@ -3,6 +3,7 @@ use Rattle.std.specs.Prelude.{◌≡◌, ◌≢◌, ◌<◌, ◌+◌, ℕ, Bool,
 use Rattle.std.specs.Option.{option_map_or}
 use Rattle.std.specs.Str.{bytes_eq}
 use Rattle.clap.specs.Walk.{Row, Text, all_of, first_of, one_of}
+use Rattle.ill_schema.specs.declared.profile.Profile.{Profile}
 use Rattle.ill_orders.specs.declared.orders.EachJob.{EachJob}
 use Rattle.ill_orders.specs.declared.orders.Inputs.{Inputs}
 use Rattle.ill_orders.specs.declared.orders.Order.{Order}
@@ -16,6 +17,11 @@ verb_name Verb.Digest = codes "digest"
 verb_name Verb.Dump = codes "dump"
 verb_name Verb.Same = codes "same"
 verb_name Verb.Canonicalise = codes "canonicalise"
+
+-- the word for a profile
+abbrev pub profile_name : Profile → Text
+profile_name Profile.Two = codes "2"
+profile_name Profile.Module = codes "module"
 
 -- the command that a job is of, and a task
 abbrev pub verb_of_job : EachJob → Verb
@@ -59,10 +65,15 @@ HasFiles rows (Task.Compare first second) = HasPair rows first.now second.now
 abbrev pub is_set : Text → List Row → Bool
 is_set name rows = option_map_or (λ text. bytes_eq text (codes "true")) (one_of name rows) false
 
--- what was found for a command is the order's command, flags and files
+-- the value of `--profile` is the word for this profile
+abbrev pub NamesProfile : List Row → Profile → Type 0
+NamesProfile rows profile = first_of (codes "profile") rows ≡ Some (profile_name profile)
+
+-- what was found for a command is the order's command, profile, flags and files
 pub record IsOrderOf (found : Option (Text × List Row)) (order : Order) : Type 0 where
   pub rows : List Row
   pub command : found ≡ Some (verb_name (verb order.task), rows)
+  pub profile : NamesProfile rows order.profile
   pub hex : order.hex ≡ is_set (codes "hex") rows
   pub lines : order.lines ≡ is_set (codes "lines") rows
   pub going : order.keep_going ≡ is_set (codes "keep-going") rows

@@ -7,13 +7,13 @@ ghost use Rattle.ill_orders.specs.CommandLine.{program};
 ghost use Rattle.ill_orders.specs.Orders.{reads, HasSameWord, IsBoth, IsOrderOf, IsRead, LinesAreCounted, LinesGoOn, NamesNotOne, NamesNothing, ReadsInputTwice, ReadsOutput, WholeIsPrinted};
 ghost use Rattle.ill_orders.specs.Refused.{IsFaultOf, IsRefusedBy};
 
-use crate::commands::{canonicalise, check, digest, dump, show};
+use crate::commands::{canonicalise, check, digest, dump, profiles, show};
 use crate::fault::LineFault;
 use crate::help;
 use crate::matches::read;
 use crate::orders::{EachJob, Inputs, Order, Task};
-use clap::Error;
 use clap::error::ErrorKind;
+use clap::{Command, Error};
 use std::alloc::{AllocError, Global};
 
 /// Reads the words of a command line, the program's own name first.
@@ -25,8 +25,8 @@ use std::alloc::{AllocError, Global};
 /// among its files and their list, or `-o` has one of these words. Or `--lines` has no file, several, or a list, or is given with `--hex`,
 /// `--keep-going` or `--summary`. Or `--whole` is given with standard output for OUT.
 pub fn order<'a>(alloc: Global, words: &'a [String]) -> Result<Order<'a>, LineFault>
-    // The words have the order's command, flags and files; standard input is not read twice, no file is written that is read by the same
-    // word, and there are files. Lines are those of one file, are no hexadecimal text, have no messages to pass over, and are not counted.
+    // The words have the order's command, profile, flags and files; standard input is not read twice, no file is written that is read by the
+    // same word, and there are files. Lines are those of one file, are no hexadecimal text, have no messages to pass over, and are not counted.
     ensures order { IfOk result (IsOrderOf (subcommand_of program (map string_bytes words.entry.now))) }
     ensures not_same { IfOk result (λ order. HasSameWord order → ⊥) }
     ensures not_twice { IfOk result (λ order. ReadsInputTwice order → ⊥) }
@@ -173,26 +173,31 @@ fn whole_is_printed(order: &Order<'_>) -> bool
 fn no_file(alloc: Global, task: &Task<'_>) -> Result<Error, AllocError>
     ensures { IfOk result (λ e. kind_of e ≡ ErrorKind.MissingRequiredArgument) }
 {
-    let mut command = match task {
+    command_of(alloc, task)?.error(ErrorKind::MissingRequiredArgument, help::NO_FILE)
+}
+
+/// The command of a job with any number of files.
+fn command_of<'a>(alloc: Global, task: &Task<'_>) -> Result<Command<'a>, AllocError> {
+    let names = profiles();
+    match task {
         Task::Each {
             job: EachJob::Show,
             ..
-        } => show(alloc)?.bin_name("illcanon show")?,
+        } => show(alloc, names)?.bin_name("illcanon show"),
         Task::Each {
             job: EachJob::Check,
             ..
-        } => check(alloc)?.bin_name("illcanon check")?,
+        } => check(alloc, names)?.bin_name("illcanon check"),
         Task::Each {
             job: EachJob::Digest,
             ..
-        } => digest(alloc)?.bin_name("illcanon digest")?,
+        } => digest(alloc, names)?.bin_name("illcanon digest"),
         Task::Each {
             job: EachJob::Dump,
             ..
-        } => dump(alloc)?.bin_name("illcanon dump")?,
+        } => dump(alloc, names)?.bin_name("illcanon dump"),
         Task::Canonicalise { .. } | Task::Collect { .. } | Task::Compare { .. } => {
-            canonicalise(alloc)?
+            canonicalise(alloc, names)
         }
-    };
-    command.error(ErrorKind::MissingRequiredArgument, help::NO_FILE)
+    }
 }

@@ -7,16 +7,17 @@ ghost use Rattle.ill_orders.specs.CommandLine.{program};
 ghost use Rattle.ill_orders.specs.declared.orders.Inputs.{Inputs};
 ghost use Rattle.ill_orders.specs.declared.orders.Task.{Task};
 ghost use Rattle.ill_orders.specs.declared.orders.Verb.{Verb};
-ghost use Rattle.ill_orders.specs.Orders.{files_in, is_set, verb as verb_of_task, verb_name, HasFiles, HasInputs, IsOrderOf};
+ghost use Rattle.ill_orders.specs.Orders.{files_in, is_set, verb as verb_of_task, verb_name, HasFiles, HasInputs, IsOrderOf, NamesProfile};
 ghost use Rattle.ill_orders.specs.Refused.{IsFaultOf, IsOutOfMemory, IsRefusal, IsRefusedBy};
-ghost use Rattle.ill_orders.specs.code.Commands.{HasBoth, IsCommand, IsInAndOut, IsNotInAndOut, IsVerb};
+ghost use Rattle.ill_orders.specs.code.Commands.{HasBoth, HasProfile, IsCommand, IsInAndOut, IsNotInAndOut, IsVerb};
 
-use crate::commands::{canonicalise, program};
+use crate::commands::{canonicalise, profiles, program};
 use crate::fault::LineFault;
 use crate::help;
 use crate::orders::{EachJob, Inputs, Order, Task, Verb};
 use clap::error::ErrorKind;
 use clap::{ArgMatches, Error};
+use ill_schema::Profile;
 use std::alloc::{AllocError, Global};
 
 pub fn read<'a>(alloc: Global, words: &'a [String]) -> Result<Order<'a>, LineFault>
@@ -35,7 +36,7 @@ fn matches_of<'a>(alloc: Global, words: &'a [String]) -> Result<ArgMatches<'a>, 
     ensures command { IfOk result (λ matches. IsCommand (subcommand_rows_of matches)) }
     ensures faults { FailsBy (fault_of program (map string_bytes words.entry.now)) result }
 {
-    program(alloc)?.try_get_matches_from(words)
+    program(alloc, profiles())?.try_get_matches_from(words)
 }
 
 /// The order of the command that was found.
@@ -50,6 +51,7 @@ fn order_of<'a>(alloc: Global, matches: &ArgMatches<'a>) -> Result<Order<'a>, Li
     };
     let task = task_of(alloc, verb_of(name), words)?;
     Ok(Order {
+        profile: profile_of(words),
         hex: is_set(words, "hex"),
         lines: is_set(words, "lines"),
         keep_going: is_set(words, "keep-going"),
@@ -58,6 +60,18 @@ fn order_of<'a>(alloc: Global, matches: &ArgMatches<'a>) -> Result<Order<'a>, Li
         whole: is_set(words, "whole"),
         task,
     })
+}
+
+/// The profile that is named.
+fn profile_of(words: &ArgMatches<'_>) -> Profile
+    requires { HasProfile (rows_of (found_of words.now)) }
+    ensures { NamesProfile (rows_of (found_of words.now)) result }
+{
+    match required(words, "profile") {
+        "2" => Profile::Two,
+        "module" => Profile::Module,
+        _ => unreachable!(),
+    }
 }
 
 /// Whether a flag is set.
@@ -186,7 +200,7 @@ fn in_and_out<'a>(alloc: Global, inputs: &Inputs<'a>) -> Result<Task<'a>, LineFa
 fn missing(alloc: Global, message: &str) -> Result<Error, AllocError>
     ensures { IfOk result (λ e. kind_of e ≡ ErrorKind.MissingRequiredArgument) }
 {
-    canonicalise(alloc)?.error(ErrorKind::MissingRequiredArgument, message)
+    fault_of_words(alloc, ErrorKind::MissingRequiredArgument, message)
 }
 
 /// That `canonicalise` has a third word.
@@ -194,5 +208,12 @@ fn unexpected(alloc: Global, word: &str) -> Result<Error, AllocError>
     ensures { IfOk result (λ e. kind_of e ≡ ErrorKind.UnknownArgument) }
 {
     let message = format!(in alloc; "unexpected argument '{word}' found")?;
-    canonicalise(alloc)?.error(ErrorKind::UnknownArgument, &message)
+    fault_of_words(alloc, ErrorKind::UnknownArgument, &message)
+}
+
+/// What is wrong with the words of `canonicalise`, as clap reports it.
+fn fault_of_words(alloc: Global, kind: ErrorKind, message: &str) -> Result<Error, AllocError>
+    ensures { IfOk result (λ e. kind_of e ≡ kind) }
+{
+    canonicalise(alloc, profiles())?.error(kind, message)
 }

@@ -1,4 +1,5 @@
 //! What a command line says.
+use ill_schema::Profile;
 
 /// A command of the program.
 #[derive(Clone, Copy, Debug, PartialEq, Eq)]
@@ -15,6 +16,8 @@ pub enum Verb {
 /// `canonicalise`.
 #[derive(Debug, Drop)]
 pub struct Order<'a> {
+    /// The profile that messages are read in.
+    pub profile: Profile,
     /// Whether inputs are hexadecimal text.
     pub hex: bool,
     /// Whether each line of the input is a message in hexadecimal, and each line of the output its result.

@@ -3,7 +3,9 @@ use Rattle.std.specs.Prelude.{◌≡◌, ◌⊎◌, ◌<◌, true, List, [], ◌
 use Rattle.clap.specs.Walk.{Row, Text, first_of}
 use Rattle.clap.specs.Words.{kind_of}
 use Rattle.clap.specs.declared.error.kind.ErrorKind.{ErrorKind}
-use Rattle.ill_orders.specs.Orders.{verb_name}
+use Rattle.ill_schema.specs.declared.profile.Profile.{Profile}
+use Rattle.ill_orders.specs.CommandLine.{ProfileNames}
+use Rattle.ill_orders.specs.Orders.{profile_name, verb_name, NamesProfile}
 use Rattle.ill_orders.specs.Refused.{IsOutOfMemory}
 use Rattle.ill_orders.specs.declared.fault.LineFault.{LineFault}
 use Rattle.ill_orders.specs.declared.fault.LineFault.TheVariants.{Missing, Unexpected}
@@ -15,16 +17,25 @@ use Rattle.ill_orders.specs.declared.orders.Verb.{Verb}
 abbrev pub HasBoth : List Row → Type 0
 HasBoth rows = (is_some (first_of (codes "first") rows) ≡ true) × (is_some (first_of (codes "second") rows) ≡ true)
 
+-- the names are those of all profiles
+abbrev pub AreAllNames : ProfileNames → Type 0
+AreAllNames names = map (λ name. name.now) names.now ≡ profile_name Profile.Two ∷ profile_name Profile.Module ∷ []
+
+-- a profile is named
+abbrev pub HasProfile : List Row → Type 0
+HasProfile rows = (profile : Profile) × NamesProfile rows profile
+
 -- the name is that of a command
 abbrev pub IsVerb : Text → Type 0
 IsVerb name = (verb : Verb) × (name ≡ verb_name verb)
 
--- a command was found, and `same` with its two files
+-- a command was found with a profile, and `same` with its two files
 pub record IsCommand (found : Option (Text × List Row)) : Type 0 where
   pub name : Text
   pub rows : List Row
   pub is : found ≡ Some (name, rows)
   pub known : IsVerb name
+  pub profile : HasProfile rows
   pub both : name ≡ codes "same" → HasBoth rows
 
 -- the words FILE are IN and OUT, and there is no list of files
