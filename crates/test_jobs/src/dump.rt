@@ -5,7 +5,8 @@ mod contracts;
 use ber_core::{Pieces, Room, Unseen};
 use ill_dump::{Dump, run_dump};
 use ill_jobs::RunFault;
-use std::alloc::Global;
+use ill_schema::Profile;
+use std::alloc::{AllocError, Global};
 use std::test::Fail;
 use test_support::{Hoard, octets_of};
 
@@ -60,6 +61,7 @@ refused at 7: Missing Expired.transaction-id
 ";
 
 const PLAIN: Dump<'static> = Dump {
+    profile: Profile::Two,
     hex: false,
     name: "-",
     is_named: false,
@@ -124,6 +126,7 @@ fn a_dump_is_the_same_in_pieces_of_any_size(rt: HostRuntime) -> Result<(), Fail>
 
 /// A dump of hexadecimal text from a file whose name is printed.
 const NAMED: Dump<'static> = Dump {
+    profile: Profile::Two,
     hex: true,
     name: "a b",
     is_named: true,
@@ -190,5 +193,104 @@ fn without_memory_nothing_is_written(rt: HostRuntime) -> Result<(), Fail> {
     let found = dumped(rt.alloc(), PLAIN, &octets, LINES, SOUND);
     drop(hoard);
     assert!(rt; found == (Err(RunFault::OutOfMemory), Some(0)));
+    Ok(())
+}
+
+/// An EXPIRED with an extension in indefinite lengths, whose default is written.
+const EXTENDED: &str =
+    "74343032800102a10aa1031b0147a2031b0151a20ca00a80083230323430323239bf31123010800101810100a2803080050000000000";
+
+/// Its dump in the module profile: an element of its foreign tree has the name of its tag.
+const EXTENDED_LINES: &str = "message 1: Expired, 54 octets, not normal, normal form 47 octets
+      0  74 34  Expired
+      2    30 32  SEQUENCE
+      4      80 01  protocol-version-num = 2
+      7      a1 0a  transaction-id
+      9        a1 03  transaction-group-qualifier
+     11          1b 01  GeneralString = \"G\"
+     14        a2 03  transaction-qualifier
+     16          1b 01  GeneralString = \"Q\"
+     19      a2 0c  service-date-time
+     21        a0 0a  date-time-of-this-service
+     23          80 08  date = 20240229
+     33      bf 31 12  expired-extensions
+     36        30 10  item[0]
+     38          80 01  identifier = 1
+     41          81 01  critical = FALSE  (default written)
+     44          a2 80  item  (indefinite)
+     46            30 80  [UNIVERSAL 16]  (indefinite)
+     48              05 00  [UNIVERSAL 5] = \"\"
+     50            00 00  end mark
+     52          00 00  end mark
+";
+
+/// A RETURNED with an EXTERNAL: its reference, a descriptor in segments, and bits of which unused ones are not 0.
+const EXTERNAL: &str =
+    "6a493047800102a10aa1031b0147a2031b0151a20ca00a80083230323430323239b11d281b06072a8648ce13050a270c04054d4152433204031b0e41820203ff9f25083230323430323239";
+
+/// The lines of the EXTERNAL.
+const EXTERNAL_LINES: &str = "     33      b1 1d  supplemental-item-description
+     35        28 1b  item[0]
+     37          06 07  direct-reference = 1.2.840.10003.5.10
+     46          27 0c  data-value-descriptor  (in segments)
+     48            04 05  OCTET STRING = \"MARC2\"  (segment)
+     55            04 03  OCTET STRING = \"\\x1b\\x0eA\"  (segment)
+     60          82 02  encoding.arbitrary = bits 5 ff  (unused bits are not 0)
+     64      9f 25 08  date-returned = 20240229
+";
+
+/// An ILL-REQUEST whose item has two EXTERNALs in explicit tags.
+const ITEM: &str =
+    "61423040800102a10aa1031b0147a2031b0151a20ca00a80083230323430323239a9030a0101ab0c800100810100820101830101b00eb1052803810141b4052803820100";
+
+/// The lines of the item.
+const ITEM_LINES: &str = "     52      b0 0e  item-id
+     54        b1 05  national-bibliography-no
+     56          28 03  EXTERNAL
+     58            81 01  encoding.octet-aligned = \"A\"
+     61        b4 05  system-no
+     63          28 03  EXTERNAL
+     65            82 01  encoding.arbitrary = bits 0
+";
+
+/// What a dump in profile 2 says of the extension, which it doesn't read.
+const HINT: &str = "refused at 33: LeftOut Expired.expired-extensions
+    this part is not read
+    path Expired.expired-extensions
+    found [49] constructed: bf 31
+    --profile module reads this part
+";
+
+/// Tells whether the dump of a message in a profile ends with these lines.
+fn ends_with(
+    alloc: Global,
+    profile: Profile,
+    message: &str,
+    lines: &str,
+) -> Result<bool, AllocError> {
+    let octets = octets_of(alloc, message)?;
+    let mut source = Pieces::new(&octets, 64, None);
+    let mut sink: Room<2048> = Room::new(2048, None);
+    let dump = Dump { profile, ..PLAIN };
+    let _ = run_dump::<Pieces<'_>, Unseen, Room<2048>>(alloc, dump, &mut source, &mut sink);
+    Ok(sink.octets().ends_with(lines.as_bytes()))
+}
+
+#[test]
+fn elements_of_the_module_are_listed(rt: HostRuntime) -> Result<(), Fail> {
+    for (message, lines) in [
+        (EXTENDED, EXTENDED_LINES),
+        (EXTERNAL, EXTERNAL_LINES),
+        (ITEM, ITEM_LINES),
+    ] {
+        let found = ends_with(rt.alloc(), Profile::Module, message, lines)?;
+        assert!(rt; found, "{lines}");
+    }
+    Ok(())
+}
+
+#[test]
+fn a_part_that_is_not_read_has_a_hint(rt: HostRuntime) -> Result<(), Fail> {
+    assert!(rt; ends_with(rt.alloc(), Profile::Two, EXTENDED, HINT)?);
     Ok(())
 }

@@ -3,6 +3,7 @@ mod breaks;
 mod contracts;
 mod going;
 mod json;
+mod profiles;
 mod runs;
 mod sames;
 mod shows;

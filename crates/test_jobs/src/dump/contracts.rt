@@ -1,8 +1,8 @@
 //! Contracts that leave one result: what the calls return is proved of their contracts alone. So a body that returns anything else
 //! doesn't meet its contract.
 ghost use Rattle.std.specs.Prelude.{◌≡◌, ℕ, List, [], length, false, Ok, Err, Some};
-ghost use Rattle.ber_leaf.specs.Profile.{profile_two};
 ghost use Rattle.ill_schema.specs.Apdu.{Apdu, IsStream};
+ghost use Rattle.ill_schema.specs.Profiles.{profile_of};
 ghost use Rattle.ill_dump.specs.Dumped.{Dumps};
 ghost use Rattle.ill_jobs.specs.Ran.{IsFault};
 ghost use Rattle.ill_jobs.specs.declared.fault.RunFault.{RunFault};
@@ -40,7 +40,7 @@ fn each_message_is_dumped(
     alloc: Global,
 ) -> Result<(), RunFault>
     requires { dump.hex ≡ false }
-    ensures whole { (as' : List Apdu) → IsStream profile_two source.old.octets as' [] → result ≡ Ok tt
+    ensures whole { (as' : List Apdu) → IsStream (profile_of dump.entry.profile) source.old.octets as' [] → result ≡ Ok tt
         → Dumps dump.entry (length as') (Some sink.old.octets) (Some sink.new.octets) }
     ensures refused { (i : ℕ) (refusal : Refusal) → result ≡ Err (RunFault.Refused i refusal)
         → Dumps dump.entry i (Some sink.old.octets) (Some sink.new.octets) }

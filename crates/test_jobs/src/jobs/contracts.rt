@@ -11,9 +11,9 @@ ghost use Rattle.ill_schema.specs.Fits.{FitsApdu};
 ghost use Rattle.ill_schema.specs.Message.{apdu_of};
 
 use ber_core::{Pieces, Room, Sink, Source, Unseen};
-use ill_jobs::{Job, Ran, RunFault, Verdict, Work, run, run_by, run_same, run_work};
+use ill_jobs::{Job, Ran, RunFault, Verdict, Work, run_as, run_by, run_same_as, run_work};
 use ill_json::{Head, json_line, json_line_as};
-use ill_lines::{LineJob, LinesFault, run_lines};
+use ill_lines::{LineJob, LinesFault, run_lines_as};
 use ill_normal::{Refusal, Side};
 use ill_read::Outline;
 use ill_schema::{Message, Profile};
@@ -88,8 +88,9 @@ fn lines_of_json_are_of_one_apdu(
     ))
 }
 
-/// Equal inputs have one verdict. Where one has a verdict, the other is not refused.
+/// Equal inputs have one verdict in each profile. Where one has a verdict, the other is not refused.
 fn inputs_have_one_verdict(
+    profile: Profile,
     job: Job,
     hex: bool,
     source: &mut Pieces,
@@ -103,13 +104,14 @@ fn inputs_have_one_verdict(
     ensures fault { (v : Verdict) (e : RunFault) → result.0 ≡ Ok v → result.1 ≡ Err e → IsFault e }
 {
     (
-        run(alloc, job, hex, source, sink),
-        run(alloc, job, hex, other, other_sink),
+        run_as(alloc, profile, job, hex, source, sink),
+        run_as(alloc, profile, job, hex, other, other_sink),
     )
 }
 
-/// Equal inputs with one result, whatever it is, have one output, unless memory, a source or a sink fails.
+/// Equal inputs with one result, whatever it is, have one output in each profile, unless memory, a source or a sink fails.
 fn inputs_have_one_output(
+    profile: Profile,
     job: Job,
     hex: bool,
     source: &mut Pieces,
@@ -123,20 +125,21 @@ fn inputs_have_one_output(
     ensures { result.0 ≡ result.1 → IfErr result.0 (λ e. IsFault e → ⊥) → sink.new.octets ≡ other_sink.new.octets }
 {
     (
-        run(alloc, job, hex, source, sink),
-        run(alloc, job, hex, other, other_sink),
+        run_as(alloc, profile, job, hex, source, sink),
+        run_as(alloc, profile, job, hex, other, other_sink),
     )
 }
 
 /// A read fault is of a source that is broken, and a write fault of a sink that is.
 fn jobs_fail_where_something_is_broken(
+    profile: Profile,
     job: Job,
     hex: bool,
     source: &mut Pieces,
     sink: &mut Room<64>,
     alloc: Global,
 ) {
-    match run(alloc, job, hex, source, sink) {
+    match run_as(alloc, profile, job, hex, source, sink) {
         Err(RunFault::ReadFault) => {
             prove!(source.broken());
         }
@@ -147,8 +150,9 @@ fn jobs_fail_where_something_is_broken(
     }
 }
 
-/// Equal inputs have one output of lines, and one result of whether all are good.
+/// Equal inputs have one output of lines in each profile, and one result of whether all are good.
 fn lines_have_one_output(
+    profile: Profile,
     job: LineJob,
     source: &mut Pieces,
     sink: &mut Room<64>,
@@ -162,8 +166,8 @@ fn lines_have_one_output(
     ensures output { (g h : Bool) → result.0 ≡ Ok g → result.1 ≡ Ok h → sink.new.octets ≡ other_sink.new.octets }
 {
     (
-        run_lines(alloc, job, source, sink),
-        run_lines(alloc, job, other, other_sink),
+        run_lines_as(alloc, profile, job, source, sink),
+        run_lines_as(alloc, profile, job, other, other_sink),
     )
 }
 
@@ -208,8 +212,9 @@ fn inputs_are_taken_to_their_limit(
     run_by::<Pieces, Unseen, Room<64>>(alloc, work, source, sink)
 }
 
-/// Equal pairs of inputs have one verdict, and one line is written. Where one pair has a verdict, the other is not refused.
+/// Equal pairs of inputs have one verdict in each profile, and one line is written. Where one pair has a verdict, the other is not refused.
 fn pairs_have_one_verdict(
+    profile: Profile,
     hex: bool,
     first: &mut Pieces,
     second: &mut Pieces,
@@ -227,13 +232,14 @@ fn pairs_have_one_verdict(
     ensures fault { (v : Verdict) (e : RunFault) → result.0 ≡ Ok v → result.1 ≡ Err e → IsFault e }
 {
     (
-        run_same(alloc, hex, first, second, sink),
-        run_same(alloc, hex, other_first, other_second, other_sink),
+        run_same_as(alloc, profile, hex, first, second, sink),
+        run_same_as(alloc, profile, hex, other_first, other_second, other_sink),
     )
 }
 
 /// A read fault is of an input that is broken, and a write fault of a sink that is. Without a verdict or a write fault nothing is written.
 fn pairs_fail_where_something_is_broken(
+    profile: Profile,
     hex: bool,
     first: &mut Pieces,
     second: &mut Pieces,
@@ -241,7 +247,7 @@ fn pairs_fail_where_something_is_broken(
     alloc: Global,
 ) {
     let before = sink.octets().len();
-    match run_same(alloc, hex, first, second, sink) {
+    match run_same_as(alloc, profile, hex, first, second, sink) {
         Ok(_) => {}
         Err(RunFault::WriteFault(_)) => {
             prove!(sink.broken());
@@ -255,8 +261,9 @@ fn pairs_fail_where_something_is_broken(
     }
 }
 
-/// Of equal pairs one side is refused, with one refusal. At most 1,048,577 octets are taken of the first.
+/// Of equal pairs one side is refused, with one refusal in each profile. At most 1,048,577 octets are taken of the first.
 fn pairs_are_refused_in_one_way(
+    profile: Profile,
     first: &mut Pieces,
     second: &mut Pieces,
     other_first: &mut Pieces,
@@ -272,13 +279,14 @@ fn pairs_are_refused_in_one_way(
     ensures taken { length first.old.octets ≤ 1_048_577 + length first.new.octets }
 {
     (
-        run_same(alloc, false, first, second, sink),
-        run_same(alloc, false, other_first, other_second, other_sink),
+        run_same_as(alloc, profile, false, first, second, sink),
+        run_same_as(alloc, profile, false, other_first, other_second, other_sink),
     )
 }
 
 /// Of two texts the first that is invalid is reported.
 fn texts_are_refused_in_order(
+    profile: Profile,
     first: &mut Pieces,
     second: &mut Pieces,
     other_first: &mut Pieces,
@@ -292,7 +300,7 @@ fn texts_are_refused_in_order(
     ensures { (i : ℕ) → result.0 ≡ Err RunFault.OddHex → result.1 ≡ Err (RunFault.BadHex i) → ⊥ }
 {
     (
-        run_same(alloc, true, first, second, sink),
-        run_same(alloc, true, other_first, other_second, other_sink),
+        run_same_as(alloc, profile, true, first, second, sink),
+        run_same_as(alloc, profile, true, other_first, other_second, other_sink),
     )
 }

@@ -2,7 +2,7 @@
 use super::gives;
 use ber_core::{Pieces, Room, ToWrite, Unseen};
 use ill_jobs::{Counts, Job, RunFault, Verdict, Work, run_by, run_work};
-use ill_normal::{Cause, Refusal};
+use ill_normal::{Cause, Profile, Refusal};
 use std::alloc::{AllocError, Global};
 use std::test::Fail;
 use test_support::octets_of;
@@ -19,6 +19,7 @@ struct Row {
 /// A job with octets of standard input, whose name no line begins with.
 const SHOW: Work<'static> = Work {
     job: Job::Show,
+    profile: Profile::Two,
     hex: false,
     name: "-",
     is_named: false,
