@@ -43,7 +43,12 @@ TEXTS = {
     "BadTime": "it is not six digits of a time of day",
     "TrailingBytes": "octets follow the message",
     "NormalTooLong": "the normal form would have more than 1,048,576 octets",
+    "BadNull": "a NULL has no octets",
+    "BadOid": "the identifier has no octet, one more than it needs, or no end",
+    "BadBits": "the first octet is not the number of unused bits",
 }
+# the causes that only the module profile has
+MODULE = {"BadNull", "BadOid", "BadBits"}
 NOTES = ["indefinite", "length in", "in segments", "segment", "default written", "TRUE as", "without inner SEQUENCE"]
 TAG_ONLY = {"UnexpectedTag", "LeftOut", "WrongForm", "TooDeep"}
 HEADER_ONLY = {"BadLength", "Overrun", "TooLong"}
@@ -332,6 +337,11 @@ def main():
                 done = subprocess.run([PROGRAM, "check", "--lines", "-"], input=octets.hex().encode() + b"\n", capture_output=True, check=False)
                 if f": {cause}" not in done.stdout.decode():
                     sys.exit(f"dump.py: the example of {cause} gives {done.stdout}")
+                continue
+            if cause in MODULE:
+                done = subprocess.run([PROGRAM, "check", "--profile", "module", "-"], input=octets, capture_output=True, check=False)
+                if f": {cause}" not in done.stderr.decode():
+                    sys.exit(f"dump.py: the example of {cause} gives {done.stderr}")
                 continue
             names.append(f"f{len(names)}")
             (folder / names[-1]).write_bytes(octets)

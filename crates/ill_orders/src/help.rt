@@ -6,7 +6,7 @@ pub const PROGRAM: &str = "\
 Example: illcanon check messages.ber
 
 `illcanon help causes` explains why messages are refused, and `illcanon help profile`
-says what is read of a message.
+says what is read of a message in each profile.
 
 Status: 0 done, and all is well; 1 a message is refused or not normal, messages are
 different, or the hexadecimal text is invalid; 2 usage; 3 memory, files or pipes.";
@@ -29,6 +29,7 @@ On a terminal, a line says how far the work is, where it takes more than two sec
 
 Example: illcanon show messages.ber
          illcanon show --keep-going messages.ber 2> refused.txt
+         illcanon show --profile module messages.ber
          illcanon show --json messages.ber | jq -r .apdu | sort | uniq -c
 
 Status: 0 done; 1 a message is refused, or the hexadecimal text is invalid; 2 usage;
@@ -88,13 +89,16 @@ Example: illcanon dump messages.ber
          echo 740430020500 | illcanon dump --hex -
 
 `illcanon help causes` explains each cause, and `illcanon help profile` says what is
-read of a message.
+read of a message in each profile.
 
 Status: 0 done; 1 a message is refused, or the hexadecimal text is invalid; 2 usage;
 3 memory, files or pipes. Of several files: 3 if one gave 3, else 1 if one gave 1.";
 
 pub const SAME: &str = "\
 Writes `same` or `different`. Each file holds one message; at most one file is `-`.
+
+`same` is never wrong. With --profile module `different` may be too fine:
+`illcanon help profile` says where.
 
 Example: illcanon same sent.ber received.ber
 

@@ -56,36 +56,65 @@ NormalTooLong   the normal form would have more than 1,048,576 octets
 TrailingBytes is refused where an input has to be one message: by `same`, and in a
 line of --lines. Where an input has any number of messages, what follows one is the
 next one. So the example of TrailingBytes is seen by `illcanon check --lines -`, and by
-`illcanon dump --hex -` as a message and a second one that is refused.";
+`illcanon dump --hex -` as a message and a second one that is refused.
 
-/// What is read of a message, and what is not.
+--profile module reads what is LeftOut in profile 2, and the EXPLICIT tags of
+five rows that are WrongForm or UnexpectedTag there (`illcanon help profile`).
+With it TooDeep is also an element at level 21 of a foreign tree, and there are
+three more causes. `illcanon dump --profile module --hex -` shows examples:
+
+BadNull         a NULL has no octets
+    7080800102a10aa1031b0147a2031b0151a20ca00a80083230323430323239a580810100
+BadOid          the identifier has no octet, one more than it needs, or no end
+    7080800102a10aa1031b0147a2031b0151a20ca00a80083230323430323239a580800180
+BadBits         the first octet is not the number of unused bits
+    6a80800102a10aa1031b0147a2031b0151a20ca00a80083230323430323239b1802880820108";
+
+/// What is read of a message in each profile, and what is not.
 pub const PROFILE: &str = "\
-What is read of a message, and what is not: a profile of ISO 10161-1. A message that
-has what is not read is refused at that element, so that nothing of it is lost.
+A profile is what is read of ISO 10161-1. `--profile NAME` names one for all
+inputs of a command: `2`, which is the default, or `module`. A message that has
+what its profile doesn't read is refused at that element, so that nothing of it
+is lost.
 
-Read: the APDUs 1, 3 to 18 and 20, in any BER that X.690 allows: lengths in any form,
-strings in segments, any octet but 00 for TRUE, default values written or not. The
-wrapper round an APDU or a result may be without its inner SEQUENCE, as some programs
-write it; the normal form has it.
+Both read any BER that X.690 allows: lengths in any form, strings in segments,
+any octet but 00 for TRUE, default values written or not. The wrapper round an
+APDU or a result may be without its inner SEQUENCE, as some programs write it;
+the normal form has it.
 
-Not read, and refused as LeftOut:
+Profile 2 doesn't read these parts, and refuses them as LeftOut:
     Forward-Notification and Status-Or-Error-Report (APDUs 2 and 19)
     extensions ([49] of each APDU)
-    EXTERNAL values ([10] of ILL-Request, [33] of ILL-Answer, [17] of five APDUs,
-        [17] and [20] of Item-Id)
+    EXTERNAL values ([10] of ILL-Request, [33] of ILL-Answer, [17] of five
+        APDUs, [17] and [20] of Item-Id)
     electronic delivery ([50] of Delivery-Service and Shipped-Via, [4] of
         Will-Supply)
     damaged-details ([5] of Damaged)
+It refuses these for other causes:
+    proposed-delivery-service of Conditional without a tag of its own, as
+        UnexpectedTag
+    EXPLICIT tags of five rows of Units-Per-Medium and Will-Supply, which are
+        IMPLICIT in it, as WrongForm or UnexpectedTag
+    the octets 0E, 0F and 1B (escape sequences) in a GeneralString, as BadText
 
-Not read, and refused for other causes:
-    proposed-delivery-service of Conditional without a tag of its own: UnexpectedTag
-    EXPLICIT tags of five rows of Units-Per-Medium and Will-Supply that are IMPLICIT
-        here: WrongForm or UnexpectedTag
-    numbers of more than eight octets: IntegerTooLong
-    the octets 0E, 0F and 1B (escape sequences) in a GeneralString: BadText
-    tag numbers of more than four octets: BadTag
+The module profile reads all of these: each row of the module of ISO 10161-1,
+with the tags that it has there. So the five rows have EXPLICIT tags alone.
+Where the module leaves a type open, as in an extension, the value is a foreign
+tree: an element with any tag, and what is in it, on at most 20 levels. In it
+only lengths are made normal.
 
-Limits: a message and its normal form have at most 1,048,576 octets, and at most 32
-elements are open at once. An input has at most 1,000,000 messages, but there is no
-limit on the lines of --lines. A text for --hex has at most 4,194,304 octets, and so
-has a line of --lines.";
+Take `module` for messages with such parts. Take `2` where these are not to
+pass, or where `different` is never to be too fine. A message that both read
+has one normal form, one digest and one text in both.
+
+`same` is never wrong. With `module`, `different` may be too fine: inside
+foreign trees segments, the octet of TRUE, written defaults and the order of a
+SET count, and so does the spelling of a text with escape sequences.
+
+Neither reads numbers of more than eight octets (IntegerTooLong) or tag numbers
+of more than four octets (BadTag).
+
+Limits: a message and its normal form have at most 1,048,576 octets, and at
+most 32 elements are open at once. An input has at most 1,000,000 messages, but
+there is no limit on the lines of --lines. A text for --hex has at most
+4,194,304 octets, and so has a line of --lines.";
