@@ -16,6 +16,7 @@ complete -c illcanon -n '__fish_seen_subcommand_from help' -f -a profile -d 'Wha
 
 complete -c illcanon -n '__fish_seen_subcommand_from show check digest dump same canonicalise' -s h -l help -d 'Print help'
 complete -c illcanon -n '__fish_seen_subcommand_from show check digest dump same canonicalise' -l hex -d 'The input is hexadecimal text'
+complete -c illcanon -n '__fish_seen_subcommand_from show check digest dump same canonicalise' -l profile -x -a '2 module' -d 'Read messages in this profile'
 complete -c illcanon -n '__fish_seen_subcommand_from show check digest canonicalise' -l keep-going -d 'Go on after a message that is refused'
 complete -c illcanon -n '__fish_seen_subcommand_from show check digest canonicalise' -l summary -d 'Report numbers at the end'
 complete -c illcanon -n '__fish_seen_subcommand_from show' -l json -d 'Write a line of JSON for each message'

@@ -20,6 +20,7 @@ from pathlib import Path
 ROOT = Path(__file__).resolve().parent.parent
 PROGRAM = ROOT / "crates/illcanon/out/illcanon"
 TOPICS = {"causes", "profile"}
+PROFILES = {"2", "module"}
 faults, skipped = [], []
 
 
@@ -86,6 +87,8 @@ def questions(commands):
     for name in names:
         asked.append(([name, "-"], commands[name]))
         asked.append(([name, "--h"], {option for option in commands[name] if option.startswith("--h")}))
+        asked.append(([name, "--profile", ""], PROFILES))
+        asked.append(([name, "--profile", "m"], {"module"}))
         asked.append(([name, ""], None))
         asked.append(([name, "--", "-"], None))
     return asked
@@ -108,6 +111,9 @@ def check_bash(commands):
         expect((found, done.stderr), ({"FILES"} if wanted is None else wanted, ""), f"bash: {words}")
     typed = at_a_terminal("illcanon che\t--li\t")
     expect("check --lines " in typed, True, f"bash at a terminal: {typed!r}")
+    for begun in ["--profile m", "--profile=m"]:
+        typed = at_a_terminal(f"illcanon check {begun}\t")
+        expect(f"check {begun}odule " in typed, True, f"bash at a terminal: {typed!r}")
     typed = at_a_terminal("illcanon check --files-from=na\t")
     expect("--files-from=name with blanks" in typed.replace("\\", ""), True, f"bash at a terminal: {typed!r}")
 
@@ -166,6 +172,8 @@ def check_zsh(commands):
             done = run(["zsh", "-fc", script, "zsh", path, "", "argument", name])
             expect((options(done.stdout), done.stderr), (commands[name], ""), f"zsh: {name}")
             expect("_files" in done.stdout, True, f"zsh: {name} has no files")
+            values = re.findall(r"^--profile=\[.*\]:profile:\((.*)\)$", done.stdout, re.M)
+            expect([set(text.split()) for text in values], [PROFILES], f"zsh: profiles of {name}")
 
 
 def check_fish(commands):

@@ -144,6 +144,14 @@ row same-keeps-not-going 2 '' any same --keep-going F F
 row lines-and-summary 2 '' 'illcanon: --lines excludes --summary\n' check --lines --summary F
 row check-has-no-json 2 '' any check --json F
 row no-such-flag 2 '' any check --hexx F
+values="\n  [possible values: 2, module]$help"
+for command in show check digest dump 'same F' 'canonicalise F'; do
+    row "no-such-profile: $command" 2 '' "error: invalid value '3' for '--profile <NAME>'$values" $command --profile 3 F
+done
+row profile-without-name 2 '' "error: a value is required for '--profile <NAME>' but none was supplied$values" check F --profile
+row profile-without-name-before-a-flag 2 '' "error: a value is required for '--profile <NAME>' but none was supplied$values" check --profile --hex F
+row profile-twice 2 '' "error: the argument '--profile <NAME>' cannot be used multiple times${usage}check [OPTIONS] [FILE]...$help" check --profile module --profile=2 F
+row program-has-no-profile 2 '' any --profile 2 check F
 row version 0 'illcanon 0.1.0\n' '' --version
 for words in --help 'show --help' 'check --help' 'same --help' 'canonicalise --help' 'dump --help' 'help same'; do
     "$program" $words >out 2>err
