@@ -1,29 +1,29 @@
--- What calls leave is one result.
+-- What calls leave is one result in each profile.
 use Rattle.std.proofs.Common.{◌≡◌, ◌∙◌, ℕ, List, length, refl, sym, ap, subst, arith}
-use Rattle.ber_leaf.specs.Profile.{profile_two}
-use Rattle.ill_schema.specs.Apdu.{Apdu, SpellsApdu, Accepts, normal_form}
+use Rattle.ber_leaf.specs.Profile.{Profile}
+use Rattle.ill_schema.specs.Apdu.{Apdu, SpellsApdu, Accepts, normal_form_in}
 use Rattle.ill_schema.proofs.Streams.{accepts_once}
 use Rattle.ill_refusals.specs.Fault.{Fault}
-use Rattle.ill_read.specs.Answers.{RefusesWhole}
+use Rattle.ill_read.specs.Answers.{RefusesWholeIn}
 use Rattle.ill_normal.proofs.Canonical.{refuses_once, refuses_whole, spells_once}
 use Rattle.ill_c.specs.declared.refusal.IllcanonRefusal.{IllcanonRefusal}
 use Rattle.ill_c.specs.declared.status.Status.{Status}
-use Rattle.ill_c.specs.Calls.{IsMade, Writes, Checks, Compares, Finds, WritesFront}
+use Rattle.ill_c.specs.Calls.{IsMade, WritesIn, ChecksIn, ComparesIn, FindsIn, WritesFrontIn}
 use Rattle.ill_c.specs.Memory.{Change, Fills, Lacks, Reports, IsFlag}
 use Rattle.ill_c.specs.OneResult.{WritesOnce, ChecksOnce, ComparesOnce, FindsOnce, WritesFrontOnce}
 use Rattle.ill_c.specs.Refusals.{reported}
 use Rattle.ill_c.specs.Status.{EndsWith, status_number}
 
 -- a call whose octets are refused in one way reports that refusal
-tells_once : (s : List ℕ) (refusal : Change IllcanonRefusal) (f : Fault) → Reports (RefusesWhole s) refusal → RefusesWhole s f → refusal.after ≡ reported f
-tells_once s refusal f (g, refuses, e) h = e ∙ ap reported (refuses_once s g f refuses h)
+tells_once : (p : Profile) (s : List ℕ) (refusal : Change IllcanonRefusal) (f : Fault) → Reports (RefusesWholeIn p s) refusal → RefusesWholeIn p s f → refusal.after ≡ reported f
+tells_once p s refusal f (g, refuses, e) h = e ∙ ap reported (refuses_once s g f refuses h)
 
-module _ (make : Apdu → List ℕ) (s : List ℕ) (buffer : Change (List ℕ)) (size : Change ℕ) (refusal : Change IllcanonRefusal) where
+module _ (p : Profile) (make : Apdu → List ℕ) (s : List ℕ) (buffer : Change (List ℕ)) (size : Change ℕ) (refusal : Change IllcanonRefusal) where
   -- what was made is what this APDU makes
-  one_made : (octets : List ℕ) (a : Apdu) → IsMade make s octets → SpellsApdu profile_two a s → octets ≡ make a
+  one_made : (octets : List ℕ) (a : Apdu) → IsMade p make s octets → SpellsApdu p a s → octets ≡ make a
   one_made octets a (b, spells, e) h = e ∙ ap make (spells_once b a s spells h)
 
-  wrote : (status : Status) → Writes make s buffer size refusal status → WritesOnce make s buffer size refusal (status_number status)
+  wrote : (status : Status) → WritesIn p make s buffer size refusal status → WritesOnce p make s buffer size refusal (status_number status)
   wrote Status.Done ((octets, made, fills), stays) = record {
     room = λ a h le ne. (refl, subst (λ o. Fills o buffer size) (one_made octets a made h) fills);
     no_room = λ a h lt ne. let e = ap length (one_made octets a made h) in absurd (let fits = fills.fits in omega (arith, e, lt, fits));
@@ -43,7 +43,7 @@ module _ (make : Apdu → List ℕ) (s : List ℕ) (buffer : Change (List ℕ)) 
   wrote Status.Refused (reports, stays, size_stays) = record {
     room = λ a h le ne. absurd (refuses_whole s reports.0 a reports.1 h);
     no_room = λ a h lt ne. absurd (refuses_whole s reports.0 a reports.1 h);
-    refused = λ f h ne. (refl, tells_once s refusal f reports h);
+    refused = λ f h ne. (refl, tells_once p s refusal f reports h);
     buffer_stays = λ ne. stays;
     size_stays = λ ne ne'. size_stays;
     refusal_stays = λ ne. absurd (ne refl);
@@ -58,21 +58,22 @@ module _ (make : Apdu → List ℕ) (s : List ℕ) (buffer : Change (List ℕ)) 
   }
   wrote Status.SecondRefused h = absurd h
   wrote Status.NeedsMore h = absurd h
+  wrote Status.UnknownProfile h = absurd h
 
-  pub writes_once : (n : ℕ) → EndsWith n (Writes make s buffer size refusal) → WritesOnce make s buffer size refusal n
-  writes_once n (status, e, h) = subst (WritesOnce make s buffer size refusal) (sym e) (wrote status h)
+  pub writes_once : (n : ℕ) → EndsWith n (WritesIn p make s buffer size refusal) → WritesOnce p make s buffer size refusal n
+  writes_once n (status, e, h) = subst (WritesOnce p make s buffer size refusal) (sym e) (wrote status h)
 
-module _ (s : List ℕ) (normal : Change ℕ) (refusal : Change IllcanonRefusal) where
-  checked : (status : Status) → Checks s normal refusal status → ChecksOnce s normal refusal (status_number status)
+module _ (p : Profile) (s : List ℕ) (normal : Change ℕ) (refusal : Change IllcanonRefusal) where
+  checked : (status : Status) → ChecksIn p s normal refusal status → ChecksOnce p s normal refusal (status_number status)
   checked Status.Done ((b, spells, flag), stays) = record {
-    checked = λ a h ne. (refl, subst (λ x. IsFlag normal.after (s ≡ normal_form x)) (spells_once b a s spells h) flag);
+    checked = λ a h ne. (refl, subst (λ x. IsFlag normal.after (s ≡ normal_form_in p x)) (spells_once b a s spells h) flag);
     refused = λ f h ne. absurd (refuses_whole s f b h spells);
     answer_stays = λ ne. absurd (ne refl);
     refusal_stays = λ ne. stays;
   }
   checked Status.Refused (reports, stays) = record {
     checked = λ a h ne. absurd (refuses_whole s reports.0 a reports.1 h);
-    refused = λ f h ne. (refl, tells_once s refusal f reports h);
+    refused = λ f h ne. (refl, tells_once p s refusal f reports h);
     answer_stays = λ ne. stays;
     refusal_stays = λ ne. absurd (ne refl);
   }
@@ -85,12 +86,13 @@ module _ (s : List ℕ) (normal : Change ℕ) (refusal : Change IllcanonRefusal)
   checked Status.SecondRefused h = absurd h
   checked Status.NeedsMore h = absurd h
   checked Status.NoRoom h = absurd h
+  checked Status.UnknownProfile h = absurd h
 
-  pub checks_once : (n : ℕ) → EndsWith n (Checks s normal refusal) → ChecksOnce s normal refusal n
-  checks_once n (status, e, h) = subst (ChecksOnce s normal refusal) (sym e) (checked status h)
+  pub checks_once : (n : ℕ) → EndsWith n (ChecksIn p s normal refusal) → ChecksOnce p s normal refusal n
+  checks_once n (status, e, h) = subst (ChecksOnce p s normal refusal) (sym e) (checked status h)
 
-module _ (s t : List ℕ) (same : Change ℕ) (refusal : Change IllcanonRefusal) where
-  compared : (status : Status) → Compares s t same refusal status → ComparesOnce s t same refusal (status_number status)
+module _ (p : Profile) (s t : List ℕ) (same : Change ℕ) (refusal : Change IllcanonRefusal) where
+  compared : (status : Status) → ComparesIn p s t same refusal status → ComparesOnce p s t same refusal (status_number status)
   compared Status.Done ((x, y, spells, spells', flag), stays) = record {
     compared = λ a b h k ne. (
       refl,
@@ -125,14 +127,15 @@ module _ (s t : List ℕ) (same : Change ℕ) (refusal : Change IllcanonRefusal)
   }
   compared Status.NeedsMore h = absurd h
   compared Status.NoRoom h = absurd h
+  compared Status.UnknownProfile h = absurd h
 
-  pub compares_once : (n : ℕ) → EndsWith n (Compares s t same refusal) → ComparesOnce s t same refusal n
-  compares_once n (status, e, h) = subst (ComparesOnce s t same refusal) (sym e) (compared status h)
+  pub compares_once : (n : ℕ) → EndsWith n (ComparesIn p s t same refusal) → ComparesOnce p s t same refusal n
+  compares_once n (status, e, h) = subst (ComparesOnce p s t same refusal) (sym e) (compared status h)
 
-module _ (s : List ℕ) (size : Change ℕ) (refusal : Change IllcanonRefusal) where
-  found : (status : Status) → Finds s size refusal status → FindsOnce s size refusal (status_number status)
+module _ (p : Profile) (s : List ℕ) (size : Change ℕ) (refusal : Change IllcanonRefusal) where
+  found : (status : Status) → FindsIn p s size refusal status → FindsOnce p s size refusal (status_number status)
   found Status.Done ((b, accepts), stays) = record {
-    found = λ a m h ne. (refl, (accepts_once profile_two s b a size.after m accepts h).1);
+    found = λ a m h ne. (refl, (accepts_once p s b a size.after m accepts h).1);
     part = λ h ne. absurd (h.2 b size.after accepts);
     refused = λ f h ends ne. absurd (h.2 b size.after accepts);
     size_stays = λ ne. absurd (ne refl);
@@ -161,16 +164,17 @@ module _ (s : List ℕ) (size : Change ℕ) (refusal : Change IllcanonRefusal) w
   }
   found Status.SecondRefused h = absurd h
   found Status.NoRoom h = absurd h
+  found Status.UnknownProfile h = absurd h
 
-  pub finds_once : (n : ℕ) → EndsWith n (Finds s size refusal) → FindsOnce s size refusal n
-  finds_once n (status, e, h) = subst (FindsOnce s size refusal) (sym e) (found status h)
+  pub finds_once : (n : ℕ) → EndsWith n (FindsIn p s size refusal) → FindsOnce p s size refusal n
+  finds_once n (status, e, h) = subst (FindsOnce p s size refusal) (sym e) (found status h)
 
-module _ (s : List ℕ) (read : Change ℕ) (buffer : Change (List ℕ)) (size : Change ℕ) (refusal : Change IllcanonRefusal) where
+module _ (p : Profile) (s : List ℕ) (read : Change ℕ) (buffer : Change (List ℕ)) (size : Change ℕ) (refusal : Change IllcanonRefusal) where
   -- the message at the front is of one APDU, and of one size
-  one_front : (a b : Apdu) (m n : ℕ) → Accepts profile_two s a m → Accepts profile_two s b n → (normal_form a ≡ normal_form b) × (m ≡ n)
-  one_front a b m n h k = let same = accepts_once profile_two s a b m n h k in (ap normal_form same.0, same.1)
+  one_front : (a b : Apdu) (m n : ℕ) → Accepts p s a m → Accepts p s b n → (normal_form_in p a ≡ normal_form_in p b) × (m ≡ n)
+  one_front a b m n h k = let same = accepts_once p s a b m n h k in (ap (normal_form_in p) same.0, same.1)
 
-  wrote_front : (status : Status) → WritesFront s read buffer size refusal status → WritesFrontOnce s read buffer size refusal (status_number status)
+  wrote_front : (status : Status) → WritesFrontIn p s read buffer size refusal status → WritesFrontOnce p s read buffer size refusal (status_number status)
   wrote_front Status.Done ((b, accepts, fills), stays) = record {
     room = λ a m h le ne. let one = one_front b a read.after m accepts h in (refl, one.1, subst (λ o. Fills o buffer size) one.0 fills);
     no_room = λ a m h lt ne.
@@ -224,6 +228,7 @@ module _ (s : List ℕ) (read : Change ℕ) (buffer : Change (List ℕ)) (size :
     refusal_stays = λ ne. refusal_stays;
   }
   wrote_front Status.SecondRefused h = absurd h
+  wrote_front Status.UnknownProfile h = absurd h
 
-  pub writes_front_once : (n : ℕ) → EndsWith n (WritesFront s read buffer size refusal) → WritesFrontOnce s read buffer size refusal n
-  writes_front_once n (status, e, h) = subst (WritesFrontOnce s read buffer size refusal) (sym e) (wrote_front status h)
+  pub writes_front_once : (n : ℕ) → EndsWith n (WritesFrontIn p s read buffer size refusal) → WritesFrontOnce p s read buffer size refusal n
+  writes_front_once n (status, e, h) = subst (WritesFrontOnce p s read buffer size refusal) (sym e) (wrote_front status h)

@@ -1,63 +1,113 @@
--- What each call does, by the status that it returns.
-use Rattle.std.specs.Prelude.{◌≡◌, ◌≢◌, ℕ, List}
-use Rattle.ber_leaf.specs.Profile.{profile_two}
+-- What each call does, by the status that it returns: in a profile (`In`), in the profile of a number if it has one (`As`), and in profile 2.
+use Rattle.std.specs.Prelude.{◌≡◌, ◌≢◌, ℕ, List, Option, Some, None}
+use Rattle.ber_leaf.specs.Profile.{Profile, profile_two}
 use Rattle.sha2.specs.Sha256.{sha256}
-use Rattle.ill_schema.specs.Apdu.{Apdu, SpellsApdu, Accepts, normal_form}
+use Rattle.ill_schema.specs.Apdu.{Apdu, SpellsApdu, Accepts, normal_form_in}
+use Rattle.ill_schema.specs.Profiles.{profile_of}
+use Rattle.ill_schema.specs.declared.profile.Profile.{Profile as Named}
 use Rattle.ill_schema.specs.declared.refusal.Cause.{Cause}
+use Rattle.ill_refusals.specs.Fault.{Fault}
 use Rattle.ill_refusals.specs.Outcome.{OnlyRefuses}
-use Rattle.ill_read.specs.Answers.{IsPart, RefusesWhole}
-use Rattle.ill_normal.specs.Compared.{RefusesSide}
+use Rattle.ill_read.specs.Answers.{IsPartIn, RefusesWholeIn}
+use Rattle.ill_normal.specs.Compared.{RefusesSideIn}
 use Rattle.ill_normal.specs.declared.compare.Side.{Side}
 use Rattle.ill_c.specs.declared.refusal.IllcanonRefusal.{IllcanonRefusal}
 use Rattle.ill_c.specs.declared.status.Status.{Status}
 use Rattle.ill_c.specs.Memory.{Change, Stays, Fills, Lacks, Reports, IsFlag}
 
 -- of the APDU that the octets spell, this is made
-abbrev pub IsMade : (Apdu → List ℕ) → List ℕ → List ℕ → Type 0
-IsMade make s octets = (a : Apdu) × SpellsApdu profile_two a s × (octets ≡ make a)
+abbrev pub IsMade : Profile → (Apdu → List ℕ) → List ℕ → List ℕ → Type 0
+IsMade p make s octets = (a : Apdu) × SpellsApdu p a s × (octets ≡ make a)
+
+abbrev pub digest_in : Profile → Apdu → List ℕ
+digest_in p a = sha256 (normal_form_in p a)
 
 abbrev pub digest : Apdu → List ℕ
-digest a = sha256 (normal_form a)
+digest a = digest_in profile_two a
+
+-- the octets are refused whatever follows them
+abbrev pub RefusesFront : Profile → List ℕ → Fault → Type 0
+RefusesFront p s f = OnlyRefuses p s f × (f.cause ≢ Cause.Truncated)
 
 -- what is made of the message that s is, is in the buffer, or the buffer is too short, or s is refused; where memory ran out, nothing changed
+abbrev pub WritesIn : Profile → (Apdu → List ℕ) → List ℕ → Change (List ℕ) → Change ℕ → Change IllcanonRefusal → Status → Type 0
+WritesIn p make s buffer size refusal Status.Done = ((octets : List ℕ) × IsMade p make s octets × Fills octets buffer size) × Stays refusal
+WritesIn p make s buffer size refusal Status.NoRoom = ((octets : List ℕ) × IsMade p make s octets × Lacks octets buffer size) × Stays refusal
+WritesIn p make s buffer size refusal Status.Refused = Reports (RefusesWholeIn p s) refusal × Stays buffer × Stays size
+WritesIn p make s buffer size refusal Status.OutOfMemory = Stays buffer × Stays size × Stays refusal
+WritesIn p make s buffer size refusal _ = ⊥
+
+-- the same in the profile of a number; where that names no profile, the status says so, and nothing changed
+abbrev pub WritesAs : Option Named → (Profile → Apdu → List ℕ) → List ℕ → Change (List ℕ) → Change ℕ → Change IllcanonRefusal → Status → Type 0
+WritesAs (Some p) make s buffer size refusal status = WritesIn (profile_of p) (make (profile_of p)) s buffer size refusal status
+WritesAs None make s buffer size refusal Status.UnknownProfile = Stays buffer × Stays size × Stays refusal
+WritesAs None make s buffer size refusal _ = ⊥
+
 abbrev pub Writes : (Apdu → List ℕ) → List ℕ → Change (List ℕ) → Change ℕ → Change IllcanonRefusal → Status → Type 0
-Writes make s buffer size refusal Status.Done = ((octets : List ℕ) × IsMade make s octets × Fills octets buffer size) × Stays refusal
-Writes make s buffer size refusal Status.NoRoom = ((octets : List ℕ) × IsMade make s octets × Lacks octets buffer size) × Stays refusal
-Writes make s buffer size refusal Status.Refused = Reports (RefusesWhole s) refusal × Stays buffer × Stays size
-Writes make s buffer size refusal Status.OutOfMemory = Stays buffer × Stays size × Stays refusal
-Writes make s buffer size refusal _ = ⊥
+Writes make s buffer size refusal status = WritesIn profile_two make s buffer size refusal status
 
 -- the number says whether the message that s is is its normal form, or s is refused
+abbrev pub ChecksIn : Profile → List ℕ → Change ℕ → Change IllcanonRefusal → Status → Type 0
+ChecksIn p s normal refusal Status.Done = ((a : Apdu) × SpellsApdu p a s × IsFlag normal.after (s ≡ normal_form_in p a)) × Stays refusal
+ChecksIn p s normal refusal Status.Refused = Reports (RefusesWholeIn p s) refusal × Stays normal
+ChecksIn p s normal refusal Status.OutOfMemory = Stays normal × Stays refusal
+ChecksIn p s normal refusal _ = ⊥
+
+abbrev pub ChecksAs : Option Named → List ℕ → Change ℕ → Change IllcanonRefusal → Status → Type 0
+ChecksAs (Some p) s normal refusal status = ChecksIn (profile_of p) s normal refusal status
+ChecksAs None s normal refusal Status.UnknownProfile = Stays normal × Stays refusal
+ChecksAs None s normal refusal _ = ⊥
+
 abbrev pub Checks : List ℕ → Change ℕ → Change IllcanonRefusal → Status → Type 0
-Checks s normal refusal Status.Done = ((a : Apdu) × SpellsApdu profile_two a s × IsFlag normal.after (s ≡ normal_form a)) × Stays refusal
-Checks s normal refusal Status.Refused = Reports (RefusesWhole s) refusal × Stays normal
-Checks s normal refusal Status.OutOfMemory = Stays normal × Stays refusal
-Checks s normal refusal _ = ⊥
+Checks s normal refusal status = ChecksIn profile_two s normal refusal status
 
 -- the number says whether the messages that s and t are are of one APDU, or s is refused, or only t is
+abbrev pub ComparesIn : Profile → List ℕ → List ℕ → Change ℕ → Change IllcanonRefusal → Status → Type 0
+ComparesIn p s t same refusal Status.Done =
+    ((a : Apdu) × (b : Apdu) × SpellsApdu p a s × SpellsApdu p b t × IsFlag same.after (a ≡ b)) × Stays refusal
+ComparesIn p s t same refusal Status.Refused = Reports (RefusesSideIn p s t Side.First) refusal × Stays same
+ComparesIn p s t same refusal Status.SecondRefused = Reports (RefusesSideIn p s t Side.Second) refusal × Stays same
+ComparesIn p s t same refusal Status.OutOfMemory = Stays same × Stays refusal
+ComparesIn p s t same refusal _ = ⊥
+
+abbrev pub ComparesAs : Option Named → List ℕ → List ℕ → Change ℕ → Change IllcanonRefusal → Status → Type 0
+ComparesAs (Some p) s t same refusal status = ComparesIn (profile_of p) s t same refusal status
+ComparesAs None s t same refusal Status.UnknownProfile = Stays same × Stays refusal
+ComparesAs None s t same refusal _ = ⊥
+
 abbrev pub Compares : List ℕ → List ℕ → Change ℕ → Change IllcanonRefusal → Status → Type 0
-Compares s t same refusal Status.Done =
-    ((a : Apdu) × (b : Apdu) × SpellsApdu profile_two a s × SpellsApdu profile_two b t × IsFlag same.after (a ≡ b)) × Stays refusal
-Compares s t same refusal Status.Refused = Reports (RefusesSide s t Side.First) refusal × Stays same
-Compares s t same refusal Status.SecondRefused = Reports (RefusesSide s t Side.Second) refusal × Stays same
-Compares s t same refusal Status.OutOfMemory = Stays same × Stays refusal
-Compares s t same refusal _ = ⊥
+Compares s t same refusal status = ComparesIn profile_two s t same refusal status
 
 -- the size is that of the message at the front of s, or s may go on to be one, or is refused whatever follows it
+abbrev pub FindsIn : Profile → List ℕ → Change ℕ → Change IllcanonRefusal → Status → Type 0
+FindsIn p s size refusal Status.Done = ((a : Apdu) × Accepts p s a size.after) × Stays refusal
+FindsIn p s size refusal Status.NeedsMore = IsPartIn p s × Stays size × Stays refusal
+FindsIn p s size refusal Status.Refused = Reports (RefusesFront p s) refusal × Stays size
+FindsIn p s size refusal Status.OutOfMemory = Stays size × Stays refusal
+FindsIn p s size refusal _ = ⊥
+
+abbrev pub FindsAs : Option Named → List ℕ → Change ℕ → Change IllcanonRefusal → Status → Type 0
+FindsAs (Some p) s size refusal status = FindsIn (profile_of p) s size refusal status
+FindsAs None s size refusal Status.UnknownProfile = Stays size × Stays refusal
+FindsAs None s size refusal _ = ⊥
+
 abbrev pub Finds : List ℕ → Change ℕ → Change IllcanonRefusal → Status → Type 0
-Finds s size refusal Status.Done = ((a : Apdu) × Accepts profile_two s a size.after) × Stays refusal
-Finds s size refusal Status.NeedsMore = IsPart s × Stays size × Stays refusal
-Finds s size refusal Status.Refused = Reports (λ f. OnlyRefuses profile_two s f × (f.cause ≢ Cause.Truncated)) refusal × Stays size
-Finds s size refusal Status.OutOfMemory = Stays size × Stays refusal
-Finds s size refusal _ = ⊥
+Finds s size refusal status = FindsIn profile_two s size refusal status
 
 -- the normal form of the message at the front of s is in the buffer, or the buffer is too short, and where the message ends is reported; or s may go on to be one, or is refused
 -- whatever follows it
+abbrev pub WritesFrontIn : Profile → List ℕ → Change ℕ → Change (List ℕ) → Change ℕ → Change IllcanonRefusal → Status → Type 0
+WritesFrontIn p s read buffer size refusal Status.Done = ((a : Apdu) × Accepts p s a read.after × Fills (normal_form_in p a) buffer size) × Stays refusal
+WritesFrontIn p s read buffer size refusal Status.NoRoom = ((a : Apdu) × Accepts p s a read.after × Lacks (normal_form_in p a) buffer size) × Stays refusal
+WritesFrontIn p s read buffer size refusal Status.NeedsMore = IsPartIn p s × Stays read × Stays buffer × Stays size × Stays refusal
+WritesFrontIn p s read buffer size refusal Status.Refused = Reports (RefusesFront p s) refusal × Stays read × Stays buffer × Stays size
+WritesFrontIn p s read buffer size refusal Status.OutOfMemory = Stays read × Stays buffer × Stays size × Stays refusal
+WritesFrontIn p s read buffer size refusal _ = ⊥
+
+abbrev pub WritesFrontAs : Option Named → List ℕ → Change ℕ → Change (List ℕ) → Change ℕ → Change IllcanonRefusal → Status → Type 0
+WritesFrontAs (Some p) s read buffer size refusal status = WritesFrontIn (profile_of p) s read buffer size refusal status
+WritesFrontAs None s read buffer size refusal Status.UnknownProfile = Stays read × Stays buffer × Stays size × Stays refusal
+WritesFrontAs None s read buffer size refusal _ = ⊥
+
 abbrev pub WritesFront : List ℕ → Change ℕ → Change (List ℕ) → Change ℕ → Change IllcanonRefusal → Status → Type 0
-WritesFront s read buffer size refusal Status.Done = ((a : Apdu) × Accepts profile_two s a read.after × Fills (normal_form a) buffer size) × Stays refusal
-WritesFront s read buffer size refusal Status.NoRoom = ((a : Apdu) × Accepts profile_two s a read.after × Lacks (normal_form a) buffer size) × Stays refusal
-WritesFront s read buffer size refusal Status.NeedsMore = IsPart s × Stays read × Stays buffer × Stays size × Stays refusal
-WritesFront s read buffer size refusal Status.Refused =
-    Reports (λ f. OnlyRefuses profile_two s f × (f.cause ≢ Cause.Truncated)) refusal × Stays read × Stays buffer × Stays size
-WritesFront s read buffer size refusal Status.OutOfMemory = Stays read × Stays buffer × Stays size × Stays refusal
-WritesFront s read buffer size refusal _ = ⊥
+WritesFront s read buffer size refusal status = WritesFrontIn profile_two s read buffer size refusal status

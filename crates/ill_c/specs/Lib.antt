@@ -1,3 +1,4 @@
+pub mod Profiles
 pub mod Status
 pub mod Refusals
 pub mod Memory

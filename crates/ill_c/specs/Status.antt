@@ -10,6 +10,7 @@ status_number Status.SecondRefused = 2
 status_number Status.NeedsMore = 3
 status_number Status.NoRoom = 4
 status_number Status.OutOfMemory = 5
+status_number Status.UnknownProfile = 6
 
 -- the call returned the number of a status of which this holds
 abbrev pub EndsWith : ℕ → (Status → Type 0) → Type 0

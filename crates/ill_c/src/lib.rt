@@ -8,6 +8,7 @@ mod front;
 mod laws;
 mod next;
 mod octets;
+mod profile;
 mod put;
 mod refusal;
 mod status;
@@ -17,8 +18,13 @@ mod verdict;
 mod whole;
 
 pub use laws::{calls_have_one_result, parts_are_short};
-pub use next::{illcanon_next, illcanon_normalise_next};
-pub use octets::{illcanon_digest, illcanon_normalise, illcanon_show};
+pub use next::{
+    illcanon_next, illcanon_next_as, illcanon_normalise_next, illcanon_normalise_next_as,
+};
+pub use octets::{
+    illcanon_digest, illcanon_digest_as, illcanon_normalise, illcanon_normalise_as, illcanon_show,
+    illcanon_show_as,
+};
 pub use refusal::IllcanonRefusal;
 pub use status::Status;
-pub use verdict::{illcanon_check, illcanon_same};
+pub use verdict::{illcanon_check, illcanon_check_as, illcanon_same, illcanon_same_as};

@@ -1,18 +1,21 @@
 //! What is made of a message, and written to the caller's buffer.
 ghost use Rattle.std.specs.Prelude.{◌≡◌, ℕ, List, IfOk};
-ghost use Rattle.ber_leaf.specs.Profile.{profile_two};
-ghost use Rattle.ill_schema.specs.Apdu.{Apdu, SpellsApdu, normal_form};
+ghost use Rattle.ill_schema.specs.Apdu.{Apdu, SpellsApdu, normal_form, normal_form_in};
+ghost use Rattle.ill_schema.specs.Profiles.{profile_of};
 ghost use Rattle.ill_read.specs.Outline.{IsOutlineOf};
-ghost use Rattle.ill_text.specs.Shown.{shown_text};
-ghost use Rattle.ill_c.specs.Calls.{Writes, digest};
+ghost use Rattle.ill_text.specs.Shown.{shown_text, shown_text_in};
+ghost use Rattle.ill_c.specs.Calls.{Writes, WritesAs, WritesIn, digest, digest_in};
 ghost use Rattle.ill_c.specs.Memory.{change};
+ghost use Rattle.ill_c.specs.Profiles.{profile_numbered};
 ghost use Rattle.ill_c.specs.Status.{EndsWith};
 
+use crate::profile::profile_numbered;
 use crate::put::put;
 use crate::refusal::{IllcanonRefusal, report};
 use crate::status::Status;
 use crate::whole::{read_whole, read_whole_outline};
-use ill_digest::message_digest;
+use ill_digest::message_digest_as;
+use ill_normal::Profile;
 use ill_read::Outline;
 use ill_text::Text;
 use std::alloc::{AllocError, Global};
@@ -28,19 +31,42 @@ pub extern "C" fn illcanon_normalise(
 ) -> u32
     ensures { EndsWith result (Writes normal_form octets.now (change buffer.old buffer.new) (change size.old size.new) (change refusal.old refusal.new)) }
 {
-    normalise(alloc, octets, buffer, size, refusal).number()
+    normalise(alloc, Profile::Two, octets, buffer, size, refusal).number()
+}
+
+/// Writes the normal form of the message in the profile of a number that the octets are.
+#[unsafe(no_mangle)]
+pub extern "C" fn illcanon_normalise_as(
+    alloc: Global,
+    profile: u32,
+    octets: &[u8],
+    buffer: &mut [u8],
+    size: &mut usize,
+    refusal: &mut IllcanonRefusal,
+) -> u32
+    ensures { EndsWith result (WritesAs (profile_numbered profile) normal_form_in octets.now
+        (change buffer.old buffer.new) (change size.old size.new)
+        (change refusal.old refusal.new)) }
+{
+    match profile_numbered(profile) {
+        Some(profile) => normalise(alloc, profile, octets, buffer, size, refusal).number(),
+        None => Status::UnknownProfile.number(),
+    }
 }
 
 fn normalise(
     alloc: Global,
+    profile: Profile,
     octets: &[u8],
     buffer: &mut [u8],
     size: &mut usize,
     refusal: &mut IllcanonRefusal,
 ) -> Status
-    ensures { Writes normal_form octets.now (change buffer.old buffer.new) (change size.old size.new) (change refusal.old refusal.new) result }
+    ensures { WritesIn (profile_of profile) (normal_form_in (profile_of profile)) octets.now
+        (change buffer.old buffer.new) (change size.old size.new)
+        (change refusal.old refusal.new) result }
 {
-    match read_whole(alloc, octets) {
+    match read_whole(alloc, profile, octets) {
         Ok(normal) => put(&normal.octets, buffer, size),
         Err(failure) => report(failure, refusal),
     }
@@ -58,34 +84,65 @@ pub extern "C" fn illcanon_show(
 ) -> u32
     ensures { EndsWith result (Writes (shown_text number) octets.now (change buffer.old buffer.new) (change size.old size.new) (change refusal.old refusal.new)) }
 {
-    show(alloc, octets, number, buffer, size, refusal).number()
+    show(alloc, Profile::Two, octets, number, buffer, size, refusal).number()
+}
+
+/// Writes the text of the message in the profile of a number that the octets are, under another number.
+#[unsafe(no_mangle)]
+pub extern "C" fn illcanon_show_as(
+    alloc: Global,
+    profile: u32,
+    octets: &[u8],
+    number: u32,
+    buffer: &mut [u8],
+    size: &mut usize,
+    refusal: &mut IllcanonRefusal,
+) -> u32
+    ensures { EndsWith result (WritesAs (profile_numbered profile) (λ p. shown_text_in p number)
+        octets.now (change buffer.old buffer.new) (change size.old size.new)
+        (change refusal.old refusal.new)) }
+{
+    match profile_numbered(profile) {
+        Some(profile) => show(alloc, profile, octets, number, buffer, size, refusal).number(),
+        None => Status::UnknownProfile.number(),
+    }
 }
 
 fn show(
     alloc: Global,
+    profile: Profile,
     octets: &[u8],
     number: u32,
     buffer: &mut [u8],
     size: &mut usize,
     refusal: &mut IllcanonRefusal,
 ) -> Status
-    ensures { Writes (shown_text number) octets.now (change buffer.old buffer.new) (change size.old size.new) (change refusal.old refusal.new) result }
+    ensures { WritesIn (profile_of profile) (shown_text_in (profile_of profile) number) octets.now
+        (change buffer.old buffer.new) (change size.old size.new)
+        (change refusal.old refusal.new) result }
 {
-    let outline = match read_whole_outline(alloc, octets) {
+    let outline = match read_whole_outline(alloc, profile, octets) {
         Ok(outline) => outline,
         Err(failure) => return report(failure, refusal),
     };
-    match text_octets(alloc, number, outline) {
+    match text_octets(alloc, profile, number, outline) {
         Ok(text) => put(&text, buffer, size),
         Err(AllocError) => Status::OutOfMemory,
     }
 }
 
-/// The text of the message that the outline is of.
-fn text_octets(alloc: Global, number: u32, outline: Outline) -> Result<Vec<u8>, AllocError>
-    ensures { (a : Apdu) (octets : List ℕ) → SpellsApdu profile_two a octets → IsOutlineOf outline a → IfOk result (λ text. text.items ≡ shown_text number a) }
+/// The text of the message in the profile that the outline is of.
+fn text_octets(
+    alloc: Global,
+    profile: Profile,
+    number: u32,
+    outline: Outline,
+) -> Result<Vec<u8>, AllocError>
+    ensures { (a : Apdu) (octets : List ℕ) → SpellsApdu (profile_of profile) a octets
+        → IsOutlineOf outline a
+        → IfOk result (λ text. text.items ≡ shown_text_in (profile_of profile) number a) }
 {
-    Text::new(number, outline).octets(alloc)
+    Text::new_as(profile, number, outline).octets(alloc)
 }
 
 /// Writes the digest of the message that the octets are, of 32 octets.
@@ -99,19 +156,42 @@ pub extern "C" fn illcanon_digest(
 ) -> u32
     ensures { EndsWith result (Writes digest octets.now (change buffer.old buffer.new) (change size.old size.new) (change refusal.old refusal.new)) }
 {
-    digest(alloc, octets, buffer, size, refusal).number()
+    digest(alloc, Profile::Two, octets, buffer, size, refusal).number()
+}
+
+/// Writes the digest of the message in the profile of a number that the octets are, of 32 octets.
+#[unsafe(no_mangle)]
+pub extern "C" fn illcanon_digest_as(
+    alloc: Global,
+    profile: u32,
+    octets: &[u8],
+    buffer: &mut [u8],
+    size: &mut usize,
+    refusal: &mut IllcanonRefusal,
+) -> u32
+    ensures { EndsWith result (WritesAs (profile_numbered profile) digest_in octets.now
+        (change buffer.old buffer.new) (change size.old size.new)
+        (change refusal.old refusal.new)) }
+{
+    match profile_numbered(profile) {
+        Some(profile) => digest(alloc, profile, octets, buffer, size, refusal).number(),
+        None => Status::UnknownProfile.number(),
+    }
 }
 
 fn digest(
     alloc: Global,
+    profile: Profile,
     octets: &[u8],
     buffer: &mut [u8],
     size: &mut usize,
     refusal: &mut IllcanonRefusal,
 ) -> Status
-    ensures { Writes digest octets.now (change buffer.old buffer.new) (change size.old size.new) (change refusal.old refusal.new) result }
+    ensures { WritesIn (profile_of profile) (digest_in (profile_of profile)) octets.now
+        (change buffer.old buffer.new) (change size.old size.new)
+        (change refusal.old refusal.new) result }
 {
-    match message_digest(alloc, octets) {
+    match message_digest_as(alloc, profile, octets) {
         Ok(digest) => put(&digest, buffer, size),
         Err(failure) => report(failure, refusal),
     }

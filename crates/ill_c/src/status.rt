@@ -17,6 +17,8 @@ pub enum Status {
     NoRoom,
     /// Out of memory.
     OutOfMemory,
+    /// The number that was given names no profile.
+    UnknownProfile,
 }
 
 impl Status {
@@ -31,6 +33,7 @@ impl Status {
             Status::NeedsMore => 3,
             Status::NoRoom => 4,
             Status::OutOfMemory => 5,
+            Status::UnknownProfile => 6,
         }
     }
 }

@@ -1,11 +1,14 @@
 //! What is said of messages.
-ghost use Rattle.ill_c.specs.Calls.{Checks, Compares};
+ghost use Rattle.ill_schema.specs.Profiles.{profile_of};
+ghost use Rattle.ill_c.specs.Calls.{Checks, ChecksAs, ChecksIn, Compares, ComparesAs, ComparesIn};
 ghost use Rattle.ill_c.specs.Memory.{change};
+ghost use Rattle.ill_c.specs.Profiles.{profile_numbered};
 ghost use Rattle.ill_c.specs.Status.{EndsWith};
 
+use crate::profile::profile_numbered;
 use crate::refusal::{IllcanonRefusal, report, reported};
 use crate::status::Status;
-use ill_normal::{Failure, Side, is_normal, same_message};
+use ill_normal::{Failure, Profile, Side, is_normal_as, same_message_as};
 use std::alloc::Global;
 
 /// Says whether the octets are the normal form of the message that they are: 1 if they are, else 0.
@@ -18,13 +21,38 @@ pub extern "C" fn illcanon_check(
 ) -> u32
     ensures { EndsWith result (Checks octets.now (change normal.old normal.new) (change refusal.old refusal.new)) }
 {
-    check(alloc, octets, normal, refusal).number()
+    check(alloc, Profile::Two, octets, normal, refusal).number()
 }
 
-fn check(alloc: Global, octets: &[u8], normal: &mut u32, refusal: &mut IllcanonRefusal) -> Status
-    ensures { Checks octets.now (change normal.old normal.new) (change refusal.old refusal.new) result }
+/// Says whether the octets are the normal form of the message in the profile of a number that they are: 1 if they are, else 0.
+#[unsafe(no_mangle)]
+pub extern "C" fn illcanon_check_as(
+    alloc: Global,
+    profile: u32,
+    octets: &[u8],
+    normal: &mut u32,
+    refusal: &mut IllcanonRefusal,
+) -> u32
+    ensures { EndsWith result (ChecksAs (profile_numbered profile) octets.now
+        (change normal.old normal.new) (change refusal.old refusal.new)) }
 {
-    match is_normal(alloc, octets) {
+    match profile_numbered(profile) {
+        Some(profile) => check(alloc, profile, octets, normal, refusal).number(),
+        None => Status::UnknownProfile.number(),
+    }
+}
+
+fn check(
+    alloc: Global,
+    profile: Profile,
+    octets: &[u8],
+    normal: &mut u32,
+    refusal: &mut IllcanonRefusal,
+) -> Status
+    ensures { ChecksIn (profile_of profile) octets.now
+        (change normal.old normal.new) (change refusal.old refusal.new) result }
+{
+    match is_normal_as(alloc, profile, octets) {
         Ok(yes) => {
             *normal = u32::from(yes);
             Status::Done
@@ -44,19 +72,40 @@ pub extern "C" fn illcanon_same(
 ) -> u32
     ensures { EndsWith result (Compares first.now second.now (change same.old same.new) (change refusal.old refusal.new)) }
 {
-    compare(alloc, first, second, same, refusal).number()
+    compare(alloc, Profile::Two, first, second, same, refusal).number()
+}
+
+/// Says whether two messages in the profile of a number are of one APDU: 1 if they are, else 0.
+#[unsafe(no_mangle)]
+pub extern "C" fn illcanon_same_as(
+    alloc: Global,
+    profile: u32,
+    first: &[u8],
+    second: &[u8],
+    same: &mut u32,
+    refusal: &mut IllcanonRefusal,
+) -> u32
+    ensures { EndsWith result (ComparesAs (profile_numbered profile) first.now second.now
+        (change same.old same.new) (change refusal.old refusal.new)) }
+{
+    match profile_numbered(profile) {
+        Some(profile) => compare(alloc, profile, first, second, same, refusal).number(),
+        None => Status::UnknownProfile.number(),
+    }
 }
 
 fn compare(
     alloc: Global,
+    profile: Profile,
     first: &[u8],
     second: &[u8],
     same: &mut u32,
     refusal: &mut IllcanonRefusal,
 ) -> Status
-    ensures { Compares first.now second.now (change same.old same.new) (change refusal.old refusal.new) result }
+    ensures { ComparesIn (profile_of profile) first.now second.now
+        (change same.old same.new) (change refusal.old refusal.new) result }
 {
-    match same_message(alloc, first, second) {
+    match same_message_as(alloc, profile, first, second) {
         Ok(yes) => {
             *same = u32::from(yes);
             Status::Done

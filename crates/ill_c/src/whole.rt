@@ -1,24 +1,26 @@
 //! What is read of octets that are one message.
 ghost use Rattle.std.specs.Prelude.{◌≡◌, List, ℕ, ◌++◌, length};
-ghost use Rattle.ill_read.specs.Answers.{IsNormalOf, NormalAnswers};
-ghost use Rattle.ill_read.specs.Outlined.{IsOutlined};
+ghost use Rattle.ber_leaf.specs.Profile.{Profile as Meaning};
+ghost use Rattle.ill_schema.specs.Profiles.{profile_of};
+ghost use Rattle.ill_read.specs.Answers.{IsNormalIn, NormalAnswersIn};
+ghost use Rattle.ill_read.specs.Outlined.{IsOutlinedIn};
 ghost use Rattle.ill_read.specs.declared.failure.Failure.{Failure};
 ghost use Rattle.ill_c.specs.code.Steps.{OutlineAnswers};
 
 use ill_normal::{
-    AtHand, Cause, Failure, FromSlice, LIMIT, Normal, ReadFailure, Refusal, read_normal_in,
+    AtHand, Cause, Failure, FromSlice, LIMIT, Normal, NormalReader, Profile, ReadFailure, Refusal,
 };
-use ill_read::{Outline, Outlined, read_outline_in};
+use ill_read::{Outline, Outlined, read_outline_as};
 use std::alloc::Global;
 
-/// The normal form of the message that the octets are, as [`decode_normal`](ill_normal::decode_normal) gives it. Memory is taken once,
-/// as much as the message has, since a normal form is seldom longer.
-pub(crate) fn read_whole(alloc: Global, octets: &[u8]) -> Result<Normal, Failure>
-    ensures { NormalAnswers octets.now result }
+/// The normal form of the message in the profile that the octets are, as [`decode_normal_as`](ill_normal::decode_normal_as) gives it.
+/// Memory is taken once, as much as the message has, since a normal form is seldom longer.
+pub(crate) fn read_whole(alloc: Global, profile: Profile, octets: &[u8]) -> Result<Normal, Failure>
+    ensures { NormalAnswersIn (profile_of profile) octets.now result }
 {
     let room = Vec::with_capacity(alloc, octets.len().min(LIMIT as usize))?;
     let mut source = FromSlice::new(octets);
-    match read_normal_in::<FromSlice, AtHand>(alloc, &mut source, room) {
+    match NormalReader::new(alloc).read_as::<FromSlice, AtHand>(profile, &mut source, room) {
         Ok(Some(normal)) => whole(normal, octets.len()),
         Ok(None) => Err(refused(0, Cause::Truncated)),
         Err(ReadFailure::Refused(refusal)) => Err(Failure::Refused(refusal)),
@@ -27,12 +29,16 @@ pub(crate) fn read_whole(alloc: Global, octets: &[u8]) -> Result<Normal, Failure
     }
 }
 
-/// The outline of the message that the octets are.
-pub(crate) fn read_whole_outline(alloc: Global, octets: &[u8]) -> Result<Outline, Failure>
-    ensures { OutlineAnswers octets.now result }
+/// The outline of the message in the profile that the octets are.
+pub(crate) fn read_whole_outline(
+    alloc: Global,
+    profile: Profile,
+    octets: &[u8],
+) -> Result<Outline, Failure>
+    ensures { OutlineAnswers (profile_of profile) octets.now result }
 {
     let mut source = FromSlice::new(octets);
-    match read_outline_in::<FromSlice, AtHand>(alloc, &mut source, Outline::new(alloc)) {
+    match read_outline_as::<FromSlice, AtHand>(alloc, profile, &mut source, Outline::new(alloc)) {
         Ok(Some(outlined)) => whole_outline(outlined, octets.len()),
         Ok(None) => Err(refused(0, Cause::Truncated)),
         Err(ReadFailure::Refused(refusal)) => Err(Failure::Refused(refusal)),
@@ -43,7 +49,8 @@ pub(crate) fn read_whole_outline(alloc: Global, octets: &[u8]) -> Result<Outline
 
 /// The normal form of a message at the front of octets, if there are no more.
 fn whole(normal: Normal, count: usize) -> Result<Normal, Failure>
-    ensures { (front rest : List ℕ) → count ≡ length (front ++ rest) → IsNormalOf normal front → NormalAnswers (front ++ rest) result }
+    ensures { (p : Meaning) (front rest : List ℕ) → count ≡ length (front ++ rest)
+        → IsNormalIn p normal front → NormalAnswersIn p (front ++ rest) result }
 {
     if normal.read as usize == count {
         Ok(normal)
@@ -54,7 +61,8 @@ fn whole(normal: Normal, count: usize) -> Result<Normal, Failure>
 
 /// The outline of a message at the front of octets, if there are no more.
 fn whole_outline(outlined: Outlined, count: usize) -> Result<Outline, Failure>
-    ensures { (front rest : List ℕ) → count ≡ length (front ++ rest) → IsOutlined outlined front → OutlineAnswers (front ++ rest) result }
+    ensures { (p : Meaning) (front rest : List ℕ) → count ≡ length (front ++ rest)
+        → IsOutlinedIn p outlined front → OutlineAnswers p (front ++ rest) result }
 {
     if outlined.read as usize == count {
         Ok(outlined.outline)

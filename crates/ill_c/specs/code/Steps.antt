@@ -1,9 +1,9 @@
 -- What the steps of a call do.
 use Rattle.std.specs.Prelude.{◌≡◌, ℕ, List, Option, Some, None, Result, Ok, Err}
-use Rattle.ber_leaf.specs.Profile.{profile_two}
-use Rattle.ill_schema.specs.Apdu.{Apdu, Accepts, SpellsApdu, normal_form}
+use Rattle.ber_leaf.specs.Profile.{Profile}
+use Rattle.ill_schema.specs.Apdu.{Apdu, Accepts, SpellsApdu, normal_form_in}
 use Rattle.ill_refusals.specs.Fault.{fault_of}
-use Rattle.ill_read.specs.Answers.{IsPart, IsRefused, RefusesWhole}
+use Rattle.ill_read.specs.Answers.{IsPartIn, IsRefusedIn, RefusesWholeIn}
 use Rattle.ill_read.specs.Outline.{IsOutlineOf}
 use Rattle.ill_read.specs.declared.failure.Failure.{Failure}
 use Rattle.ill_read.specs.declared.normal.Normal.{Normal}
@@ -24,14 +24,14 @@ abbrev pub IsReported : Failure → Change IllcanonRefusal → Status → Type 0
 IsReported (Failure.Refused it) refusal status = (status ≡ Status.Refused) × (refusal.after ≡ reported (fault_of it))
 IsReported Failure.OutOfMemory refusal status = (status ≡ Status.OutOfMemory) × Stays refusal
 
--- of octets, at whose front a message may be
-abbrev pub FrontAnswers : List ℕ → Result (Option Normal) Failure → Type 0
-FrontAnswers s (Ok (Some normal)) = (a : Apdu) × Accepts profile_two s a normal.read × (normal.octets.items ≡ normal_form a)
-FrontAnswers s (Ok None) = IsPart s
-FrontAnswers s (Err failure) = IsRefused s failure
+-- of octets, at whose front a message of the profile may be
+abbrev pub FrontAnswers : Profile → List ℕ → Result (Option Normal) Failure → Type 0
+FrontAnswers p s (Ok (Some normal)) = (a : Apdu) × Accepts p s a normal.read × (normal.octets.items ≡ normal_form_in p a)
+FrontAnswers p s (Ok None) = IsPartIn p s
+FrontAnswers p s (Err failure) = IsRefusedIn p s failure
 
--- of octets that are to be one message, whose outline is read
-abbrev pub OutlineAnswers : List ℕ → Result Outline Failure → Type 0
-OutlineAnswers s (Ok outline) = (a : Apdu) × SpellsApdu profile_two a s × IsOutlineOf outline a
-OutlineAnswers s (Err (Failure.Refused refusal)) = RefusesWhole s (fault_of refusal)
-OutlineAnswers s (Err Failure.OutOfMemory) = Unit {0}
+-- of octets that are to be one message of the profile, whose outline is read
+abbrev pub OutlineAnswers : Profile → List ℕ → Result Outline Failure → Type 0
+OutlineAnswers p s (Ok outline) = (a : Apdu) × SpellsApdu p a s × IsOutlineOf outline a
+OutlineAnswers p s (Err (Failure.Refused refusal)) = RefusesWholeIn p s (fault_of refusal)
+OutlineAnswers p s (Err Failure.OutOfMemory) = Unit {0}
