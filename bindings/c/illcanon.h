@@ -41,7 +41,14 @@ enum illcanon_status {
     ILLCANON_SECOND_REFUSED = 2, /* of two, the first is a message and the second is not, and the refusal says why */
     ILLCANON_NEEDS_MORE = 3,     /* the octets may be the beginning of a message: at least one more is needed */
     ILLCANON_NO_ROOM = 4,        /* the buffer is too short; the size says how many octets it needs */
-    ILLCANON_OUT_OF_MEMORY = 5   /* malloc or realloc returned NULL; nothing was written */
+    ILLCANON_OUT_OF_MEMORY = 5,  /* malloc or realloc returned NULL; nothing was written */
+    ILLCANON_UNKNOWN_PROFILE = 6 /* the number is not an illcanon_profile; nothing was read or written */
+};
+
+/* The profile of the messages that a call reads, where its name ends in _as. All other calls read profile 2. The numbers don't change. */
+enum illcanon_profile {
+    ILLCANON_PROFILE_2 = 2,     /* profile 2: parts of the module of ISO 10161-1 are refused as LEFT_OUT */
+    ILLCANON_PROFILE_MODULE = 3 /* the module profile: each row of that module, and any octet in a GeneralString */
 };
 
 /* Why octets are not a message. The numbers don't change. docs/DEFINITIONS.md says when each comes, and which offset it has. */
@@ -51,7 +58,7 @@ enum illcanon_cause {
     ILLCANON_BAD_LENGTH = 3,        /* no length begins so (X.690, 8.1.3) */
     ILLCANON_TOO_LONG = 4,          /* the message would pass ILLCANON_LIMIT octets */
     ILLCANON_OVERRUN = 5,           /* the element would pass the end of one round it */
-    ILLCANON_TOO_DEEP = 6,          /* 32 elements are open */
+    ILLCANON_TOO_DEEP = 6,          /* 32 elements are open, or 20 levels of elements in what an open type holds */
     ILLCANON_UNEXPECTED_TAG = 7,    /* the tag is not due here */
     ILLCANON_LEFT_OUT = 8,          /* the part is one that this profile does not read */
     ILLCANON_WRONG_FORM = 9,        /* primitive where constructed is due, or the reverse */
@@ -64,7 +71,10 @@ enum illcanon_cause {
     ILLCANON_BAD_DATE = 16,         /* not eight digits of a day that exists */
     ILLCANON_BAD_TIME = 17,         /* not six digits of a time of day */
     ILLCANON_TRAILING_BYTES = 18,   /* octets follow the message, which ends at the offset */
-    ILLCANON_NORMAL_TOO_LONG = 19   /* the normal form would pass ILLCANON_LIMIT octets */
+    ILLCANON_NORMAL_TOO_LONG = 19,  /* the normal form would pass ILLCANON_LIMIT octets */
+    ILLCANON_BAD_NULL = 20,         /* a NULL with contents; this cause and the next two come in the module profile alone */
+    ILLCANON_BAD_OID = 21,          /* an OBJECT IDENTIFIER that is empty or cut off, or has a padded number (X.690, 8.19) */
+    ILLCANON_BAD_BITS = 22          /* a BIT STRING whose number of unused bits is absent or wrong, or whose segments don't join (X.690, 8.6) */
 };
 
 /* A refusal. It is set where a call says so, and is as it was otherwise. */
@@ -150,6 +160,45 @@ uint32_t illcanon_next(const uint8_t *octets, size_t octets_size, size_t *size, 
  */
 uint32_t illcanon_normalise_next(const uint8_t *octets, size_t octets_size, size_t *read, uint8_t *buffer, size_t buffer_size, size_t *size,
                                  struct illcanon_refusal *refusal);
+
+/* The same calls in a profile. The first argument is its number, an illcanon_profile. Each does with messages of that profile what the
+ * call without _as does with those of profile 2, and leaves the same in memory. It has one status more:
+ *
+ *   UNKNOWN_PROFILE  the number is not an illcanon_profile. Memory is as it was.
+ *
+ * Octets may be a message in one profile and be refused in the other. Where they are a message in both, it is the same one, with the
+ * same normal form. LEFT_OUT comes in profile 2 alone.
+ */
+
+/* Writes the normal form of the message in the profile that the octets are, as illcanon_normalise does. */
+uint32_t illcanon_normalise_as(uint32_t profile, const uint8_t *octets, size_t octets_size, uint8_t *buffer, size_t buffer_size,
+                               size_t *size, struct illcanon_refusal *refusal);
+
+/* Says whether the octets are the normal form of the message in the profile that they are, as illcanon_check does. */
+uint32_t illcanon_check_as(uint32_t profile, const uint8_t *octets, size_t octets_size, uint32_t *normal,
+                           struct illcanon_refusal *refusal);
+
+/* Says whether two messages in the profile are the same, as illcanon_same does. In the module profile 0 may be too fine: what an open
+ * type holds is the same only if it is equal element by element, and text with escape sequences only if its octets are equal. 1 is
+ * always right. */
+uint32_t illcanon_same_as(uint32_t profile, const uint8_t *first, size_t first_size, const uint8_t *second, size_t second_size,
+                          uint32_t *same, struct illcanon_refusal *refusal);
+
+/* Writes the message in the profile that the octets are as text, under a number, as illcanon_show does. */
+uint32_t illcanon_show_as(uint32_t profile, const uint8_t *octets, size_t octets_size, uint32_t number, uint8_t *buffer,
+                          size_t buffer_size, size_t *size, struct illcanon_refusal *refusal);
+
+/* Writes the digest of the message in the profile that the octets are, as illcanon_digest does. */
+uint32_t illcanon_digest_as(uint32_t profile, const uint8_t *octets, size_t octets_size, uint8_t *buffer, size_t buffer_size,
+                            size_t *size, struct illcanon_refusal *refusal);
+
+/* Finds where the message in the profile ends that the octets begin with, whatever follows it, as illcanon_next does. */
+uint32_t illcanon_next_as(uint32_t profile, const uint8_t *octets, size_t octets_size, size_t *size, struct illcanon_refusal *refusal);
+
+/* Writes the normal form of the message in the profile that the octets begin with, whatever follows it, as illcanon_normalise_next
+ * does. */
+uint32_t illcanon_normalise_next_as(uint32_t profile, const uint8_t *octets, size_t octets_size, size_t *read, uint8_t *buffer,
+                                    size_t buffer_size, size_t *size, struct illcanon_refusal *refusal);
 
 #ifdef __cplusplus
 }
