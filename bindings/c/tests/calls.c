@@ -1,5 +1,12 @@
-/* Each call on the messages of a file: `calls FILE FORMS` expects their normal forms one after another in FORMS; `calls show FILE` writes
- * their texts, and `calls digest FILE` their digests, a line for each. */
+/* Each call on the messages of a file, in a profile or, where PROFILE is `-`, by the calls that are given none.
+ *
+ *   calls PROFILE FILE FORMS    expects their normal forms one after another in FORMS
+ *   calls PROFILE show FILE     writes their texts
+ *   calls PROFILE digest FILE   writes their digests, a line for each
+ *   calls PROFILE rows FILE     makes each call on the octets of each row of FILE that is of the profile. A row has its name, its profile
+ *                               (`two` or `module`), the octets in hexadecimal, and what comes of them, with a `|` between two. That is
+ *                               `normal` and the normal form in hexadecimal, or the cause of the refusal, its part or `-`, and its offset.
+ */
 #include "support.h"
 
 #define MESSAGES 64
@@ -7,7 +14,7 @@
 typedef uint32_t writing(const uint8_t *, size_t, uint8_t *, size_t, size_t *, struct illcanon_refusal *);
 
 static uint32_t show_first(const uint8_t *octets, size_t count, uint8_t *buffer, size_t room, size_t *size, struct illcanon_refusal *refusal) {
-    return illcanon_show(octets, count, 1, buffer, room, size, refusal);
+    return show(octets, count, 1, buffer, room, size, refusal);
 }
 
 /* How many octets the message has that the next call normalises. */
@@ -15,7 +22,7 @@ static size_t first_size;
 
 static uint32_t normalise_first(const uint8_t *octets, size_t count, uint8_t *buffer, size_t room, size_t *size, struct illcanon_refusal *refusal) {
     size_t read = 77;
-    uint32_t status = illcanon_normalise_next(octets, count, &read, buffer, room, size, refusal);
+    uint32_t status = normalise_next(octets, count, &read, buffer, room, size, refusal);
     EXPECT(read == (status == ILLCANON_DONE || status == ILLCANON_NO_ROOM ? first_size : 77));
     return status;
 }
@@ -49,7 +56,7 @@ static struct octets written(writing *call, struct octets message) {
 
 /* Octets that each call refuses in one way, with nothing else changed. */
 static void refused(struct octets octets, uint32_t at, uint32_t cause, const char *part, struct octets good) {
-    static writing *const calls[] = {illcanon_normalise, show_first, illcanon_digest};
+    static writing *const calls[] = {normalise, show_first, digest};
     uint8_t buffer[100];
     memset(buffer, UNTOUCHED, sizeof buffer);
     for (int i = 0; i < 3; i++) {
@@ -60,23 +67,23 @@ static void refused(struct octets octets, uint32_t at, uint32_t cause, const cha
     }
     struct illcanon_refusal refusal = untouched(), second = untouched();
     uint32_t answer = 77;
-    EXPECT(illcanon_check(octets.at, octets.count, &answer, &refusal) == ILLCANON_REFUSED);
+    EXPECT(check(octets.at, octets.count, &answer, &refusal) == ILLCANON_REFUSED);
     EXPECT(refuses(&refusal, at, cause, part) && answer == 77);
-    EXPECT(illcanon_same(octets.at, octets.count, octets.at, octets.count, &answer, &refusal) == ILLCANON_REFUSED);
+    EXPECT(same(octets.at, octets.count, octets.at, octets.count, &answer, &refusal) == ILLCANON_REFUSED);
     EXPECT(refuses(&refusal, at, cause, part) && answer == 77);
-    EXPECT(illcanon_same(good.at, good.count, octets.at, octets.count, &answer, &second) == ILLCANON_SECOND_REFUSED);
+    EXPECT(same(good.at, good.count, octets.at, octets.count, &answer, &second) == ILLCANON_SECOND_REFUSED);
     EXPECT(refuses(&second, at, cause, part) && answer == 77);
 }
 
-/* What illcanon_next returns for octets. */
+/* What the next call returns for octets. */
 static void next_is(struct octets octets, uint32_t status, size_t wanted) {
     struct illcanon_refusal refusal = untouched();
     size_t size = 77;
-    EXPECT(illcanon_next(octets.at, octets.count, &size, &refusal) == status);
+    EXPECT(next(octets.at, octets.count, &size, &refusal) == status);
     EXPECT(size == wanted && is_untouched(&refusal));
 }
 
-/* What illcanon_normalise_next returns for octets that don't begin with a message, with nothing written. */
+/* What the call that normalises the next message returns for octets that don't begin with a message, with nothing written. */
 static struct illcanon_refusal next_is_not(struct octets octets, uint32_t status) {
     struct illcanon_refusal refusal = untouched();
     uint8_t buffer[100];
@@ -117,16 +124,35 @@ static void cut_and_trailed(struct octets message, struct octets form) {
 
 static void same_is(struct octets first, struct octets second, uint32_t wanted) {
     struct illcanon_refusal refusal = untouched();
-    uint32_t same = 77;
-    EXPECT(illcanon_same(first.at, first.count, second.at, second.count, &same, &refusal) == ILLCANON_DONE);
-    EXPECT(same == wanted && is_untouched(&refusal));
+    uint32_t answer = 77;
+    EXPECT(same(first.at, first.count, second.at, second.count, &answer, &refusal) == ILLCANON_DONE);
+    EXPECT(answer == wanted && is_untouched(&refusal));
 }
 
 static void normal_is(struct octets octets, uint32_t wanted) {
     struct illcanon_refusal refusal = untouched();
     uint32_t normal = 77;
-    EXPECT(illcanon_check(octets.at, octets.count, &normal, &refusal) == ILLCANON_DONE);
+    EXPECT(check(octets.at, octets.count, &normal, &refusal) == ILLCANON_DONE);
     EXPECT(normal == wanted && is_untouched(&refusal));
+}
+
+static int are_equal(struct octets a, struct octets b) {
+    return a.count == b.count && memcmp(a.at, b.at, a.count) == 0;
+}
+
+/* Each call on a message of this normal form. */
+static void message_is(struct octets message, struct octets wanted) {
+    struct octets form = written(normalise, message);
+    EXPECT(are_equal(form, wanted));
+    next_is(message, ILLCANON_DONE, message.count);
+    normal_is(form, 1);
+    normal_is(message, (uint32_t)are_equal(form, message));
+    same_is(message, form, 1);
+    written(show_first, message);
+    struct octets one = written(digest, message), other = written(digest, form);
+    EXPECT(one.count == ILLCANON_DIGEST_SIZE && are_equal(one, other));
+    cut_and_trailed(message, form);
+    unfence(form.at, form.count);
 }
 
 /* Each message of a file, whose normal forms are one after another in another file. */
@@ -135,19 +161,9 @@ static void file_is(const char *name, const char *forms_name) {
     size_t count = read_messages(name, messages, MESSAGES);
     EXPECT(read_messages(forms_name, forms, MESSAGES) == count);
     for (size_t i = 0; i < count; i++) {
-        struct octets form = written(illcanon_normalise, messages[i]);
-        int is_normal = form.count == messages[i].count && memcmp(form.at, messages[i].at, form.count) == 0;
-        EXPECT(form.count == forms[i].count && memcmp(form.at, forms[i].at, form.count) == 0);
-        next_is(messages[i], ILLCANON_DONE, messages[i].count);
-        normal_is(form, 1);
-        normal_is(messages[i], is_normal);
-        same_is(messages[i], form, 1);
-        same_is(messages[i], forms[(i + 1) % count], count == 1);
-        written(show_first, messages[i]);
-        struct octets digest = written(illcanon_digest, messages[i]), again = written(illcanon_digest, form);
-        EXPECT(digest.count == ILLCANON_DIGEST_SIZE && memcmp(digest.at, again.at, ILLCANON_DIGEST_SIZE) == 0);
-        cut_and_trailed(messages[i], form);
-        unfence(form.at, form.count);
+        struct octets other = forms[(i + 1) % count];
+        message_is(messages[i], forms[i]);
+        same_is(messages[i], other, (uint32_t)are_equal(forms[i], other));
     }
     printf("%s: %lu messages\n", name, (unsigned long)count);
 }
@@ -163,12 +179,89 @@ static void refusals_are(struct octets good) {
     refused(octets, 7, ILLCANON_MISSING, "Expired.transaction-id", good);
     struct illcanon_refusal refusal = untouched();
     size_t size = 77;
-    EXPECT(illcanon_next(octets.at, octets.count, &size, &refusal) == ILLCANON_REFUSED);
+    EXPECT(next(octets.at, octets.count, &size, &refusal) == ILLCANON_REFUSED);
     EXPECT(size == 77 && refuses(&refusal, 7, ILLCANON_MISSING, "Expired.transaction-id"));
     refusal = next_is_not(octets, ILLCANON_REFUSED);
     EXPECT(refuses(&refusal, 7, ILLCANON_MISSING, "Expired.transaction-id"));
     octets = fenced_copy(left_out, sizeof left_out);
-    refused(octets, 0, ILLCANON_LEFT_OUT, "ILL-APDU.Forward-Notification", good);
+    if (profile == ILLCANON_PROFILE_MODULE)
+        refused(octets, 2, ILLCANON_TRUNCATED, "", good);
+    else
+        refused(octets, 0, ILLCANON_LEFT_OUT, "ILL-APDU.Forward-Notification", good);
+}
+
+/* Nothing is written where the number names no profile. */
+static void no_profile_is(uint32_t number, struct octets good) {
+    uint8_t buffer[100];
+    size_t size = 77, read = 77;
+    uint32_t answer = 77;
+    struct illcanon_refusal refusal = untouched();
+    memset(buffer, UNTOUCHED, sizeof buffer);
+    EXPECT(illcanon_normalise_as(number, good.at, good.count, buffer, sizeof buffer, &size, &refusal) == ILLCANON_UNKNOWN_PROFILE);
+    EXPECT(illcanon_show_as(number, good.at, good.count, 1, buffer, sizeof buffer, &size, &refusal) == ILLCANON_UNKNOWN_PROFILE);
+    EXPECT(illcanon_digest_as(number, good.at, good.count, buffer, sizeof buffer, &size, &refusal) == ILLCANON_UNKNOWN_PROFILE);
+    EXPECT(illcanon_check_as(number, good.at, good.count, &answer, &refusal) == ILLCANON_UNKNOWN_PROFILE);
+    EXPECT(illcanon_same_as(number, good.at, good.count, good.at, good.count, &answer, &refusal) == ILLCANON_UNKNOWN_PROFILE);
+    EXPECT(illcanon_next_as(number, good.at, good.count, &size, &refusal) == ILLCANON_UNKNOWN_PROFILE);
+    EXPECT(illcanon_normalise_next_as(number, good.at, good.count, &read, buffer, sizeof buffer, &size, &refusal) ==
+           ILLCANON_UNKNOWN_PROFILE);
+    EXPECT(size == 77 && read == 77 && answer == 77 && is_untouched(&refusal) && all_are(buffer, sizeof buffer, UNTOUCHED));
+}
+
+static struct octets from_hexadecimal(const char *text) {
+    struct octets octets = {fenced(strlen(text) / 2), strlen(text) / 2};
+    for (size_t i = 0; i < octets.count; i++) {
+        char digits[3] = {text[2 * i], text[2 * i + 1], 0};
+        octets.at[i] = (uint8_t)strtoul(digits, NULL, 16);
+    }
+    return octets;
+}
+
+/* Each call refuses octets as an outcome says: the cause, the part or `-`, and the offset. */
+static void outcome_is(struct octets octets, const char *outcome, struct octets good) {
+    char name[32], part[64];
+    unsigned at;
+    uint32_t cause = 1;
+    if (sscanf(outcome, "%31s %63s %u", name, part, &at) != 3)
+        exit(2);
+    while (cause < CAUSES_SIZE && strcmp(CAUSES[cause], name) != 0)
+        cause++;
+    if (strcmp(part, "-") == 0)
+        part[0] = 0;
+    refused(octets, at, cause, part, good);
+    uint32_t wanted = cause == ILLCANON_TRUNCATED ? ILLCANON_NEEDS_MORE : ILLCANON_REFUSED;
+    struct illcanon_refusal found = next_is_not(octets, wanted), refusal = untouched();
+    size_t size = 77;
+    EXPECT(next(octets.at, octets.count, &size, &refusal) == wanted && size == 77);
+    EXPECT(wanted == ILLCANON_NEEDS_MORE ? is_untouched(&found) && is_untouched(&refusal)
+                                         : refuses(&found, at, cause, part) && refuses(&refusal, at, cause, part));
+}
+
+/* Each row of the profile. */
+static void rows_are(const char *name, struct octets good) {
+    static char line[8192];
+    FILE *file = fopen(name, "r");
+    unsigned long count = 0;
+    if (file == NULL)
+        exit(2);
+    while (fgets(line, sizeof line, file) != NULL) {
+        const char *slug = strtok(line, "|"), *in = strtok(NULL, "|"), *octets = strtok(NULL, "|"), *outcome = strtok(NULL, "\n");
+        int before = failures;
+        if (slug == NULL || in == NULL || octets == NULL || outcome == NULL)
+            exit(2);
+        if ((strcmp(in, "module") == 0) != (profile == ILLCANON_PROFILE_MODULE))
+            continue;
+        if (strncmp(outcome, "normal ", 7) == 0)
+            message_is(from_hexadecimal(octets), from_hexadecimal(outcome + 7));
+        else
+            outcome_is(from_hexadecimal(octets), outcome, good);
+        if (failures != before)
+            fprintf(stderr, "%s\n", slug);
+        count++;
+    }
+    fclose(file);
+    EXPECT(count > 0);
+    printf("%s: %lu rows\n", name, count);
 }
 
 static void print_all(writing *call, const char *name, int in_digits) {
@@ -178,7 +271,7 @@ static void print_all(writing *call, const char *name, int in_digits) {
     struct illcanon_refusal refusal;
     for (size_t i = 0; i < count; i++) {
         uint32_t status = in_digits ? call(messages[i].at, messages[i].count, buffer, sizeof buffer, &size, &refusal)
-                                    : illcanon_show(messages[i].at, messages[i].count, (uint32_t)i + 1, buffer, sizeof buffer, &size, &refusal);
+                                    : show(messages[i].at, messages[i].count, (uint32_t)i + 1, buffer, sizeof buffer, &size, &refusal);
         EXPECT(status == ILLCANON_DONE);
         if (!in_digits)
             fwrite(buffer, 1, size, stdout);
@@ -188,17 +281,24 @@ static void print_all(writing *call, const char *name, int in_digits) {
 }
 
 int main(int count, char **words) {
-    if (count != 3)
+    static const uint8_t expired[] = "\x74\x1f\x30\x1d\x80\x01\x02\xa1\x0a\xa1\x03\x1b\x01\x47\xa2\x03\x1b\x01\x51\xa2\x0c\xa0\x0a\x80\x08"
+                                     "20240229";
+    struct octets good = fenced_copy(expired, sizeof expired - 1);
+    if (count != 4)
         return 2;
-    if (strcmp(words[1], "show") == 0)
-        print_all(show_first, words[2], 0);
-    else if (strcmp(words[1], "digest") == 0)
-        print_all(illcanon_digest, words[2], 1);
+    set_profile(words[1]);
+    if (strcmp(words[2], "show") == 0)
+        print_all(show_first, words[3], 0);
+    else if (strcmp(words[2], "digest") == 0)
+        print_all(digest, words[3], 1);
+    else if (strcmp(words[2], "rows") == 0)
+        rows_are(words[3], good);
     else {
-        struct octets good[MESSAGES];
-        file_is(words[1], words[2]);
-        read_messages(words[2], good, MESSAGES);
-        refusals_are(good[0]);
+        static const uint32_t numbers[] = {0, 1, 4, 0x102, 0x80000003, 0xFFFFFFFF};
+        file_is(words[2], words[3]);
+        refusals_are(good);
+        for (size_t i = 0; i < sizeof numbers / sizeof *numbers; i++)
+            no_profile_is(numbers[i], good);
     }
     return failures != 0;
 }

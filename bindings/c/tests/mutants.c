@@ -1,6 +1,6 @@
-/* `mutants PROGRAM COUNT FILE..`: messages of the files, changed at random, are taken apart and normalised by the calls as by the
+/* `mutants PROGRAM COUNT PROFILE FILE..`: messages of the files, changed at random, are taken apart and normalised by the calls as by the
  * program's `canonicalise`, in two steps and in one: the same octets, the same refusal. Those that are accepted have the same text as by
- * its `show`. */
+ * its `show`. The calls are those in the profile or, where PROFILE is `-`, those that are given none. */
 #include "support.h"
 
 #include <spawn.h>
@@ -10,10 +10,6 @@
 #define ROOM 65536
 
 extern char **environ;
-
-static const char *const CAUSES[] = {
-    "",          "Truncated", "BadTag",  "BadLength", "TooLong",    "Overrun",    "TooDeep",        "UnexpectedTag", "LeftOut",       "WrongForm",
-    "Missing",   "BadEnd",    "BadBoolean", "BadInteger", "IntegerTooLong", "BadText", "BadDate", "BadTime", "TrailingBytes", "NormalTooLong"};
 
 static uint64_t state = 0x9E3779B97F4A7C15u;
 
@@ -75,12 +71,12 @@ enum calls { NEXT_AND_NORMALISE, NORMALISE_NEXT, NEXT_AND_SHOW };
 static uint32_t call_on_front(enum calls calls, const uint8_t *octets, size_t count, uint32_t number, size_t *size, uint8_t *to, size_t room,
                               size_t *written, struct illcanon_refusal *refusal) {
     if (calls == NORMALISE_NEXT)
-        return illcanon_normalise_next(octets, count, size, to, room, written, refusal);
-    uint32_t status = illcanon_next(octets, count, size, refusal);
+        return normalise_next(octets, count, size, to, room, written, refusal);
+    uint32_t status = next(octets, count, size, refusal);
     if (status != ILLCANON_DONE)
         return status;
-    status = calls == NEXT_AND_SHOW ? illcanon_show(octets, *size, number, to, room, written, refusal)
-                                    : illcanon_normalise(octets, *size, to, room, written, refusal);
+    status = calls == NEXT_AND_SHOW ? show(octets, *size, number, to, room, written, refusal)
+                                    : normalise(octets, *size, to, room, written, refusal);
     EXPECT(status == ILLCANON_DONE);
     return status;
 }
@@ -153,45 +149,60 @@ static size_t changed(uint8_t *octets, size_t count) {
     return count;
 }
 
+/* Which cause the line of a refusal names, 0 if none. */
+static size_t cause_of(const char *line) {
+    const char *name = strstr(line, ": ") ? strrchr(line, ':') + 2 : "";
+    for (size_t cause = 1; cause < CAUSES_SIZE; cause++)
+        if (strncmp(name, CAUSES[cause], strlen(CAUSES[cause])) == 0 && strchr(" \n", name[strlen(CAUSES[cause])]) != NULL)
+            return cause;
+    return 0;
+}
+
+/* One of the messages, changed, and now and then another after it; returns its size. */
+static size_t mutant(const struct octets *messages, size_t count, uint8_t *octets) {
+    size_t k = random_below((uint32_t)count), size = messages[k].count;
+    memcpy(octets, messages[k].at, size);
+    size = changed(octets, size);
+    if (random_below(8) == 0) {
+        k = random_below((uint32_t)count);
+        memcpy(octets + size, messages[k].at, messages[k].count);
+        size += messages[k].count;
+    }
+    return size;
+}
+
 int main(int words, char **names) {
     static struct output wanted, found;
     static uint8_t octets[8192];
     static struct octets messages[MESSAGES];
-    unsigned long seen[20] = {0}, accepted = 0, total;
+    unsigned long seen[CAUSES_SIZE] = {0}, accepted = 0, total;
     size_t count = 0;
-    if (words < 4)
+    if (words < 5)
         return 2;
-    const char *const canonicalise[] = {names[1], "canonicalise", "-", "-", NULL}, *const show[] = {names[1], "show", "-", NULL};
+    set_profile(names[3]);
+    const char *option = profile == ILLCANON_PROFILE_MODULE ? "--profile=module" : NULL;
+    const char *const canonicalise[] = {names[1], "canonicalise", "-", "-", option, NULL};
+    const char *const show_words[] = {names[1], "show", "-", option, NULL};
     total = strtoul(names[2], NULL, 10);
-    for (int i = 3; i < words; i++)
+    for (int i = 4; i < words; i++)
         count += read_messages(names[i], messages + count, MESSAGES - count);
     for (unsigned long i = 0; i < total && failures < 20; i++) {
-        size_t k = random_below((uint32_t)count), size = messages[k].count;
-        memcpy(octets, messages[k].at, size);
-        size = changed(octets, size);
-        if (random_below(8) == 0) {
-            k = random_below((uint32_t)count);
-            memcpy(octets + size, messages[k].at, messages[k].count);
-            size += messages[k].count;
-        }
+        size_t size = mutant(messages, count, octets);
         run_program(names[1], canonicalise, octets, size, &wanted);
         make_calls(NORMALISE_NEXT, octets, size, &found);
         EXPECT(are_equal(&found, &wanted));
         make_calls(NEXT_AND_NORMALISE, octets, size, &found);
         EXPECT(are_equal(&found, &wanted));
+        seen[cause_of(found.line)]++;
         if (found.status == 0) {
             accepted++;
             make_calls(NEXT_AND_SHOW, octets, size, &found);
-            run_program(names[1], show, octets, size, &wanted);
+            run_program(names[1], show_words, octets, size, &wanted);
             EXPECT(are_equal(&found, &wanted));
-        }
-        for (int cause = 1; cause < 20; cause++) {
-            const char *name = strstr(found.line, ": ") ? strrchr(found.line, ':') + 2 : "";
-            seen[cause] += strncmp(name, CAUSES[cause], strlen(CAUSES[cause])) == 0 && strchr(" \n", name[strlen(CAUSES[cause])]) != NULL;
         }
     }
     printf("%lu inputs, %lu accepted", total, accepted);
-    for (int cause = 1; cause < 20; cause++)
+    for (size_t cause = 1; cause < CAUSES_SIZE; cause++)
         if (seen[cause])
             printf(", %s %lu", CAUSES[cause], seen[cause]);
     printf("\n");

@@ -1,5 +1,6 @@
-/* The k-th call of malloc or realloc returns NULL, for each k until none is refused: each result before that is OUT_OF_MEMORY with
- * nothing written, and the last one DONE. What is taken is freed. Linked with --wrap of malloc, realloc and free. */
+/* `no_memory PROFILE FILE`: on the first message of a file, in a profile or, where PROFILE is `-`, by the calls that are given none, the
+ * k-th call of malloc or realloc returns NULL, for each k until none is refused: each result before that is OUT_OF_MEMORY with nothing
+ * written, and the last one DONE. What is taken is freed. Linked with --wrap of malloc, realloc and free. */
 #include "support.h"
 
 void *__real_malloc(size_t size);
@@ -39,32 +40,32 @@ static struct illcanon_refusal refusal;
 
 #define ROOM 65536
 
-static uint32_t normalise(void) {
-    return illcanon_normalise(message.at, message.count, buffer, ROOM, &size, &refusal);
+static uint32_t make_normalise(void) {
+    return normalise(message.at, message.count, buffer, ROOM, &size, &refusal);
 }
 
-static uint32_t show(void) {
-    return illcanon_show(message.at, message.count, 1, buffer, ROOM, &size, &refusal);
+static uint32_t make_show(void) {
+    return show(message.at, message.count, 1, buffer, ROOM, &size, &refusal);
 }
 
-static uint32_t digest(void) {
-    return illcanon_digest(message.at, message.count, buffer, ROOM, &size, &refusal);
+static uint32_t make_digest(void) {
+    return digest(message.at, message.count, buffer, ROOM, &size, &refusal);
 }
 
-static uint32_t check(void) {
-    return illcanon_check(message.at, message.count, &answer, &refusal);
+static uint32_t make_check(void) {
+    return check(message.at, message.count, &answer, &refusal);
 }
 
-static uint32_t same(void) {
-    return illcanon_same(message.at, message.count, message.at, message.count, &answer, &refusal);
+static uint32_t make_same(void) {
+    return same(message.at, message.count, message.at, message.count, &answer, &refusal);
 }
 
-static uint32_t next(void) {
-    return illcanon_next(message.at, message.count, &size, &refusal);
+static uint32_t make_next(void) {
+    return next(message.at, message.count, &size, &refusal);
 }
 
-static uint32_t normalise_next(void) {
-    return illcanon_normalise_next(message.at, message.count, &taken, buffer, ROOM, &size, &refusal);
+static uint32_t make_normalise_next(void) {
+    return normalise_next(message.at, message.count, &taken, buffer, ROOM, &size, &refusal);
 }
 
 static void refuse_each(const char *name, uint32_t (*call)(void)) {
@@ -88,17 +89,18 @@ static void refuse_each(const char *name, uint32_t (*call)(void)) {
 
 int main(int count, char **words) {
     struct octets messages[64];
-    if (count != 2)
+    if (count != 3)
         return 2;
-    read_messages(words[1], messages, 64);
+    set_profile(words[1]);
+    read_messages(words[2], messages, 64);
     message = messages[0];
     buffer = fenced(ROOM);
-    refuse_each("illcanon_normalise", normalise);
-    refuse_each("illcanon_show", show);
-    refuse_each("illcanon_digest", digest);
-    refuse_each("illcanon_check", check);
-    refuse_each("illcanon_same", same);
-    refuse_each("illcanon_next", next);
-    refuse_each("illcanon_normalise_next", normalise_next);
+    refuse_each("normalise", make_normalise);
+    refuse_each("show", make_show);
+    refuse_each("digest", make_digest);
+    refuse_each("check", make_check);
+    refuse_each("same", make_same);
+    refuse_each("next", make_next);
+    refuse_each("normalise_next", make_normalise_next);
     return failures != 0;
 }

@@ -1,11 +1,12 @@
 #!/bin/sh
-# Tests the library for C, built by `make`: each call on every file of examples/, with the address sanitizer on the caller's side; a k-th
-# malloc that fails; eight threads at once; COUNT (100,000) inputs changed at random, against the program; the header as C89, C11 and C++;
-# which names the libraries have. Needs `cc`, and the program built: (cd crates/illcanon && rt run -- --version).
+# Tests the library for C, built by `make`: each call on every file of examples/, in profile 2 with and without a number for it, and on the
+# worked messages of the module profile, with the address sanitizer on the caller's side; a k-th malloc that fails; eight threads at once;
+# COUNT (100,000) inputs of each profile changed at random, against the program; the header as C89, C11 and C++; which names the libraries
+# have. Needs `cc`, and the program built: (cd crates/illcanon && rt run -- --version). PROGRAM is another program to compare with.
 top=$(cd "$(dirname "$0")/../../.." && pwd) || exit 2
 build=$top/bindings/c/build
 tests=$top/bindings/c/tests
-program=$top/crates/illcanon/out/illcanon
+program=${PROGRAM:-$top/crates/illcanon/out/illcanon}
 examples=$top/examples
 folder=$(mktemp -d) && cd "$folder" || exit 2
 trap 'rm -rf "$folder"' EXIT
@@ -30,7 +31,14 @@ build() {
 }
 
 names_are() {
-    [ "$("$@" | grep -v " A ILLCANON_" | sed 's/.* //; s/@@.*//' | sort | tr '\n' ' ')" = "illcanon_check illcanon_digest illcanon_next illcanon_normalise illcanon_normalise_next illcanon_same illcanon_show " ]
+    [ "$("$@" | grep -v " A ILLCANON_" | sed 's/.* //; s/@@.*//' | sort | tr '\n' ' ')" = "$(names)" ]
+}
+
+# The names of the calls, each with a space after it.
+names() {
+    for call in check digest next normalise normalise_next same show; do
+        printf 'illcanon_%s illcanon_%s_as ' $call $call
+    done
 }
 
 printf '#include "illcanon.h"\nint main(void) { return sizeof(struct illcanon_refusal) != 72; }\n' >header.c
@@ -43,26 +51,64 @@ try names-of-the-archive names_are nm -g --defined-only "$build/illcanon.o"
 try names-of-the-shared-object names_are nm -D --defined-only "$build/libillcanon.so"
 
 printf 741f301d800102a10aa1031b0147a2031b0151a20ca00a80083230323430323239 | xxd -r -p >expired.der
+awk -F'|' 'NF == 4' "$top/crates/test_messages/src/read/module_rows.rt" >rows
+awk -F'|' '$2 == "module" && sub("^normal ", "", $4) { print $3 }' rows | xxd -r -p >module.ber
+awk -F'|' '$2 == "module" && sub("^normal ", "", $4) { print $4 }' rows | xxd -r -p >module.der
+xxd -r -p >externals.der <<END
+6a6f306d800102a10aa1031b0147a2031b0151a20ca00a80083230323430323239b143281a06072a8648ce13050a02010507044d41524381065831323334352812a010
+300e0201051b03612262a002050031002811060b69ffffffffffffffffff7f820203f89f25083230323430323239
+END
+cat >externals.text <<'END'
+message 1 Returned
+protocol-version-num = 2
+transaction-id.transaction-group-qualifier = general "G"
+transaction-id.transaction-qualifier = general "Q"
+service-date-time.date-time-of-this-service.date = 20240229
+supplemental-item-description[0].direct-reference = 1.2.840.10003.5.10
+supplemental-item-description[0].indirect-reference = 5
+supplemental-item-description[0].data-value-descriptor = descriptor "MARC"
+supplemental-item-description[0].encoding.octet-aligned = octets "X12345"
+supplemental-item-description[1].encoding.single-asn1-type = foreign 30{02:05 1b:"a\"b" a0{05:""} 31{}}
+supplemental-item-description[2].direct-reference = oid 69ffffffffffffffffff7f
+supplemental-item-description[2].encoding.arbitrary = bits 5 f8
+date-returned = 20240229
+END
 try build-calls build calls -fsanitize=address,undefined -fno-sanitize-recover=all
-for file in "$examples"/*.ber; do
-    forms=${file%.ber}.der
-    [ -e "$forms" ] || forms=expired.der
-    try "calls $(basename "$file")" ./calls "$file" "$forms"
-    try "calls $(basename "$forms")" ./calls "$forms" "$forms"
-    ./calls show "$file" >shown
-    "$program" show "$file" >wanted
-    try "show $(basename "$file")" cmp shown wanted
+for profile in - 2; do
+    for file in "$examples"/*.ber; do
+        forms=${file%.ber}.der
+        [ -e "$forms" ] || forms=expired.der
+        try "calls $profile $(basename "$file")" ./calls $profile "$file" "$forms"
+        try "calls $profile $(basename "$forms")" ./calls $profile "$forms" "$forms"
+        ./calls $profile show "$file" >shown
+        "$program" show "$file" >wanted
+        try "show $profile $(basename "$file")" cmp shown wanted
+    done
+    try "rows $profile" ./calls $profile rows rows
 done
-./calls digest "$examples/expired-long-form.ber" >digest
-sha256sum <expired.der | sed 's/ .*//' >wanted
-try digest cmp digest wanted
+try "calls module" ./calls module module.ber module.der
+try "calls module expired" ./calls module "$examples/expired-long-form.ber" expired.der
+try "rows module" ./calls module rows rows
+./calls module show externals.der >shown
+try "show module" cmp shown externals.text
+for profile in - 2 module; do
+    ./calls $profile digest "$examples/expired-long-form.ber" >digest
+    sha256sum <expired.der | sed 's/ .*//' >wanted
+    try "digest $profile" cmp digest wanted
+done
+./calls module digest externals.der >digest
+sha256sum <externals.der | sed 's/ .*//' >wanted
+try "digest of externals" cmp digest wanted
 try build-no-memory build no_memory -Wl,--wrap=malloc,--wrap=realloc,--wrap=free
-try no-memory ./no_memory "$examples/every-part.ber"
-try no-memory-small ./no_memory "$examples/expired-long-form.ber"
+try no-memory ./no_memory - "$examples/every-part.ber"
+try no-memory-small ./no_memory - "$examples/expired-long-form.ber"
+try no-memory-module ./no_memory module externals.der
 try build-threads build threads -pthread
-try threads ./threads "$examples/every-part.ber"
+try threads ./threads - "$examples/every-part.ber"
+try threads-module ./threads module module.ber
 try build-mutants build mutants
-try mutants ./mutants "$program" "${COUNT:-100000}" "$examples"/*.ber
+try mutants ./mutants "$program" "${COUNT:-100000}" - "$examples"/*.ber
+try mutants-module ./mutants "$program" "${COUNT:-100000}" module module.ber externals.der
 try example sh -c '"$1" <"$2" >lines && [ "$(wc -l <lines)" -gt 0 ]' - "$build/example" "$examples/every-part.ber"
 echo "$passed passed, $failed failed"
 [ "$failed" = 0 ]

@@ -1,4 +1,4 @@
-/* What the tests share: files, messages of a file, and memory that can't be passed. */
+/* What the tests share: the calls in a profile, files, messages of a file, and memory that can't be passed. */
 #ifndef SUPPORT_H
 #define SUPPORT_H
 
@@ -28,6 +28,66 @@ struct octets {
     uint8_t *at;
     size_t count;
 };
+
+/* The profile whose messages are read; 0 for the calls that are given none. */
+static uint32_t profile = 0;
+
+/* The profile of this name; `-` for the calls that are given none. */
+static inline void set_profile(const char *name) {
+    if (strcmp(name, "-") == 0)
+        profile = 0;
+    else if (strcmp(name, "2") == 0)
+        profile = ILLCANON_PROFILE_2;
+    else if (strcmp(name, "module") == 0)
+        profile = ILLCANON_PROFILE_MODULE;
+    else
+        exit(2);
+}
+
+static inline uint32_t normalise(const uint8_t *octets, size_t count, uint8_t *buffer, size_t room, size_t *size,
+                                 struct illcanon_refusal *refusal) {
+    return profile != 0 ? illcanon_normalise_as(profile, octets, count, buffer, room, size, refusal)
+                        : illcanon_normalise(octets, count, buffer, room, size, refusal);
+}
+
+static inline uint32_t check(const uint8_t *octets, size_t count, uint32_t *normal, struct illcanon_refusal *refusal) {
+    return profile != 0 ? illcanon_check_as(profile, octets, count, normal, refusal) : illcanon_check(octets, count, normal, refusal);
+}
+
+static inline uint32_t same(const uint8_t *first, size_t first_count, const uint8_t *second, size_t second_count, uint32_t *answer,
+                            struct illcanon_refusal *refusal) {
+    return profile != 0 ? illcanon_same_as(profile, first, first_count, second, second_count, answer, refusal)
+                        : illcanon_same(first, first_count, second, second_count, answer, refusal);
+}
+
+static inline uint32_t show(const uint8_t *octets, size_t count, uint32_t number, uint8_t *buffer, size_t room, size_t *size,
+                            struct illcanon_refusal *refusal) {
+    return profile != 0 ? illcanon_show_as(profile, octets, count, number, buffer, room, size, refusal)
+                        : illcanon_show(octets, count, number, buffer, room, size, refusal);
+}
+
+static inline uint32_t digest(const uint8_t *octets, size_t count, uint8_t *buffer, size_t room, size_t *size,
+                              struct illcanon_refusal *refusal) {
+    return profile != 0 ? illcanon_digest_as(profile, octets, count, buffer, room, size, refusal)
+                        : illcanon_digest(octets, count, buffer, room, size, refusal);
+}
+
+static inline uint32_t next(const uint8_t *octets, size_t count, size_t *size, struct illcanon_refusal *refusal) {
+    return profile != 0 ? illcanon_next_as(profile, octets, count, size, refusal) : illcanon_next(octets, count, size, refusal);
+}
+
+static inline uint32_t normalise_next(const uint8_t *octets, size_t count, size_t *read, uint8_t *buffer, size_t room, size_t *size,
+                                      struct illcanon_refusal *refusal) {
+    return profile != 0 ? illcanon_normalise_next_as(profile, octets, count, read, buffer, room, size, refusal)
+                        : illcanon_normalise_next(octets, count, read, buffer, room, size, refusal);
+}
+
+/* The causes, by their numbers. */
+static const char *const CAUSES[] = {
+    "",        "Truncated", "BadTag",     "BadLength",  "TooLong",        "Overrun", "TooDeep", "UnexpectedTag", "LeftOut",
+    "WrongForm", "Missing", "BadEnd",     "BadBoolean", "BadInteger",     "IntegerTooLong", "BadText", "BadDate", "BadTime",
+    "TrailingBytes", "NormalTooLong", "BadNull", "BadOid", "BadBits"};
+#define CAUSES_SIZE (sizeof CAUSES / sizeof *CAUSES)
 
 /* Memory of this many octets, right after which the process may not go. Small blocks of it are never freed. */
 static inline uint8_t *fenced(size_t count) {
@@ -67,7 +127,7 @@ static inline size_t read_messages(const char *name, struct octets *messages, si
     size_t found = 0, at = 0, size;
     struct illcanon_refusal refusal;
     while (at < all.count && found < most) {
-        if (illcanon_next(all.at + at, all.count - at, &size, &refusal) != ILLCANON_DONE || size == 0 || size > all.count - at) {
+        if (next(all.at + at, all.count - at, &size, &refusal) != ILLCANON_DONE || size == 0 || size > all.count - at) {
             fprintf(stderr, "%s: no message at %lu\n", name, (unsigned long)at);
             exit(2);
         }

@@ -1,4 +1,5 @@
-/* Eight threads with 32 KB of stack make each call on the same messages at once, and each gets what one thread alone gets. */
+/* `threads PROFILE FILE`: eight threads with 32 KB of stack make each call on the same messages at once, and each gets what one thread alone
+ * gets. The calls are those in a profile or, where PROFILE is `-`, those that are given none. */
 #include "support.h"
 
 #include <pthread.h>
@@ -24,13 +25,13 @@ static void call_all(size_t i, struct results *results) {
     struct illcanon_refusal refusal;
     struct octets m = messages[i], other = messages[(i + 1) % count];
     memset(results, 0, sizeof *results);
-    results->statuses[0] = illcanon_normalise(m.at, m.count, results->form, ROOM, &results->form_size, &refusal);
-    results->statuses[1] = illcanon_show(m.at, m.count, 1, results->text, ROOM, &results->text_size, &refusal);
-    results->statuses[2] = illcanon_digest(m.at, m.count, results->digest, sizeof results->digest, &results->digest_size, &refusal);
-    results->statuses[3] = illcanon_check(m.at, m.count, &results->normal, &refusal);
-    results->statuses[4] = illcanon_same(m.at, m.count, other.at, other.count, &results->same, &refusal);
-    results->statuses[5] = illcanon_next(m.at, m.count, &results->size, &refusal);
-    results->statuses[6] = illcanon_normalise_next(m.at, m.count, &results->read, results->next_form, ROOM, &results->next_form_size, &refusal);
+    results->statuses[0] = normalise(m.at, m.count, results->form, ROOM, &results->form_size, &refusal);
+    results->statuses[1] = show(m.at, m.count, 1, results->text, ROOM, &results->text_size, &refusal);
+    results->statuses[2] = digest(m.at, m.count, results->digest, sizeof results->digest, &results->digest_size, &refusal);
+    results->statuses[3] = check(m.at, m.count, &results->normal, &refusal);
+    results->statuses[4] = same(m.at, m.count, other.at, other.count, &results->same, &refusal);
+    results->statuses[5] = next(m.at, m.count, &results->size, &refusal);
+    results->statuses[6] = normalise_next(m.at, m.count, &results->read, results->next_form, ROOM, &results->next_form_size, &refusal);
 }
 
 static void *run(void *start) {
@@ -49,9 +50,10 @@ static void *run(void *start) {
 int main(int words, char **names) {
     pthread_t threads[THREADS];
     pthread_attr_t attributes;
-    if (words != 2 || pthread_attr_init(&attributes) != 0 || pthread_attr_setstacksize(&attributes, STACK) != 0)
+    if (words != 3 || pthread_attr_init(&attributes) != 0 || pthread_attr_setstacksize(&attributes, STACK) != 0)
         return 2;
-    count = read_messages(names[1], messages, MESSAGES);
+    set_profile(names[1]);
+    count = read_messages(names[2], messages, MESSAGES);
     wanted = calloc(count, sizeof *wanted);
     for (size_t i = 0; i < count; i++) {
         call_all(i, &wanted[i]);
