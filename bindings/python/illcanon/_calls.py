@@ -3,16 +3,20 @@ from __future__ import annotations
 
 import ctypes
 import enum
-from typing import Callable, Iterator, Optional, Union
+from typing import Callable, Iterator, Literal, Optional, Union
 
 from ._library import Refusal, library
 
 Octets = Union[bytes, bytearray, memoryview]
+Profile = Literal["2", "module"]
+
+# The profiles by their names, with their numbers in C.
+PROFILES = {"2": 2, "module": 3}
 
 # The causes, by their numbers from 1.
 CAUSES = (
     "Truncated BadTag BadLength TooLong Overrun TooDeep UnexpectedTag LeftOut WrongForm Missing BadEnd BadBoolean BadInteger "
-    "IntegerTooLong BadText BadDate BadTime TrailingBytes NormalTooLong"
+    "IntegerTooLong BadText BadDate BadTime TrailingBytes NormalTooLong BadNull BadOid BadBits"
 ).split()
 
 
@@ -29,6 +33,7 @@ class Status(enum.IntEnum):
     NEEDS_MORE = 3
     NO_ROOM = 4
     OUT_OF_MEMORY = 5
+    UNKNOWN_PROFILE = 6
 
 
 class Refused(ValueError):
@@ -56,6 +61,13 @@ def _bytes(octets: Octets) -> bytes:
     return octets if isinstance(octets, bytes) else bytes(memoryview(octets))
 
 
+def _number_of(profile: Profile) -> int:
+    """The number of the profile of this name; another name is a ValueError."""
+    if profile not in PROFILES:
+        raise ValueError(f"profile {profile!r} is neither '2' nor 'module'")
+    return PROFILES[profile]
+
+
 def _refused(refusal: Refusal, message: int = 1) -> Refused:
     return Refused(refusal.at, CAUSES[refusal.cause - 1], refusal.part.decode("ascii") or None, message)
 
@@ -68,6 +80,8 @@ def _raise(status: int, refusal: Refusal, message: int = 1) -> None:
         raise _refused(refusal, 2)
     if status == Status.OUT_OF_MEMORY:
         raise MemoryError
+    if status == Status.UNKNOWN_PROFILE:
+        raise ValueError("profile")
 
 
 def _written(call: Callable[..., int], room: int) -> bytes:
@@ -82,96 +96,106 @@ def _written(call: Callable[..., int], room: int) -> bytes:
         room = size.value
 
 
-def normalise(octets: Octets) -> bytes:
-    """The normal form of the message that the octets are.
+def normalise(octets: Octets, *, profile: Profile = "2") -> bytes:
+    """The normal form of the message in the profile that the octets are.
 
     Raises `Refused` where they are not exactly one message.
     """
-    octets = _bytes(octets)
-    return _written(lambda *memory: library.illcanon_normalise(octets, len(octets), *memory), len(octets))
+    profile_number, octets = _number_of(profile), _bytes(octets)
+    return _written(lambda *memory: library.illcanon_normalise_as(profile_number, octets, len(octets), *memory), len(octets))
 
 
-def check(octets: Octets) -> bool:
-    """Whether the octets are the normal form of the message that they are.
+def check(octets: Octets, *, profile: Profile = "2") -> bool:
+    """Says whether the octets are the normal form of the message in the profile that they are.
 
     Raises `Refused` where they are not exactly one message.
     """
-    octets = _bytes(octets)
+    profile_number, octets = _number_of(profile), _bytes(octets)
     refusal, normal = Refusal(), ctypes.c_uint32()
-    _raise(library.illcanon_check(octets, len(octets), ctypes.byref(normal), ctypes.byref(refusal)), refusal)
+    _raise(library.illcanon_check_as(profile_number, octets, len(octets), ctypes.byref(normal), ctypes.byref(refusal)), refusal)
     return normal.value == 1
 
 
-def same(first: Octets, second: Octets) -> bool:
-    """Whether two messages are the same, however each is spelled.
+def same(first: Octets, second: Octets, *, profile: Profile = "2") -> bool:
+    """Says whether two messages in the profile are the same, however each is spelled.
 
     Raises `Refused` where one is not exactly one message: the first, or where that is one, the second. `message` is 1 or 2.
     """
-    first, second = _bytes(first), _bytes(second)
+    profile_number, first, second = _number_of(profile), _bytes(first), _bytes(second)
     refusal, answer = Refusal(), ctypes.c_uint32()
-    status = library.illcanon_same(first, len(first), second, len(second), ctypes.byref(answer), ctypes.byref(refusal))
-    _raise(status, refusal)
+    memory = ctypes.byref(answer), ctypes.byref(refusal)
+    _raise(library.illcanon_same_as(profile_number, first, len(first), second, len(second), *memory), refusal)
     return answer.value == 1
 
 
-def show(octets: Octets, number: int = 1) -> str:
-    """The message that the octets are as text, a line for each leaf, under a number from 0 to 4,294,967,295.
+def show(octets: Octets, number: int = 1, *, profile: Profile = "2") -> str:
+    """The message in the profile that the octets are as text, a line for each leaf, under a number from 0 to 4,294,967,295.
 
     Raises `Refused` where they are not exactly one message.
     """
-    octets = _bytes(octets)
+    profile_number, octets = _number_of(profile), _bytes(octets)
     if not 0 <= number < 2**32:
         raise ValueError("number")
-    return _written(lambda *memory: library.illcanon_show(octets, len(octets), number, *memory), 16 * len(octets)).decode("ascii")
+    room = 16 * len(octets)
+    text = _written(lambda *memory: library.illcanon_show_as(profile_number, octets, len(octets), number, *memory), room)
+    return text.decode("ascii")
 
 
-def digest(octets: Octets) -> bytes:
-    """SHA-256 of the normal form of the message that the octets are: the same for all spellings.
+def digest(octets: Octets, *, profile: Profile = "2") -> bytes:
+    """SHA-256 of the normal form of the message in the profile that the octets are: the same for all spellings.
 
     Raises `Refused` where they are not exactly one message.
     """
-    octets = _bytes(octets)
-    return _written(lambda *memory: library.illcanon_digest(octets, len(octets), *memory), 32)
+    profile_number, octets = _number_of(profile), _bytes(octets)
+    return _written(lambda *memory: library.illcanon_digest_as(profile_number, octets, len(octets), *memory), 32)
 
 
-def messages(octets: Octets) -> Iterator[bytes]:
-    """The messages that the octets are, one after another, each as it is spelled.
+def messages(octets: Octets, *, profile: Profile = "2") -> Iterator[bytes]:
+    """The messages in the profile that the octets are, one after another, each as it is spelled.
 
     Raises `Refused` at the first octets that begin with none, after the messages before them. `message` is its number.
     """
+    return _messages(_number_of(profile), octets)
+
+
+def _messages(profile: int, octets: Octets) -> Iterator[bytes]:
     octets = _bytes(octets)
     size = ctypes.c_size_t()
     at, number = 0, 1
     while at < len(octets):
-        _call_at(library.illcanon_next, octets, at, number, ctypes.byref(size))
+        _call_at(library.illcanon_next_as, profile, octets, at, number, ctypes.byref(size))
         yield octets[at : at + size.value]
         at, number = at + size.value, number + 1
 
 
-def normal_forms(octets: Octets) -> Iterator[bytes]:
-    """The normal forms of the messages that the octets are, one after another. Each message is read once.
+def normal_forms(octets: Octets, *, profile: Profile = "2") -> Iterator[bytes]:
+    """The normal forms of the messages in the profile that the octets are, one after another. Each message is read once.
 
     Raises `Refused` at the first octets that begin with none, after the normal forms of the messages before them. `message` is its
     number.
     """
+    return _normal_forms(_number_of(profile), octets)
+
+
+def _normal_forms(profile: int, octets: Octets) -> Iterator[bytes]:
     octets = _bytes(octets)
     read, size = ctypes.c_size_t(), ctypes.c_size_t()
     buffer = ctypes.create_string_buffer(max(min(len(octets), LIMIT), 1))
     at, number = 0, 1
     while at < len(octets):
         memory = ctypes.byref(read), buffer, len(buffer), ctypes.byref(size)
-        if _call_at(library.illcanon_normalise_next, octets, at, number, *memory) == Status.NO_ROOM:
+        if _call_at(library.illcanon_normalise_next_as, profile, octets, at, number, *memory) == Status.NO_ROOM:
             buffer = ctypes.create_string_buffer(size.value)
             continue
         yield ctypes.string_at(buffer, size.value)
         at, number = at + read.value, number + 1
 
 
-def _call_at(call: Callable[..., int], octets: bytes, at: int, number: int, *memory: object) -> int:
+def _call_at(call: Callable[..., int], profile: int, octets: bytes, at: int, number: int, *memory: object) -> int:
     """Makes a call on the octets from an offset on, where the message of this number begins. Returns DONE or NO_ROOM."""
     refusal = Refusal()
     start = (ctypes.cast(octets, ctypes.c_void_p).value or 0) + at
-    status = call(start, len(octets) - at, *memory, ctypes.byref(refusal))
+    status = call(profile, start, len(octets) - at, *memory, ctypes.byref(refusal))
     if status == Status.NEEDS_MORE:
         raise Refused(len(octets) - at, "Truncated", None, number)
     _raise(status, refusal, number)

@@ -14,17 +14,18 @@ class Refusal(ctypes.Structure):
 def _load() -> ctypes.CDLL:
     beside = os.path.join(os.path.dirname(os.path.abspath(__file__)), "libillcanon.so")
     found = ctypes.CDLL(os.environ.get("ILLCANON_LIBRARY") or beside)
-    octets = [ctypes.c_char_p, ctypes.c_size_t]
+    octets = [ctypes.c_uint32, ctypes.c_char_p, ctypes.c_size_t]
+    front = [ctypes.c_uint32, ctypes.c_void_p, ctypes.c_size_t, ctypes.POINTER(ctypes.c_size_t)]
     written = [ctypes.c_void_p, ctypes.c_size_t, ctypes.POINTER(ctypes.c_size_t), ctypes.POINTER(Refusal)]
     answer = [ctypes.POINTER(ctypes.c_uint32), ctypes.POINTER(Refusal)]
     types = {
-        "illcanon_normalise": [*octets, *written],
-        "illcanon_show": [*octets, ctypes.c_uint32, *written],
-        "illcanon_digest": [*octets, *written],
-        "illcanon_check": [*octets, *answer],
-        "illcanon_same": [*octets, *octets, *answer],
-        "illcanon_next": [ctypes.c_void_p, ctypes.c_size_t, ctypes.POINTER(ctypes.c_size_t), ctypes.POINTER(Refusal)],
-        "illcanon_normalise_next": [ctypes.c_void_p, ctypes.c_size_t, ctypes.POINTER(ctypes.c_size_t), *written],
+        "illcanon_normalise_as": [*octets, *written],
+        "illcanon_show_as": [*octets, ctypes.c_uint32, *written],
+        "illcanon_digest_as": [*octets, *written],
+        "illcanon_check_as": [*octets, *answer],
+        "illcanon_same_as": [*octets, ctypes.c_char_p, ctypes.c_size_t, *answer],
+        "illcanon_next_as": [*front, ctypes.POINTER(Refusal)],
+        "illcanon_normalise_next_as": [*front, *written],
     }
     for name, arguments in types.items():
         call = getattr(found, name)

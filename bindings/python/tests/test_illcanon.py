@@ -1,9 +1,13 @@
-"""The calls on the files of examples/, and on octets that are refused."""
+"""The calls on the files of examples/, on worked messages of the module profile, and on octets that are refused; and in both profiles on
+random messages, some changed, beside the encoder and the judge of tests/. COUNT (2,000) messages of each profile are made.
+"""
 import glob
 import hashlib
 import json
 import os
+import random
 import subprocess
+import sys
 import threading
 import unittest
 
@@ -12,6 +16,14 @@ from illcanon import Refused
 
 TOP = os.path.join(os.path.dirname(os.path.abspath(__file__)), "..", "..", "..")
 PROGRAM = os.path.join(TOP, "crates", "illcanon", "out", "illcanon")
+ROWS = os.path.join(TOP, "crates", "test_messages", "src", "read", "module_rows.rt")
+COUNT = int(os.environ.get("COUNT") or 2000)
+sys.path.insert(0, os.path.join(TOP, "tests"))
+from encoder import Speller, Writer
+from judge import Judge, Refused as Judged
+from refusals import misspelled
+from tables import ROOTS, random_value
+
 EXPIRED = bytes.fromhex("741f301d800102a10aa1031b0147a2031b0151a20ca00a80083230323430323239")
 REQUEST = bytes.fromhex("61343032800102a10aa1031b0147a2031b0151a20ca00a80083230323430323239a9030a0101ab0c800100810100820101830101b000")
 
@@ -133,6 +145,131 @@ class Refusals(unittest.TestCase):
         with self.assertRaises(ValueError) as caught:
             illcanon.normalise(bytes.fromhex("748030808001020000"))
         self.assertEqual(str(caught.exception), "refused at 7 in message 1: Missing Expired.transaction-id")
+
+
+# Three EXTERNAL values of a RETURNED: with an OBJECT IDENTIFIER and octets, with a foreign tree, and with bits.
+EXTERNALS = bytes.fromhex(
+    "6a6f306d800102a10aa1031b0147a2031b0151a20ca00a80083230323430323239b143281a06072a8648ce13050a02010507044d415243810658313233343528"
+    "12a010300e0201051b03612262a002050031002811060b69ffffffffffffffffff7f820203f89f25083230323430323239"
+)
+EXTERNALS_TEXT = """message 1 Returned
+protocol-version-num = 2
+transaction-id.transaction-group-qualifier = general "G"
+transaction-id.transaction-qualifier = general "Q"
+service-date-time.date-time-of-this-service.date = 20240229
+supplemental-item-description[0].direct-reference = 1.2.840.10003.5.10
+supplemental-item-description[0].indirect-reference = 5
+supplemental-item-description[0].data-value-descriptor = descriptor "MARC"
+supplemental-item-description[0].encoding.octet-aligned = octets "X12345"
+supplemental-item-description[1].encoding.single-asn1-type = foreign 30{02:05 1b:"a\\"b" a0{05:""} 31{}}
+supplemental-item-description[2].direct-reference = oid 69ffffffffffffffffff7f
+supplemental-item-description[2].encoding.arbitrary = bits 5 f8
+date-returned = 20240229
+"""
+SINGLE = (illcanon.normalise, illcanon.check, illcanon.show, illcanon.digest)
+
+
+def worked_rows():
+    """The name of each row, its profile, its octets, and its normal form or why it is refused."""
+    with open(ROWS, encoding="utf-8") as file:
+        for line in file:
+            if line.count("|") == 3:
+                name, profile, octets, outcome = line.split("|")
+                yield name, {"two": "2"}.get(profile, profile), bytes.fromhex(octets), outcome.strip()
+
+
+def fault_of(outcome):
+    cause, part, offset = outcome.split()
+    return int(offset), cause, None if part == "-" else part, 1
+
+
+class Profiles(unittest.TestCase):
+    def refused(self, call, *octets, profile):
+        with self.assertRaises(Refused) as caught:
+            call(*octets, profile=profile)
+        it = caught.exception
+        return it.offset, it.cause, it.part, it.message
+
+    def is_normal_form(self, octets, form, profile):
+        self.assertEqual(illcanon.normalise(octets, profile=profile), form)
+        self.assertEqual(illcanon.check(octets, profile=profile), octets == form)
+        self.assertTrue(illcanon.check(form, profile=profile))
+        self.assertTrue(illcanon.same(octets, form, profile=profile))
+        self.assertEqual(illcanon.digest(octets, profile=profile), hashlib.sha256(form).digest())
+        self.assertEqual(illcanon.show(octets, profile=profile), illcanon.show(form, profile=profile))
+        self.assertEqual(list(illcanon.messages(octets + form, profile=profile)), [octets, form])
+        self.assertEqual(list(illcanon.normal_forms(octets + form, profile=profile)), [form, form])
+
+    def is_refused(self, octets, fault, profile):
+        for call in SINGLE:
+            self.assertEqual(self.refused(call, octets, profile=profile), fault)
+        self.assertEqual(self.refused(illcanon.same, octets, octets, profile=profile), fault)
+        self.assertEqual(self.refused(illcanon.same, EXPIRED, octets, profile=profile), (*fault[:3], 2))
+        if octets and fault[1] != "TrailingBytes":
+            for call in (illcanon.messages, illcanon.normal_forms):
+                self.assertEqual(self.refused(lambda *found, profile: list(call(*found, profile=profile)), octets, profile=profile), fault)
+
+    def test_worked_rows(self):
+        counts = {"2": 0, "module": 0}
+        for name, profile, octets, outcome in worked_rows():
+            with self.subTest(name):
+                if outcome.startswith("normal "):
+                    self.is_normal_form(octets, bytes.fromhex(outcome[7:]), profile)
+                else:
+                    self.is_refused(octets, fault_of(outcome), profile)
+            counts[profile] += 1
+        self.assertEqual(counts, {"2": 14, "module": 126})
+
+    def test_profile_2_is_read_where_none_is_named(self):
+        for name, forms in FILES:
+            octets = octets_of(name)
+            self.assertEqual(list(illcanon.messages(octets)), list(illcanon.messages(octets, profile="2")))
+            self.assertEqual(b"".join(illcanon.normal_forms(octets, profile="2")), forms)
+        for call in SINGLE:
+            self.assertEqual(call(EXPIRED), call(EXPIRED, profile="2"))
+            self.assertRaises(Refused, call, EXTERNALS)
+        self.assertTrue(illcanon.same(EXPIRED, EXPIRED, profile="2"))
+
+    def test_externals_are_shown(self):
+        self.assertEqual(illcanon.show(EXTERNALS, profile="module"), EXTERNALS_TEXT)
+        self.assertEqual(illcanon.show(EXTERNALS, 7, profile="module"), EXTERNALS_TEXT.replace("1", "7", 1))
+
+    def test_another_profile_is_an_error(self):
+        for profile in ("", "3", "1", "Module", "two", 2, 3, None):
+            for call in (*SINGLE, illcanon.messages, illcanon.normal_forms):
+                self.assertRaises(ValueError, call, EXPIRED, profile=profile)
+            self.assertRaises(ValueError, illcanon.same, EXPIRED, EXPIRED, profile=profile)
+        for call in (illcanon.normalise, illcanon.check, illcanon.digest, illcanon.messages, illcanon.normal_forms):
+            self.assertRaises(TypeError, call, EXPIRED, "module")
+
+    def test_random_messages_have_their_normal_forms(self):
+        for profile, root in ROOTS.items():
+            chance = random.Random(7)
+            for _ in range(COUNT):
+                apdu = random_value(chance, root)
+                octets, form = Speller(chance).value(root, apdu, None), Writer().value(root, apdu, None)
+                self.assertEqual(illcanon.normalise(octets, profile=profile), form, octets.hex())
+
+    def test_changed_messages_are_judged(self):
+        for profile, root in ROOTS.items():
+            chance = random.Random(8)
+            for _ in range(COUNT):
+                octets = misspelled(chance, root, profile)
+                wanted, found = [], []
+                try:
+                    rest = octets
+                    while rest:
+                        apdu, size = Judge(rest, profile).message()
+                        wanted.append(Writer().value(root, apdu, None))
+                        rest = rest[size:]
+                except Judged as fault:
+                    wanted.append((fault.at, fault.cause, fault.part_name() or None, len(wanted) + 1))
+                try:
+                    for form in illcanon.normal_forms(octets, profile=profile):
+                        found.append(form)
+                except Refused as fault:
+                    found.append((fault.offset, fault.cause, fault.part, fault.message))
+                self.assertEqual(found, wanted, octets.hex())
 
 
 def octets_in(vector, name="octets", runs="runs"):
