@@ -1,8 +1,9 @@
 -- What was found is one command, with one list of rows; so are its files, its flags and whether they are the same word.
 use Rattle.std.proofs.Common.{◌≡◌, ℕ, IfOk, List, [], ◌∷◌, Option, Some, None, Result, Ok, Err, IfErr, unwrap_or, option_map, codes, length, slice_index, slice_index_or, ◌≢◌, arith, refl, sym, ap, ap₂, subst, ◌∙◌}
 use Rattle.clap.specs.Walk.{Row, Text, first_of}
-use Rattle.ill_orders.specs.Orders.{files_in, is_set, HasFiles, HasSameWord, IsOrderOf, verb, verb_name}
+use Rattle.ill_orders.specs.Orders.{files_in, is_set, profile_name, HasFiles, HasSameWord, IsOrderOf, NamesProfile, verb, verb_name}
 use Rattle.ill_orders.specs.Refused.{IsFaultOf}
+use Rattle.ill_schema.specs.declared.profile.Profile.{Profile}
 use Rattle.ill_orders.specs.declared.fault.LineFault.{LineFault}
 use Rattle.ill_orders.specs.declared.orders.EachJob.{EachJob}
 use Rattle.ill_orders.specs.declared.orders.Order.{Order}
@@ -47,6 +48,17 @@ verb_is Verb.Canonicalise Verb.Digest e = absurd (let q : 12 ≡ 6 = ap length e
 verb_is Verb.Canonicalise Verb.Dump e = absurd (let q : 12 ≡ 4 = ap length e in omega (arith, q))
 verb_is Verb.Canonicalise Verb.Same e = absurd (let q : 12 ≡ 4 = ap length e in omega (arith, q))
 verb_is Verb.Canonicalise Verb.Canonicalise e = refl
+
+profile_is : (p q : Profile) → profile_name p ≡ profile_name q → p ≡ q
+profile_is Profile.Two Profile.Two e = refl
+profile_is Profile.Two Profile.Module e = absurd (let q : 1 ≡ 6 = ap length e in omega (arith, q))
+profile_is Profile.Module Profile.Two e = absurd (let q : 6 ≡ 1 = ap length e in omega (arith, q))
+profile_is Profile.Module Profile.Module e = refl
+
+-- rows name one profile
+pub one_profile : (rows more : List Row) (p q : Profile) → rows ≡ more → NamesProfile rows p → NamesProfile more q → p ≡ q
+one_profile rows more p q e h k =
+    profile_is p q (ap (λ (o : Option Text). unwrap_or o []) (sym h ∙ ap (first_of (codes "profile")) e ∙ k))
 
 abbrev Named : Type 0
 Named = List Text × (Option Text × Option Text)
@@ -99,6 +111,7 @@ pub same_flags : (found : Option (Text × List Row)) (one other : Order) → IsO
 same_flags found one other h k =
     let rows = (one_found found (verb_name (verb one.task)) (verb_name (verb other.task)) h.rows k.rows h.command k.command).1 in
     let flag = λ (name : Text). ap (is_set name) rows in (
+      one_profile h.rows k.rows one.profile other.profile rows h.profile k.profile,
       h.hex ∙ flag (codes "hex") ∙ sym k.hex,
       h.lines ∙ flag (codes "lines") ∙ sym k.lines,
       h.going ∙ flag (codes "keep-going") ∙ sym k.going,

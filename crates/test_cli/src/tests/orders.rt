@@ -1,7 +1,9 @@
 //! What words ask for.
 mod contracts;
 
+use clap::error::ErrorKind;
 use ill_orders::{LineFault, Order, Task, order};
+use ill_schema::Profile;
 use std::alloc::{AllocError, Global};
 use std::test::Fail;
 
@@ -33,6 +35,17 @@ static ROWS: [(&str, Flags); 9] = [
     ),
 ];
 
+/// Each command, and words for its files.
+static COMMANDS: [(&str, &str); 7] = [
+    ("show", "A"),
+    ("check", "A"),
+    ("digest", "A"),
+    ("dump", "A"),
+    ("same", "A B"),
+    ("canonicalise", "A B"),
+    ("canonicalise", "-o B A"),
+];
+
 /// The program's name, and words that are parted by blanks.
 fn words_of(alloc: Global, text: &str) -> Result<Vec<String>, AllocError> {
     let mut words = Vec::new(alloc);
@@ -61,6 +74,81 @@ fn are_set(alloc: Global, words: &str, flags: Flags) -> Result<bool, AllocError>
         Ok(order) => Ok(flags_of(&order) == flags),
         Err(_fault) => Ok(false),
     }
+}
+
+/// The profile of the order that words give, if they give one.
+fn profile_of(alloc: Global, words: &str) -> Result<Option<Profile>, AllocError> {
+    let words = words_of(alloc, words)?;
+    match order(alloc, &words) {
+        Ok(order) => Ok(Some(order.profile)),
+        Err(_fault) => Ok(None),
+    }
+}
+
+/// The kind of the mistake that clap reports of words, if it reports one.
+fn mistake_of(alloc: Global, words: &str) -> Result<Option<ErrorKind>, AllocError> {
+    let words = words_of(alloc, words)?;
+    match order(alloc, &words) {
+        Err(LineFault::Line(error)) => Ok(Some(error.kind())),
+        _ => Ok(None),
+    }
+}
+
+#[test]
+fn each_command_reads_each_profile(rt: HostRuntime) -> Result<(), Fail> {
+    let options = [
+        ("", Profile::Two),
+        ("--profile 2 ", Profile::Two),
+        ("--profile=2 ", Profile::Two),
+        ("--profile module ", Profile::Module),
+        ("--profile=module ", Profile::Module),
+    ];
+    for (command, files) in &COMMANDS {
+        for (option, profile) in &options {
+            let words = format!(in rt.alloc(); "{command} {option}{files}")?;
+            assert!(rt;
+                profile_of(rt.alloc(), &words)? == Some(*profile),
+                "{words}"
+            );
+        }
+    }
+    Ok(())
+}
+
+#[test]
+fn no_other_profile_is_read(rt: HostRuntime) -> Result<(), Fail> {
+    let options = [
+        ("--profile 3", ErrorKind::InvalidValue),
+        ("--profile Module", ErrorKind::InvalidValue),
+        ("--profile=", ErrorKind::InvalidValue),
+        ("--profile", ErrorKind::InvalidValue),
+        ("--profile --hex", ErrorKind::InvalidValue),
+        ("--profile 2 --profile 2", ErrorKind::ArgumentConflict),
+        ("--profile=2 --profile module", ErrorKind::ArgumentConflict),
+    ];
+    for (command, files) in &COMMANDS {
+        for (option, mistake) in &options {
+            let words = format!(in rt.alloc(); "{command} {files} {option}")?;
+            assert!(rt;
+                mistake_of(rt.alloc(), &words)? == Some(*mistake),
+                "{words}"
+            );
+        }
+    }
+    Ok(())
+}
+
+#[test]
+fn each_flag_goes_with_a_profile(rt: HostRuntime) -> Result<(), Fail> {
+    for (words, flags) in &ROWS {
+        let words = format!(in rt.alloc(); "{words} --profile module")?;
+        assert!(rt; are_set(rt.alloc(), &words, *flags)?, "{words}");
+        assert!(rt;
+            profile_of(rt.alloc(), &words)? == Some(Profile::Module),
+            "{words}"
+        );
+    }
+    Ok(())
 }
 
 #[test]

@@ -1,6 +1,10 @@
 //! Contracts that leave one result: what the calls return is proved of their contracts alone. So a body that returns anything else
 //! doesn't meet its contract.
-ghost use Rattle.std.specs.Prelude.{◌≡◌, Ok, Err};
+ghost use Rattle.std.specs.Prelude.{◌≡◌, ◌∷◌, [], codes, map, IfOk, Ok, Err};
+ghost use Rattle.std.specs.String.{string_bytes};
+ghost use Rattle.clap.specs.declared.error.kind.ErrorKind.TheVariants.{ArgumentConflict, InvalidValue};
+ghost use Rattle.ill_orders.specs.Refused.{IsRefusedBy};
+ghost use Rattle.ill_schema.specs.declared.profile.Profile.TheVariants.{Two, Module};
 ghost use Rattle.ill_orders.specs.declared.fault.LineFault.TheVariants.{SameWord};
 ghost use Rattle.ill_orders.specs.declared.orders.Order.{Order};
 ghost use Rattle.test_cli.specs.Tasks.{HasSameFlags, IsSameTask};
@@ -8,7 +12,7 @@ ghost use Rattle.test_cli.specs.Tasks.{HasSameFlags, IsSameTask};
 use ill_orders::{LineFault, Order, Task, order};
 use std::alloc::Global;
 
-/// Words that give an order give one command on the same files, and one value of each flag.
+/// Words that give an order give one command on the same files, one profile, and one value of each flag.
 fn words_give_one_order<'a>(
     words: &'a [String],
     alloc: Global,
@@ -27,6 +31,41 @@ fn words_have_no_same_word<'a>(
     ensures { (one : Order) → result.0 ≡ Ok one → result.1 ≡ Err SameWord → ⊥ }
 {
     (order(alloc, words), order(alloc, words))
+}
+
+/// Words that name no profile are read in profile 2.
+fn profile_two_needs_no_name<'a>(words: &'a [String], alloc: Global) -> Result<Order<'a>, LineFault>
+    requires { map string_bytes words.now ≡ codes "illcanon" ∷ codes "check" ∷ codes "A" ∷ [] }
+    ensures { IfOk result (λ order. order.profile ≡ Two) }
+{
+    order(alloc, words)
+}
+
+/// Words that name the module profile are read in it.
+fn the_module_profile_is_named<'a>(
+    words: &'a [String],
+    alloc: Global,
+) -> Result<Order<'a>, LineFault>
+    requires { map string_bytes words.now ≡ codes "illcanon" ∷ codes "same" ∷ codes "--profile" ∷ codes "module" ∷ codes "A" ∷ codes "B" ∷ [] }
+    ensures { IfOk result (λ order. order.profile ≡ Module) }
+{
+    order(alloc, words)
+}
+
+/// Words that name another profile give no order.
+fn no_other_profile_is_named<'a>(words: &'a [String], alloc: Global) -> Result<Order<'a>, LineFault>
+    requires { map string_bytes words.now ≡ codes "illcanon" ∷ codes "dump" ∷ codes "--profile=3" ∷ codes "A" ∷ [] }
+    ensures { IsRefusedBy (InvalidValue ∷ []) result }
+{
+    order(alloc, words)
+}
+
+/// Words that name a profile twice give no order.
+fn a_profile_is_named_once<'a>(words: &'a [String], alloc: Global) -> Result<Order<'a>, LineFault>
+    requires { map string_bytes words.now ≡ codes "illcanon" ∷ codes "show" ∷ codes "--profile=2" ∷ codes "--profile=2" ∷ codes "A" ∷ [] }
+    ensures { IsRefusedBy (ArgumentConflict ∷ []) result }
+{
+    order(alloc, words)
 }
 
 /// No order reads standard input twice or writes a file that it reads by the same word, and each has a file.
