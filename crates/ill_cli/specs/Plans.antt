@@ -3,6 +3,7 @@ use Rattle.std.specs.Prelude.{ℕ, Bool, List, if◌then◌else◌, nat_lt}
 use Rattle.std.specs.Borrow.{Bor}
 use Rattle.ill_jobs.specs.declared.job.Job.{Job}
 use Rattle.ill_jobs.specs.declared.job.Work.{Work}
+use Rattle.ill_lines.specs.Lines.{line_work}
 use Rattle.ill_lines.specs.declared.job.LineJob.{LineJob}
 use Rattle.ill_orders.specs.declared.orders.EachJob.{EachJob}
 use Rattle.ill_orders.specs.declared.orders.Order.{Order}
@@ -12,9 +13,9 @@ use Rattle.ill_cli.specs.declared.plan.InputTask.{InputTask}
 use Rattle.ill_cli.specs.declared.plan.Plan.{Plan}
 use Rattle.ill_cli.specs.declared.plan.Reading.{Reading}
 
--- `--hex`, `--keep-going` and `--summary` say how messages are read
+-- `--profile`, `--hex`, `--keep-going` and `--summary` say how messages are read
 abbrev pub reading_of : Order → Reading
-reading_of order = record { hex = order.hex; keep_going = order.keep_going; compares = order.summary }
+reading_of order = record { profile = order.profile; hex = order.hex; keep_going = order.keep_going; compares = order.summary }
 
 -- what `show` writes of a message, with `--json` and without
 abbrev pub shown_as : Bool → Job
@@ -22,14 +23,14 @@ shown_as json = if json then Job.Json else Job.Show
 
 -- with `--lines` a result for each line, and else a job with each message
 abbrev pub by_line : Bool → LineJob → Job → Reading → Action
-by_line lines line message reading = if lines then Action.Lines line else Action.Messages message reading
+by_line lines line message reading = if lines then Action.Lines (line_work reading.profile line) else Action.Messages message reading
 
 -- what a command does with each of its inputs, with `--lines` and `--json` or without
 abbrev pub action_of : EachJob → Bool → Bool → Reading → Action
 action_of EachJob.Show lines json reading = Action.Messages (shown_as json) reading
 action_of EachJob.Check lines json reading = by_line lines LineJob.Check Job.Check reading
 action_of EachJob.Digest lines json reading = by_line lines LineJob.Digest Job.Digest reading
-action_of EachJob.Dump lines json reading = Action.Elements reading.hex
+action_of EachJob.Dump lines json reading = Action.Elements reading
 
 -- what `canonicalise` does with each of its inputs
 abbrev pub canonical : Order → Action
@@ -41,16 +42,24 @@ plan_of order = elim order.task as (λ _. Plan) [
   | Task.Each job inputs ↦ Plan.Print (action_of job order.lines order.json (reading_of order)) inputs
   | Task.Canonicalise input output ↦ Plan.Write (canonical order) input output order.whole
   | Task.Collect inputs output ↦ Plan.Collect (canonical order) inputs output order.whole
-  | Task.Compare first second ↦ Plan.Compare order.hex first second
+  | Task.Compare first second ↦ Plan.Compare (reading_of order) first second
 ]
 
 -- the work of a job on the input of this name, which its lines have where it is one of several
 abbrev pub work_of : Job → Reading → Bor (List ℕ) → ℕ → Work
-work_of job reading name count = record { job = job; hex = reading.hex; name = name; is_named = nat_lt 1 count; compares = reading.compares }
+work_of job reading name count = record {
+  job = job;
+  profile = reading.profile;
+  hex = reading.hex;
+  name = name;
+  is_named = nat_lt 1 count;
+  compares = reading.compares;
+}
 
 -- what is done with the input of this name, one of this many
 abbrev pub task_of : Action → Bor (List ℕ) → ℕ → InputTask
 task_of (Action.Messages job reading) name count =
     if reading.keep_going then InputTask.GoodMessages (work_of job reading name count) else InputTask.Messages (work_of job reading name count)
-task_of (Action.Elements hex) name count = InputTask.Elements (record { hex = hex; name = name; is_named = nat_lt 1 count })
-task_of (Action.Lines job) name count = InputTask.Lines job
+task_of (Action.Elements reading) name count =
+    InputTask.Elements (record { profile = reading.profile; hex = reading.hex; name = name; is_named = nat_lt 1 count })
+task_of (Action.Lines work) name count = InputTask.Lines work

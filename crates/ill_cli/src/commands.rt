@@ -2,12 +2,12 @@
 use crate::collect::collect;
 use crate::each::print_each;
 use crate::input::write_input;
-use crate::plan::{InputTask, Plan};
+use crate::plan::{InputTask, Plan, Reading};
 use crate::tally::{Tally, end};
 use crate::words::{printable_fault, words_of};
 use ber_core::ToWrite;
 use ill_files::{Fault, Host, Progress, open_alone, print_fault, status_of};
-use ill_jobs::{RunFault, Verdict, run_same};
+use ill_jobs::{RunFault, Verdict, run_same_as};
 use ill_orders::{Order, order};
 use std::io::{self, BufWriter, Write};
 use std::rt::{Env, Files};
@@ -83,14 +83,18 @@ fn run_plan<R: Print + Eprint + Input + Files + AllocGlobal + Host>(
             output,
             whole,
         } => collect(rt, action, &inputs, output, whole, tally),
-        Plan::Compare { hex, first, second } => end(rt, &compare(rt, hex, first, second)),
+        Plan::Compare {
+            reading,
+            first,
+            second,
+        } => end(rt, &compare(rt, reading, first, second)),
     }
 }
 
 /// Compares two inputs. Both are opened before either is read.
 fn compare<R: Print + Input + Files + AllocGlobal>(
     rt: &R,
-    hex: bool,
+    reading: Reading,
     first: &str,
     second: &str,
 ) -> Result<Verdict, Fault> {
@@ -99,7 +103,8 @@ fn compare<R: Print + Input + Files + AllocGlobal>(
     let mut second = open_alone(rt, second)?;
     let mut writer = BufWriter::new(alloc, io::writer(rt)).map_err(|_| Fault::out_of_memory())?;
     let mut sink = ToWrite::new(&mut writer);
-    let done = run_same(alloc, hex, &mut first, &mut second, &mut sink);
+    let Reading { profile, hex, .. } = reading;
+    let done = run_same_as(alloc, profile, hex, &mut first, &mut second, &mut sink);
     flushed(done, &mut writer)
 }
 

@@ -20,7 +20,7 @@ use ill_files::{
     open_and_identify, open_output, open_standard_output,
 };
 use ill_jobs::{Job, RunFault, Verdict, Work, run_by, run_on_by, verdict_of};
-use ill_lines::{LineJob, LinesFault, run_lines};
+use ill_lines::{LineWork, LinesFault, run_lines_as};
 use std::alloc::Global;
 use std::io::{Read, Write};
 use std::rt::Files;
@@ -100,7 +100,7 @@ where
         InputTask::Messages(work) => put_messages(rt.alloc(), work, source, &mut sink, tally),
         InputTask::GoodMessages(work) => put_good_messages(rt, work, source, &mut sink, tally),
         InputTask::Elements(dump) => put_elements(rt.alloc(), dump, source, &mut sink),
-        InputTask::Lines(job) => put_lines(rt.alloc(), job, source, &mut sink),
+        InputTask::Lines(work) => put_lines(rt.alloc(), work, source, &mut sink),
     }
 }
 
@@ -178,15 +178,15 @@ fn put_elements<S: Ahead, W: Sink>(
 /// Writes the result of each line.
 fn put_lines<S: Ahead, W: Sink>(
     alloc: Global,
-    job: LineJob,
+    work: LineWork,
     source: &mut S,
     sink: &mut W,
 ) -> Result<Verdict, Fault>
     ensures { IfOk result (λ verdict. (good : Bool) × (verdict ≡ verdict_if good)
-        × LinesDone job (S.left source.old) (S.left source.new)
+        × LinesDone work (S.left source.old) (S.left source.new)
         (W.contents sink.old) (W.contents sink.new) good) }
 {
-    match run_lines(alloc, job, source, sink) {
+    match run_lines_as(alloc, work.profile, work.job, source, sink) {
         Ok(true) => Ok(Verdict::Good),
         Ok(false) => Ok(Verdict::NotGood),
         Err(LinesFault::OutOfMemory) => Err(Fault::out_of_memory()),

@@ -4,12 +4,15 @@ ghost use Rattle.ill_cli.specs.Plans.{action_of, by_line, plan_of, task_of};
 
 use ill_dump::Dump;
 use ill_jobs::{Job, Work};
-use ill_lines::LineJob;
+use ill_lines::{LineJob, LineWork};
 use ill_orders::{EachJob, Inputs, Order, Task};
+use ill_schema::Profile;
 
 /// How the messages of inputs are read.
 #[derive(Clone, Copy, Debug, PartialEq, Eq)]
 pub struct Reading {
+    /// The profile that messages are read in.
+    pub profile: Profile,
     /// Whether inputs are hexadecimal text.
     pub hex: bool,
     /// Whether a message that is refused is reported, and the next one read.
@@ -24,12 +27,9 @@ pub enum Action {
     /// A job with one message after another.
     Messages(Job, Reading),
     /// The elements of one message after another, as they are spelled.
-    Elements {
-        /// Whether the input is hexadecimal text.
-        hex: bool,
-    },
+    Elements(Reading),
     /// A result for each line.
-    Lines(LineJob),
+    Lines(LineWork),
 }
 
 /// What an order does with its files. The word `-` is standard input, or standard output for an output.
@@ -58,8 +58,8 @@ pub enum Plan<'a> {
     },
     /// Whether two inputs hold the same message is printed.
     Compare {
-        /// Whether both are hexadecimal text.
-        hex: bool,
+        /// How both are read.
+        reading: Reading,
         first: &'a str,
         second: &'a str,
     },
@@ -76,6 +76,7 @@ impl<'a> Plan<'a> {
         ensures { result ≡ plan_of order.entry }
     {
         let Order {
+            profile,
             hex,
             lines,
             keep_going,
@@ -85,6 +86,7 @@ impl<'a> Plan<'a> {
             task,
         } = order;
         let reading = Reading {
+            profile,
             hex,
             keep_going,
             compares: summary,
@@ -107,7 +109,11 @@ impl<'a> Plan<'a> {
                 output,
                 whole,
             },
-            Task::Compare { first, second } => Plan::Compare { hex, first, second },
+            Task::Compare { first, second } => Plan::Compare {
+                reading,
+                first,
+                second,
+            },
         }
     }
 }
@@ -121,7 +127,7 @@ fn action_of(job: EachJob, lines: bool, json: bool, reading: Reading) -> Action
         EachJob::Show => Action::Messages(Job::Show, reading),
         EachJob::Check => by_line(lines, LineJob::Check, Job::Check, reading),
         EachJob::Digest => by_line(lines, LineJob::Digest, Job::Digest, reading),
-        EachJob::Dump => Action::Elements { hex: reading.hex },
+        EachJob::Dump => Action::Elements(reading),
     }
 }
 
@@ -130,7 +136,10 @@ fn by_line(lines: bool, line: LineJob, message: Job, reading: Reading) -> Action
     ensures { result ≡ by_line lines line message reading }
 {
     if lines {
-        Action::Lines(line)
+        Action::Lines(LineWork {
+            profile: reading.profile,
+            job: line,
+        })
     } else {
         Action::Messages(message, reading)
     }
@@ -146,7 +155,7 @@ pub enum InputTask<'a> {
     /// The elements of one message after another.
     Elements(Dump<'a>),
     /// A result for each line.
-    Lines(LineJob),
+    Lines(LineWork),
 }
 
 impl<'a> InputTask<'a> {
@@ -163,6 +172,7 @@ impl<'a> InputTask<'a> {
             Action::Messages(job, reading) => {
                 let work = Work {
                     job,
+                    profile: reading.profile,
                     hex: reading.hex,
                     name,
                     is_named,
@@ -174,12 +184,13 @@ impl<'a> InputTask<'a> {
                     InputTask::Messages(work)
                 }
             }
-            Action::Elements { hex } => InputTask::Elements(Dump {
-                hex,
+            Action::Elements(reading) => InputTask::Elements(Dump {
+                profile: reading.profile,
+                hex: reading.hex,
                 name,
                 is_named,
             }),
-            Action::Lines(job) => InputTask::Lines(job),
+            Action::Lines(work) => InputTask::Lines(work),
         }
     }
 }

@@ -32,6 +32,7 @@ pub fn label_of(found: Found, id: Id, round: NodeId, items: usize) -> Label {
             None => Label::Row(part),
         },
         Slot::Item => Label::Item(part, items),
+        Slot::Inner if found.node() == NodeId::External => Label::Type("EXTERNAL"),
         Slot::Inner => match found.alternative() {
             Some(_) => Label::Row(part),
             None => Label::Type(type_name(found.what())),
@@ -85,7 +86,8 @@ impl Label {
                 lines.text(row_name(part))
             }
             Label::Item(part, index) => {
-                lines.text(row_name(part))?;
+                let name = row_name(part);
+                lines.text(if name.is_empty() { "item" } else { name })?;
                 lines.text("[")?;
                 lines.count(index)?;
                 lines.text("]")

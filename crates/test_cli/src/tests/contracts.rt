@@ -4,7 +4,7 @@ use ber_core::{Pieces, Source};
 use ill_cli::{Action, InputTask, Plan, Reading};
 use ill_files::{Fault, Opened, is_output_lost, keeps_output, status_of};
 use ill_jobs::{Job, Verdict};
-use ill_lines::LineJob;
+use ill_lines::{LineJob, LineWork};
 use ill_orders::{EachJob, Inputs, Order, Task};
 
 /// The end has one status, which is 0 only where all is well.
@@ -33,14 +33,19 @@ fn canonicalise_makes_normal_forms(order: Order<'_>, input: &str, output: &str) 
     let lines = order.lines;
     let asked = order.whole;
     let reading = Reading {
+        profile: order.profile,
         hex: order.hex,
         keep_going: order.keep_going,
         compares: order.summary,
     };
+    let results = LineWork {
+        profile: order.profile,
+        job: LineJob::Canonicalise,
+    };
     let task = Task::Canonicalise { input, output };
     match Plan::new(Order { task, ..order }) {
         Plan::Write { action, whole, .. } if lines => {
-            prove!(action == Action::Lines(LineJob::Canonicalise));
+            prove!(action == Action::Lines(results));
             prove!(whole == asked);
         }
         Plan::Write { action, whole, .. } => {
@@ -55,27 +60,36 @@ fn canonicalise_makes_normal_forms(order: Order<'_>, input: &str, output: &str) 
 fn check_checks(order: Order<'_>, inputs: Inputs<'_>) {
     let lines = order.lines;
     let reading = Reading {
+        profile: order.profile,
         hex: order.hex,
         keep_going: order.keep_going,
         compares: order.summary,
+    };
+    let results = LineWork {
+        profile: order.profile,
+        job: LineJob::Check,
     };
     let task = Task::Each {
         job: EachJob::Check,
         inputs,
     };
     match Plan::new(Order { task, ..order }) {
-        Plan::Print { action, .. } if lines => prove!(action == Action::Lines(LineJob::Check)),
+        Plan::Print { action, .. } if lines => {
+            prove!(action == Action::Lines(results));
+        }
         Plan::Print { action, .. } => prove!(action == Action::Messages(Job::Check, reading)),
         _ => unreachable!(),
     }
 }
 
-/// `same` reads hexadecimal text exactly where that is asked for.
+/// `same` reads messages of the profile that is asked for, and hexadecimal text exactly where that is.
 fn same_reads_what_it_is_asked_to(order: Order<'_>, first: &str, second: &str) {
-    let asked = order.hex;
+    let (profile, hex) = (order.profile, order.hex);
     let task = Task::Compare { first, second };
     match Plan::new(Order { task, ..order }) {
-        Plan::Compare { hex, .. } => prove!(hex == asked),
+        Plan::Compare { reading, .. } => {
+            prove!(reading.profile == profile && reading.hex == hex);
+        }
         _ => unreachable!(),
     }
 }
@@ -88,6 +102,7 @@ fn inputs_are_named_where_there_are_several(job: Job, reading: Reading, name: &s
             prove!(work.is_named == (count > 1));
             prove!(work.name == name);
             prove!(work.hex == reading.hex && work.job == job);
+            prove!(work.profile == reading.profile);
         }
         _ => unreachable!(),
     }
