@@ -3,8 +3,8 @@
 
 The valid test vectors of vectors/ have their values, alone, one after another and in two files; random APDUs, spelled at random, have theirs
 as the tables and names of the crates say them. Each line is as docs/show.schema.json says, which is made here, and ASCII.
-Usage: json_lines.py [SEED [COUNT]], or json_lines.py --write, which writes the schema. Prints the seed, with which a run is made again.
-Needs the program built.
+Usage: json_lines.py [SEED [COUNT [PROFILE]]], PROFILE being `2`, the default, or `module`; or json_lines.py --write, which writes the schema.
+Prints the seed, with which a run is made again. Needs the program built.
 """
 import json
 import random
@@ -14,11 +14,17 @@ import sys
 import tempfile
 from pathlib import Path
 
+sys.path.append(str(Path(__file__).resolve().parent.parent / "vectors"))
+
 from encoder import Speller, Writer
 from schema import Schema
-from tables import CHOICES, LISTS, NAMES, PROGRAM, ROWS, TOP, random_value, seed_and_count
+from shown import identifier_text
+from tables import ALL_LISTS, ALL_ROWS, CHOICES, NAMES, PROGRAM, ROOTS, TOP, profile_and_words, random_value, reached, seed_and_count
+
+from rules.values import identifier_from_json
 
 SCHEMA = TOP / "docs/show.schema.json"
+PROFILE, PROFILE_WORDS = profile_and_words()
 
 # the names of 1, 2 and so on in a row: the types Transaction-Type, ILL-Service-Type, Place-On-Hold-Type, Item-Type and Transaction-Results
 NUMBER_NAMES = {
@@ -51,36 +57,69 @@ def number_of(name, value):
     return {"number": value, "name": names[value - 1]} if 0 < value <= len(names) else value
 
 
+def octets_of_value(value):
+    """The octets of a test vector's value, in hexadecimal, which may be runs."""
+    runs = value.get("runs", value.get("foreign_runs"))
+    return "".join(unit * count for unit, count in runs) if runs else value.get("octets", value.get("foreign"))
+
+
 def of_vector(node, name, value):
     """The value of a test vector, in a row of this name, as a line has it."""
-    if node in LISTS:
-        return [of_vector(ROWS[node][0].node, name, item) for item in items_of(value)]
-    if node in ROWS:
-        nodes = dict(zip(NAMES[node][1], (row.node for row in ROWS[node])))
+    if node == "TaggedExternal":
+        return of_vector("External", "", value)
+    if node in ALL_LISTS:
+        return [of_vector(ALL_ROWS[node][0].node, name, item) for item in items_of(value)]
+    if node in ALL_ROWS:
+        nodes = dict(zip(NAMES[node][1], (row.node for row in ALL_ROWS[node])))
         return {inner: of_vector(nodes[inner], inner, entry) for inner, entry in value.items()}
-    if node == "Boolean":
+    if node in ("Boolean", "Null", "BitString"):
         return value
+    if node in ("OctetString", "Any"):
+        return {"octets" if node == "OctetString" else "foreign": octets_of_value(value)}
+    if node == "ObjectIdentifier":
+        return identifier_text(identifier_from_json(value))
     if node in ("Integer", "Enumerated"):
         return number_of(name, int(value))
     return {kind: text_of(text) for kind, text in value.items()} if node == "IllString" else text_of(value)
 
 
+# what only the module profile has
+MODULE_LEAVES = {
+    "Null": lambda value: None,
+    "ObjectIdentifier": identifier_text,
+    "OctetString": lambda value: {"octets": value.hex()},
+    "BitString": lambda value: {"bits": value.count, "octets": value.octets.hex()},
+    "Any": lambda value: {"foreign": Writer().tree(value).hex()},
+}
+
+
 def of_random(node, name, value):
     """The value of a random APDU, in a row of this name, as a line has it."""
     if node in CHOICES:
-        row, chosen = ROWS[node][value[0]], NAMES[node][1][value[0]]
-        return {chosen: of_random(row.node, chosen, value[1])}
-    if node in LISTS:
-        return [of_random(ROWS[node][0].node, name, item) for item in value]
-    if node in ROWS:
-        rows = zip(ROWS[node], NAMES[node][1], value)
+        row, chosen = ALL_ROWS[node][value[0]], NAMES[node][1][value[0]]
+        inner = of_random(row.node, chosen, value[1])
+        return {chosen: inner} if chosen else inner
+    if node in ALL_LISTS:
+        return [of_random(ALL_ROWS[node][0].node, name, item) for item in value]
+    if node in ALL_ROWS:
+        rows = zip(ALL_ROWS[node], NAMES[node][1], value)
         return {inner: of_random(row.node, inner, entry) for row, inner, entry in rows if entry is not None}
     if node in ("Integer", "Enumerated"):
         return number_of(name, value)
+    if node in MODULE_LEAVES:
+        return MODULE_LEAVES[node](value)
     return {value[0]: value[1]} if node == "IllString" else value
 
 
 # ---- the schema
+
+OBJECT_IDENTIFIER = "Its numbers, or `oid` and its content in hexadecimal where a number has more than 63 bits."
+# EXTERNAL's own tag, whose one row has no name
+UNSHOWN = {"TaggedExternal"}
+
+
+def hexadecimal(description):
+    return {"description": description, "type": "string", "pattern": "^([0-9a-f]{2})*$"}
 
 
 def object_of(members, required):
@@ -92,13 +131,15 @@ def schema_of(node, name):
         return {"$ref": f"#/$defs/{name}"} if name in NUMBER_NAMES else {"type": "integer"}
     if node == "Boolean":
         return {"type": "boolean"}
-    if node in LISTS:
-        return {"type": "array", "items": schema_of(ROWS[node][0].node, name)}
-    return {"$ref": f"#/$defs/{NAMES[node][0] if node in ROWS else node}"}
+    if node in UNSHOWN:
+        return schema_of(ALL_ROWS[node][0].node, name)
+    if node in ALL_LISTS:
+        return {"type": "array", "items": schema_of(ALL_ROWS[node][0].node, name)}
+    return {"$ref": f"#/$defs/{NAMES[node][0] if node in ALL_ROWS else node}"}
 
 
 def node_schema(node):
-    rows = [(name, row) for name, row in zip(NAMES[node][1], ROWS[node]) if row.presence != "LeftOut"]
+    rows = [(name, row) for name, row in zip(NAMES[node][1], ALL_ROWS[node]) if row.presence != "LeftOut"]
     members = {name: schema_of(row.node, name) for name, row in rows}
     if node in CHOICES:
         return {**object_of(members, []), "minProperties": 1, "maxProperties": 1}
@@ -111,16 +152,26 @@ def named_schema(names):
 
 
 def make_schema():
-    bodies = [NAMES[row.node][0] for row in ROWS["IllApdu"] if row.presence != "LeftOut"]
+    """The schema of the module profile, which has every part that profile 2 has."""
+    root = ROOTS["module"]
+    bodies = [NAMES[row.node][0] for row in ALL_ROWS[root]]
+    bit_count = {"description": "How many bits.", "type": "integer", "minimum": 0}
     general, visible = {"general": {"type": "string", "pattern": "^[\u0000-\u00ff]*$"}}, {"visible": {"type": "string", "pattern": "^[ -~]*$"}}
     leaves = {
         "IllString": {**object_of({**general, **visible}, []), "minProperties": 1, "maxProperties": 1},
         "IsoDate": {"type": "string", "pattern": "^[0-9]{8}$"},
         "IsoTime": {"type": "string", "pattern": "^[0-9]{6}$"},
         "PrintableString": {"type": "string", "pattern": "^[A-Za-z0-9 '()+,./:=?-]*$"},
+        "Null": {"type": "null"},
+        "ObjectIdentifier": {"description": OBJECT_IDENTIFIER, "type": "string", "pattern": "^([0-2]([.][0-9]+)+|oid ([0-9a-f]{2})+)$"},
+        "ObjectDescriptor": {"description": "A character for each octet.", "type": "string", "pattern": "^[\u0000-\u00ff]*$"},
+        "OctetString": object_of({"octets": hexadecimal("The octets.")}, ["octets"]),
+        "BitString": object_of({"bits": bit_count, "octets": hexadecimal("The bits, and 0 for each that is missing.")}, ["bits", "octets"]),
+        "Any": object_of({"foreign": hexadecimal("The octets of a value of any type, with the shortest lengths.")}, ["foreign"]),
     }
     names = {name: named_schema(names) for name, names in NUMBER_NAMES.items()}
-    nodes = {NAMES[node][0]: node_schema(node) for node in ROWS if node not in LISTS and node != "IllApdu"}
+    shown = set(reached(root)) - UNSHOWN - ALL_LISTS - {root}
+    nodes = {NAMES[node][0]: node_schema(node) for node in ALL_ROWS if node in shown}
     members = {
         "file": {"description": "The name of the file, where there are several.", "type": "string"},
         "number": {"description": "The number of the message in its input.", "type": "integer", "minimum": 1, "maximum": 1_000_000},
@@ -161,7 +212,7 @@ def distinct(pairs):
 
 
 def run(words, octets=b""):
-    done = subprocess.run([PROGRAM, "show", "--json", *words], input=octets, capture_output=True, check=False)
+    done = subprocess.run([PROGRAM, "show", "--json", *PROFILE_WORDS, *words], input=octets, capture_output=True, check=False)
     return done.returncode, done.stdout, done.stderr.decode()
 
 
@@ -207,21 +258,24 @@ def octets_of(vector, name, runs):
 
 def read_vectors():
     """The valid test vectors, as pairs of octets and what the line says of them."""
-    nodes = {name: row.node for name, row in zip(NAMES["IllApdu"][1], ROWS["IllApdu"])}
+    root = ROOTS[PROFILE]
+    nodes = {name: row.node for name, row in zip(NAMES[root][1], ALL_ROWS[root])}
     for path in sorted((TOP / "vectors").glob("*.json")):
-        for group in json.loads(path.read_text()).get("groups", []):
+        book = json.loads(path.read_text())
+        for group in book.get("groups", []):
             for vector in group["vectors"]:
-                if "value" in vector:
+                if "value" in vector and PROFILE in vector.get("profiles", [book.get("profile", "2")]):
                     octets = octets_of(vector, "octets", "runs")
                     value = of_vector(nodes[vector["apdu"]], "", vector["value"])
                     yield octets, {"apdu": vector["apdu"], "normal": octets == octets_of(vector, "normal", "normal_runs"), "value": value}
 
 
 def random_messages(chance, count):
+    root = ROOTS[PROFILE]
     for _ in range(count):
-        apdu = random_value(chance, "IllApdu")
-        octets, normal = (writer.value("IllApdu", apdu, None) for writer in (Speller(chance), Writer()))
-        row, name = ROWS["IllApdu"][apdu[0]], NAMES["IllApdu"][1][apdu[0]]
+        apdu = random_value(chance, root)
+        octets, normal = (writer.value(root, apdu, None) for writer in (Speller(chance), Writer()))
+        row, name = ALL_ROWS[root][apdu[0]], NAMES[root][1][apdu[0]]
         yield octets, {"apdu": name, "normal": octets == normal, "value": of_random(row.node, "", apdu[1])}
 
 
@@ -252,7 +306,7 @@ def main():
     for stream in (small, messages, []):
         compare(schema, ["-"], b"".join(octets for octets, _ in stream), lines_of(stream))
     compare_files(schema, small[:10], messages[:10])
-    print(f"seed {seed}: {len(vectors)} test vectors and {count} random APDUs, all right")
+    print(f"seed {seed}, profile {PROFILE}: {len(vectors)} test vectors and {count} random APDUs, all right")
 
 
 if __name__ == "__main__":

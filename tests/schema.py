@@ -1,7 +1,7 @@
 """Whether JSON is as a JSON Schema says: the words of JSON Schema that vectors/schema.json has, and no others."""
 import re
 
-TYPES = {"object": dict, "array": list, "string": str, "integer": int, "boolean": bool}
+TYPES = {"object": dict, "array": list, "string": str, "integer": int, "boolean": bool, "null": type(None)}
 NOTES = {"$schema", "$defs", "title", "description"}
 
 

@@ -13,7 +13,7 @@ sys.path[:0] = [str(FOLDER), str(FOLDER.parent / "tests")]
 
 from schema import Schema
 
-THEMES = "identifiers lengths end_marks booleans integers strings dates rows tagging defaults wrappers limits causes worked streams".split()
+THEMES = "identifiers lengths end_marks booleans integers strings dates rows tagging defaults wrappers limits causes worked streams module module_worked".split()
 
 
 def books():
@@ -26,7 +26,8 @@ def text_of(book):
     groups = ",\n".join(
         f'{{"rule": {dense(group.rule)}, "vectors": [\n' + ",\n".join(map(dense, group.vectors)) + "\n]}" for group in book.groups
     )
-    return f'{{"$schema": "schema.json",\n"title": {dense(book.title)},\n"groups": [\n{groups}\n]}}\n'
+    profile = "" if book.profile == "2" else f'"profile": {dense(book.profile)},\n'
+    return f'{{"$schema": "schema.json",\n"title": {dense(book.title)},\n{profile}"groups": [\n{groups}\n]}}\n'
 
 
 def dense(value):

@@ -14,6 +14,7 @@ program doesn't say why. Anything else: it broke.
   --all           print each rule, not only those that are broken
   --vectors       print each test vector that differs
   --only NAME     run over NAME.json alone
+  --profile NAME  run over the test vectors of a profile: 2, the default, or module; those that both profiles have belong to each
 """
 import argparse
 import json
@@ -71,19 +72,22 @@ class Command:
 class Illcanon:
     """The program of this repository: `same` reads one whole message, `canonicalise` a stream."""
 
-    def __init__(self):
+    def __init__(self, profile):
         from tables import PROGRAM
 
-        self.program = PROGRAM
+        self.program, self.profile = PROGRAM, [] if profile == "2" else ["--profile", profile]
+
+    def run(self, command, *paths):
+        return run(self.program, command, *self.profile, *paths)
 
     def message(self, path):
-        done = run(self.program, "same", path, path)
+        done = self.run("same", path, path)
         if done.returncode:
             return Answer(done.returncode, b"", self.fault(done.stderr))
-        return self.stream(path)._replace(shown=run(self.program, "show", path).stdout.decode())
+        return self.stream(path)._replace(shown=self.run("show", path).stdout.decode())
 
     def stream(self, path):
-        done = run(self.program, "canonicalise", path, "-")
+        done = self.run("canonicalise", path, "-")
         return Answer(done.returncode, done.stdout, self.fault(done.stderr))
 
     def fault(self, line):
@@ -96,7 +100,7 @@ class Illcanon:
 class Yaz(Command):
     """The codec of YAZ, which writes what it read in indefinite form. Needs `cc` and YAZ's headers (Debian: libyaz-dev)."""
 
-    def __init__(self):
+    def __init__(self, _):
         self.folder = tempfile.TemporaryDirectory()
         program = Path(self.folder.name, "yaz")
         subprocess.run(["cc", "-O1", "-o", program, FOLDER / "yaz.c", "-lyaz"], check=True)
@@ -135,25 +139,25 @@ def outcome(vector, answer, options):
 
 def says(vector, answer, normal, options):
     """Whether the output is that of a valid test vector."""
-    if answer.shown is not None and answer.shown != text_of(vector):
+    if answer.shown is not None and answer.shown != text_of(vector, options.profile):
         return False
     if not options.any_spelling:
         return answer.output == normal
     from judge import Refused, message
 
     try:
-        return message(answer.output) == message(normal)
+        return message(answer.output, options.profile) == message(normal, options.profile)
     except Refused:
         return False
 
 
-def text_of(vector):
+def text_of(vector, profile):
     """The value as `illcanon show` prints it."""
     from rules.book import APDUS, node_of
     from rules.values import from_json
     from shown import text
 
-    return text(1, (APDUS.index(vector["apdu"]), from_json(node_of(vector["apdu"]), vector["value"])))
+    return text(1, (APDUS.index(vector["apdu"]), from_json(node_of(vector["apdu"], profile), vector["value"])), profile)
 
 
 def title_of(rule):
@@ -170,6 +174,16 @@ def kind_of(rule):
 def line(title, counts):
     shown = title if len(title) <= WIDTH else title[: WIDTH - 2] + ".."
     return f"{shown:{WIDTH}}" + "".join(f"{counts[name]:>9}" for name in MEANINGS)
+
+
+def groups_of(path, profile):
+    """The groups of a file that have test vectors of a profile, with those alone."""
+    book = json.loads(path.read_text())
+    own = book.get("profile", "2")
+    for group in book["groups"]:
+        vectors = [vector for vector in group["vectors"] if profile in vector.get("profiles", [own])]
+        if vectors:
+            yield {**group, "vectors": vectors}
 
 
 def run_group(adapter, group, file, options):
@@ -192,6 +206,7 @@ def options_of():
     for name in ("decisions", "any-spelling", "streams", "all", "vectors"):
         parser.add_argument(f"--{name}", action="store_true")
     parser.add_argument("--only")
+    parser.add_argument("--profile", choices=["2", "module"], default="2")
     parser.add_argument("command", nargs=argparse.REMAINDER)
     options = parser.parse_args()
     if bool(options.command) == bool(options.adapter):
@@ -201,7 +216,7 @@ def options_of():
 
 def main():
     options = options_of()
-    adapter = ADAPTERS[options.adapter]() if options.adapter else Command(options.command)
+    adapter = ADAPTERS[options.adapter](options.profile) if options.adapter else Command(options.command)
     options.streams |= options.adapter == "illcanon"
     options.any_spelling |= options.adapter == "yaz"
     total, rules, broken = Counter(), Counter(), Counter()
@@ -210,7 +225,9 @@ def main():
         for path in sorted(FOLDER.glob(f"{options.only or '*'}.json")):
             if path.name == "schema.json" or path.name == "streams.json" and not options.streams:
                 continue
-            groups = json.loads(path.read_text())["groups"]
+            groups = list(groups_of(path, options.profile))
+            if not groups:
+                continue
             counts = [run_group(adapter, group, Path(name, "message"), options) for group in groups]
             print_file(path, groups, counts, options)
             for group, came in zip(groups, counts):

@@ -3,7 +3,7 @@ import copy
 from functools import cache
 
 from encoder import Writer
-from tables import CHOICES, LISTS, NAMES, ROWS, default_of
+from tables import ALL_LISTS, ALL_ROWS, CHOICES, NAMES, NULL, ROOTS, Bits, Tree, default_of
 
 from rules.octets import element, joined, text
 
@@ -88,7 +88,7 @@ class Builder(Writer):
     def contents(self, node, value):
         if isinstance(value, Contents):
             return value.octets
-        rows = ROWS[node] * len(value) if node in LISTS else ROWS[node]
+        rows = ALL_ROWS[node] * len(value) if node in ALL_LISTS else ALL_ROWS[node]
         return joined(*(self.row(row, entry) for row, entry in zip(rows, value) if entry is not None))
 
     def writes_default(self):
@@ -103,6 +103,12 @@ SAMPLES = {
     "IsoTime": "120000",
     "PrintableString": "1",
     "IllString": ("general", "A"),
+    "Null": NULL,
+    "ObjectIdentifier": bytes([0x2A, 0x03]),
+    "OctetString": b"A",
+    "BitString": Bits(5, b"\xf8"),
+    "ObjectDescriptor": "D",
+    "Any": Tree(("universal", 5), b""),
 }
 
 
@@ -111,13 +117,13 @@ def sample(node):
     if node in SAMPLES:
         return SAMPLES[node]
     if node in CHOICES:
-        return 0, sample(ROWS[node][0].node)
-    if node in LISTS:
-        return [sample(ROWS[node][0].node)]
-    entries = [sample(row.node) if row.presence == "Must" else default_of(row) for row in ROWS[node]]
+        return 0, sample(ALL_ROWS[node][0].node)
+    if node in ALL_LISTS:
+        return [sample(ALL_ROWS[node][0].node)]
+    entries = [sample(row.node) if row.presence == "Must" else default_of(row) for row in ALL_ROWS[node]]
     if node == "TransactionId":
         entries[1:3] = ("general", "G"), ("general", "Q")
-    if len(entries) > 2 and ROWS[node][2].node == "ServiceDateTime":
+    if len(entries) > 2 and ALL_ROWS[node][2].node == "ServiceDateTime":
         entries[0] = 2
     return entries
 
@@ -132,12 +138,12 @@ def other(row):
 
 def full(node):
     """A value of a sequence with each part, none of them a default."""
-    return [None if row.presence == "LeftOut" else other(row) for row in ROWS[node]]
+    return [None if row.presence == "LeftOut" else other(row) for row in ALL_ROWS[node]]
 
 
 def carried():
     """The rows of the APDUs that are read."""
-    return [i for i, row in enumerate(ROWS["IllApdu"]) if row.presence != "LeftOut"]
+    return [i for i, row in enumerate(ALL_ROWS[ROOTS["2"]]) if row.presence != "LeftOut"]
 
 
 def ways(node, wanted):
@@ -145,7 +151,7 @@ def ways(node, wanted):
     if node == wanted:
         yield []
         return
-    for i, row in enumerate(ROWS.get(node, [])):
+    for i, row in enumerate(ALL_ROWS.get(node, [])):
         if row.presence != "LeftOut":
             for rest in ways(row.node, wanted):
                 yield [(node, i), *rest]
@@ -159,7 +165,7 @@ def along(way, inner):
     entry = along(rest, inner)
     if node in CHOICES:
         return i, entry
-    if node in LISTS:
+    if node in ALL_LISTS:
         return [entry]
     entries = sample(node)
     entries[i] = entry
@@ -167,19 +173,19 @@ def along(way, inner):
 
 
 @cache
-def shortest_way(wanted):
+def shortest_way(wanted, root=ROOTS["2"]):
     """The way to a node that makes the shortest message."""
-    return min(ways("IllApdu", wanted), key=lambda way: (len(Writer().value("IllApdu", along(way, sample(wanted)), None)), len(way)))
+    return min(ways(root, wanted), key=lambda way: (len(Writer().value(root, along(way, sample(wanted)), None)), len(way)))
 
 
-def around(node, inner):
+def around(node, inner, root=ROOTS["2"]):
     """The small APDU in which a value of the node stands."""
-    return along(shortest_way(node), inner)
+    return along(shortest_way(node, root), inner)
 
 
-def octets_of(apdu):
+def octets_of(apdu, root=ROOTS["2"]):
     """The octets of an APDU in which octets stand in place of a part."""
-    return Builder().value("IllApdu", apdu, None)
+    return Builder().value(root, apdu, None)
 
 
 def identifier(row):
