@@ -3,7 +3,7 @@
 
 The writer goes by the judge of judge.py, the tables and the names. Each APDU, each note and each cause has to come at least once; a message has
 a note if and only if it is not in normal form; the line on standard error is that of `check`. Needs the program built.
-Usage: dump.py [SEED [COUNT]]. Prints the seed, with which a run is made again.
+Usage: dump.py [SEED [COUNT [PROFILE]]], PROFILE being `2`, the default, or `module`. Prints the seed, with which a run is made again.
 """
 import copy
 import os
@@ -16,11 +16,20 @@ from collections import Counter
 from pathlib import Path
 
 from encoder import Speller, Writer, is_default
-from judge import LIMIT, Judge, Refused, content_value, due, missing
-from refusals import changed
-from tables import NAMES, PROGRAM, ROWS, TOP, random_value, seed_and_count
+from judge import LIMIT, Judge, Refused, bits_of, content_value, due, missing
+from refusals import Misspeller, changed
+from shown import identifier_text, octets_text
+from tables import ALL_ROWS, NAMES, PROGRAM, ROOTS, profile_and_words, random_value, seed_and_count
 
-TYPES = {("universal", 16): "SEQUENCE", ("universal", 26): "VisibleString", ("universal", 27): "GeneralString"}
+TYPES = {
+    ("universal", 2): "INTEGER",
+    ("universal", 6): "OBJECT IDENTIFIER",
+    ("universal", 8): "EXTERNAL",
+    ("universal", 10): "ENUMERATED",
+    ("universal", 16): "SEQUENCE",
+    ("universal", 26): "VisibleString",
+    ("universal", 27): "GeneralString",
+}
 CLASSES = {"universal": "UNIVERSAL ", "application": "APPLICATION ", "context": "", "private": "PRIVATE "}
 TRIED = [("universal", n) for n in range(1, 31)] + [("application", n) for n in range(31)] + [("context", n) for n in range(61)]
 TEXTS = {
@@ -47,9 +56,13 @@ TEXTS = {
     "BadOid": "the identifier has no octet, one more than it needs, or no end",
     "BadBits": "the first octet is not the number of unused bits",
 }
+LEVELS_TEXT = "a value of an open type would have more than 20 levels"
 # the causes that only the module profile has
 MODULE = {"BadNull", "BadOid", "BadBits"}
 NOTES = ["indefinite", "length in", "in segments", "segment", "default written", "TRUE as", "without inner SEQUENCE"]
+MODULE_NOTES = ["unused bits are not 0"]
+# the nodes of profile 2 in which the module has other tags, or a row more
+RETAGGED = {"UnitsPerMedium", "WillSupply", "Conditional"}
 TAG_ONLY = {"UnexpectedTag", "LeftOut", "WrongForm", "TooDeep"}
 HEADER_ONLY = {"BadLength", "Overrun", "TooLong"}
 
@@ -67,15 +80,32 @@ def tag_text(tag):
     return f"[{CLASSES[tag[0]]}{tag[1]}]"
 
 
-class Cut(Exception):
-    """The octets end."""
+def bits_text(content):
+    """What a primitive BIT STRING has, its unused bits as they are written. A segment that has no bits by X.690, 8.6 is shown in hexadecimal."""
+    if bits_of(content) is None:
+        return hexed(content)
+    return f"bits {8 * len(content[1:]) - content[0]} {content[1:].hex()}".rstrip()
+
+
+def has_unused_bits_set(content):
+    return bits_of(content) is not None and bits_of(content).octets != content[1:]
+
+
+# what only the module profile has
+MODULE_VALUES = {
+    "Null": lambda content: "NULL",
+    "ObjectIdentifier": identifier_text,
+    "OctetString": octets_text,
+    "ObjectDescriptor": quoted,
+    "Any": octets_text,
+}
 
 
 class Dumper(Judge):
     """Judges a message, and keeps a line for each element."""
 
-    def __init__(self, octets):
-        super().__init__(octets)
+    def __init__(self, octets, profile):
+        super().__init__(octets, profile)
         self.lines, self.labels, self.counts = [], [], []
 
     def round(self):
@@ -83,25 +113,27 @@ class Dumper(Judge):
 
     def due(self, tag):
         """What a tag begins here, with nothing changed."""
-        return due(copy.deepcopy(self.path), tag)
+        return due(copy.deepcopy(self.path), tag, self.profile)
 
     def label(self, element, tag):
         """The name of an element, and whether it is one of the tables."""
         inner = self.round()
         if inner is None:
-            return NAMES["IllApdu"][1][element.chosen[0] if element.chosen else element.part[1]], True
+            return NAMES[ROOTS[self.profile]][1][element.chosen[0] if element.chosen else element.part[1]], True
+        if element.kind == "foreign":
+            return tag_text(tag), False
         if element.kind == "segment":
-            return "OCTET STRING", False
+            return "BIT STRING" if element.node == "BitString" else "OCTET STRING", False
         if inner.kind == "list":
             return f"{NAMES[inner.node][1][0]}[{self.counts[-1]}]", True
         if element.row is not None:
             name = NAMES[inner.node][1][element.row]
             if element.chosen:
-                name += "." + NAMES[ROWS[inner.node][element.row].node][1][element.chosen[0]]
+                name += "." + NAMES[ALL_ROWS[inner.node][element.row].node][1][element.chosen[0]]
             elif element.kind == "left out" and element.part[0] != inner.node:
                 name += "." + NAMES[element.part[0]][1][element.part[1]]
             return name, True
-        if element.chosen:
+        if element.chosen and inner.node != "TaggedExternal":
             return NAMES[inner.node][1][element.chosen[0]], True
         if element.kind == "left out":
             return NAMES[element.part[0]][1][element.part[1]], True
@@ -144,7 +176,9 @@ class Dumper(Judge):
                 notes.append("segment")
             if element.node == "Boolean" and content not in (b"\0", b"\xff"):
                 notes.append(f"TRUE as {hexed(content)}")
-            if element.row is not None and element.kind == "leaf" and is_default(content_value(element.node, content), ROWS[inner.node][element.row]):
+            if element.node == "BitString" and has_unused_bits_set(content):
+                notes.append("unused bits are not 0")
+            if element.row is not None and element.kind == "leaf" and is_default(content_value(element.node, content), ALL_ROWS[inner.node][element.row]):
                 notes.append("default written")
         self.lines.append([place, depth, self.octets[place:body], known[0], value, notes, after_header])
         return after
@@ -156,8 +190,12 @@ class Dumper(Judge):
         return [f"length in {count} octets where {least} {'does' if least == 1 else 'do'}"] if count > least else []
 
     def value_text(self, element, content):
+        if element.node == "BitString":
+            return bits_text(content)
         if element.kind == "segment":
             return quoted(content)
+        if element.node in MODULE_VALUES:
+            return MODULE_VALUES[element.node](content)
         value = content_value(element.node, content)
         if isinstance(value, bool):
             return "TRUE" if value else "FALSE"
@@ -224,12 +262,21 @@ class Dumper(Judge):
 
     def refusal(self, fault):
         part = f" {fault.part_name()}" if fault.part else ""
-        yield f"refused at {fault.at}: {fault.cause}{part}\n    {TEXTS[fault.cause]}\n"
+        in_tree = bool(self.path) and self.round().node == "Any"
+        text = LEVELS_TEXT if fault.cause == "TooDeep" and in_tree else TEXTS[fault.cause]
+        yield f"refused at {fault.at}: {fault.cause}{part}\n    {text}\n"
         if fault.cause == "NormalTooLong":
             return
         yield f"    path {'.'.join(label for label in self.labels if label) or 'none'}\n"
         yield f"    found {self.found(fault)}\n"
-        if fault.cause not in ("UnexpectedTag", "Missing"):
+        if fault.cause in ("UnexpectedTag", "Missing"):
+            yield from self.due_lines(in_tree)
+        yield from self.hint(fault)
+
+    def due_lines(self, in_tree):
+        """What was due."""
+        if in_tree:
+            yield "    due one element of any tag\n"
             return
         for tag in TRIED:
             element = self.due(tag)
@@ -239,38 +286,49 @@ class Dumper(Judge):
         if self.path and not missing(self.path[-1]):
             yield "    due the end of the element\n"
 
+    def hint(self, fault):
+        """What the module profile has there."""
+        if self.profile == "module":
+            return
+        if fault.cause == "LeftOut":
+            yield "    --profile module reads this part\n"
+        elif fault.cause in ("WrongForm", "UnexpectedTag") and self.path and self.round().node in RETAGGED:
+            yield "    --profile module has other tags here\n"
 
-def dump(octets, name=None):
+
+def dump(octets, profile, name=None):
     """What is written for the messages of a file, and the line on standard error."""
     label, text, errors, number = f"{name}: " if name else "", "", "", 0
     while octets:
         number += 1
-        dumper = Dumper(octets)
+        dumper = Dumper(octets, profile)
         try:
             apdu, size = dumper.message()
         except Refused as fault:
             text += f"{label}message {number}: refused\n" + "".join(dumper.text(fault.at)) + "".join(dumper.refusal(fault))
             line = fault.line(number)
             return text, line.replace("illcanon: ", f"illcanon: {label}", 1)
-        normal = Writer().value("IllApdu", apdu, None)
+        normal = Writer().value(ROOTS[profile], apdu, None)
         end = "normal" if normal == octets[:size] else f"not normal, normal form {len(normal)} octets"
-        text += f"{label}message {number}: {NAMES['IllApdu'][1][apdu[0]]}, {size} octets, {end}\n" + "".join(dumper.text(size))
+        text += f"{label}message {number}: {NAMES[ROOTS[profile]][1][apdu[0]]}, {size} octets, {end}\n" + "".join(dumper.text(size))
         octets = octets[size:]
     return text, errors
 
 
-def inputs(chance, count):
+def inputs(chance, count, root):
     """Files with one or two messages, good and changed."""
-    apdus = [i for i, row in enumerate(ROWS["IllApdu"]) if row.presence != "LeftOut"]
+    apdus = [i for i, row in enumerate(ALL_ROWS[root]) if row.presence != "LeftOut"]
     for number in range(count):
         row = apdus[number % len(apdus)]
-        apdu = row, random_value(chance, ROWS["IllApdu"][row].node)
+        apdu = row, random_value(chance, ALL_ROWS[root][row].node)
         writer = Writer() if chance.random() < 0.15 else Speller(chance)
-        octets = writer.value("IllApdu", apdu, None)
-        if chance.random() < 0.5:
+        octets = writer.value(root, apdu, None)
+        if root == ROOTS["module"] and chance.random() < 0.3:
+            octets = Misspeller(chance).value(root, apdu, None)
+        elif chance.random() < 0.5:
             octets = changed(chance, octets)
         if chance.random() < 0.2:
-            octets += Speller(chance).value("IllApdu", random_value(chance, "IllApdu"), None)
+            octets += Speller(chance).value(root, random_value(chance, root), None)
         if chance.random() < 0.2:
             octets = octets[: chance.randrange(len(octets) + 1)]
         yield octets
@@ -291,10 +349,10 @@ def examples():
         yield cause, octets
 
 
-def compare(folder, names, seed):
+def compare(folder, names, seed, profile, words):
     """The program and the writer over files. Returns the text."""
-    wanted = {name: dump((folder / name).read_bytes(), name) for name in names}
-    done = subprocess.run([PROGRAM, "dump", *names], cwd=folder, capture_output=True, check=False)
+    wanted = {name: dump((folder / name).read_bytes(), profile, name) for name in names}
+    done = subprocess.run([PROGRAM, "dump", *words, *names], cwd=folder, capture_output=True, check=False)
     text = "".join(wanted[name][0] for name in names)
     errors = "".join(wanted[name][1] for name in names)
     found = done.stdout.decode("latin-1")
@@ -305,7 +363,7 @@ def compare(folder, names, seed):
         sys.exit(f"dump.py: seed {seed}, line {number} after {before}:\n  {found.splitlines()[number:number + 1]}\n  {text.splitlines()[number:number + 1]}")
     if done.stderr.decode() != errors or done.returncode != (1 if errors else 0):
         sys.exit(f"dump.py: seed {seed}: status {done.returncode}, {done.stderr.decode()}\nwanted {errors}")
-    checked = subprocess.run([PROGRAM, "check", *names], cwd=folder, capture_output=True, check=False)
+    checked = subprocess.run([PROGRAM, "check", *words, *names], cwd=folder, capture_output=True, check=False)
     if checked.stderr != done.stderr or checked.stdout.decode() != "".join(line + "\n" for line in text.splitlines() if re.search(r": message \d+: .*normal", line)):
         sys.exit(f"dump.py: seed {seed}: check says something else")
     return text
@@ -313,54 +371,62 @@ def compare(folder, names, seed):
 
 def check_notes(text):
     """A message has a note exactly if it is not normal."""
-    for message in re.split(r"^(?=f\d+: message )", text, flags=re.M)[1:]:
+    for message in re.split(r"^(?=[\w-]+: message )", text, flags=re.M)[1:]:
         head, *rest = message.splitlines()
-        noted = any(re.search(rf"  \((.*, )?{note}[^\"]*\)$", line) for line in rest for note in NOTES)
+        noted = any(re.search(rf"  \((.*, )?{note}[^\"]*\)$", line) for line in rest for note in NOTES + MODULE_NOTES)
         if not head.endswith("refused") and noted != ("not normal" in head):
             sys.exit(f"dump.py: notes and normal form differ:\n{message}")
 
 
-def main():
-    seed, count = seed_and_count()
-    count = min(count, 400)
-    chance = random.Random(seed)
-    causes = Counter()
-    with tempfile.TemporaryDirectory() as place:
-        folder = Path(place)
-        names = []
-        for number, octets in enumerate(inputs(chance, count)):
-            names.append(f"f{number}")
+def compare_examples(folder, profile):
+    """The examples of each cause give it. Returns the names of those that `dump` is compared over."""
+    causes, names = Counter(), []
+    for cause, octets in examples():
+        causes[cause] += 1
+        if cause == "TrailingBytes":
+            done = subprocess.run([PROGRAM, "check", "--lines", "-"], input=octets.hex().encode() + b"\n", capture_output=True, check=False)
+            if f": {cause}" not in done.stdout.decode():
+                sys.exit(f"dump.py: the example of {cause} gives {done.stdout}")
+            continue
+        if cause not in MODULE or profile == "module":
+            names.append(f"example-{cause}-{causes[cause]}")
             (folder / names[-1]).write_bytes(octets)
-        for cause, octets in examples():
-            causes[cause] += 1
-            if cause == "TrailingBytes":
-                done = subprocess.run([PROGRAM, "check", "--lines", "-"], input=octets.hex().encode() + b"\n", capture_output=True, check=False)
-                if f": {cause}" not in done.stdout.decode():
-                    sys.exit(f"dump.py: the example of {cause} gives {done.stdout}")
-                continue
-            if cause in MODULE:
-                done = subprocess.run([PROGRAM, "check", "--profile", "module", "-"], input=octets, capture_output=True, check=False)
-                if f": {cause}" not in done.stderr.decode():
-                    sys.exit(f"dump.py: the example of {cause} gives {done.stderr}")
-                continue
-            names.append(f"f{len(names)}")
-            (folder / names[-1]).write_bytes(octets)
-            if f": {cause}" not in dump(octets)[1]:
-                sys.exit(f"dump.py: the example of {cause} gives {dump(octets)[1]}")
-        text = compare(folder, names, seed)
-        check_notes(text)
-        some = next(name for name in names if "refused" not in dump((folder / name).read_bytes())[0])
-        alone = subprocess.run([PROGRAM, "dump", "--hex", "-"], input=(folder / some).read_bytes().hex().encode(), capture_output=True, check=False)
-        if alone.stdout.decode("latin-1") != dump((folder / some).read_bytes())[0]:
-            sys.exit(f"dump.py: seed {seed}: --hex gives something else")
+        if f": {cause}" not in dump(octets, "module" if cause in MODULE else "2")[1]:
+            sys.exit(f"dump.py: the example of {cause} gives another cause")
     for cause in TEXTS:
         if not causes[cause]:
             sys.exit(f"dump.py: no example of {cause}")
-    for note in NOTES:
+    return names
+
+
+def compare_hexadecimal(folder, names, seed, profile, words):
+    """The same from hexadecimal, of a file without a fault."""
+    octets = next(octets for octets in ((folder / name).read_bytes() for name in names) if "refused" not in dump(octets, profile)[0])
+    done = subprocess.run([PROGRAM, "dump", *words, "--hex", "-"], input=octets.hex().encode(), capture_output=True, check=False)
+    if done.stdout.decode("latin-1") != dump(octets, profile)[0]:
+        sys.exit(f"dump.py: seed {seed}: --hex gives something else")
+
+
+def main():
+    seed, count = seed_and_count()
+    profile, words = profile_and_words()
+    chance = random.Random(seed)
+    with tempfile.TemporaryDirectory() as place:
+        folder = Path(place)
+        names = []
+        for number, octets in enumerate(inputs(chance, min(count, 400), ROOTS[profile])):
+            names.append(f"f{number}")
+            (folder / names[-1]).write_bytes(octets)
+        names += compare_examples(folder, profile)
+        text = compare(folder, names, seed, profile, words)
+        check_notes(text)
+        compare_hexadecimal(folder, names, seed, profile, words)
+    for note in NOTES + (MODULE_NOTES if profile == "module" else []):
         if not re.search(rf"  \((.*, )?{note}", text):
             sys.exit(f"dump.py: seed {seed}: no message has the note {note}")
     kinds = Counter(re.findall(r"^refused at \d+: (\w+)", text, re.M))
-    print(f"seed {seed}: {len(names)} files, {text.count(chr(10))} lines, all right;", ", ".join(f"{cause} {times}" for cause, times in kinds.most_common()))
+    lines = text.count("\n")
+    print(f"seed {seed}, profile {profile}: {len(names)} files, {lines} lines, all right;", ", ".join(f"{cause} {times}" for cause, times in kinds.most_common()))
 
 
 if __name__ == "__main__":
