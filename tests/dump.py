@@ -262,7 +262,8 @@ class Dumper(Judge):
 
     def refusal(self, fault):
         part = f" {fault.part_name()}" if fault.part else ""
-        in_tree = bool(self.path) and self.round().node == "Any"
+        # in a foreign tree, or where it is to begin
+        in_tree = bool(self.path) and self.round().node == "Any" and (self.round().kind == "foreign" or not self.round().position)
         text = LEVELS_TEXT if fault.cause == "TooDeep" and in_tree else TEXTS[fault.cause]
         yield f"refused at {fault.at}: {fault.cause}{part}\n    {text}\n"
         if fault.cause == "NormalTooLong":
