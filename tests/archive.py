@@ -1,12 +1,13 @@
 #!/usr/bin/env python3
 """One command over a whole archive: 450 files with 200,000 messages, of which 50 are refused.
 
-The messages are valid test vectors of vectors/worked.json, in an order that the seed says; what each command has to write is known from
-the vectors. `check`, `digest` and `canonicalise` go through all files in one process each: which messages are not
+The messages are valid test vectors of vectors/worked.json or, in the module profile, of vectors/module_worked.json, in an order that the seed
+says; what each command has to write is known from the vectors. `check`, `digest` and `canonicalise` go through all files in one process each: which messages are not
 in normal form, which are refused and where, the digests and the copies, the normal forms of all good ones, and the numbers of --summary.
 With valgrind, the instructions of each command over a smaller archive are compared with those of `canonicalise` on the same octets.
 Needs the program built.
-Usage: archive.py [SEED]. Prints the seed, with which a run is made again.
+Usage: archive.py [SEED [COUNT [PROFILE]]], COUNT being the messages, and PROFILE `2`, the default, or `module`. Prints the seed, with which a run
+is made again.
 """
 import hashlib
 import json
@@ -18,10 +19,12 @@ import tempfile
 from collections import Counter
 from pathlib import Path
 
-from tables import PROGRAM, TOP
+from tables import PROGRAM, TOP, profile_and_words
 
+PROFILE, PROFILE_WORDS = profile_and_words()
+WORKED = {"2": "worked", "module": "module_worked"}
 FILES = 450
-MESSAGES = 200_000
+MESSAGES = int(sys.argv[2]) if len(sys.argv) > 2 else 200_000
 BAD = 50
 # [APPLICATION 20] with nothing in it: its end is known, and it is refused after its two octets
 REFUSED = bytes.fromhex("7400")
@@ -39,7 +42,7 @@ def expect(condition, *what):
 def known_messages():
     """Messages with their normal forms and the names of their APDUs."""
     found = []
-    for group in json.loads((TOP / "vectors/worked.json").read_text())["groups"]:
+    for group in json.loads((TOP / f"vectors/{WORKED[PROFILE]}.json").read_text())["groups"]:
         for vector in group["vectors"]:
             if vector["result"] == "valid" and "octets" in vector and len(vector["octets"]) < 2000:
                 found.append((bytes.fromhex(vector["octets"]), bytes.fromhex(vector["normal"]), vector["apdu"]))
@@ -84,14 +87,14 @@ class Archive:
         return "illcanon: " + ", ".join(f"{self.counts[part]} {part}" for part in parts)
 
     def run(self, *words):
-        done = subprocess.run([PROGRAM, *words, *self.names], cwd=self.folder, capture_output=True, check=False)
+        done = subprocess.run([PROGRAM, words[0], *PROFILE_WORDS, *words[1:], *self.names], cwd=self.folder, capture_output=True, check=False)
         expect(done.returncode == 1, words, "status", done.returncode)
         errors = done.stderr.decode().splitlines()
         expect(errors == [*self.refusals, self.summary()], words, "standard error", errors[-3:])
         return done.stdout
 
     def instructions(self, words, names):
-        counted = ["valgrind", "--tool=callgrind", "--callgrind-out-file=/dev/null", PROGRAM, *words, *names]
+        counted = ["valgrind", "--tool=callgrind", "--callgrind-out-file=/dev/null", PROGRAM, words[0], *PROFILE_WORDS, *words[1:], *names]
         done = subprocess.run(counted, cwd=self.folder, capture_output=True, check=False)
         found = [line for line in done.stderr.decode().splitlines() if "refs:" in line]
         expect(found, words, "isn't counted by valgrind")
@@ -128,7 +131,7 @@ def check_instructions(folder, chance):
 
 def main():
     seed = int(sys.argv[1]) if len(sys.argv) > 1 else random.randrange(1_000_000)
-    print("seed", seed)
+    print(f"seed {seed}, profile {PROFILE}")
     with tempfile.TemporaryDirectory() as name:
         archive = Archive(Path(name), random.Random(seed), FILES, MESSAGES, BAD)
         copies = check_results(archive)

@@ -5,7 +5,7 @@ A process is asked 10,000 times and must answer each line before it gets the nex
 each has by itself; the normal forms and digests of lines are those of the same messages as octets, and what `check` and the refusals say is
 what the program prints of a file that holds the message alone; and GNU parallel over four processes gives what one process gives, where it
 is installed. Needs the program built.
-Usage: lines.py [SEED [COUNT]]. Prints the seed, with which a run is made again.
+Usage: lines.py [SEED [COUNT [PROFILE]]], PROFILE being `2`, the default, or `module`. Prints the seed, with which a run is made again.
 """
 import random
 import shutil
@@ -15,13 +15,19 @@ import tempfile
 from pathlib import Path
 
 from encoder import Speller
-from tables import PROGRAM, random_value, seed_and_count
+from tables import PROGRAM, ROOTS, profile_and_words, random_value, seed_and_count
 
 JOBS = {"canonicalise": ["canonicalise", "--lines", "-", "-"], "check": ["check", "--lines", "-"], "digest": ["digest", "--lines", "-"]}
+PROFILE, PROFILE_WORDS = profile_and_words()
+
+
+def called(words):
+    """The program with these words, in the profile of the run."""
+    return [PROGRAM, words[0], *PROFILE_WORDS, *words[1:]]
 
 
 def run(words, octets=b""):
-    done = subprocess.run([PROGRAM, *words], input=octets, capture_output=True, check=False)
+    done = subprocess.run(called(words), input=octets, capture_output=True, check=False)
     return done.returncode, done.stdout, done.stderr
 
 
@@ -33,7 +39,8 @@ def expect(condition, *what):
 
 def spelled(chance):
     """A random message, sometimes changed at a random octet."""
-    octets = bytearray(Speller(chance).value("IllApdu", random_value(chance, "IllApdu"), None))
+    root = ROOTS[PROFILE]
+    octets = bytearray(Speller(chance).value(root, random_value(chance, root), None))
     if chance.random() < 0.3:
         octets[chance.randrange(len(octets))] ^= 1 << chance.randrange(8)
     return bytes(octets)
@@ -87,7 +94,7 @@ def ask(chance, count):
     for line in lines:
         status, output, errors = run(JOBS["canonicalise"], line.encode() + b"\n")
         answers[line] = output
-    process = subprocess.Popen([PROGRAM, *JOBS["canonicalise"]], stdin=subprocess.PIPE, stdout=subprocess.PIPE, bufsize=0)
+    process = subprocess.Popen(called(JOBS["canonicalise"]), stdin=subprocess.PIPE, stdout=subprocess.PIPE, bufsize=0)
     for _ in range(count):
         line = chance.choice(lines)
         process.stdin.write(line.encode() + b"\n")
@@ -106,7 +113,7 @@ def in_parallel(text):
         print("GNU parallel is not installed: skipped")
         return
     for words in JOBS.values():
-        done = subprocess.run(["parallel", "--will-cite", "--pipe", "-k", "-j4", "--block", "10k", PROGRAM, *words], input=text, capture_output=True, check=False)
+        done = subprocess.run(["parallel", "--will-cite", "--pipe", "-k", "-j4", "--block", "10k", *called(words)], input=text, capture_output=True, check=False)
         expect(done.stdout == run(words, text)[1], "four processes give another output", *words)
 
 
@@ -117,7 +124,7 @@ def main():
     text = compare(chance, count)
     ask(chance, 10_000)
     in_parallel(text * 20)
-    print(f"seed {seed}: {count} lines as files, and 10,000 questions, all right")
+    print(f"seed {seed}, profile {PROFILE}: {count} lines as files, and 10,000 questions, all right")
 
 
 if __name__ == "__main__":

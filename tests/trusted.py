@@ -272,14 +272,14 @@ def claims():
 
 
 def document():
-    run = [*contracts_of("ill_jobs", ("run", "run_same"))]
+    run = [*contracts_of("ill_jobs", ("run_as", "run_same_as"))]
     rows, all_claims = claims()
     text = ["# What must be believed", ""]
     text += ["The definitions between a theorem and its reader. `tests/trusted.py` prints this list, and `tests/all.sh` fails where it is out of date. Each definition is named with the words that it cites, and so on to the end. The types that Rust code declares, and the definitions of std, of `jiff`, of `json`, of `hex` and of `sha2`, are cited too, and not listed.", ""]
     text += ["`ill_refusals::headers_are_read` is a law: what the definitions of `ill_refusals/specs/Reading.antt` read at the front of octets is an identifier or a length as X.690 spells it. So in place of these the list has the words of that law.", ""]
     text += section("The theorem", "What the contracts of the functions say that README.md names beside its four claims. The last claim needs the causes and their order; the third one needs, besides, what a decoder needs and how it stands for the octets that it was fed.\n\n" + "\n".join(rows), all_claims)
-    text += section("The program's jobs", "All that the contracts of `ill_jobs::run` and `ill_jobs::run_same` say, with causes and offsets, text and hexadecimal digits.", run)
-    text += section("Lines", "All that the contract of `ill_lines::run_lines` says.", contracts_of("ill_lines", ("run_lines",)))
+    text += section("The program's jobs", "All that the contracts of `ill_jobs::run_as` and `ill_jobs::run_same_as` say, in either profile, with causes and offsets, text and hexadecimal digits.", run)
+    text += section("Lines", "All that the contract of `ill_lines::run_lines_as` says.", contracts_of("ill_lines", ("run_lines_as",)))
     text += section("The calls for C", "All that the contracts of `ill_c` say, with what a call leaves in the caller's memory, and causes as numbers.", contracts_of("ill_c"))
     return "\n".join(text)
 

@@ -1,8 +1,9 @@
 #!/usr/bin/env python3
-"""Time and memory of the program on messages of the greatest size: notes, lists of the smallest items of each kind, and a long text.
+"""Time and memory of the program on messages of the greatest size: notes, lists of the smallest items of each kind, and a long text; in the module
+profile lists of every node that it has, and values of open types.
 
 Prints each, and fails where one takes more than a second of processor time for a megabyte of input, or more memory than is said below. Needs the
-program built, and GNU time (Debian's package `time`). Usage: worst.py
+program built, and GNU time (Debian's package `time`). Usage: worst.py [PROFILE], PROFILE being `2`, the default, or `module`
 """
 import subprocess
 import sys
@@ -11,12 +12,16 @@ from itertools import chain
 from pathlib import Path
 
 from encoder import Writer
-from tables import CHOICES, LISTS, PROGRAM, ROWS, default_of
+from tables import ALL_LISTS, ALL_ROWS, CHOICES, LEVELS, NULL, PROGRAM, ROOTS, Bits, Tree, default_of, reached
 
+PROFILE = sys.argv[1] if len(sys.argv) > 1 else "2"
+PROFILE_WORDS = [] if PROFILE == "2" else ["--profile", PROFILE]
+ROOT = ROOTS[PROFILE]
 LIMIT = 1_048_576
 # the commands, and how many kilobytes each may take beyond the input
 COMMANDS = {"check": 8 * 1024, "canonicalise": 8 * 1024, "show": 16 * 1024, "show --json": 48 * 1024}
 LEAST = {"Boolean": False, "Integer": 0, "Enumerated": 0, "IsoDate": "20240229", "IsoTime": "000000", "PrintableString": ""}
+LEAST |= {"Null": NULL, "ObjectIdentifier": b"\0", "OctetString": b"", "BitString": Bits(0, b""), "ObjectDescriptor": "", "Any": Tree(("universal", 5), b"")}
 
 
 def leasts(node, deep=True):
@@ -24,16 +29,16 @@ def leasts(node, deep=True):
     if node == "IllString":
         return [("general", ""), ("general", "L")] if deep else [("general", "")]
     if node in CHOICES:
-        chosen = [i for i, row in enumerate(ROWS[node]) if row.presence != "LeftOut"]
-        return [(i, value) for i in (chosen if deep else chosen[:1]) for value in leasts(ROWS[node][i].node, deep)]
-    if node in LISTS:
+        chosen = [i for i, row in enumerate(ALL_ROWS[node]) if row.presence != "LeftOut"]
+        return [(i, value) for i in (chosen if deep else chosen[:1]) for value in leasts(ALL_ROWS[node][i].node, deep)]
+    if node in ALL_LISTS:
         return [[]]
-    if node not in ROWS:
+    if node not in ALL_ROWS:
         return [LEAST[node]]
-    least = [leasts(row.node, False)[0] if row.presence == "Must" else default_of(row) for row in ROWS[node]]
-    places = [i for i, row in enumerate(ROWS[node]) if row.presence in ("Must", "May")] if deep else []
+    least = [leasts(row.node, False)[0] if row.presence == "Must" else default_of(row) for row in ALL_ROWS[node]]
+    places = [i for i, row in enumerate(ALL_ROWS[node]) if row.presence in ("Must", "May")] if deep else []
     found = [least]
-    found += [least[:i] + [value] + least[i + 1 :] for i in places for value in leasts(ROWS[node][i].node) if value != least[i]]
+    found += [least[:i] + [value] + least[i + 1 :] for i in places for value in leasts(ALL_ROWS[node][i].node) if value != least[i]]
     return found
 
 
@@ -41,8 +46,8 @@ def holding(node, wanted):
     """The smallest value of a node in which the list is, or None."""
     if node == wanted:
         return []
-    for i, row in enumerate(ROWS.get(node, [])):
-        inner = holding(row.node, wanted) if row.presence != "LeftOut" and node not in LISTS else None
+    for i, row in enumerate(ALL_ROWS.get(node, [])):
+        inner = holding(row.node, wanted) if row.presence != "LeftOut" and node not in ALL_LISTS else None
         if inner is not None and node in CHOICES:
             return i, inner
         if inner is not None:
@@ -63,13 +68,13 @@ class Filler(Writer):
 
 def lists(limit=LIMIT):
     """For each list and each of its smallest items, the message of at most as many octets with the most of them."""
-    for node in sorted(LISTS):
-        row = ROWS[node][0]
-        apdu = holding("IllApdu", node)
+    for node in sorted(ALL_LISTS & set(reached(ROOT))):
+        row = ALL_ROWS[node][0]
+        apdu = holding(ROOT, node)
         for item in leasts(row.node):
             octets = Writer().row(row, item)
-            count = (limit - len(Filler(node, bytes(limit // 2)).value("IllApdu", apdu, None)) + limit // 2) // len(octets)
-            message = Filler(node, octets * count).value("IllApdu", apdu, None)
+            count = (limit - len(Filler(node, bytes(limit // 2)).value(ROOT, apdu, None)) + limit // 2) // len(octets)
+            message = Filler(node, octets * count).value(ROOT, apdu, None)
             assert limit - len(octets) < len(message) <= limit, (node, item)
             yield f"{node} of {count} {octets.hex()}", message, []
 
@@ -87,10 +92,23 @@ def smalls():
     yield "text of 60,000 messages", (expired.hex() * 60_000).encode(), ["--hex"]
 
 
+def trees():
+    """Values of open types in the item of an extension: the smallest elements, as deep as they may be, and one octet each in a tree of its own."""
+    head = bytes.fromhex("800102a10aa1031b0147a2031b0151a20ca00a80083230323430323239")
+    front = b"\x74\x80\x30\x80" + head + b"\xbf\x31\x80\x30\x80\x80\x01\x01\xa2\x80"
+    if PROFILE == "2":
+        return
+    for title, inner in [("NULLs", b"\x05\x00"), ("empty elements in indefinite form", b"\x30\x80\0\0"), ("octets", b"\x04\x01A")]:
+        for levels in (2, LEVELS):
+            outer = b"\x30\x80" * (levels - 1)
+            count = (LIMIT - 200) // len(inner)
+            yield f"{title} on {levels} levels", front + outer + inner * count + bytes(2 * (levels - 1) + 10), []
+
+
 def run(command, words, folder):
     """The seconds of processor time, the kilobytes and the status of a command on the file of the message."""
     outs = [folder / "out"] if command == "canonicalise" else []
-    call = ["/usr/bin/time", "-q", "-o", folder / "time", "-f", "%U %S %M", PROGRAM, *command.split(), *words, folder / "message", *outs]
+    call = ["/usr/bin/time", "-q", "-o", folder / "time", "-f", "%U %S %M", PROGRAM, *command.split(), *PROFILE_WORDS, *words, folder / "message", *outs]
     done = subprocess.run(call, stdout=subprocess.DEVNULL, stderr=subprocess.PIPE, text=True)
     user, system, kilobytes = (folder / "time").read_text().split()
     return float(user) + float(system), int(kilobytes), done.returncode, done.stderr
@@ -100,7 +118,7 @@ def main():
     failed, most = 0, []
     with tempfile.TemporaryDirectory() as name:
         folder = Path(name)
-        for title, message, words in chain(smalls(), lists()):
+        for title, message, words in chain(smalls(), lists(), trees()):
             (folder / "message").write_bytes(message)
             for command, bound in COMMANDS.items():
                 seconds, kilobytes, status, said = run(command, words, folder)
