@@ -5,15 +5,28 @@
 cd "$(dirname "$0")" || exit 2
 (cd ../crates/illcanon && rt run -- --version >/dev/null 2>&1) || exit 2
 status=0
-command -v python3 >/dev/null && { python3 trusted.py --check && python3 docs.py || status=1; }
-command -v python3 >/dev/null && { python3 ../vectors/make.py --check && ../vectors/run.py --adapter illcanon || status=1; }
+command -v python3 >/dev/null && { python3 trusted.py --check && python3 docs.py && python3 ../examples/make.py --check || status=1; }
+command -v python3 >/dev/null && { python3 ../vectors/make.py --check || status=1; }
+for profile in 2 module; do
+    command -v python3 >/dev/null && { ../vectors/run.py --adapter illcanon --profile $profile || status=1; }
+done
 (cd ../crates/ill_c && rt lib >/dev/null 2>&1) && make -s -C ../bindings/c all example || exit 2
 scripts="growths.sh program.sh faults.sh descriptors.sh ../bindings/c/tests/run.sh"
-command -v python3 >/dev/null && scripts="$scripts ../bindings/python/tests/run.sh spellings.py refusals.py shown.py json_lines.py lines.py dump.py archive.py files_growths.py progress.py packaging.py outputs.py"
-command -v python3 >/dev/null && [ -x /usr/bin/time ] && scripts="$scripts worst.py"
+command -v python3 >/dev/null && scripts="$scripts ../bindings/python/tests/run.sh files_growths.py progress.py packaging.py outputs.py"
 [ -e /usr/include/yaz/ill.h ] && scripts="$scripts peer.sh"
 for script in $scripts; do
     echo "== $script"
     ./$script || status=1
+done
+in_both="spellings.py 2000 refusals.py 2000 shown.py 2000 json_lines.py 2000 lines.py 500 dump.py 400 archive.py 200000"
+for profile in 2 module; do
+    command -v python3 >/dev/null || break
+    set -- $in_both
+    while [ $# -gt 0 ]; do
+        echo "== $1, profile $profile"
+        ./$1 $(od -An -N2 -tu2 /dev/urandom) $2 $profile || status=1
+        shift 2
+    done
+    [ -x /usr/bin/time ] && { ./worst.py $profile || status=1; }
 done
 exit $status
