@@ -87,7 +87,7 @@ def reached(root):
     """The nodes that a message of this type can have."""
     nodes = [root]
     for node in nodes:
-        nodes += {row.node for row in ALL_ROWS.get(node, [])} - set(nodes)
+        nodes += [inner for inner in dict.fromkeys(row.node for row in ALL_ROWS.get(node, [])) if inner not in nodes]
     return nodes
 
 

@@ -14,33 +14,26 @@ PROFILE = "module"
 ROOT = ROOTS[PROFILE]
 # the nodes that the module profile has beside those of profile 2, the message itself apart
 NODES = [node for node in reached(ROOT) if node in ALL_ROWS and node not in TWO and node != ROOT]
+# EXTERNAL's own tag apart, whose one row has no name
+ROW_NODES = [node for node in NODES if node != "TaggedExternal"]
 SEQUENCE, INTEGER, OCTETS = ("universal", 16), ("universal", 2), ("universal", 4)
 DATE = "9F 25 08 32 30 32 34 30 32 32 39"
 
 
 def books():
-    book = Book("module_tables", "The module profile: each row of its nodes, present and absent", PROFILE)
-    tables(book, [node for node in NODES if node != "TaggedExternal"])
-    yield book
-    book = Book("module_sequences", "The module profile: order, repetition, nothing else", PROFILE)
-    sequences(book, [node for node in NODES if node != "TaggedExternal"])
-    yield book
-    book = Book("module_tagging", "The module profile: choices, IMPLICIT and EXPLICIT tags", PROFILE)
-    alternatives(book)
-    tags(book)
-    yield book
-    book = Book("module_leaves", "The module profile: NULL, OBJECT IDENTIFIER, OCTET STRING, BIT STRING, ObjectDescriptor", PROFILE)
-    leaves(book)
-    yield book
-    book = Book("module_external", "The module profile: EXTERNAL (X.690, 8.18)", PROFILE)
-    externals(book)
-    yield book
-    book = Book("module_foreign", "The module profile: values of open types", PROFILE)
-    foreign(book)
-    yield book
-    book = Book("module_causes", "The module profile: each cause of refusal", PROFILE)
-    causes(book)
-    yield book
+    for name, title, *parts in [
+        ("module_tables", "each row of its nodes, present and absent", lambda book: tables(book, ROW_NODES)),
+        ("module_sequences", "order, repetition, nothing else", lambda book: sequences(book, ROW_NODES)),
+        ("module_tagging", "choices, IMPLICIT and EXPLICIT tags", alternatives, tags),
+        ("module_leaves", "NULL, OBJECT IDENTIFIER, OCTET STRING, BIT STRING, ObjectDescriptor", leaves),
+        ("module_external", "EXTERNAL (X.690, 8.18)", externals),
+        ("module_foreign", "values of open types", foreign),
+        ("module_causes", "each cause of refusal", causes),
+    ]:
+        book = Book(name, f"The module profile: {title}", PROFILE)
+        for part in parts:
+            part(book)
+        yield book
 
 
 # ---- messages
@@ -98,8 +91,8 @@ def placed(book, node, i, octets):
 
 def alternatives(book):
     group = book.group("alternatives", "A choice is exactly one of its alternatives.", clause="X.690, 8.13")
-    for node in NODES:
-        if node not in CHOICES or node == "TaggedExternal":
+    for node in ROW_NODES:
+        if node not in CHOICES:
             continue
         for i, row in enumerate(ALL_ROWS[node]):
             part = part_name(node, i)
@@ -125,9 +118,7 @@ def tags(book):
     twice = book.group("EXPLICIT tags round two elements", "An EXPLICIT tag is round one element.", clause="X.690, 8.14")
     doubled = book.group("IMPLICIT tags as EXPLICIT ones", "An IMPLICIT tag replaces the tag of the element.", clause="X.690, 8.14")
     bare = book.group("EXPLICIT tags as IMPLICIT ones", "An EXPLICIT tag doesn't replace the tag of the element.", clause="X.690, 8.14")
-    for node in NODES:
-        if node == "TaggedExternal":
-            continue
+    for node in ROW_NODES:
         for i, row in enumerate(ALL_ROWS[node]):
             if row.tag and row.mode == "Explicit":
                 explicit(book, empty, twice, bare, node, i)
@@ -521,14 +512,13 @@ def filled(make):
 
 
 def large(apdu, *tail):
-    group = element("A1", "A1 03 1B 01 47", "A2 03 1B 01 51")
+    """A message of the greatest size, by a long group, with these parts at its end."""
 
     def make(octets):
         long_group = element("A1", element("A1", element("1B", octets)), "A2 03 1B 01 51")
         service = element("A2", element("A0", element("80", text("20240229"))))
         return element(apdu, element("30", "80 01 02", long_group, service, *tail))
 
-    assert group
     return filled(make)
 
 
