@@ -74,8 +74,9 @@ supplemental-item-description[2].encoding.arbitrary = bits 5 f8
 date-returned = 20240229
 END
 try build-calls build calls -fsanitize=address,undefined -fno-sanitize-recover=all
+set -- "$examples/every-part.ber" "$examples/expired-long-form.ber"
 for profile in - 2; do
-    for file in "$examples"/*.ber; do
+    for file; do
         forms=${file%.ber}.der
         [ -e "$forms" ] || forms=expired.der
         try "calls $profile $(basename "$file")" ./calls $profile "$file" "$forms"
@@ -87,6 +88,10 @@ for profile in - 2; do
     try "rows $profile" ./calls $profile rows rows
 done
 try "calls module" ./calls module module.ber module.der
+try "calls module examples" ./calls module "$examples/module.ber" "$examples/module.der"
+./calls module show "$examples/module.ber" >shown
+"$program" show --profile module "$examples/module.ber" >wanted
+try "show module examples" cmp shown wanted
 try "calls module expired" ./calls module "$examples/expired-long-form.ber" expired.der
 try "rows module" ./calls module rows rows
 ./calls module show externals.der >shown
@@ -107,8 +112,8 @@ try build-threads build threads -pthread
 try threads ./threads - "$examples/every-part.ber"
 try threads-module ./threads module module.ber
 try build-mutants build mutants
-try mutants ./mutants "$program" "${COUNT:-100000}" - "$examples"/*.ber
-try mutants-module ./mutants "$program" "${COUNT:-100000}" module module.ber externals.der
+try mutants ./mutants "$program" "${COUNT:-100000}" - "$@"
+try mutants-module ./mutants "$program" "${COUNT:-100000}" module module.ber externals.der "$examples/module.ber"
 try example sh -c '"$1" <"$2" >lines && [ "$(wc -l <lines)" -gt 0 ]' - "$build/example" "$examples/every-part.ber"
 echo "$passed passed, $failed failed"
 [ "$failed" = 0 ]
