@@ -1,6 +1,7 @@
 """The calls on the files of examples/, on worked messages of the module profile, and on octets that are refused; and in both profiles on
 random messages, some changed, beside the encoder and the judge of tests/. COUNT (2,000) messages of each profile are made.
 """
+import functools
 import glob
 import hashlib
 import json
@@ -55,6 +56,13 @@ class Messages(unittest.TestCase):
             self.assertEqual(found, list(illcanon.messages(forms)))
         self.assertEqual(list(illcanon.normal_forms(memoryview(b"x" + EXPIRED + REQUEST)[1:])), [EXPIRED, REQUEST])
         self.assertEqual(list(illcanon.normal_forms(b"")), [])
+
+    def test_the_module_profile_is_read(self):
+        octets, forms = octets_of("module.ber"), octets_of("module.der")
+        self.assertEqual(b"".join(illcanon.normal_forms(octets, profile="module")), forms)
+        for message in illcanon.messages(octets, profile="module"):
+            with self.assertRaises(Refused):
+                illcanon.check(message)
 
     def test_normal_forms_are_normal(self):
         for name, _ in FILES:
@@ -279,15 +287,17 @@ def octets_in(vector, name="octets", runs="runs"):
 
 
 class Vectors(unittest.TestCase):
-    """The test vectors of vectors/, whose results are written from the rules."""
+    """The test vectors of vectors/, whose results are written from the rules, in each profile that they are of."""
 
     def vectors(self, wanted):
         for name in sorted(glob.glob(os.path.join(TOP, "vectors", "*.json"))):
             with open(name, encoding="utf-8") as file:
-                for group in json.load(file).get("groups", []):
-                    for vector in group["vectors"]:
-                        if ("messages" in vector) == (wanted == "streams"):
-                            yield vector
+                book = json.load(file)
+            for group in book.get("groups", []):
+                for vector in group["vectors"]:
+                    if ("messages" in vector) == (wanted == "streams"):
+                        for profile in vector.get("profiles", [book.get("profile", "2")]):
+                            yield vector, profile
 
     def result_of(self, call):
         """What a call makes of octets, and why it refuses any."""
@@ -298,33 +308,35 @@ class Vectors(unittest.TestCase):
 
     def test_messages(self):
         count = 0
-        for vector in self.vectors("messages"):
+        for vector, profile in self.vectors("messages"):
             octets, count = octets_in(vector), count + 1
-            normal, fault = self.result_of(lambda: illcanon.normalise(octets))
-            with self.subTest(vector["id"]):
+            normal, fault = self.result_of(lambda: illcanon.normalise(octets, profile=profile))
+            with self.subTest(vector["id"], profile=profile):
                 if vector["result"] == "valid":
                     wanted = octets_in(vector, "normal", "normal_runs")
                     self.assertEqual((normal, fault), (wanted, None))
-                    self.assertEqual(illcanon.digest(octets), hashlib.sha256(wanted).digest())
-                    self.assertEqual(illcanon.check(octets), octets == wanted)
-                    self.assertEqual(list(illcanon.messages(octets)), [octets])
+                    self.assertEqual(illcanon.digest(octets, profile=profile), hashlib.sha256(wanted).digest())
+                    self.assertEqual(illcanon.check(octets, profile=profile), octets == wanted)
+                    self.assertEqual(list(illcanon.messages(octets, profile=profile)), [octets])
                 else:
                     self.assertEqual(fault, (vector["cause"], vector["offset"], vector.get("part")))
-        self.assertGreater(count, 3000)
+        self.assertGreater(count, 10_000)
 
     def test_streams(self):
-        for vector in self.vectors("streams"):
+        for vector, profile in self.vectors("streams"):
             if vector["messages"] > 1000:
                 continue
             octets = octets_in(vector)
-            for found in (map(illcanon.normalise, illcanon.messages(octets)), illcanon.normal_forms(octets)):
+            normalise = functools.partial(illcanon.normalise, profile=profile)
+            one_by_one = map(normalise, illcanon.messages(octets, profile=profile))
+            for found in (one_by_one, illcanon.normal_forms(octets, profile=profile)):
                 forms, fault = [], None
                 try:
                     for form in found:
                         forms.append(form)
                 except Refused as it:
                     fault = it.cause, it.offset, it.part
-                with self.subTest(vector["id"]):
+                with self.subTest(vector["id"], profile=profile):
                     self.assertEqual(b"".join(forms), octets_in(vector, "normal", "normal_runs"))
                     wanted = None if vector["result"] == "valid" else (vector["cause"], vector["offset"], vector.get("part"))
                     self.assertEqual(fault, wanted)
