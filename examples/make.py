@@ -1,7 +1,7 @@
 #!/usr/bin/env python3
 """Writes module.ber, a message of each of the 20 APDUs of ISO 10161-1 as library systems send them, and module.der, their normal forms.
 
-Every message has an extension. Constructed elements are in indefinite form, as the codecs of most systems write them. The judge of tests/ has to
+Every message has an extension. Constructed elements are in indefinite form, as many codecs write them. The judge of tests/ has to
 read the values that are written down here. Usage: make.py [--check]. With --check nothing is written, and the status is 1 where a file differs.
 """
 import sys
