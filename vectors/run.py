@@ -2,7 +2,7 @@
 """Runs a program over the test vectors, and prints a table of the rules that it breaks.
 
 Usage: run.py [OPTION..] COMMAND..
-       run.py [OPTION..] --adapter illcanon|yaz
+       run.py [OPTION..] --adapter illcanon|yaz|erlang
 
 COMMAND is run once for each test vector, with one more word: the path of a file with the octets. Status 0: they are one message, and standard
 output has its normal form. Status 1: they aren't, and the last line of standard error is CAUSE OFFSET PART, or less of it, or Refused where the
@@ -27,6 +27,8 @@ from pathlib import Path
 
 FOLDER = Path(__file__).resolve().parent
 sys.path[:0] = [str(FOLDER), str(FOLDER.parent / "tests")]
+
+from peers import Erlang, build_yaz
 
 SECONDS, WIDTH = 120, 80
 WRONG = ["refused", "other", "accepted", "fault", "broke"]
@@ -100,14 +102,26 @@ class Illcanon:
 class Yaz(Command):
     """The codec of YAZ, which writes what it read in indefinite form. Needs `cc` and YAZ's headers (Debian: libyaz-dev)."""
 
+    # A process for each message, since it ends by a signal on some.
     def __init__(self, _):
         self.folder = tempfile.TemporaryDirectory()
-        program = Path(self.folder.name, "yaz")
-        subprocess.run(["cc", "-O1", "-o", program, FOLDER / "yaz.c", "-lyaz"], check=True)
-        super().__init__([program])
+        super().__init__([build_yaz(self.folder.name)])
 
 
-ADAPTERS = {"illcanon": Illcanon, "yaz": Yaz}
+class ErlangCodec:
+    """The codec that Erlang makes of the module, which writes DER. Needs Erlang's asn1 and YAZ's module (Debian: erlang-asn1, libyaz-dev)."""
+
+    def __init__(self, _):
+        self.peer = Erlang()
+
+    def message(self, path):
+        is_read, output = self.peer.convert(path.read_bytes())
+        return Answer(0, output) if is_read else Answer(1, b"", UNSAID)
+
+    stream = message
+
+
+ADAPTERS = {"illcanon": Illcanon, "yaz": Yaz, "erlang": ErlangCodec}
 
 
 def octets_of(vector, name, runs):
