@@ -2,7 +2,7 @@
 use Rattle.ill_schema.specs.Profiles.{profile_of}
 use Rattle.ill_schema.specs.declared.profile.Profile.{Profile as Named}
 use Rattle.std.proofs.Common.{◌≡◌, ◌⊎◌, inl, inr, nat_eq, get_or, slice_get, ◌&&◌, ◌||◌, ℕ, zero, suc, ◌+◌, ◌-◌, ◌<◌, ◌≤◌, Bool, true, false, List, [], ◌∷◌, ◌++◌, length, take, drop, Option, Some, None, IsTrue, refl, sym, ap, ap₂, subst, ◌∙◌, arith, if◌then◌else◌, length-append, length-drop}
-use Rattle.std.specs.Prelude.{nat_le}
+use Rattle.std.specs.Prelude.{nat_le, ◌%◌, unwrap_or}
 use Rattle.std.proofs.lemmas.List.{take-append-le, drop-append-le}
 use Rattle.ber_core.specs.Id.{tag_of_id, form_of_id}
 use Rattle.ber_core.specs.Identifier.{Tag}
@@ -22,8 +22,8 @@ use Rattle.ill_refusals.specs.code.Judge.{Judgement, faulty, closes, or_faulty, 
 use Rattle.ill_elements.specs.code.Judging.{IsFormed, judge_identified, unexpected}
 use Rattle.ill_elements.specs.code.Judging.{IsBegin, IsEnd, content_in}
 use Rattle.ill_refusals.specs.Next.{Due, due, element_of, is_last, missing}
-use Rattle.ill_refusals.specs.Place.{Open, next_in, bound}
-use Rattle.ill_refusals.specs.Reading.{IdentifierRead, identified, part_identifier, no_identifier, read_identifier, definite, read_length}
+use Rattle.ill_refusals.specs.Place.{Open, next_in, bound, innermost_end}
+use Rattle.ill_refusals.specs.Reading.{IdentifierRead, identified, part_identifier, no_identifier, read_identifier, read_number, tagged, definite, read_length}
 use Rattle.ill_elements.specs.Standing.{StandsAt, next_at}
 use Rattle.ill_elements.specs.Due.{Due as CodeDue}
 use Rattle.ill_elements.specs.Found.{Found}
@@ -191,6 +191,17 @@ other_judged p place at cut (x ∷ w) first e other =
     and-false true b h = h
     and-false false b h = refl
 
+-- an identifier begins an element
+pub identified_judged : (p : Named) (place : List Open) (at : ℕ) (cut : Fault) (w rest : List ℕ) (tag : Tag) (f : Bool) → read_identifier w ≡ identified tag f rest
+    → judge_octets (profile_of p) place at cut w ≡ judge_element (profile_of p) place at cut w
+identified_judged p place at cut [] rest tag f e = absurd (let q : part_identifier ≡ identified tag f rest = e in cc)
+identified_judged p place at cut (x ∷ w) rest tag f e =
+    other_judged p place at cut (x ∷ w) x refl (inr (go (nat_eq x 0) (if nat_eq (x % 32) 31 then read_number x w else tagged x (x % 32) w) e))
+  where
+    go : (b : Bool) (other : IdentifierRead) → (if b then no_identifier else other) ≡ identified tag f rest → b ≡ false
+    go true other h = absurd (let q : no_identifier ≡ identified tag f rest = h in cc)
+    go false other h = refl
+
 -- an element is judged after its identifier
 pub behind_identifier : (p : Named) (place : List Open) (at : ℕ) (cut : Fault) (w front behind : List ℕ) (tag : Tag) (f : Bool) → w ≡ front ++ behind → read_identifier w ≡ identified tag f behind
     → judge_element (profile_of p) place at cut w ≡ judge_identified p place tag f at (length front) cut behind
@@ -235,6 +246,16 @@ place_body p place at rest b = elim b as (λ _. Judgement) [
 -- a definite element ends there
 pub ended_judged : (p : Named) (place : List Open) (at : ℕ) (rest : List ℕ) → ends_at place at ≡ true → judge (profile_of p) place at rest ≡ judge_end (profile_of p) place at 0
 ended_judged p place at rest e = ap (place_body p place at rest) e
+
+-- none ends before the bound
+pub ends_at_bound : (place : List Open) (at : ℕ) → (bound profile_two place - at ≡ 0 → ⊥) → ends_at place at ≡ false
+ends_at_bound [] at h = refl
+ends_at_bound (o ∷ path) at h = go o.end (innermost_end path) h
+  where
+    go : (e outer : Option ℕ) → (unwrap_or (elim e as (λ _. Option ℕ) [ Some n ↦ Some n | None ↦ outer ]) profile_two.limit - at ≡ 0 → ⊥)
+        → (elim e as (λ _. Bool) [ Some n ↦ nat_eq n at | None ↦ false ]) ≡ false
+    go (Some n) outer h = let other : n ≡ at → ⊥ = λ e. h (omega (arith, e)) in grind (arith, other)
+    go None outer h = refl
 
 -- none does
 pub within_judged : (p : Named) (place : List Open) (at : ℕ) (rest window : List ℕ) → ends_at place at ≡ false → window ≡ take (bound profile_two place - at) rest

@@ -76,12 +76,26 @@ pub fn read_any(octets: &[u8]) -> HeaderRead
 pub fn length_after(octets: &[u8], constructed: bool) -> Option<LengthRead>
     ensures { IfSome result (λ read. IsLengthRead read (read_length constructed (drop 1 octets.now)) octets.now) }
 {
-    match *octets.get(1)? {
-        size @ 0..=127 => Some(LengthRead::Whole(Len::Definite(size as u32), 2)),
-        128 => constructed.then_some(LengthRead::Whole(Len::Indefinite, 2)),
+    let first = *octets.get(1)?;
+    // Most lengths are of one octet, so that is asked first.
+    if first < 128 {
+        return Some(LengthRead::Whole(Len::Definite(first as u32), 2));
+    }
+    long_length(octets, first, constructed)
+}
+
+/// The length whose first octet is this one, which is no length by itself.
+#[inline(always)]
+fn long_length(octets: &[u8], first: u8, constructed: bool) -> Option<LengthRead>
+    requires first { slice_get octets.now 1 ≡ Some first }
+    requires long { 128 ≤ first }
+    ensures { IfSome result (λ read. IsLengthRead read (read_length constructed (drop 1 octets.now)) octets.now) }
+{
+    match first {
         132 => length_in_four(octets),
+        128 => constructed.then_some(LengthRead::Whole(Len::Indefinite, 2)),
         255 => None,
-        first => length_in(octets, (first - 128) as usize),
+        _ => length_in(octets, (first - 128) as usize),
     }
 }
 
@@ -119,7 +133,7 @@ pub fn first_identifier(octets: &[u8]) -> Option<Id>
     ensures { IfSome result (λ id. read_identifier octets.now ≡ identified (tag_of_id id) (form_of_id id) (drop 1 octets.now)) }
 {
     let first = *octets.first()?;
-    if first == 0 || first % 32 == 31 {
+    if first % 32 == 31 {
         return None;
     }
     Id::new(class_in(first), first % 64 >= 32, (first % 32) as u32)

@@ -39,7 +39,7 @@ impl<D: Draft> Reader<D> {
     ghost use Rattle.ill_schema.specs.Profiles.{profile_of};
     ghost use Rattle.ill_schema.specs.declared.profile.Profile.{Profile as Named};
     ghost use Rattle.ill_elements.specs.Two.{is_found_of};
-    ghost use Rattle.std.specs.Prelude.{◌≡◌, ◌≢◌, ℕ, ◌+◌, ◌<◌, List, [], ◌∷◌, ◌++◌, length, drop, take, true, IsTrue, Ok, Err, Some, None};
+    ghost use Rattle.std.specs.Prelude.{◌≡◌, ◌≢◌, ℕ, ◌+◌, ◌-◌, ◌<◌, List, [], ◌∷◌, ◌++◌, length, drop, take, true, IsTrue, Ok, Err, Some, None};
     ghost use Rattle.ber_core.specs.Octets.{are_octets};
     ghost use Rattle.ill_schema.specs.Apdu.{Apdu, Accepts};
     ghost use Rattle.ill_elements.specs.Need.{NeedsAfterIn};
@@ -53,7 +53,10 @@ impl<D: Draft> Reader<D> {
     ghost use Rattle.ill_read.specs.code.Drafts.{HoldsApdu};
     ghost use Rattle.ill_read.specs.code.Filling.{HasLooked, NoneEndsWithin};
     ghost use Rattle.ill_read.specs.code.Judged.{IsJudgement, IsStep};
-    ghost use Rattle.ill_elements.specs.code.Judging.{IsRoom};
+    ghost use Rattle.ill_elements.specs.code.Judging.{IsRoom, WhereItStands};
+    ghost use Rattle.ber_leaf.specs.Profile.{profile_two};
+    ghost use Rattle.ill_refusals.specs.Fault.{ends_at};
+    ghost use Rattle.ill_refusals.specs.Place.{bound};
     ghost use Rattle.ill_read.specs.code.Progress.{Judgement, Closes, Opens, Reads, size_of, IsProgress};
     ghost use Rattle.ill_elements.specs.Standing.{depth_of};
     ghost use Rattle.ill_read.specs.code.ReaderCode.{CanRefuse, CanStep, HasAdvanced, HasClosed, HasOutcome, HasStopped, IsFed, IsRunning, LeadsOn, Progresses, Steps, ended};
@@ -267,10 +270,10 @@ impl<D: Draft> Reader<D> {
         if !matches!(&self.state, State::Open) {
             return None;
         }
-        if self.path.frames.ends_at(self.at) {
+        let room = self.path.frames.bound().saturating_sub(self.at);
+        if self.ends_here(room) {
             return self.end_element(0);
         }
-        let room = self.path.frames.bound().saturating_sub(self.at);
         let window = if rest.len() < room as usize {
             rest
         } else {
@@ -279,9 +282,43 @@ impl<D: Draft> Reader<D> {
         self.advance_within(window, room, rest.len())
     }
 
+    /// Tells whether the innermost element is of definite length and ends here, where this room is left before the bound.
+    #[inline(always)]
+    fn ends_here(&self, room: u32) -> bool
+        ensures open { IsTrue result → 0 < depth_of self.now.path.frames }
+        ensures exact { WhereItStands self.now.path.frames (λ place. room ≡ bound profile_two place - self.now.at → result ≡ ends_at place self.now.at) }
+    {
+        // None ends before the bound, so most places do without the second question.
+        if room > 0 {
+            return false;
+        }
+        self.path.frames.ends_at(self.at)
+    }
+
     /// An end mark or an element, in the octets before the bound: at most `room`, of the `came` octets that follow.
     #[inline(always)]
     fn advance_within(&mut self, window: &[u8], room: u32, came: usize) -> Option<usize>
+        requires takes { D.takes self.old.path.frames.profile }
+        requires open { self.old.state ≡ State.Open }
+        requires fits { IsRoom self.old.at room window.now }
+        ensures pending { self.new.pending ≡ self.old.pending }
+        ensures progress { Progresses (length window.now) self.old.path.frames self.new.path.frames result }
+        ensures goes { (p : Named) → LeadsOn p D.holds D.has self.old window.now room came self.new result (λ place cut. judge_octets (profile_of p) place self.old.at cut window.now) }
+        ensures profile { self.new.path.frames.profile ≡ self.old.path.frames.profile }
+    {
+        let Some(id) = first_identifier(window) else {
+            return self.advance_rarely(window, room, came);
+        };
+        match length_after(window, id.constructed()) {
+            Some(length) => self.identified(id, length, window, room, came),
+            None => self.advance_rarely(window, room, came),
+        }
+    }
+
+    /// The same where no identifier of one octet is there with a whole length.
+    // Apart, so that what most elements have is not put together with what few have.
+    #[inline(never)]
+    fn advance_rarely(&mut self, window: &[u8], room: u32, came: usize) -> Option<usize>
         requires takes { D.takes self.old.path.frames.profile }
         requires open { self.old.state ≡ State.Open }
         requires fits { IsRoom self.old.at room window.now }
@@ -296,11 +333,11 @@ impl<D: Draft> Reader<D> {
         if *first == 0 && self.path.frames.awaits_end_mark() {
             return self.end_mark(window, came);
         }
-        self.element(window, room, came)
+        self.rare_element(window, room, came)
     }
 
     /// An end mark, whose first octet is there.
-    #[inline(never)]
+    #[inline(always)]
     fn end_mark(&mut self, window: &[u8], came: usize) -> Option<usize>
         requires takes { D.takes self.old.path.frames.profile }
         requires open { self.old.state ≡ State.Open }
@@ -343,28 +380,7 @@ impl<D: Draft> Reader<D> {
         }
     }
 
-    /// An element from its first octet on.
-    #[inline(always)]
-    fn element(&mut self, window: &[u8], room: u32, came: usize) -> Option<usize>
-        requires takes { D.takes self.old.path.frames.profile }
-        requires open { self.old.state ≡ State.Open }
-        requires fits { IsRoom self.old.at room window.now }
-        ensures pending { self.new.pending ≡ self.old.pending }
-        ensures progress { Progresses (length window.now) self.old.path.frames self.new.path.frames result }
-        ensures goes { (p : Named) → LeadsOn p D.holds D.has self.old window.now room came self.new result (λ place cut. judge_element (profile_of p) place self.old.at cut window.now) }
-        ensures profile { self.new.path.frames.profile ≡ self.old.path.frames.profile }
-    {
-        let Some(id) = first_identifier(window) else {
-            return self.rare_element(window, room, came);
-        };
-        match length_after(window, id.constructed()) {
-            Some(length) => self.identified(id, length, window, room, came),
-            None => self.rare_element(window, room, came),
-        }
-    }
-
-    /// The same where the identifier isn't of one octet, or the length isn't whole.
-    // Apart, so that what most elements have is not put together with what few have.
+    /// An element whose identifier isn't of one octet, or whose length isn't whole.
     #[inline(never)]
     fn rare_element(&mut self, window: &[u8], room: u32, came: usize) -> Option<usize>
         requires takes { D.takes self.old.path.frames.profile }

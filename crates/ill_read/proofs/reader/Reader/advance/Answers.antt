@@ -10,16 +10,18 @@ use Rattle.ill_elements.proofs.Judgements.{ended_judged, within_judged}
 use Rattle.ill_read.proofs.reader.Reader.advance.Goals as goal
 use Rattle.ill_read.proofs.reader.Reader.advance.Goals.{in-Open, in_default, then-rest-room, else-rest-room}
 
-pub returns-then-ends_at-clause-goes : goal.returns-then-ends_at-clause-goes
-returns-then-ends_at-clause-goes g c p s h =
+pub returns-then-ends_here-clause-goes : goal.returns-then-ends_here-clause-goes
+returns-then-ends_here-clause-goes g c p s h =
     let d = c.args.self.now in let rest = c.args.rest.now in
     let opened : d.state ≡ Open = elim c.match-matches.branch [
       | in-Open w ↦ w.in-Open.is
       | in_default w ↦ absurd (let q : true ≡ false = sym c.if-not-matches.false ∙ w.matches-is in cc)
     ] in
     let b = subst (λ st. InState p st s (HasRead p g.D.Draft.has d s) (StandsBefore p (HoldsAt p g.D.Draft.holds d.path) d.at s rest)) opened h in
+    let stands : StandsAt d.path.frames b.place = stands_at p g.D.Draft.holds d.path b.place b.stands in
+    let here : c.saturating_sub-room.result ≡ bound (profile_of p) b.place - d.at = c.saturating_sub-room.ensures ∙ ap (λ n. n - d.at) (c.bound.ensures.exact b.place stands) in
     c.end_element.ensures.goes p [] (bound (profile_of p) b.place - d.at) (length rest) (omega arith) s rest rest b refl refl refl
-    (ended_judged p b.place d.at rest (sym (c.ends_at.ensures.exact b.place (stands_at p g.D.Draft.holds c.args.self.now.path b.place b.stands)) ∙ c.if-ends_at.true))
+    (ended_judged p b.place d.at rest (sym (c.ends_here.ensures.exact b.place stands here) ∙ c.if-ends_here.true))
 
 pub returns-clause-goes : goal.returns-clause-goes
 returns-clause-goes g c p s h =
@@ -29,7 +31,7 @@ returns-clause-goes g c p s h =
       | in_default w ↦ absurd (let q : true ≡ false = sym c.if-not-matches.false ∙ w.matches-is in cc)
     ] in
     let b = subst (λ st. InState p st s (HasRead p g.D.Draft.has d s) (StandsBefore p (HoldsAt p g.D.Draft.holds d.path) d.at s rest)) opened h in
-    let stands : StandsAt c.args.self.now.path.frames b.place = (stands_at p g.D.Draft.holds c.args.self.now.path b.place b.stands) in
+    let stands : StandsAt d.path.frames b.place = stands_at p g.D.Draft.holds d.path b.place b.stands in
     let room = c.saturating_sub-room.result in
     let front : c.if-rest-room.window.now ≡ take room rest = elim c.if-rest-room.branch [
       | then-rest-room w ↦ ap (λ (x : Bor (List ℕ)). x.now) w.window-is ∙ sym (take_all room rest (omega (arith, w.if-rest-room.true)))
@@ -38,4 +40,4 @@ returns-clause-goes g c p s h =
     let here : room ≡ bound (profile_of p) b.place - d.at = c.saturating_sub-room.ensures ∙ ap (λ n. n - d.at) (c.bound.ensures.exact b.place stands) in
     let joined : rest ≡ c.if-rest-room.window.now ++ drop room rest = sym (ap (λ x. x ++ drop room rest) front ∙ take-append-drop room rest) in
     c.advance_within.ensures.goes p s rest (drop room rest) b refl joined here
-    (within_judged p b.place d.at rest c.if-rest-room.window.now (sym (c.ends_at.ensures.exact b.place stands) ∙ c.if-ends_at.false) (front ∙ ap (λ m. take m rest) here))
+    (within_judged p b.place d.at rest c.if-rest-room.window.now (sym (c.ends_here.ensures.exact b.place stands here) ∙ c.if-ends_here.false) (front ∙ ap (λ m. take m rest) here))
