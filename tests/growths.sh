@@ -6,12 +6,13 @@
 cd "$(dirname "$0")/../crates" || exit 2
 (cd ill_apdu && rt lib >/dev/null 2>&1) || exit 2
 (cd illcanon && rt run -- --version >/dev/null 2>&1) || exit 2
-folder=$(mktemp -d) || exit 2
+# On the same file system as the crates, since their folders `out` are linked into the copy: they have gigabytes.
+mkdir -p ../tests/out && folder=$(mktemp -d "$(cd ../tests/out && pwd)/growths.XXXXXX") || exit 2
 trap 'rm -rf "$folder"' EXIT
 cc -shared -fPIC -O1 -o "$folder/refuse.so" ../tests/refuse.c -ldl || exit 2
 
 # Makes the program of tests/NAME, a crate with these dependencies, in a copy of the crates.
-mkdir "$folder/copy" && cp -r . "$folder/copy/crates" && cp ../crates.txt "$folder/copy" || exit 2
+mkdir "$folder/copy" && cp -rl . "$folder/copy/crates" && cp ../crates.txt "$folder/copy" || exit 2
 make_program() {
     echo "$1: $2" >>"$folder/copy/crates.txt"
     mkdir -p "$folder/copy/crates/$1/src" || return 1
@@ -26,7 +27,9 @@ make_program() {
     done
     (cd "$folder/copy/crates/$1" && rt run >/dev/null 2>&1)
 }
-make_program growths_calls "ber_core ber_leaf ill_schema ill_read ill_write ill_normal ill_text ill_jobs test_support" || exit 2
+# The calls in the module profile are those of a test in the gate.
+mkdir -p "$folder/copy/crates/growths_calls/src" && cp test_jobs/src/memory/module.rt "$folder/copy/crates/growths_calls/src" || exit 2
+make_program growths_calls "ber_core ber_leaf ill_schema ill_read ill_write ill_normal ill_text ill_jobs ill_lines test_support" || exit 2
 make_program growths_typed "ber_leaf ill_schema ill_parts ill_apdu test_support" || exit 2
 calls=$folder/copy/crates/growths_calls/out/growths_calls
 typed=$folder/copy/crates/growths_typed/out/growths_typed

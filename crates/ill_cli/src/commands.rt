@@ -1,15 +1,13 @@
 //! The commands: what is opened, and what is done with it.
 use crate::collect::collect;
+use crate::compare::compare;
 use crate::each::print_each;
 use crate::input::write_input;
-use crate::plan::{InputTask, Plan, Reading};
+use crate::plan::{InputTask, Plan};
 use crate::tally::{Tally, end};
 use crate::words::{printable_fault, words_of};
-use ber_core::ToWrite;
-use ill_files::{Fault, Host, Progress, open_alone, print_fault, status_of};
-use ill_jobs::{RunFault, Verdict, run_same_as};
+use ill_files::{Fault, Host, Progress, print_fault, status_of};
 use ill_orders::{Order, order};
-use std::io::{self, BufWriter, Write};
 use std::rt::{Env, Files};
 
 /// Does what the process's words say, prints the line of each fault, and returns the exit status: 0, 1, 2 or 3, as [`status_of`] says.
@@ -88,41 +86,5 @@ fn run_plan<R: Print + Eprint + Input + Files + AllocGlobal + Host>(
             first,
             second,
         } => end(rt, &compare(rt, reading, first, second)),
-    }
-}
-
-/// Compares two inputs. Both are opened before either is read.
-fn compare<R: Print + Input + Files + AllocGlobal>(
-    rt: &R,
-    reading: Reading,
-    first: &str,
-    second: &str,
-) -> Result<Verdict, Fault> {
-    let alloc = rt.alloc();
-    let mut first = open_alone(rt, first)?;
-    let mut second = open_alone(rt, second)?;
-    let mut writer = BufWriter::new(alloc, io::writer(rt)).map_err(|_| Fault::out_of_memory())?;
-    let mut sink = ToWrite::new(&mut writer);
-    let Reading { profile, hex, .. } = reading;
-    let done = run_same_as(alloc, profile, hex, &mut first, &mut second, &mut sink);
-    flushed(done, &mut writer)
-}
-
-/// Writes what is still in the buffer. A write fault counts the octets that left the buffer, and is [`Fault::Closed`] where nobody reads the
-/// output any more.
-fn flushed<W: Write + Drop>(
-    done: Result<Verdict, RunFault>,
-    writer: &mut BufWriter<W>,
-) -> Result<Verdict, Fault> {
-    let flushed = writer.flush().map_err(|error| Fault::of_output(&error));
-    let kept = writer.buffer().len() as u128;
-    match (done, flushed) {
-        (_, Err(Fault::Closed)) => Err(Fault::Closed),
-        (Err(RunFault::WriteFault(count)), _) => {
-            Err(Fault::from(RunFault::WriteFault(count.saturating_sub(kept))))
-        }
-        (_, Err(fault)) => Err(fault),
-        (Ok(verdict), Ok(())) => Ok(verdict),
-        (Err(fault), Ok(())) => Err(Fault::from(fault)),
     }
 }

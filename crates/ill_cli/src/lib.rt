@@ -11,6 +11,7 @@
 
 mod collect;
 mod commands;
+mod compare;
 mod each;
 mod going;
 mod input;

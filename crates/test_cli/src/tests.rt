@@ -8,6 +8,7 @@ mod lists;
 mod names;
 mod orders;
 mod outputs;
+mod profiles;
 mod progress;
 mod reports;
 mod runs;

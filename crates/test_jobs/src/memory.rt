@@ -2,6 +2,7 @@
 //! and APDUs, which `test_typed` makes so.
 mod given;
 mod jobs;
+pub mod module;
 mod octets;
 mod writing;
 
@@ -20,6 +21,7 @@ struct All {
     octets: [Row; 15],
     writing: [Row; 6],
     jobs: [Row; 8],
+    module: [Row; 12],
 }
 
 fn call_all(alloc: Global, given: &Given) -> All {
@@ -27,6 +29,7 @@ fn call_all(alloc: Global, given: &Given) -> All {
         octets: octets::calls(alloc, given),
         writing: writing::calls(alloc, given),
         jobs: jobs::calls(alloc),
+        module: module::calls(alloc),
     }
 }
 
@@ -45,6 +48,7 @@ fn want_all(rt: &impl Abort, all: &All, wanted: Outcome) {
     want(rt, &all.octets, wanted);
     want(rt, &all.writing, wanted);
     want(rt, &all.jobs, wanted);
+    want(rt, &all.module, wanted);
 }
 
 #[test]

@@ -66,8 +66,9 @@ pub const QUIET: Row = Row {
 
 /// Names of files, and their octets as [`octets_of`] reads them. A to D are an EXPIRED in normal form, in indefinite lengths, with its first
 /// text as a VisibleString, and cut short with an octet after it that begins nothing that is due. In `first`, `middle`, `last` and `endless`
-/// a message is refused: one with nothing in it, whose end is known, or one without its second part, whose end mark is missing.
-static FILES: [(&str, &str); 15] = [
+/// a message is refused: one with nothing in it, whose end is known, or one without its second part, whose end mark is missing. E and F are an
+/// EXPIRED with an extension, in normal form and spelled in another way, which only the module profile reads; G is a refused message and E.
+static FILES: [(&str, &str); 18] = [
     (
         "A",
         "741f301d800102a10aa1031b0147a2031b0151a20ca00a80083230323430323239",
@@ -81,6 +82,18 @@ static FILES: [(&str, &str); 15] = [
         "741f301d800102a10aa1031a0147a2031b0151a20ca00a80083230323430323239",
     ),
     ("D", "741f301d800102a2"),
+    (
+        "E",
+        "742d302b800102a10aa1031b0147a2031b0151a20ca00a80083230323430323239bf310b3009800101a20430020500",
+    ),
+    (
+        "F",
+        "74343032800102a10aa1031b0147a2031b0151a20ca00a80083230323430323239bf31123010800101810100a2803080050000000000",
+    ),
+    (
+        "G",
+        "7400 742d302b800102a10aa1031b0147a2031b0151a20ca00a80083230323430323239bf310b3009800101a20430020500",
+    ),
     (
         "first",
         "7400 741f301d800102a10aa1031b0147a2031b0151a20ca00a80083230323430323239 74803080800102a180a1801b01470000a2801b015100000000a280a080800832303234303232390000000000000000",
@@ -121,12 +134,16 @@ static FILES: [(&str, &str); 15] = [
 ];
 
 /// Names of files of text: hexadecimal digits, lines, and lists of names.
-static TEXTS: [(&str, &[u8]); 14] = [
+static TEXTS: [(&str, &[u8]); 15] = [
     (
         "hex",
         b"741f301d800102a10aa1031b0147a2031b0151a20ca00a80083230323430323239\n7400 741f301d800102a10aa1031b0147a2031b0151a20ca00a80083230323430323239\n",
     ),
     ("line", b"7g\n"),
+    (
+        "extended",
+        b"742d302b800102a10aa1031b0147a2031b0151a20ca00a80083230323430323239bf310b3009800101a20430020500\n",
+    ),
     ("list", b"B\0A"),
     ("no-name", b""),
     ("one-name", b"A\0"),

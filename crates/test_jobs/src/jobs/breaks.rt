@@ -1,7 +1,10 @@
 //! Where a source or a sink breaks.
 use super::gives;
+use crate::memory::module::{NORMAL, SPELLED};
 use ber_core::{Pieces, Room};
 use ill_jobs::{Job, RunFault, Verdict, Work, run, run_same};
+use ill_normal::{NormalFailure, normalise_as};
+use ill_schema::Profile;
 use std::alloc::Global;
 use std::test::Fail;
 use test_support::octets_of;
@@ -98,4 +101,33 @@ fn a_comparison_breaks_within_its_line(rt: HostRuntime) -> Result<(), Fail> {
         assert!(rt; breaks_after(rt.alloc(), message, n), "{n}");
     }
     Ok(())
+}
+
+/// What comes of a message of the module profile in a source and a sink that break after a number of octets, and what the sink has.
+fn normalised(
+    alloc: Global,
+    source: Option<usize>,
+    sink: Option<usize>,
+    wanted: NormalFailure,
+    written: &[u8],
+) -> bool {
+    let mut source = Pieces::new(SPELLED, 64, source);
+    let mut sink: Room<128> = Room::new(64, sink);
+    normalise_as(alloc, Profile::Module, &mut source, &mut sink) == Err(wanted)
+        && sink.octets() == written
+}
+
+#[test]
+fn a_message_of_the_module_breaks_as_others(rt: HostRuntime) {
+    for n in 0..SPELLED.len() {
+        let fault = NormalFailure::ReadFault;
+        assert!(rt; normalised(rt.alloc(), Some(n), None, fault, b""), "{n}");
+    }
+    for n in 0..NORMAL.len() {
+        let fault = NormalFailure::WriteFault(n as u32);
+        assert!(rt;
+            normalised(rt.alloc(), None, Some(n), fault, &NORMAL[..n]),
+            "{n}"
+        );
+    }
 }
