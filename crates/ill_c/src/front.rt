@@ -25,7 +25,8 @@ pub(crate) fn read_front(
             Cause::Truncated => Ok(None),
             _ => Err(Failure::Refused(it)),
         },
+        Err(ReadFailure::OutOfMemory) => Err(Failure::OutOfMemory),
         // A slice doesn't break.
-        Err(ReadFailure::OutOfMemory | ReadFailure::ReadFault) => Err(Failure::OutOfMemory),
+        Err(ReadFailure::ReadFault) => unreachable!(),
     }
 }

@@ -24,8 +24,9 @@ pub(crate) fn read_whole(alloc: Global, profile: Profile, octets: &[u8]) -> Resu
         Ok(Some(normal)) => whole(normal, octets.len()),
         Ok(None) => Err(refused(0, Cause::Truncated)),
         Err(ReadFailure::Refused(refusal)) => Err(Failure::Refused(refusal)),
+        Err(ReadFailure::OutOfMemory) => Err(Failure::OutOfMemory),
         // A slice doesn't break.
-        Err(ReadFailure::OutOfMemory | ReadFailure::ReadFault) => Err(Failure::OutOfMemory),
+        Err(ReadFailure::ReadFault) => unreachable!(),
     }
 }
 
@@ -42,8 +43,9 @@ pub(crate) fn read_whole_outline(
         Ok(Some(outlined)) => whole_outline(outlined, octets.len()),
         Ok(None) => Err(refused(0, Cause::Truncated)),
         Err(ReadFailure::Refused(refusal)) => Err(Failure::Refused(refusal)),
+        Err(ReadFailure::OutOfMemory) => Err(Failure::OutOfMemory),
         // A slice doesn't break.
-        Err(ReadFailure::OutOfMemory | ReadFailure::ReadFault) => Err(Failure::OutOfMemory),
+        Err(ReadFailure::ReadFault) => unreachable!(),
     }
 }
 

@@ -65,6 +65,11 @@ DumpFails true dump left left' broken held held' fault =
     (FailsText left left' broken fault × Keeps held held')
     ⊎ ((octets : List ℕ) × TextOf left left' octets × StopsIn (profile_of dump.profile) octets fault × DumpsUpTo dump fault held held')
 
+-- after a read fault the source is broken
+abbrev pub BreaksSource : RunFault → Bool → Type 0
+BreaksSource RunFault.ReadFault broken = IsTrue broken
+BreaksSource _ broken = Unit {0}
+
 -- after a write fault the sink is broken
 abbrev pub BreaksSink : RunFault → Bool → Type 0
 BreaksSink (RunFault.WriteFault n) broken = IsTrue broken

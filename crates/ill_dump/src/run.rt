@@ -1,11 +1,12 @@
 //! The messages of an input, one after another.
-ghost use Rattle.std.specs.Prelude.{◌≡◌, ◌++◌, [], Ok, IfOk, IfErr, IfSome, IsTrue, OnOk};
+ghost use Rattle.std.specs.Prelude.{◌≡◌, ◌≢◌, ◌++◌, [], Ok, IfOk, IfErr, IfSome, IsTrue, OnOk};
 ghost use Rattle.std.specs.Io.KnownBytes.{Appends};
 ghost use Rattle.ill_schema.specs.Profiles.{profile_of};
+ghost use Rattle.ill_read.specs.declared.failure.ReadFailure.{ReadFailure};
 ghost use Rattle.ill_jobs.specs.declared.fault.RunFault.{RunFault};
 ghost use Rattle.ill_jobs.specs.Output.{label_of};
 ghost use Rattle.ill_jobs.specs.Ran.{FailsText, IsFault, TextOf};
-ghost use Rattle.ill_dump.specs.Dumped.{AreDumped, BreaksSink, DumpDone, DumpFails, DumpsUpTo, StopsIn, head};
+ghost use Rattle.ill_dump.specs.Dumped.{AreDumped, BreaksSink, BreaksSource, DumpDone, DumpFails, DumpsUpTo, StopsIn, head};
 ghost use Rattle.ill_dump.specs.code.Failing.{FollowsFrom};
 ghost use Rattle.ill_dump.specs.code.Putting.{BeginsWith, IfRefused, Puts};
 
@@ -62,6 +63,7 @@ pub fn run_dump<R: Source, L: Look<R>, W: Sink>(
         (R.left source.old) (R.left source.new) (W.contents sink.old) (W.contents sink.new)) }
     ensures fails { IfErr result (DumpFails dump.entry.hex dump.entry
         (R.left source.old) (R.left source.new) (R.is_broken source.new) (W.contents sink.old) (W.contents sink.new)) }
+    ensures reads { IfErr result (λ fault. BreaksSource fault (R.is_broken source.new)) }
     ensures breaks { IfErr result (λ fault. BreaksSink fault (W.is_broken sink.new)) }
     ensures source_stays { IsTrue (R.is_broken source.old) → IsTrue (R.is_broken source.new) }
     ensures sink_stays { IsTrue (W.is_broken sink.old) → IsTrue (W.is_broken sink.new) }
@@ -94,6 +96,7 @@ fn dump_messages<R: Source, L: Look<R>, W: Sink>(
         (R.left source.old) (R.left source.new) (W.contents sink.old) (W.contents sink.new)) }
     ensures stops { IfErr result (λ fault. IfSome (R.left source.old) (λ s. StopsIn (profile_of dump.entry.profile) s fault)) }
     ensures dumps { IfErr result (λ fault. DumpsUpTo dump.entry fault (W.contents sink.old) (W.contents sink.new)) }
+    ensures reads { IfErr result (λ fault. BreaksSource fault (R.is_broken source.new)) }
     ensures breaks { IfErr result (λ fault. BreaksSink fault (W.is_broken sink.new)) }
     ensures source_stays { IsTrue (R.is_broken source.old) → IsTrue (R.is_broken source.new) }
     ensures sink_stays { IsTrue (W.is_broken sink.old) → IsTrue (W.is_broken sink.new) }
@@ -146,6 +149,7 @@ impl Out {
         ensures none { OnOk result (self.new.head.octets.items ≡ []) }
         ensures breaks { IfErr result (λ fault. BreaksSink fault (W.is_broken sink.new)) }
         ensures refuses { IfErr result IsFault }
+        ensures writes { IfErr result (λ fault. fault ≢ RunFault.ReadFault) }
         ensures stays { IsTrue (W.is_broken sink.old) → IsTrue (W.is_broken sink.new) }
     {
         send(&mut self.head, &mut self.written, sink)?;
@@ -159,6 +163,7 @@ fn send<W: Sink>(lines: &mut Lines, written: &mut u128, sink: &mut W) -> Result<
     ensures none { OnOk result (lines.new.octets.items ≡ []) }
     ensures breaks { IfErr result (λ fault. BreaksSink fault (W.is_broken sink.new)) }
     ensures refuses { IfErr result IsFault }
+    ensures writes { IfErr result (λ fault. fault ≢ RunFault.ReadFault) }
     ensures stays { IsTrue (W.is_broken sink.old) → IsTrue (W.is_broken sink.new) }
 {
     match put_all(sink, &lines.octets) {
@@ -197,6 +202,7 @@ fn put_message<W: Sink>(
     ensures none { OnOk result (out.new.head.octets.items ≡ []) }
     ensures breaks { IfErr result (λ fault. BreaksSink fault (W.is_broken sink.new)) }
     ensures refuses { IfErr result IsFault }
+    ensures writes { IfErr result (λ fault. fault ≢ RunFault.ReadFault) }
     ensures stays { IsTrue (W.is_broken sink.old) → IsTrue (W.is_broken sink.new) }
 {
     made(put_head(dump, message, &mut out.head))?;
@@ -217,6 +223,7 @@ fn put_failure<W: Sink>(
     sink: &mut W,
 ) -> RunFault
     ensures follows { FollowsFrom message failure result }
+    ensures reads { result ≡ RunFault.ReadFault → failure ≡ ReadFailure.ReadFault }
     ensures begins { IfRefused result (BeginsWith (W.contents sink.old) (W.contents sink.new)
         (out.old.head.octets.items ++ head dump.entry message)) }
     ensures breaks { BreaksSink result (W.is_broken sink.new) }
@@ -247,6 +254,7 @@ fn put_refused<W: Sink>(
         (out.old.head.octets.items ++ head dump.entry message)) }
     ensures breaks { IfErr result (λ fault. BreaksSink fault (W.is_broken sink.new)) }
     ensures refuses { IfErr result IsFault }
+    ensures writes { IfErr result (λ fault. fault ≢ RunFault.ReadFault) }
     ensures stays { IsTrue (W.is_broken sink.old) → IsTrue (W.is_broken sink.new) }
 {
     made(put_head(dump, message, &mut out.head))?;
@@ -269,6 +277,7 @@ fn put_elements<W: Sink>(
         out.old.head.octets.items out.new.head.octets.items) }
     ensures breaks { IfErr result (λ fault. BreaksSink fault (W.is_broken sink.new)) }
     ensures refuses { IfErr result IsFault }
+    ensures writes { IfErr result (λ fault. fault ≢ RunFault.ReadFault) }
     ensures stays { IsTrue (W.is_broken sink.old) → IsTrue (W.is_broken sink.new) }
 {
     for _ in 0..=octets.len() {

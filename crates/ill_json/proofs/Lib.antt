@@ -4,3 +4,4 @@ pub mod Identifiers
 pub mod InAscii
 pub mod ModuleLeaves
 pub mod OneToOne
+pub mod WideNumbers

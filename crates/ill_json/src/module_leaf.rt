@@ -55,20 +55,16 @@ fn put_bits_of(content: Vec<u8>, out: &mut Out)
     let Ok(bits) = BitString::new(content) else {
         return;
     };
-    match u64::try_from(bits.bit_len()) {
-        Ok(count) => put_counted(count, bits.octets(), out),
-        // More bits than a message can have.
-        Err(_) => out.fail(),
-    }
+    put_counted(bits.bit_len(), bits.octets(), out);
 }
 
 /// Puts an object of the number of bits, and the octets that they fill.
-fn put_counted(count: u64, octets: &[u8], out: &mut Out)
+fn put_counted(count: u128, octets: &[u8], out: &mut Out)
     ensures { (name : List ℕ) → Adds (json_tokens (leaf_json name (bits count octets.now))) out.old out.new }
 {
     out.put(Token::BeginObject);
     out.put(Token::Key("bits"));
-    out.count(count);
+    out.bits(count);
     out.put(Token::Key("octets"));
     out.hexadecimal_of(octets);
     out.put(Token::EndObject);

@@ -13,6 +13,7 @@ use crate::ascii::into_ascii;
 use crate::hexadecimal::{add_hexadecimal, add_octets};
 use crate::identifier::add_identifier;
 use ill_read::Mark;
+use itoa::Buffer;
 use json::{Token, Writer};
 use std::alloc::{AllocError, Global};
 
@@ -82,6 +83,13 @@ impl Out {
         if self.writer.u64(count).is_err() {
             self.failed = true;
         }
+    }
+
+    /// Puts a number of bits, which may be greater than any count.
+    pub fn bits(&mut self, count: u128)
+        ensures { Adds (number (decimal count) ∷ []) self.old self.new }
+    {
+        self.put(Token::Number(Buffer::new().format(count)));
     }
 
     /// Puts a number.

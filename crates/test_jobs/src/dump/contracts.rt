@@ -7,7 +7,7 @@ ghost use Rattle.ill_dump.specs.Dumped.{Dumps};
 ghost use Rattle.ill_jobs.specs.Ran.{IsFault};
 ghost use Rattle.ill_jobs.specs.declared.fault.RunFault.{RunFault};
 
-use ber_core::{Pieces, Room, Unseen};
+use ber_core::{Pieces, Room, Sink, Source, Unseen};
 use ill_dump::{Dump, run_dump};
 use ill_jobs::RunFault;
 use ill_schema::Refusal;
@@ -46,4 +46,22 @@ fn each_message_is_dumped(
         → Dumps dump.entry i (Some sink.old.octets) (Some sink.new.octets) }
 {
     run_dump::<Pieces, Unseen, Room<64>>(alloc, dump, source, sink)
+}
+
+/// A read fault is of a source that is broken, and a write fault of a sink that is.
+fn dumps_fail_where_something_is_broken(
+    dump: Dump<'_>,
+    source: &mut Pieces,
+    sink: &mut Room<64>,
+    alloc: Global,
+) {
+    match run_dump::<Pieces, Unseen, Room<64>>(alloc, dump, source, sink) {
+        Err(RunFault::ReadFault) => {
+            prove!(source.broken());
+        }
+        Err(RunFault::WriteFault(_)) => {
+            prove!(sink.broken());
+        }
+        _ => {}
+    }
 }

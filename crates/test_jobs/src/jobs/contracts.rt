@@ -11,7 +11,9 @@ ghost use Rattle.ill_schema.specs.Fits.{FitsApdu};
 ghost use Rattle.ill_schema.specs.Message.{apdu_of};
 
 use ber_core::{Pieces, Room, Sink, Source, Unseen};
-use ill_jobs::{Job, Ran, RunFault, Verdict, Work, run_as, run_by, run_same_as, run_work};
+use ill_jobs::{
+    Job, Ran, Reports, RunFault, Verdict, Work, run_as, run_by, run_on, run_same_as, run_work,
+};
 use ill_json::{Head, json_line, json_line_as};
 use ill_lines::{LineJob, LinesFault, run_lines_as};
 use ill_normal::{Refusal, Side};
@@ -144,6 +146,46 @@ fn jobs_fail_where_something_is_broken(
             prove!(source.broken());
         }
         Err(RunFault::WriteFault(_)) => {
+            prove!(sink.broken());
+        }
+        _ => {}
+    }
+}
+
+/// The same where a job goes on after a message that is refused.
+fn jobs_that_go_on_fail_where_something_is_broken<T: Reports>(
+    work: Work<'_>,
+    source: &mut Pieces,
+    sink: &mut Room<64>,
+    reports: &mut T,
+    alloc: Global,
+) {
+    if let Err(halt) = run_on(alloc, work, source, sink, reports) {
+        match halt.fault {
+            RunFault::ReadFault => {
+                prove!(source.broken());
+            }
+            RunFault::WriteFault(_) => {
+                prove!(sink.broken());
+            }
+            _ => {}
+        }
+    }
+}
+
+/// The same of lines.
+fn lines_fail_where_something_is_broken(
+    profile: Profile,
+    job: LineJob,
+    source: &mut Pieces,
+    sink: &mut Room<64>,
+    alloc: Global,
+) {
+    match run_lines_as(alloc, profile, job, source, sink) {
+        Err(LinesFault::ReadFault) => {
+            prove!(source.broken());
+        }
+        Err(LinesFault::WriteFault) => {
             prove!(sink.broken());
         }
         _ => {}

@@ -5,9 +5,9 @@ use Rattle.ill_json.specs.Json.{leaf_json}
 use Rattle.ill_json.proofs.Added.{adds_as}
 use Rattle.ill_json.proofs.module_leaf.put_bits_of.Goals as goal
 
-pub returns-in-Ok-try_from : goal.returns-in-Ok-try_from
-returns-in-Ok-try_from c name h =
-    let counted = ap₂ (λ (n : ℕ) (octets : List ℕ). json_tokens (leaf_json name (bits n octets))) (c.in-Ok-try_from.ensures.1 ∙ c.bit_len.ensures) c.octets.ensures in
+pub returns : goal.returns
+returns c name h =
+    let counted = ap₂ (λ (n : ℕ) (octets : List ℕ). json_tokens (leaf_json name (bits n octets))) c.bit_len.ensures c.octets.ensures in
     adds_as _ _ _ _ (counted ∙ ap (λ v. json_tokens (leaf_json name v)) c.in-Ok.ensures.value) (c.put_counted.ensures name)
 
 pub returns-in_default : goal.returns-in_default
