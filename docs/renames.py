@@ -120,7 +120,7 @@ def jobs():
     tokens("ill_jobs ill_dump ill_cli test_jobs test_cli ill_files ill_lines", "run_work=run_with")
     options = "Work=JobOptions Ran=JobOutcome Halt=JobError run_by=run_counting run_on=run_skipping run_on_by=run_skipping_peeking"
     tokens("ill_jobs ill_cli test_jobs test_cli", options, comments=False)
-    tokens("ill_jobs", "Written=JobOutput Found=CheckedOutline LONGEST=MAX_LABEL_LEN", comments=False)
+    tokens("ill_jobs", "Written=JobOutput WrittenOutput=JobOutputRendered Found=CheckedOutline LONGEST=MAX_LABEL_LEN", comments=False)
     tokens("ill_jobs ill_dump ill_files", "read_most=read_at_most")
     tokens("ill_jobs ill_dump ill_files ill_cli", "Unread=ReadError", comments=False)
     tokens("ill_jobs ill_dump ill_lines", "MOST=MAX_HEX_TEXT", comments=False)
