@@ -3,7 +3,7 @@
 # the calls for C, and, where Python, GNU time or YAZ's headers are installed, the package for Python, the comparisons with another encoder,
 # judge and text, lines, the time and memory of the worst inputs, and the comparison with other codecs. Takes minutes where the crates have to be proved first.
 cd "$(dirname "$0")" || exit 2
-(cd ../crates/illcanon && rt run -- --version >/dev/null 2>&1) || exit 2
+./build_program.sh >/dev/null 2>&1 || exit 2
 status=0
 command -v python3 >/dev/null && { python3 trusted.py --check && python3 docs.py && python3 ../examples/make.py --check || status=1; }
 command -v python3 >/dev/null && { python3 ../vectors/make.py --check || status=1; }

@@ -5,7 +5,7 @@
 # since their proofs take minutes: they are made in a copy. Needs `cc`, since the refusals are made by a wrapper round malloc and realloc.
 cd "$(dirname "$0")/../crates" || exit 2
 (cd ill_apdu && rt lib >/dev/null 2>&1) || exit 2
-(cd illcanon && rt run -- --version >/dev/null 2>&1) || exit 2
+../tests/build_program.sh >/dev/null 2>&1 || exit 2
 # On the same file system as the crates, since their folders `out` are linked into the copy: they have gigabytes.
 mkdir -p ../tests/out && folder=$(mktemp -d "$(cd ../tests/out && pwd)/growths.XXXXXX") || exit 2
 trap 'rm -rf "$folder"' EXIT
