@@ -4,7 +4,7 @@ use Rattle.std.specs.List.{list_any}
 use Rattle.std.proofs.lemmas.List.{map-append}
 use Rattle.ill_jobs.specs.declared.job.Verdict.{Verdict}
 use Rattle.ill_files.specs.Status.{IsStatusOfEach, status_is, worst}
-use Rattle.ill_files.specs.declared.fault.Fault.{Fault}
+use Rattle.ill_files.specs.declared.error.ProgramError.{ProgramError}
 
 abbrev worst_by : Bool → Bool → ℕ
 worst_by three one = if three then 3 else (if one then 1 else 0)
@@ -27,7 +27,7 @@ worst_more statuses s =
     step (list_any (λ x. x == 3) statuses) (list_any (λ x. x == 1) statuses) s ∙ ap₂ worst_by (sym (any_more 3 statuses s)) (sym (any_more 1 statuses s))
 
 -- one file more was done
-pub one_more : (n status : ℕ) (done : Result Verdict Fault) → IsStatusOfEach n status → IsStatusOfEach (n + 1) (worst (status ∷ status_is done ∷ []))
+pub one_more : (n status : ℕ) (done : Result Verdict ProgramError) → IsStatusOfEach n status → IsStatusOfEach (n + 1) (worst (status ∷ status_is done ∷ []))
 one_more n status done h = (
   h.0 ++ done ∷ [],
   omega (arith, h.1, length-append h.0 (done ∷ [])),

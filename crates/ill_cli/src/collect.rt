@@ -1,18 +1,18 @@
 //! What is made of several files, in one file.
-use crate::each::{is_dash_twice, list_of, names_of, text_of, worse};
+use crate::each::{combined_status, list_of, names_of, names_standard_input_twice, text_of};
 use crate::input::{put_all, write_input};
-use crate::plan::{Action, InputTask};
+use crate::plan::{Action, InputAction};
 use crate::tally::Tally;
 use ill_files::{
-    Destination, Fault, FileId, Host, Output, OutputOf, close_output, is_output_lost, keeps_output,
-    open_input, open_output, printed, status_of,
+    FileId, Host, Output, OutputDestination, OutputOf, ProgramError, close_output, is_output_lost,
+    keeps_output, open_input, open_output, printed, status_of,
 };
 use ill_jobs::Verdict;
 use ill_orders::{Inputs, LineFault};
 use std::rt::Files;
 use std::str;
 
-/// Writes what is made of each file to one output, prints the line of each fault, and returns the exit status. The output is opened after
+/// Writes what is made of each file to one output, prints the line of each error, and returns the exit status. The output is opened after
 /// the first of the files, and only if it is not one of the files. It stays as it was if [`keeps_output`] says so of one of the files.
 pub fn collect<R: Print + Eprint + Input + Files + AllocGlobal + Host>(
     rt: &R,
@@ -26,23 +26,23 @@ pub fn collect<R: Print + Eprint + Input + Files + AllocGlobal + Host>(
     let written = FileId::of_output(rt, output);
     let (list, read) = match list_of(rt, inputs.list) {
         Ok(found) => found,
-        Err(fault) => return tally.end(rt, &Err(fault)),
+        Err(error) => return tally.end(rt, &Err(error)),
     };
     let Ok(names) = names_of(alloc, &inputs.files, &list) else {
-        return tally.end(rt, &Err(Fault::out_of_memory()));
+        return tally.end(rt, &Err(ProgramError::out_of_memory()));
     };
-    if is_dash_twice(&names, inputs.list) {
-        return tally.end(rt, &Err(Fault::from(LineFault::InputTwice)));
+    if names_standard_input_twice(&names, inputs.list) {
+        return tally.end(rt, &Err(ProgramError::from(LineFault::InputTwice)));
     }
     if written.is_some() && (read == written || is_one_of(rt, &names, written)) {
-        return tally.end(rt, &Err(Fault::SameFile));
+        return tally.end(rt, &Err(ProgramError::SameFile));
     }
     match names.as_slice() {
         [name] => {
-            let done = one_into(rt, action, name, output, whole, tally);
+            let done = canonicalise_one(rt, action, name, output, whole, tally);
             tally.end(rt, &done)
         }
-        names => each_into(rt, action, names, output, whole, tally),
+        names => canonicalise_all(rt, action, names, output, whole, tally),
     }
 }
 
@@ -59,21 +59,21 @@ fn is_one_of<R: Files>(rt: &R, names: &[&[u8]], file: Option<FileId>) -> bool {
 }
 
 /// Writes what is made of the one file that is named.
-fn one_into<R: Print + Eprint + Input + Files + AllocGlobal + Host>(
+fn canonicalise_one<R: Print + Eprint + Input + Files + AllocGlobal + Host>(
     rt: &R,
     action: Action,
     name: &[u8],
     output: &str,
     whole: bool,
     tally: &mut Tally<'_>,
-) -> Result<Verdict, Fault> {
+) -> Result<Verdict, ProgramError> {
     let name = text_of(rt.alloc(), name)?;
-    let task = InputTask::new(action, name, 1);
+    let task = InputAction::new(action, name, 1);
     write_input(rt, task, name, output, whole, tally)
 }
 
 /// Writes what is made of several files.
-fn each_into<R: Print + Eprint + Input + Files + AllocGlobal + Host>(
+fn canonicalise_all<R: Print + Eprint + Input + Files + AllocGlobal + Host>(
     rt: &R,
     action: Action,
     names: &[&[u8]],
@@ -87,7 +87,7 @@ fn each_into<R: Print + Eprint + Input + Files + AllocGlobal + Host>(
     let mut keep = false;
     let mut lost = Ok(Verdict::Good);
     for name in names {
-        match next_into(
+        match append_file(
             rt,
             action,
             name,
@@ -100,11 +100,11 @@ fn each_into<R: Print + Eprint + Input + Files + AllocGlobal + Host>(
         ) {
             Ok(done) => {
                 tally.print_of(rt, name, &done);
-                status = worse(status, status_of(&done));
+                status = combined_status(status, status_of(&done));
                 keep = keep | keeps_output(whole, &done);
             }
-            Err(fault) => {
-                lost = Err(fault);
+            Err(error) => {
+                lost = Err(error);
                 break;
             }
         }
@@ -113,7 +113,7 @@ fn each_into<R: Print + Eprint + Input + Files + AllocGlobal + Host>(
         Some(destination) => { close_output(rt, &output, destination, name_of_output, keep, lost) }
         None => lost,
     };
-    worse(status, tally.end(rt, &ended))
+    combined_status(status, tally.end(rt, &ended))
 }
 
 /// Writes what is made of the next file, one of `count`.
@@ -121,7 +121,7 @@ fn each_into<R: Print + Eprint + Input + Files + AllocGlobal + Host>(
 /// # Errors
 ///
 /// The output can't be opened or written.
-fn next_into<'r, R: Print + Eprint + Input + Files + AllocGlobal + Host>(
+fn append_file<'r, R: Print + Eprint + Input + Files + AllocGlobal + Host>(
     rt: &'r R,
     action: Action,
     name: &[u8],
@@ -129,23 +129,23 @@ fn next_into<'r, R: Print + Eprint + Input + Files + AllocGlobal + Host>(
     output: &OutputOf<'r, R>,
     name_of_output: &str,
     whole: bool,
-    destination: &mut Option<Destination>,
+    destination: &mut Option<OutputDestination>,
     tally: &mut Tally<'_>,
-) -> Result<Result<Verdict, Fault>, Fault> {
+) -> Result<Result<Verdict, ProgramError>, ProgramError> {
     let alloc = rt.alloc();
     let file = match text_of(alloc, name) {
         Ok(file) => file,
-        Err(fault) => return Ok(Err(fault)),
+        Err(error) => return Ok(Err(error)),
     };
     let Ok(name) = printed(alloc, file) else {
-        return Ok(Err(Fault::out_of_memory()));
+        return Ok(Err(ProgramError::out_of_memory()));
     };
     let mut source = match open_input(rt, file, output, tally.progress) {
         Ok(source) => source,
-        Err(fault) => return Ok(Err(fault)),
+        Err(error) => return Ok(Err(error)),
     };
     open_once(rt, output, name_of_output, whole, destination)?;
-    let task = InputTask::new(action, &name, count);
+    let task = InputAction::new(action, &name, count);
     let done = put_all(rt, task, &mut source, output, tally);
     if is_output_lost(&done) {
         return done.map(Ok);
@@ -159,8 +159,8 @@ fn open_once<'r, R: Print + Eprint + AllocGlobal + Host>(
     output: &OutputOf<'r, R>,
     name: &str,
     whole: bool,
-    destination: &mut Option<Destination>,
-) -> Result<(), Fault> {
+    destination: &mut Option<OutputDestination>,
+) -> Result<(), ProgramError> {
     if destination.is_none() {
         *destination = Some(open_output(rt, output, name, whole)?);
     }

@@ -3,48 +3,48 @@ use crate::collect::collect;
 use crate::compare::compare;
 use crate::each::print_each;
 use crate::input::write_input;
-use crate::plan::{InputTask, Plan};
+use crate::plan::{InputAction, Plan};
 use crate::tally::{Tally, end};
-use crate::words::{printable_fault, words_of};
-use ill_files::{Fault, Host, Progress, print_fault, status_of};
+use crate::words::{printable_error, words_of};
+use ill_files::{Host, ProgramError, ProgressLine, print_error, status_of};
 use ill_orders::{Order, order};
 use std::rt::{Env, Files};
 
-/// Does what the process's words say, prints the line of each fault, and returns the exit status: 0, 1, 2 or 3, as [`status_of`] says.
+/// Does what the process's words say, prints the line of each error, and returns the exit status: 0, 1, 2 or 3, as [`status_of`] says.
 /// Of several files it is 3 if one gave 3, else 1 if one gave 1.
 pub fn run_program<R: Print + Eprint + Input + Files + Env + AllocGlobal + Host>(rt: &R) -> u8 {
     let words = match words_of(rt) {
         Ok(words) => words,
-        Err(fault) => return end(rt, &Err(fault)),
+        Err(error) => return end(rt, &Err(error)),
     };
     let alloc = rt.alloc();
     match order(alloc, words.as_slice()) {
         Ok(order) => run_order(rt, order),
-        Err(fault) => end_of_words(rt, printable_fault(alloc, words.as_slice(), fault)),
+        Err(error) => end_of_words(rt, printable_error(alloc, words.as_slice(), error)),
     }
 }
 
 /// Prints why words give no order, or the help that they ask for, and returns the exit status.
-fn end_of_words<R: Print + Eprint>(rt: &R, fault: Fault) -> u8 {
-    let printed = print_fault(rt, &fault);
-    let status = status_of(&Err(fault));
+fn end_of_words<R: Print + Eprint>(rt: &R, error: ProgramError) -> u8 {
+    let printed = print_error(rt, &error);
+    let status = status_of(&Err(error));
     match printed {
         // Help that can't be written is not help.
-        Err(error) if status == 0 => end(rt, &Err(Fault::of_output(&error))),
+        Err(error) if status == 0 => end(rt, &Err(ProgramError::of_output(&error))),
         _ => status,
     }
 }
 
-/// Does what an order says, prints the line of each fault and that of the summary, and returns the exit status.
+/// Does what an order says, prints the line of each error and that of the summary, and returns the exit status.
 pub fn run_order<R: Print + Eprint + Input + Files + AllocGlobal + Host>(
     rt: &R,
     order: Order<'_>,
 ) -> u8 {
     let is_counted = order.summary;
     let progress = if is_counted {
-        Progress::begin(rt)
+        ProgressLine::begin(rt)
     } else {
-        Progress::none()
+        ProgressLine::none()
     };
     let mut tally = Tally::new(&progress);
     let status = run_plan(rt, Plan::new(order), &mut tally);
@@ -57,7 +57,7 @@ pub fn run_order<R: Print + Eprint + Input + Files + AllocGlobal + Host>(
     status
 }
 
-/// Does what a plan says, prints the line of each fault, and returns the exit status.
+/// Does what a plan says, prints the line of each error, and returns the exit status.
 fn run_plan<R: Print + Eprint + Input + Files + AllocGlobal + Host>(
     rt: &R,
     plan: Plan<'_>,
@@ -71,7 +71,7 @@ fn run_plan<R: Print + Eprint + Input + Files + AllocGlobal + Host>(
             output,
             whole,
         } => {
-            let task = InputTask::new(action, input, 1);
+            let task = InputAction::new(action, input, 1);
             let done = write_input(rt, task, input, output, whole, tally);
             tally.end(rt, &done)
         }

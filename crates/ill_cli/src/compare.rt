@@ -4,9 +4,9 @@ ghost use Rattle.ill_schema.specs.Profiles.{profile_of};
 ghost use Rattle.ill_normal.specs.Calls.{putting, taking};
 ghost use Rattle.ill_jobs.specs.Compared.{SameDone, SameFails};
 
-use crate::plan::Reading;
+use crate::plan::ReadOptions;
 use ber_core::{Sink, Source, ToWrite};
-use ill_files::{Fault, open_alone};
+use ill_files::{ProgramError, open_alone};
 use ill_jobs::{RunFault, Verdict, run_same_as};
 use std::alloc::Global;
 use std::io::{self, BufWriter, Write};
@@ -15,14 +15,16 @@ use std::rt::Files;
 /// Compares two inputs, and prints whether they hold the same message. Both are opened before either is read.
 pub fn compare<R: Print + Input + Files + AllocGlobal>(
     rt: &R,
-    reading: Reading,
+    reading: ReadOptions,
     first: &str,
     second: &str,
-) -> Result<Verdict, Fault> {
+) -> Result<Verdict, ProgramError> {
     let alloc = rt.alloc();
     let mut first = open_alone(rt, first)?;
     let mut second = open_alone(rt, second)?;
-    let mut writer = BufWriter::new(alloc, io::writer(rt)).map_err(|_| Fault::out_of_memory())?;
+    let mut writer = BufWriter::new(alloc, io::writer(rt)).map_err(
+        |_| ProgramError::out_of_memory(),
+    )?;
     let mut sink = ToWrite::new(&mut writer);
     let done = put_comparison(alloc, reading, &mut first, &mut second, &mut sink);
     flushed(done, &mut writer)
@@ -31,7 +33,7 @@ pub fn compare<R: Print + Input + Files + AllocGlobal>(
 /// Writes whether two inputs hold the same message, each read as `reading` says.
 fn put_comparison<R: Source, S: Source, W: Sink>(
     alloc: Global,
-    reading: Reading,
+    reading: ReadOptions,
     first: &mut R,
     second: &mut S,
     sink: &mut W,
@@ -44,25 +46,27 @@ fn put_comparison<R: Source, S: Source, W: Sink>(
         (taking (S.left second.old) (S.left second.new) (S.is_broken second.new))
         (putting (W.contents sink.old) (W.contents sink.new) (W.is_broken sink.new))) }
 {
-    let Reading { profile, hex, .. } = reading;
+    let ReadOptions { profile, hex, .. } = reading;
     run_same_as(alloc, profile, hex, first, second, sink)
 }
 
-/// Writes what is still in the buffer. A write fault counts the octets that left the buffer, and is [`Fault::Closed`] where nobody reads the
+/// Writes what is still in the buffer. A write error counts the octets that left the buffer, and is [`ProgramError::Closed`] where nobody reads the
 /// output any more.
 fn flushed<W: Write + Drop>(
     done: Result<Verdict, RunFault>,
     writer: &mut BufWriter<W>,
-) -> Result<Verdict, Fault> {
-    let flushed = writer.flush().map_err(|error| Fault::of_output(&error));
+) -> Result<Verdict, ProgramError> {
+    let flushed = writer
+        .flush()
+        .map_err(|error| ProgramError::of_output(&error));
     let kept = writer.buffer().len() as u128;
     match (done, flushed) {
-        (_, Err(Fault::Closed)) => Err(Fault::Closed),
+        (_, Err(ProgramError::Closed)) => Err(ProgramError::Closed),
         (Err(RunFault::WriteFault(count)), _) => {
-            Err(Fault::from(RunFault::WriteFault(count.saturating_sub(kept))))
+            Err(ProgramError::from(RunFault::WriteFault(count.saturating_sub(kept))))
         }
-        (_, Err(fault)) => Err(fault),
+        (_, Err(error)) => Err(error),
         (Ok(verdict), Ok(())) => Ok(verdict),
-        (Err(fault), Ok(())) => Err(Fault::from(fault)),
+        (Err(error), Ok(())) => Err(ProgramError::from(error)),
     }
 }

@@ -4,16 +4,16 @@ ghost use Rattle.ill_cli.specs.code.Listed.{names_in};
 ghost use Rattle.ill_files.specs.Status.{IsStatusOfEach, worst};
 
 use crate::input::print_input;
-use crate::plan::{Action, InputTask};
+use crate::plan::{Action, InputAction};
 use crate::tally::Tally;
-use ill_files::{Fault, FileId, Host, Name, is_output_lost, printed, read_whole, status_of};
+use ill_files::{FileId, Host, Name, ProgramError, is_output_lost, printed, read_whole, status_of};
 use ill_jobs::{Job, Verdict};
 use ill_orders::{Inputs, LineFault};
 use std::alloc::{AllocError, Global};
 use std::rt::Files;
 use std::str;
 
-/// Prints what is made of each input, and the line of each fault, and returns the exit status. Of several files each line names its file.
+/// Prints what is made of each input, and the line of each error, and returns the exit status. Of several files each line names its file.
 pub fn print_each<R: Print + Eprint + Input + Files + AllocGlobal + Host>(
     rt: &R,
     action: Action,
@@ -23,13 +23,13 @@ pub fn print_each<R: Print + Eprint + Input + Files + AllocGlobal + Host>(
     let alloc = rt.alloc();
     let list = match list_of(rt, inputs.list) {
         Ok((list, _)) => list,
-        Err(fault) => return tally.end(rt, &Err(fault)),
+        Err(error) => return tally.end(rt, &Err(error)),
     };
     let Ok(names) = names_of(alloc, &inputs.files, &list) else {
-        return tally.end(rt, &Err(Fault::out_of_memory()));
+        return tally.end(rt, &Err(ProgramError::out_of_memory()));
     };
-    if is_dash_twice(&names, inputs.list) {
-        return tally.end(rt, &Err(Fault::from(LineFault::InputTwice)));
+    if names_standard_input_twice(&names, inputs.list) {
+        return tally.end(rt, &Err(ProgramError::from(LineFault::InputTwice)));
     }
     match names.as_slice() {
         [name] => {
@@ -44,7 +44,7 @@ pub fn print_each<R: Print + Eprint + Input + Files + AllocGlobal + Host>(
 pub fn list_of<R: Input + Files + AllocGlobal>(
     rt: &R,
     list: Option<&str>,
-) -> Result<(Vec<u8>, Option<FileId>), Fault> {
+) -> Result<(Vec<u8>, Option<FileId>), ProgramError> {
     match list {
         Some(name) => read_whole(rt, name),
         None => Ok((Vec::new(rt.alloc()), None)),
@@ -89,7 +89,7 @@ fn split_name(list: &[u8]) -> Option<(&[u8], &[u8])>
 }
 
 /// Whether standard input is to be read more than once.
-pub fn is_dash_twice(names: &[&[u8]], list: Option<&str>) -> bool {
+pub fn names_standard_input_twice(names: &[&[u8]], list: Option<&str>) -> bool {
     let mut found = list == Some("-");
     for name in names {
         if *name == b"-".as_slice() {
@@ -102,7 +102,7 @@ pub fn is_dash_twice(names: &[&[u8]], list: Option<&str>) -> bool {
     false
 }
 
-/// Prints what is made of each file, and the line of each fault, and returns the status of all that were done. Once output is lost, no
+/// Prints what is made of each file, and the line of each error, and returns the status of all that were done. Once output is lost, no
 /// file more is done.
 fn each_file<R: Print + Eprint + Input + Files + AllocGlobal + Host>(
     rt: &R,
@@ -116,7 +116,7 @@ fn each_file<R: Print + Eprint + Input + Files + AllocGlobal + Host>(
     for name in names {
         let done = one_file(rt, action, name, names.len(), tally);
         tally.print_of(rt, name, &done);
-        status = worse(status, status_of(&done));
+        status = combined_status(status, status_of(&done));
         if is_output_lost(&done) {
             return status;
         }
@@ -125,7 +125,7 @@ fn each_file<R: Print + Eprint + Input + Files + AllocGlobal + Host>(
 }
 
 /// The status of files of which those before have one, and the next has the other.
-pub fn worse(before: u8, next: u8) -> u8
+pub fn combined_status(before: u8, next: u8) -> u8
     ensures { result ≡ worst (before ∷ next ∷ []) }
 {
     if before == 3 || next == 3 {
@@ -144,24 +144,24 @@ fn one_file<R: Print + Eprint + Input + Files + AllocGlobal + Host>(
     name: &[u8],
     count: usize,
     tally: &mut Tally<'_>,
-) -> Result<Verdict, Fault> {
+) -> Result<Verdict, ProgramError> {
     let alloc = rt.alloc();
     let file = text_of(alloc, name)?;
     // JSON has a form of its own for each character.
     if let Action::Messages(Job::Json, _) = action {
-        return print_input(rt, InputTask::new(action, file, count), file, tally);
+        return print_input(rt, InputAction::new(action, file, count), file, tally);
     }
-    let name = printed(alloc, file).map_err(|_| Fault::out_of_memory())?;
-    print_input(rt, InputTask::new(action, &name, count), file, tally)
+    let name = printed(alloc, file).map_err(|_| ProgramError::out_of_memory())?;
+    print_input(rt, InputAction::new(action, &name, count), file, tally)
 }
 
 /// The name of a file as text. Other octets name no file that can be opened.
-pub fn text_of(alloc: Global, name: &[u8]) -> Result<&str, Fault> {
+pub fn text_of(alloc: Global, name: &[u8]) -> Result<&str, ProgramError> {
     match str::from_utf8(name) {
         Ok(text) => Ok(text),
         Err(_) => match name.to_vec(alloc) {
-            Ok(octets) => Err(Fault::CannotOpen(Name(octets))),
-            Err(AllocError) => Err(Fault::out_of_memory()),
+            Ok(octets) => Err(ProgramError::CannotOpen(Name(octets))),
+            Err(AllocError) => Err(ProgramError::out_of_memory()),
         },
     }
 }

@@ -1,16 +1,16 @@
 //! The lines of messages that are refused, where the work goes on after them.
-use ill_files::{NameOf, Progress, RunLine};
-use ill_jobs::{Report, Reports, RunFault};
+use ill_files::{NameOf, ProgressLine, RunLine};
+use ill_jobs::{RefusalReport, ReportRefusals, RunFault};
 use std::fmt;
 
 /// A message that is refused, as one line.
 #[derive(Clone, Copy, Debug, PartialEq, Eq)]
-pub struct ReportLine(pub Report);
+pub struct ReportLine(pub RefusalReport);
 
 impl fmt::Display for ReportLine {
     fn fmt<W: fmt::Write>(&self, f: &mut fmt::Formatter<W>) -> fmt::Result {
         let ReportLine(
-            Report {
+            RefusalReport {
                 message,
                 refusal,
                 ends,
@@ -27,20 +27,20 @@ impl fmt::Display for ReportLine {
 
 /// Prints the line of each message that is refused, with the name of its file where there are several.
 #[derive(Drop)]
-pub struct Printed<'a, R> {
+pub struct PrintReports<'a, R> {
     pub rt: &'a R,
     pub name: Option<&'a str>,
     /// Whether the name is the file's own, and not yet as names are printed.
     pub is_raw: bool,
-    pub progress: &'a Progress,
+    pub progress: &'a ProgressLine,
 }
 
-impl<R: Eprint> Reports for Printed<'_, R> {
+impl<R: Eprint> ReportRefusals for PrintReports<'_, R> {
     ghost use Rattle.std.specs.Prelude.{None};
 
     ghost reported = { λ _. None };
 
-    fn report(&mut self, report: Report) {
+    fn report(&mut self, report: RefusalReport) {
         let line = ReportLine(report);
         self.progress.clear(self.rt);
         // A line that can't be written changes nothing of the work.

@@ -1,26 +1,28 @@
 //! What is made of one input, and where it is written.
 ghost use Rattle.std.specs.Prelude.{◌≡◌, Bool, None, IfOk};
 ghost use Rattle.ill_normal.specs.Calls.{putting, taking};
-ghost use Rattle.ill_going.specs.Gone.{reporting};
-ghost use Rattle.ill_going.specs.declared.going.Gone.{Gone};
+ghost use Rattle.ill_going.specs.Skipping.{reporting};
+ghost use Rattle.ill_going.specs.declared.going.SkippingCounts.{SkippingCounts};
 ghost use Rattle.ill_jobs.specs.declared.job.Counts.{Counts};
-ghost use Rattle.ill_jobs.specs.Going.{verdict_of_gone, GoesOn};
+ghost use Rattle.ill_jobs.specs.Skipping.{verdict_of_counts, RunsSkipping};
 ghost use Rattle.ill_jobs.specs.Output.{verdict_if};
-ghost use Rattle.ill_jobs.specs.Ran.{RunDone};
+ghost use Rattle.ill_jobs.specs.Runs.{RunDone};
 ghost use Rattle.ill_dump.specs.Dumped.{DumpDone};
 ghost use Rattle.ill_lines.specs.Lines.{LinesDone};
 
-use crate::going::Printed;
-use crate::plan::InputTask;
+use crate::going::PrintReports;
+use crate::plan::InputAction;
 use crate::tally::Tally;
 use ber_core::{Ahead, AtHand, Sink, ToWrite};
-use ill_dump::{Dump, run_dump};
+use ill_dump::{DumpOptions, run_dump};
 use ill_files::{
-    Fault, FileId, Host, Output, OutputOf, Shared, ToOutput, close_output, keeps_output,
+    FileId, Host, Output, OutputOf, ProgramError, Shared, ToOutput, close_output, keeps_output,
     open_and_identify, open_output, open_standard_output,
 };
-use ill_jobs::{Job, RunFault, Verdict, Work, run_by, run_on_by, verdict_of};
-use ill_lines::{LineWork, LinesFault, run_lines_as};
+use ill_jobs::{
+    Job, JobOptions, RunFault, Verdict, run_counting, run_skipping_peeking, verdict_of,
+};
+use ill_lines::{LineOptions, LinesFault, run_lines_as};
 use std::alloc::Global;
 use std::io::{Read, Write};
 use std::rt::Files;
@@ -28,10 +30,10 @@ use std::rt::Files;
 /// Prints what is made of the input of this name.
 pub(crate) fn print_input<R: Print + Eprint + Input + Files + AllocGlobal + Host>(
     rt: &R,
-    task: InputTask<'_>,
+    task: InputAction<'_>,
     input: &str,
     tally: &mut Tally<'_>,
-) -> Result<Verdict, Fault> {
+) -> Result<Verdict, ProgramError> {
     let output = Output::new();
     let done = put_input(rt, task, input, &output, tally);
     output.finish(done)
@@ -41,17 +43,17 @@ pub(crate) fn print_input<R: Print + Eprint + Input + Files + AllocGlobal + Host
 /// that they don't go to the file that they are read of.
 fn put_input<'r, R: Print + Eprint + Input + Files + AllocGlobal + Host>(
     rt: &'r R,
-    task: InputTask<'_>,
+    task: InputAction<'_>,
     input: &str,
     output: &OutputOf<'r, R>,
     tally: &mut Tally<'_>,
-) -> Result<Verdict, Fault> {
+) -> Result<Verdict, ProgramError> {
     let (mut source, read) = open_and_identify(rt, input, output, tally.progress)?;
-    if matches!(task, InputTask::Lines(_))
+    if matches!(task, InputAction::Lines(_))
         && read.is_some()
         && read == FileId::of_standard_output(rt)
     {
-        return Err(Fault::SameFile);
+        return Err(ProgramError::SameFile);
     }
     open_standard_output(rt, output)?;
     put_all(rt, task, &mut source, output, tally)
@@ -61,17 +63,17 @@ fn put_input<'r, R: Print + Eprint + Input + Files + AllocGlobal + Host>(
 /// replaced as [`keeps_output`] says.
 pub(crate) fn write_input<R: Print + Eprint + Input + Files + AllocGlobal + Host>(
     rt: &R,
-    task: InputTask<'_>,
+    task: InputAction<'_>,
     input: &str,
     name: &str,
     whole: bool,
     tally: &mut Tally<'_>,
-) -> Result<Verdict, Fault> {
+) -> Result<Verdict, ProgramError> {
     let written = FileId::of_output(rt, name);
     let output = Output::new();
     let (mut source, read) = open_and_identify(rt, input, &output, tally.progress)?;
     if read.is_some() && read == written {
-        return Err(Fault::SameFile);
+        return Err(ProgramError::SameFile);
     }
     let destination = open_output(rt, &output, name, whole)?;
     let done = put_all(rt, task, &mut source, &output, tally);
@@ -82,11 +84,11 @@ pub(crate) fn write_input<R: Print + Eprint + Input + Files + AllocGlobal + Host
 /// Writes what is made of an input, and counts its messages.
 pub(crate) fn put_all<'o, R, I: Read, J: Read, S: Write + Drop, F: Write + Drop>(
     rt: &R,
-    task: InputTask<'_>,
+    task: InputAction<'_>,
     source: &mut Shared<'o, I, J, S, F>,
     output: &'o Output<S, F>,
     tally: &mut Tally<'_>,
-) -> Result<Verdict, Fault>
+) -> Result<Verdict, ProgramError>
 where
     R: Eprint + AllocGlobal,
 {
@@ -94,67 +96,69 @@ where
     let mut sink = ToWrite::new(ToOutput {
         output,
         // The results of lines are there before more input is waited for.
-        is_direct: matches!(task, InputTask::Lines(_)),
+        is_direct: matches!(task, InputAction::Lines(_)),
     });
     match task {
-        InputTask::Messages(work) => put_messages(rt.alloc(), work, source, &mut sink, tally),
-        InputTask::GoodMessages(work) => put_good_messages(rt, work, source, &mut sink, tally),
-        InputTask::Elements(dump) => put_elements(rt.alloc(), dump, source, &mut sink),
-        InputTask::Lines(work) => put_lines(rt.alloc(), work, source, &mut sink),
+        InputAction::Messages(work) => put_messages(rt.alloc(), work, source, &mut sink, tally),
+        InputAction::AcceptedMessages(work) => put_accepted_messages(
+            rt, work, source, &mut sink, tally,
+        ),
+        InputAction::Elements(dump) => put_elements(rt.alloc(), dump, source, &mut sink),
+        InputAction::Lines(work) => put_lines(rt.alloc(), work, source, &mut sink),
     }
 }
 
 /// Does a job with one message after another, up to one that is refused.
 fn put_messages<S: Ahead, W: Sink>(
     alloc: Global,
-    work: Work<'_>,
+    work: JobOptions<'_>,
     source: &mut S,
     sink: &mut W,
     tally: &mut Tally<'_>,
-) -> Result<Verdict, Fault>
+) -> Result<Verdict, ProgramError>
     ensures { IfOk result (λ verdict. (counts : Counts) × RunDone work.entry.hex work.entry
         (S.left source.old) (S.left source.new) (W.contents sink.old) (W.contents sink.new)
         counts verdict) }
 {
-    let ran = run_by::<S, AtHand, W>(alloc, work, source, sink);
+    let ran = run_counting::<S, AtHand, W>(alloc, work, source, sink);
     tally.summary.add(ran.counts);
     match ran.result {
         Ok(verdict) => Ok(verdict),
-        Err(fault) => {
-            tally.summary.add_fault(fault);
-            Err(Fault::from(fault))
+        Err(error) => {
+            tally.summary.add_fault(error);
+            Err(ProgramError::from(error))
         }
     }
 }
 
 /// Does a job with each message that isn't refused, and prints a line for each of the others.
-fn put_good_messages<R: Eprint + AllocGlobal, S: Ahead, W: Sink>(
+fn put_accepted_messages<R: Eprint + AllocGlobal, S: Ahead, W: Sink>(
     rt: &R,
-    work: Work<'_>,
+    work: JobOptions<'_>,
     source: &mut S,
     sink: &mut W,
     tally: &mut Tally<'_>,
-) -> Result<Verdict, Fault>
-    ensures { IfOk result (λ verdict. (gone : Gone) × (verdict ≡ verdict_of_gone work.entry.job gone)
-        × GoesOn work.entry.hex work.entry
+) -> Result<Verdict, ProgramError>
+    ensures { IfOk result (λ verdict. (gone : SkippingCounts) × (verdict ≡ verdict_of_counts work.entry.job gone)
+        × RunsSkipping work.entry.hex work.entry
         (taking (S.left source.old) (S.left source.new) (S.is_broken source.new))
         (putting (W.contents sink.old) (W.contents sink.new) (W.is_broken sink.new))
         (reporting None None) gone) }
 {
-    let mut reports = Printed {
+    let mut reports = PrintReports {
         rt,
         name: work.is_named.then_some(work.name),
         is_raw: matches!(work.job, Job::Json),
         progress: tally.progress,
     };
-    match run_on_by::<S, AtHand, W, _>(rt.alloc(), work, source, sink, &mut reports) {
+    match run_skipping_peeking::<S, AtHand, W, _>(rt.alloc(), work, source, sink, &mut reports) {
         Ok(gone) => {
-            tally.summary.add_gone(gone);
+            tally.summary.add_skipping(gone);
             Ok(verdict_of(work.job, gone))
         }
         Err(halt) => {
-            tally.summary.add_gone(halt.before);
-            Err(Fault::from(halt.fault))
+            tally.summary.add_skipping(halt.before);
+            Err(ProgramError::from(halt.fault))
         }
     }
 }
@@ -162,26 +166,26 @@ fn put_good_messages<R: Eprint + AllocGlobal, S: Ahead, W: Sink>(
 /// Writes the elements of one message after another.
 fn put_elements<S: Ahead, W: Sink>(
     alloc: Global,
-    dump: Dump<'_>,
+    dump: DumpOptions<'_>,
     source: &mut S,
     sink: &mut W,
-) -> Result<Verdict, Fault>
+) -> Result<Verdict, ProgramError>
     ensures { IfOk result (λ _. DumpDone dump.entry.hex dump.entry
         (S.left source.old) (S.left source.new) (W.contents sink.old) (W.contents sink.new)) }
 {
     match run_dump::<S, AtHand, W>(alloc, dump, source, sink) {
         Ok(()) => Ok(Verdict::Good),
-        Err(fault) => Err(Fault::from(fault)),
+        Err(error) => Err(ProgramError::from(error)),
     }
 }
 
 /// Writes the result of each line.
 fn put_lines<S: Ahead, W: Sink>(
     alloc: Global,
-    work: LineWork,
+    work: LineOptions,
     source: &mut S,
     sink: &mut W,
-) -> Result<Verdict, Fault>
+) -> Result<Verdict, ProgramError>
     ensures { IfOk result (λ verdict. (good : Bool) × (verdict ≡ verdict_if good)
         × LinesDone work (S.left source.old) (S.left source.new)
         (W.contents sink.old) (W.contents sink.new) good) }
@@ -189,8 +193,8 @@ fn put_lines<S: Ahead, W: Sink>(
     match run_lines_as(alloc, work.profile, work.job, source, sink) {
         Ok(true) => Ok(Verdict::Good),
         Ok(false) => Ok(Verdict::NotGood),
-        Err(LinesFault::OutOfMemory) => Err(Fault::out_of_memory()),
-        Err(LinesFault::ReadFault) => Err(Fault::from(RunFault::ReadFault)),
-        Err(LinesFault::WriteFault) => Err(Fault::Flush),
+        Err(LinesFault::OutOfMemory) => Err(ProgramError::out_of_memory()),
+        Err(LinesFault::ReadFault) => Err(ProgramError::from(RunFault::ReadFault)),
+        Err(LinesFault::WriteFault) => Err(ProgramError::Flush),
     }
 }

@@ -22,5 +22,5 @@ mod words;
 
 pub use commands::{run_order, run_program};
 pub use going::ReportLine;
-pub use plan::{Action, InputTask, Plan, Reading};
+pub use plan::{Action, InputAction, Plan, ReadOptions};
 pub use summary::Summary;

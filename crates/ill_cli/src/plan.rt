@@ -1,16 +1,16 @@
 //! What an order does: which job, by which flags, with which files.
 ghost use Rattle.std.specs.Prelude.{◌≡◌};
-ghost use Rattle.ill_cli.specs.Plans.{action_of, by_line, plan_of, task_of};
+ghost use Rattle.ill_cli.specs.Plans.{action_of, by_line, plan_of, input_action_of};
 
-use ill_dump::Dump;
-use ill_jobs::{Job, Work};
-use ill_lines::{LineJob, LineWork};
+use ill_dump::DumpOptions;
+use ill_jobs::{Job, JobOptions};
+use ill_lines::{LineJob, LineOptions};
 use ill_orders::{EachJob, Inputs, Order, Task};
 use ill_schema::Profile;
 
 /// How the messages of inputs are read.
 #[derive(Clone, Copy, Debug, PartialEq, Eq)]
-pub struct Reading {
+pub struct ReadOptions {
     /// The profile that messages are read in.
     pub profile: Profile,
     /// Whether inputs are hexadecimal text.
@@ -25,11 +25,11 @@ pub struct Reading {
 #[derive(Clone, Copy, Debug, PartialEq, Eq)]
 pub enum Action {
     /// A job with one message after another.
-    Messages(Job, Reading),
+    Messages(Job, ReadOptions),
     /// The elements of one message after another, as they are spelled.
-    Elements(Reading),
+    Elements(ReadOptions),
     /// A result for each line.
-    Lines(LineWork),
+    Lines(LineOptions),
 }
 
 /// What an order does with its files. The word `-` is standard input, or standard output for an output.
@@ -59,7 +59,7 @@ pub enum Plan<'a> {
     /// Whether two inputs hold the same message is printed.
     Compare {
         /// How both are read.
-        reading: Reading,
+        reading: ReadOptions,
         first: &'a str,
         second: &'a str,
     },
@@ -85,7 +85,7 @@ impl<'a> Plan<'a> {
             whole,
             task,
         } = order;
-        let reading = Reading {
+        let reading = ReadOptions {
             profile,
             hex,
             keep_going,
@@ -119,7 +119,7 @@ impl<'a> Plan<'a> {
 }
 
 /// What a command does with each of its inputs.
-fn action_of(job: EachJob, lines: bool, json: bool, reading: Reading) -> Action
+fn action_of(job: EachJob, lines: bool, json: bool, reading: ReadOptions) -> Action
     ensures { result ≡ action_of job lines json reading }
 {
     match job {
@@ -132,11 +132,11 @@ fn action_of(job: EachJob, lines: bool, json: bool, reading: Reading) -> Action
 }
 
 /// A result for each line, or a job with each message.
-fn by_line(lines: bool, line: LineJob, message: Job, reading: Reading) -> Action
+fn by_line(lines: bool, line: LineJob, message: Job, reading: ReadOptions) -> Action
     ensures { result ≡ by_line lines line message reading }
 {
     if lines {
-        Action::Lines(LineWork {
+        Action::Lines(LineOptions {
             profile: reading.profile,
             job: line,
         })
@@ -147,30 +147,30 @@ fn by_line(lines: bool, line: LineJob, message: Job, reading: Reading) -> Action
 
 /// What is done with one input.
 #[derive(Clone, Copy, Debug)]
-pub enum InputTask<'a> {
+pub enum InputAction<'a> {
     /// A job with one message after another, up to one that is refused.
-    Messages(Work<'a>),
+    Messages(JobOptions<'a>),
     /// A job with each message that isn't refused. A line is printed for each of the others.
-    GoodMessages(Work<'a>),
+    AcceptedMessages(JobOptions<'a>),
     /// The elements of one message after another.
-    Elements(Dump<'a>),
+    Elements(DumpOptions<'a>),
     /// A result for each line.
-    Lines(LineWork),
+    Lines(LineOptions),
 }
 
-impl<'a> InputTask<'a> {
+impl<'a> InputAction<'a> {
     /// What a command does with the input of this name, which is one of `count`. Where there are several, lines name it.
     ///
     /// ```
-    /// let task = InputTask::new(action, "messages.ber", 1);
+    /// let task = InputAction::new(action, "messages.ber", 1);
     /// ```
-    pub fn new(action: Action, name: &'a str, count: usize) -> InputTask<'a>
-        ensures { result ≡ task_of action name.entry count }
+    pub fn new(action: Action, name: &'a str, count: usize) -> InputAction<'a>
+        ensures { result ≡ input_action_of action name.entry count }
     {
         let is_named = count > 1;
         match action {
             Action::Messages(job, reading) => {
-                let work = Work {
+                let work = JobOptions {
                     job,
                     profile: reading.profile,
                     hex: reading.hex,
@@ -179,18 +179,18 @@ impl<'a> InputTask<'a> {
                     compares: reading.compares,
                 };
                 if reading.keep_going {
-                    InputTask::GoodMessages(work)
+                    InputAction::AcceptedMessages(work)
                 } else {
-                    InputTask::Messages(work)
+                    InputAction::Messages(work)
                 }
             }
-            Action::Elements(reading) => InputTask::Elements(Dump {
+            Action::Elements(reading) => InputAction::Elements(DumpOptions {
                 profile: reading.profile,
                 hex: reading.hex,
                 name,
                 is_named,
             }),
-            Action::Lines(work) => InputTask::Lines(work),
+            Action::Lines(work) => InputAction::Lines(work),
         }
     }
 }

@@ -1,6 +1,6 @@
 //! What a command came to, in numbers.
 use ill_files::Count;
-use ill_jobs::{Counts, Gone, RunFault};
+use ill_jobs::{Counts, RunFault, SkippingCounts};
 use std::fmt;
 
 /// The files that a command read, and their messages, in numbers. What is too great for a number stays at the greatest one.
@@ -48,7 +48,7 @@ impl Summary {
     }
 
     /// Counts messages of which some may be refused.
-    pub fn add_gone(&mut self, gone: Gone) {
+    pub fn add_skipping(&mut self, gone: SkippingCounts) {
         self.add(Counts {
             messages: gone.messages.saturating_sub(gone.refused),
             good: gone.good,
@@ -58,8 +58,8 @@ impl Summary {
     }
 
     /// Counts the message whose refusal ended the work on its file.
-    pub fn add_fault(&mut self, fault: RunFault) {
-        if matches!(fault, RunFault::Refused { .. }) {
+    pub fn add_fault(&mut self, error: RunFault) {
+        if matches!(error, RunFault::Refused { .. }) {
             self.refused = self.refused.saturating_add(1);
         }
     }

@@ -3,19 +3,19 @@ ghost use Rattle.std.specs.Prelude.{◌≡◌};
 ghost use Rattle.ill_files.specs.Status.{status_is};
 
 use crate::summary::Summary;
-use ill_files::{Fault, Progress, print_fault, print_fault_of, status_of};
+use ill_files::{ProgramError, ProgressLine, print_error, print_error_of, status_of};
 use ill_jobs::Verdict;
 
 /// What a command has counted, and the line that says how far it is.
 #[derive(Clone, Copy)]
 pub(crate) struct Tally<'p> {
     pub summary: Summary,
-    pub progress: &'p Progress,
+    pub progress: &'p ProgressLine,
 }
 
 impl<'p> Tally<'p> {
     /// Nothing was counted yet.
-    pub fn new(progress: &'p Progress) -> Tally<'p> {
+    pub fn new(progress: &'p ProgressLine) -> Tally<'p> {
         Tally {
             summary: Summary::NONE,
             progress,
@@ -28,31 +28,36 @@ impl<'p> Tally<'p> {
         self.progress.add_file();
     }
 
-    /// Prints the line of a fault, and returns the exit status.
-    pub fn end<R: Print + Eprint>(&self, rt: &R, done: &Result<Verdict, Fault>) -> u8
+    /// Prints the line of a error, and returns the exit status.
+    pub fn end<R: Print + Eprint>(&self, rt: &R, done: &Result<Verdict, ProgramError>) -> u8
         ensures { result ≡ status_is done.now }
     {
         self.progress.clear(rt);
         end(rt, done)
     }
 
-    /// Prints the line of the fault of one of several files.
-    pub fn print_of<R: Print + Eprint>(&self, rt: &R, name: &[u8], done: &Result<Verdict, Fault>) {
-        if let Err(fault) = done {
+    /// Prints the line of the error of one of several files.
+    pub fn print_of<R: Print + Eprint>(
+        &self,
+        rt: &R,
+        name: &[u8],
+        done: &Result<Verdict, ProgramError>,
+    ) {
+        if let Err(error) = done {
             self.progress.clear(rt);
             // A line that can't be written changes nothing of the work.
-            let _ = print_fault_of(rt, name, fault);
+            let _ = print_error_of(rt, name, error);
         }
     }
 }
 
-/// Prints the line of a fault, and returns the exit status.
-pub(crate) fn end<R: Print + Eprint>(rt: &R, done: &Result<Verdict, Fault>) -> u8
+/// Prints the line of a error, and returns the exit status.
+pub(crate) fn end<R: Print + Eprint>(rt: &R, done: &Result<Verdict, ProgramError>) -> u8
     ensures { result ≡ status_is done.now }
 {
-    if let Err(fault) = done {
+    if let Err(error) = done {
         // Where standard error is closed, the status alone reports it.
-        let _ = print_fault(rt, fault);
+        let _ = print_error(rt, error);
     }
     status_of(done)
 }

@@ -1,5 +1,5 @@
 //! The words of the command line.
-use ill_files::{Fault, printable, word};
+use ill_files::{ProgramError, printable, word};
 use ill_orders::{LineFault, order};
 use std::alloc::{AllocError, Global};
 use std::env::FillError;
@@ -10,26 +10,30 @@ use std::rt::Env;
 /// # Errors
 ///
 /// Memory ran out.
-pub fn words_of<R: Env + AllocGlobal>(rt: &R) -> Result<Vec<String>, Fault> {
+pub fn words_of<R: Env + AllocGlobal>(rt: &R) -> Result<Vec<String>, ProgramError> {
     let alloc = rt.alloc();
     let mut words = Vec::new(alloc);
     for index in 0..usize::MAX {
         let Some(octets) = octets_of_word(rt, alloc, index)? else {
             break;
         };
-        let word = word(alloc, octets).map_err(|_| Fault::out_of_memory())?;
-        words.push(word).map_err(|_| Fault::out_of_memory())?;
+        let word = word(alloc, octets).map_err(|_| ProgramError::out_of_memory())?;
+        words.push(word).map_err(|_| ProgramError::out_of_memory())?;
     }
     Ok(words)
 }
 
 /// The octets of the word of this number, or None after the last.
-fn octets_of_word<R: Env>(rt: &R, alloc: Global, index: usize) -> Result<Option<Vec<u8>>, Fault> {
+fn octets_of_word<R: Env>(
+    rt: &R,
+    alloc: Global,
+    index: usize,
+) -> Result<Option<Vec<u8>>, ProgramError> {
     let mut size = 256usize;
     loop {
         let mut octets = Vec::new(alloc);
         if octets.resize(size, 0u8).is_err() {
-            return Err(Fault::out_of_memory());
+            return Err(ProgramError::out_of_memory());
         }
         match rt.arg(index, octets.as_mut_slice()) {
             Ok(count) => {
@@ -42,17 +46,17 @@ fn octets_of_word<R: Env>(rt: &R, alloc: Global, index: usize) -> Result<Option<
     }
 }
 
-/// The fault of words that give no order, as it is printed: clap's texts have the words, so that it is the fault of the same words with
+/// The error of words that give no order, as it is printed: clap's texts have the words, so that it is the error of the same words with
 /// their hidden characters as escapes.
-pub fn printable_fault(alloc: Global, words: &[String], fault: LineFault) -> Fault {
+pub fn printable_error(alloc: Global, words: &[String], error: LineFault) -> ProgramError {
     let words = match printable_words(alloc, words) {
         Ok(Some(words)) => words,
-        Ok(None) => return Fault::from(fault),
-        Err(_) => return Fault::out_of_memory(),
+        Ok(None) => return ProgramError::from(error),
+        Err(_) => return ProgramError::out_of_memory(),
     };
     match order(alloc, words.as_slice()) {
-        Err(fault) => Fault::from(fault),
-        Ok(_) => Fault::HiddenCharacters,
+        Err(error) => ProgramError::from(error),
+        Ok(_) => ProgramError::HiddenCharacters,
     }
 }
 

@@ -12,9 +12,9 @@ use Rattle.ill_refusals.specs.Fault.{Fault, fault_of}
 use Rattle.ill_refusals.specs.Outcome.{OnlyRefuses}
 use Rattle.ill_read.specs.Answers.{IfReadRefused}
 use Rattle.ill_read.specs.declared.failure.ReadFailure.{ReadFailure}
-use Rattle.ill_jobs.specs.Ran.{IsFault}
+use Rattle.ill_jobs.specs.Runs.{IsFault}
 use Rattle.ill_jobs.specs.declared.fault.RunFault.{RunFault}
-use Rattle.ill_dump.specs.declared.run.Dump.{Dump}
+use Rattle.ill_dump.specs.declared.run.DumpOptions.{DumpOptions}
 use Rattle.ill_dump.specs.Dumped.{AreDumped, Dumps, DumpsUpTo, StopsIn, dumped_from, head}
 use Rattle.ill_dump.specs.code.Failing.{FollowsFrom}
 use Rattle.ill_dump.specs.code.Putting.{BeginsWith, IfRefused, Puts}
@@ -46,17 +46,17 @@ puts_all held held' held'' front waiting waiting' lines e p more =
 
 -- messages that were written
 
-dumped_push : (dump : Dump) (i : ℕ) (parts : List (List ℕ)) (more : List ℕ) → dumped_from dump i (parts ++ more ∷ []) ≡ dumped_from dump i parts ++ (head dump (i + length parts) ++ more)
+dumped_push : (dump : DumpOptions) (i : ℕ) (parts : List (List ℕ)) (more : List ℕ) → dumped_from dump i (parts ++ more ∷ []) ≡ dumped_from dump i parts ++ (head dump (i + length parts) ++ more)
 dumped_push dump i [] more = append-nil (head dump i ++ more) ∙ ap (λ (n : ℕ). head dump n ++ more) (let e : i ≡ i + 0 = omega arith in e)
 dumped_push dump i (part ∷ parts) more =
     let number : suc i + length parts ≡ i + suc (length parts) = omega arith in
     ap (λ l. head dump i ++ part ++ l) (dumped_push dump (suc i) parts more ∙ ap (λ (n : ℕ). dumped_from dump (suc i) parts ++ (head dump n ++ more)) number)
     ∙ sym (append_assoc (head dump i ++ part) (dumped_from dump (suc i) parts) (head dump (i + suc (length parts)) ++ more))
 
-dumps_none : (dump : Dump) (held : Option (List ℕ)) → Dumps dump 0 held held
+dumps_none : (dump : DumpOptions) (held : Option (List ℕ)) → Dumps dump 0 held held
 dumps_none dump held = record { parts = []; count = refl; written = Appends-nil held }
 
-dumps_more : (dump : Dump) (n : ℕ) (held held' held'' : Option (List ℕ)) → Dumps dump n held held' → BeginsWith held' held'' (head dump (n + 1)) → Dumps dump (n + 1) held held''
+dumps_more : (dump : DumpOptions) (n : ℕ) (held held' held'' : Option (List ℕ)) → Dumps dump n held held' → BeginsWith held' held'' (head dump (n + 1)) → Dumps dump (n + 1) held held''
 dumps_more dump n held held' held'' d b =
     let number : n + 1 ≡ 1 + length d.parts = omega (arith, d.count) in
     let all = ap (λ (k : ℕ). dumped_from dump 1 d.parts ++ (head dump k ++ b.0)) number ∙ sym (dumped_push dump 1 d.parts b.0) in
@@ -67,7 +67,7 @@ dumps_more dump n held held' held'' d b =
     }
 
 -- this number of messages was taken, and written
-pub record Reached (dump : Dump) (left left' held held' : Option (List ℕ)) (count : ℕ) : Type 0 where
+pub record Reached (dump : DumpOptions) (left left' held held' : Option (List ℕ)) (count : ℕ) : Type 0 where
   pub apdus : List Apdu
   pub octets : List ℕ
   pub stream : IsStream (profile_of dump.profile) octets apdus []
@@ -75,7 +75,7 @@ pub record Reached (dump : Dump) (left left' held held' : Option (List ℕ)) (co
   pub counted : length apdus ≡ count
   pub dumps : Dumps dump count held held'
 
-pub reached_none : (dump : Dump) (left held : Option (List ℕ)) → Reached dump left left held held 0
+pub reached_none : (dump : DumpOptions) (left held : Option (List ℕ)) → Reached dump left left held held 0
 reached_none dump left held = record { apdus = []; octets = []; stream = refl; taken = Consumes-nil left; counted = refl; dumps = dumps_none dump held }
 
 -- a stream, and octets after it
@@ -83,7 +83,7 @@ stream_front : (q : Profile) (b t : List ℕ) (apdus : List Apdu) → IsStream q
 stream_front q b t [] h = ap (λ l. l ++ t) h
 stream_front q b t (a ∷ apdus) h = (h.0, h.1 ++ t, ap (λ l. l ++ t) h.2 ∙ append_assoc h.0 h.1 t, h.3, stream_front q h.1 t apdus h.4)
 
-pub reached_more : (dump : Dump) (left left' left'' held held' held'' : Option (List ℕ)) (count : ℕ) (a : Apdu) (b : List ℕ)
+pub reached_more : (dump : DumpOptions) (left left' left'' held held' held'' : Option (List ℕ)) (count : ℕ) (a : Apdu) (b : List ℕ)
     → Reached dump left left' held held' count → Consumes left' left'' b → SpellsApdu (profile_of dump.profile) a b → BeginsWith held' held'' (head dump (count + 1))
     → Reached dump left left'' held held'' (count + 1)
 reached_more dump left left' left'' held held' held'' count a b h more spells begins = record {
@@ -96,7 +96,7 @@ reached_more dump left left' left'' held held' held'' count a b h more spells be
 }
 
 -- no more were left
-pub reached_all : (dump : Dump) (left left' left'' held held' : Option (List ℕ)) (count : ℕ) → Reached dump left left' held held' count → Consumes left' left'' [] → IsAtEnd left'' → count ≤ 1_000_000
+pub reached_all : (dump : DumpOptions) (left left' left'' held held' : Option (List ℕ)) (count : ℕ) → Reached dump left left' held held' count → Consumes left' left'' [] → IsAtEnd left'' → count ≤ 1_000_000
     → AreDumped dump left left'' held held'
 reached_all dump left left' left'' held held' count h none end few = record {
   apdus = h.apdus;
@@ -121,7 +121,7 @@ stops_in q (Some s) RunFault.OutOfMemory h = tt
 stops_in q (Some s) RunFault.ReadFault h = tt
 stops_in q (Some s) (RunFault.WriteFault n) h = tt
 
-module _ (dump : Dump) (held held' : Option (List ℕ)) where
+module _ (dump : DumpOptions) (held held' : Option (List ℕ)) where
   abbrev q : Profile
   q = profile_of dump.profile
 

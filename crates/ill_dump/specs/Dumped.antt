@@ -8,26 +8,26 @@ use Rattle.ill_refusals.specs.Fault.{fault_of}
 use Rattle.ill_refusals.specs.Outcome.{OnlyRefuses}
 use Rattle.ill_jobs.specs.declared.fault.RunFault.{RunFault}
 use Rattle.ill_jobs.specs.Output.{label_of}
-use Rattle.ill_jobs.specs.Ran.{FailsText, IsFault, TextOf}
-use Rattle.ill_dump.specs.declared.run.Dump.{Dump}
+use Rattle.ill_jobs.specs.Runs.{FailsText, IsFault, TextOf}
+use Rattle.ill_dump.specs.declared.run.DumpOptions.{DumpOptions}
 
 -- what the lines of message i begin with
-abbrev pub head : Dump → ℕ → List ℕ
+abbrev pub head : DumpOptions → ℕ → List ℕ
 head dump i = label_of dump.is_named dump.name.now ++ codes "message " ++ decimal i ++ codes ": "
 
 -- what is written of messages from message i on: the head of each, and more
-abbrev pub dumped_from : Dump → ℕ → List (List ℕ) → List ℕ
+abbrev pub dumped_from : DumpOptions → ℕ → List (List ℕ) → List ℕ
 dumped_from dump i [] = []
 dumped_from dump i (more ∷ others) = head dump i ++ more ++ dumped_from dump (suc i) others
 
 -- n messages were written, from the first one on
-pub record Dumps (dump : Dump) (n : ℕ) (held held' : Option (List ℕ)) : Type 0 where
+pub record Dumps (dump : DumpOptions) (n : ℕ) (held held' : Option (List ℕ)) : Type 0 where
   pub parts : List (List ℕ)
   pub count : length parts ≡ n
   pub written : Appends held held' (dumped_from dump 1 parts)
 
 -- what was left is messages to its end, at most 1,000,000; all of it was taken, and each message was written
-pub record AreDumped (dump : Dump) (left left' held held' : Option (List ℕ)) : Type 0 where
+pub record AreDumped (dump : DumpOptions) (left left' held held' : Option (List ℕ)) : Type 0 where
   pub apdus : List Apdu
   pub octets : List ℕ
   pub stream : IsStream (profile_of dump.profile) octets apdus []
@@ -37,7 +37,7 @@ pub record AreDumped (dump : Dump) (left left' held held' : Option (List ℕ)) :
   pub dumps : Dumps dump (length apdus) held held'
 
 -- the same of an input that is read as octets, or as hexadecimal text
-abbrev pub DumpDone : Bool → Dump → Option (List ℕ) → Option (List ℕ) → Option (List ℕ) → Option (List ℕ) → Type 0
+abbrev pub DumpDone : Bool → DumpOptions → Option (List ℕ) → Option (List ℕ) → Option (List ℕ) → Option (List ℕ) → Type 0
 DumpDone false dump left left' held held' = AreDumped dump left left' held held'
 DumpDone true dump left left' held held' =
     (octets : List ℕ) × TextOf left left' octets × ((rest : List ℕ) × AreDumped dump (Some octets) (Some rest) held held')
@@ -53,13 +53,13 @@ StopsIn q s RunFault.TooManyMessages =
 StopsIn q s fault = IsFault fault
 
 -- the messages up to the one that is refused were written, and it, too; or 1,000,000 of them
-abbrev pub DumpsUpTo : Dump → RunFault → Option (List ℕ) → Option (List ℕ) → Type 0
+abbrev pub DumpsUpTo : DumpOptions → RunFault → Option (List ℕ) → Option (List ℕ) → Type 0
 DumpsUpTo dump (RunFault.Refused message refusal) held held' = Dumps dump message held held'
 DumpsUpTo dump RunFault.TooManyMessages held held' = Dumps dump 1_000_000 held held'
 DumpsUpTo dump fault held held' = Unit {0}
 
 -- an input that is read as octets, or as hexadecimal text, ends in this fault; where a text isn't read nothing is written
-abbrev pub DumpFails : Bool → Dump → Option (List ℕ) → Option (List ℕ) → Bool → Option (List ℕ) → Option (List ℕ) → RunFault → Type 0
+abbrev pub DumpFails : Bool → DumpOptions → Option (List ℕ) → Option (List ℕ) → Bool → Option (List ℕ) → Option (List ℕ) → RunFault → Type 0
 DumpFails false dump left left' broken held held' fault = IfSome left (λ s. StopsIn (profile_of dump.profile) s fault) × DumpsUpTo dump fault held held'
 DumpFails true dump left left' broken held held' fault =
     (FailsText left left' broken fault × Keeps held held')

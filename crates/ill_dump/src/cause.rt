@@ -1,10 +1,10 @@
 //! The causes of refusals in words.
-use crate::lines::Lines;
+use crate::lines::LineBuffer;
 use ill_schema::{Cause, PartId, Refusal, part_name};
 use std::alloc::AllocError;
 
 /// `refused at`, the offset, and the cause with the part that it is about.
-pub fn put_refusal(lines: &mut Lines, refusal: Refusal) -> Result<(), AllocError> {
+pub fn put_refusal(lines: &mut LineBuffer, refusal: Refusal) -> Result<(), AllocError> {
     lines.text("refused at ")?;
     lines.number(i64::from(refusal.at))?;
     lines.text(": ")?;
@@ -16,7 +16,7 @@ pub fn put_refusal(lines: &mut Lines, refusal: Refusal) -> Result<(), AllocError
     lines.text("\n")
 }
 
-fn put_part(lines: &mut Lines, part: PartId) -> Result<(), AllocError> {
+fn put_part(lines: &mut LineBuffer, part: PartId) -> Result<(), AllocError> {
     let Some((node, row)) = part_name(part) else {
         return Ok(());
     };

@@ -3,7 +3,7 @@ use ber_core::{Header, HeaderState, Id};
 
 /// The octets of a header, as far as they reach.
 #[derive(Clone, Copy)]
-pub struct Begun {
+pub struct ElementStart {
     /// The identifier, once it is whole, and how many octets it has.
     pub id: Option<(Id, usize)>,
     /// The header, once it is whole.
@@ -13,9 +13,9 @@ pub struct Begun {
 }
 
 /// Reads the header that the octets begin with.
-pub fn begin(octets: &[u8]) -> Begun {
+pub fn begin(octets: &[u8]) -> ElementStart {
     let mut state = HeaderState::new();
-    let mut begun = Begun {
+    let mut begun = ElementStart {
         id: None,
         header: None,
         size: 0,

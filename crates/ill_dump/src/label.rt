@@ -1,5 +1,5 @@
 //! What an element is called.
-use crate::lines::Lines;
+use crate::lines::LineBuffer;
 use ber_core::{Class, Id};
 use ill_cells::{Found, Slot, What};
 use ill_schema::{NodeId, PartId, part_name};
@@ -77,7 +77,7 @@ impl Label {
         !matches!(self, Label::Type(_) | Label::Tag(_, _))
     }
 
-    pub fn put(self, lines: &mut Lines) -> Result<(), AllocError> {
+    pub fn put(self, lines: &mut LineBuffer) -> Result<(), AllocError> {
         match self {
             Label::Row(part) => lines.text(row_name(part)),
             Label::Alternative(row, part) => {
@@ -99,7 +99,7 @@ impl Label {
 }
 
 /// A tag as it is written in ASN.1.
-pub fn put_tag(lines: &mut Lines, class: Class, number: u32) -> Result<(), AllocError> {
+pub fn put_tag(lines: &mut LineBuffer, class: Class, number: u32) -> Result<(), AllocError> {
     lines.text(match class {
         Class::Universal => "[UNIVERSAL ",
         Class::Application => "[APPLICATION ",

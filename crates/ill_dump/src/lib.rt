@@ -16,4 +16,4 @@ mod run;
 mod value;
 mod walk;
 
-pub use run::{Dump, run_dump};
+pub use run::{DumpOptions, run_dump};

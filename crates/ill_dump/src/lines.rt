@@ -7,19 +7,19 @@ use std::alloc::{AllocError, Global};
 const DIGITS: &[u8; 16] = b"0123456789abcdef";
 
 /// How wide the offset of an element is.
-const WIDTH: usize = 7;
+const OCTETS_COLUMN: usize = 7;
 
 /// Lines that were made and not yet written.
 #[derive(Drop)]
-pub struct Lines {
+pub struct LineBuffer {
     pub octets: Vec<u8>,
 }
 
-impl Lines {
-    pub fn new(alloc: Global) -> Lines
+impl LineBuffer {
+    pub fn new(alloc: Global) -> LineBuffer
         ensures { result.octets.items ≡ [] }
     {
-        Lines {
+        LineBuffer {
             octets: Vec::new(alloc),
         }
     }
@@ -50,7 +50,7 @@ impl Lines {
     pub fn offset(&mut self, offset: usize) -> Result<(), AllocError> {
         let mut buffer = Buffer::new();
         let digits = buffer.format(offset).as_bytes();
-        for _ in digits.len()..WIDTH {
+        for _ in digits.len()..OCTETS_COLUMN {
             self.octets.extend_from_slice(b" ")?;
         }
         self.octets.extend_from_slice(digits)

@@ -1,33 +1,33 @@
 //! What is not normal in the spelling of an element.
-use crate::lines::Lines;
+use crate::lines::LineBuffer;
 use ber_core::Len;
 use std::alloc::AllocError;
 
 /// Notes at the end of a line, in brackets, with commas between them.
 #[derive(Drop)]
-pub struct Notes {
+pub struct DerNotes {
     is_open: bool,
 }
 
-impl Notes {
-    pub fn new() -> Notes {
-        Notes { is_open: false }
+impl DerNotes {
+    pub fn new() -> DerNotes {
+        DerNotes { is_open: false }
     }
 
     /// One more note begins.
-    pub fn begin(&mut self, lines: &mut Lines) -> Result<(), AllocError> {
+    pub fn begin(&mut self, lines: &mut LineBuffer) -> Result<(), AllocError> {
         lines.text(if self.is_open { ", " } else { "  (" })?;
         self.is_open = true;
         Ok(())
     }
 
-    pub fn note(&mut self, lines: &mut Lines, text: &str) -> Result<(), AllocError> {
+    pub fn note(&mut self, lines: &mut LineBuffer, text: &str) -> Result<(), AllocError> {
         self.begin(lines)?;
         lines.text(text)
     }
 
     /// The bracket after them, where there are some.
-    pub fn end(self, lines: &mut Lines) -> Result<(), AllocError> {
+    pub fn end(self, lines: &mut LineBuffer) -> Result<(), AllocError> {
         if self.is_open {
             lines.text(")")?;
         }
@@ -35,7 +35,12 @@ impl Notes {
     }
 
     /// Of a length in this number of octets.
-    pub fn length(&mut self, lines: &mut Lines, len: Len, octets: usize) -> Result<(), AllocError> {
+    pub fn length(
+        &mut self,
+        lines: &mut LineBuffer,
+        len: Len,
+        octets: usize,
+    ) -> Result<(), AllocError> {
         let size = match len {
             Len::Indefinite => return self.note(lines, "indefinite"),
             Len::Definite(size) => size,
@@ -53,7 +58,7 @@ impl Notes {
     }
 
     /// Of a BOOLEAN.
-    pub fn flag(&mut self, lines: &mut Lines, content: &[u8]) -> Result<(), AllocError> {
+    pub fn flag(&mut self, lines: &mut LineBuffer, content: &[u8]) -> Result<(), AllocError> {
         match content {
             [octet] if *octet != 0 && *octet != 0xFF => {
                 self.begin(lines)?;

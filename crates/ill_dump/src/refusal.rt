@@ -1,16 +1,16 @@
 //! A refusal in words: its cause, where it is, what was found there, and what was due.
 use crate::cause::{cause_text, put_refusal};
-use crate::found::{Begun, begin};
+use crate::found::{ElementStart, begin};
 use crate::label::{Label, label_of, put_tag};
-use crate::lines::Lines;
-use crate::walk::Walk;
+use crate::lines::LineBuffer;
+use crate::walk::ElementWalk;
 use ber_core::{Class, Id, Len};
 use ill_cells::{At, What};
 use ill_schema::{Cause, Kind, NodeId, Profile, Refusal, kind};
 use std::alloc::AllocError;
 
 /// The tags that are tried where it is said what is due: class, first and last number. The tables have no others.
-const TAGS: [(Class, u32, u32); 3] = [
+const MAX_TAG_TRIED: [(Class, u32, u32); 3] = [
     (Class::Universal, 1, 30),
     (Class::Application, 0, 30),
     (Class::Context, 0, 60),
@@ -18,8 +18,8 @@ const TAGS: [(Class, u32, u32); 3] = [
 
 /// Makes the lines of a refusal, of a message that was gone through up to its place.
 pub fn put_lines(
-    lines: &mut Lines,
-    walk: &Walk,
+    lines: &mut LineBuffer,
+    walk: &ElementWalk,
     octets: &[u8],
     refusal: Refusal,
 ) -> Result<(), AllocError> {
@@ -41,7 +41,7 @@ pub fn put_lines(
 }
 
 /// What a cause says, at the place that was reached.
-fn text_of(walk: &Walk, cause: Cause) -> &'static str {
+fn text_of(walk: &ElementWalk, cause: Cause) -> &'static str {
     match cause {
         Cause::TooDeep if is_foreign(walk.place()) => {
             "a value of an open type would have more than 20 levels"
@@ -56,7 +56,7 @@ fn is_foreign(place: At) -> bool {
 }
 
 /// That the module profile reads what profile 2 leaves out or tags in another way, where this may be so.
-fn put_hint(lines: &mut Lines, walk: &Walk, cause: Cause) -> Result<(), AllocError> {
+fn put_hint(lines: &mut LineBuffer, walk: &ElementWalk, cause: Cause) -> Result<(), AllocError> {
     if walk.profile() != Profile::Two {
         return Ok(());
     }
@@ -95,7 +95,12 @@ fn is_of_element(cause: Cause) -> bool {
 }
 
 /// The names of the elements round the place, and of the element that was found there, if it has one.
-fn put_path(lines: &mut Lines, walk: &Walk, begun: Begun, cause: Cause) -> Result<(), AllocError> {
+fn put_path(
+    lines: &mut LineBuffer,
+    walk: &ElementWalk,
+    begun: ElementStart,
+    cause: Cause,
+) -> Result<(), AllocError> {
     lines.text("    path ")?;
     let mut some = walk.put_path(lines)?;
     if let Some(label) = label_of_found(walk, begun, cause) {
@@ -109,7 +114,7 @@ fn put_path(lines: &mut Lines, walk: &Walk, begun: Begun, cause: Cause) -> Resul
 }
 
 /// The name of the element that was found, if it has one of the tables.
-fn label_of_found(walk: &Walk, begun: Begun, cause: Cause) -> Option<Label> {
+fn label_of_found(walk: &ElementWalk, begun: ElementStart, cause: Cause) -> Option<Label> {
     if !is_of_element(cause) {
         return None;
     }
@@ -121,9 +126,9 @@ fn label_of_found(walk: &Walk, begun: Begun, cause: Cause) -> Option<Label> {
 
 /// What was found.
 fn put_found(
-    lines: &mut Lines,
+    lines: &mut LineBuffer,
     octets: &[u8],
-    begun: Begun,
+    begun: ElementStart,
     refusal: Refusal,
 ) -> Result<(), AllocError> {
     let rest = octets_at(octets, refusal.at as usize, usize::MAX);
@@ -139,9 +144,9 @@ fn put_found(
 
 /// The tag of an element, and those of its octets that the cause is about.
 fn put_header(
-    lines: &mut Lines,
+    lines: &mut LineBuffer,
     rest: &[u8],
-    begun: Begun,
+    begun: ElementStart,
     cause: Cause,
 ) -> Result<(), AllocError> {
     if begun.size == 0 {
@@ -165,7 +170,7 @@ fn put_header(
 }
 
 /// How many octets the content of a primitive element has.
-fn content_size(begun: Begun, id: Id) -> usize {
+fn content_size(begun: ElementStart, id: Id) -> usize {
     match begun.header {
         Some(header) if !id.constructed() => match header.len {
             Len::Definite(size) => size as usize,
@@ -183,11 +188,11 @@ fn first(octets: &[u8], count: usize) -> &[u8] {
 }
 
 /// What was due: a line for each tag, and one for the end of the element, where nothing is missing in it.
-fn put_due(lines: &mut Lines, walk: &Walk) -> Result<(), AllocError> {
+fn put_due(lines: &mut LineBuffer, walk: &ElementWalk) -> Result<(), AllocError> {
     if is_foreign(walk.place()) {
         return lines.text("    due one element of any tag\n");
     }
-    for (class, low, high) in TAGS {
+    for (class, low, high) in MAX_TAG_TRIED {
         for number in low..=high {
             if let Some(id) = Id::new(class, true, number) {
                 put_due_tag(lines, walk, id)?;
@@ -200,7 +205,7 @@ fn put_due(lines: &mut Lines, walk: &Walk) -> Result<(), AllocError> {
     Ok(())
 }
 
-fn put_due_tag(lines: &mut Lines, walk: &Walk, id: Id) -> Result<(), AllocError> {
+fn put_due_tag(lines: &mut LineBuffer, walk: &ElementWalk, id: Id) -> Result<(), AllocError> {
     let place = walk.place();
     let Some(found) = place.find(id) else {
         return Ok(());

@@ -5,36 +5,36 @@ ghost use Rattle.ill_schema.specs.Profiles.{profile_of};
 ghost use Rattle.ill_read.specs.declared.failure.ReadFailure.{ReadFailure};
 ghost use Rattle.ill_jobs.specs.declared.fault.RunFault.{RunFault};
 ghost use Rattle.ill_jobs.specs.Output.{label_of};
-ghost use Rattle.ill_jobs.specs.Ran.{FailsText, IsFault, TextOf};
+ghost use Rattle.ill_jobs.specs.Runs.{FailsText, IsFault, TextOf};
 ghost use Rattle.ill_dump.specs.Dumped.{AreDumped, BreaksSink, BreaksSource, DumpDone, DumpFails, DumpsUpTo, StopsIn, head};
 ghost use Rattle.ill_dump.specs.code.Failing.{FollowsFrom};
 ghost use Rattle.ill_dump.specs.code.Putting.{BeginsWith, IfRefused, Puts};
 
 use crate::found::begin;
 use crate::label::label_of;
-use crate::lines::Lines;
+use crate::lines::LineBuffer;
 use crate::refusal;
-use crate::walk::Walk;
+use crate::walk::ElementWalk;
 use ber_core::{AtHand, FromSlice, Look, Sink, Source};
 use ill_cells::At;
-use ill_jobs::{RunFault, read_most, text_octets};
+use ill_jobs::{RunFault, read_at_most, text_octets};
 use ill_read::{Normal, NormalReader, ReadFailure};
 use ill_schema::{Profile, Refusal};
 use ill_write::put_all;
 use std::alloc::{AllocError, Global};
 
 /// How many messages an input may have.
-const MESSAGES: u32 = 1_000_000;
+const MAX_MESSAGES: u32 = 1_000_000;
 
 /// How many octets a hexadecimal text may have.
-const MOST: usize = 4_194_304;
+const MAX_HEX_TEXT: usize = 4_194_304;
 
 /// How many octets are made before they are written.
-const FULL: usize = 4096;
+const FLUSH_AT: usize = 4096;
 
 /// How an input is read, and how the first line of each message names it.
 #[derive(Clone, Copy, Debug)]
-pub struct Dump<'a> {
+pub struct DumpOptions<'a> {
     /// The profile that messages are read in.
     pub profile: Profile,
     /// Whether the input is hexadecimal text.
@@ -54,7 +54,7 @@ pub struct Dump<'a> {
 /// Why not all of the input was written, see [`RunFault`]. Of a refused message all lines were written.
 pub fn run_dump<R: Source, L: Look<R>, W: Sink>(
     alloc: Global,
-    dump: Dump<'_>,
+    dump: DumpOptions<'_>,
     source: &mut R,
     sink: &mut W,
 ) -> Result<(), RunFault>
@@ -82,13 +82,13 @@ fn read_hex<R: Source>(alloc: Global, source: &mut R) -> Result<Vec<u8>, RunFaul
     ensures fails { IfErr result (FailsText (R.left source.old) (R.left source.new) (R.is_broken source.new)) }
     ensures stays { IsTrue (R.is_broken source.old) → IsTrue (R.is_broken source.new) }
 {
-    let text = read_most(alloc, source, MOST + 1)?;
+    let text = read_at_most(alloc, source, MAX_HEX_TEXT + 1)?;
     text_octets(alloc, &text)
 }
 
 fn dump_messages<R: Source, L: Look<R>, W: Sink>(
     alloc: Global,
-    dump: Dump<'_>,
+    dump: DumpOptions<'_>,
     source: &mut R,
     sink: &mut W,
 ) -> Result<(), RunFault>
@@ -102,14 +102,14 @@ fn dump_messages<R: Source, L: Look<R>, W: Sink>(
     ensures sink_stays { IsTrue (W.is_broken sink.old) → IsTrue (W.is_broken sink.new) }
 {
     let mut out = Out {
-        head: Lines::new(alloc),
-        lines: Lines::new(alloc),
+        head: LineBuffer::new(alloc),
+        lines: LineBuffer::new(alloc),
         written: 0,
     };
     let mut reader = NormalReader::new(alloc);
     let mut kept = Vec::new(alloc);
     let mut room = Vec::new(alloc);
-    for before in 0..MESSAGES {
+    for before in 0..MAX_MESSAGES {
         let message = before + 1;
         kept.clear();
         let read = reader.read_kept_as::<R, L>(dump.profile, source, room, &mut kept);
@@ -136,8 +136,8 @@ fn dump_messages<R: Source, L: Look<R>, W: Sink>(
 /// What is to be written of a message: what its first line begins with, and what comes after that; and how many octets were written.
 #[derive(Drop)]
 struct Out {
-    head: Lines,
-    lines: Lines,
+    head: LineBuffer,
+    lines: LineBuffer,
     written: u128,
 }
 
@@ -158,7 +158,7 @@ impl Out {
 }
 
 /// Writes lines after this number of octets, and forgets them.
-fn send<W: Sink>(lines: &mut Lines, written: &mut u128, sink: &mut W) -> Result<(), RunFault>
+fn send<W: Sink>(lines: &mut LineBuffer, written: &mut u128, sink: &mut W) -> Result<(), RunFault>
     ensures puts { OnOk result (Appends (W.contents sink.old) (W.contents sink.new) lines.old.octets.items) }
     ensures none { OnOk result (lines.new.octets.items ≡ []) }
     ensures breaks { IfErr result (λ fault. BreaksSink fault (W.is_broken sink.new)) }
@@ -177,12 +177,12 @@ fn send<W: Sink>(lines: &mut Lines, written: &mut u128, sink: &mut W) -> Result<
 }
 
 /// What was made is in memory, or memory ran out.
-fn made<T: Drop>(made: Result<T, AllocError>) -> Result<T, RunFault>
-    ensures same { IfOk result (λ value. made ≡ Ok value) }
+fn or_out_of_memory<T: Drop>(or_out_of_memory: Result<T, AllocError>) -> Result<T, RunFault>
+    ensures same { IfOk result (λ value. or_out_of_memory ≡ Ok value) }
     ensures memory { IfErr result (λ fault. fault ≡ RunFault.OutOfMemory) }
 {
-    match made {
-        Ok(made) => Ok(made),
+    match or_out_of_memory {
+        Ok(or_out_of_memory) => Ok(or_out_of_memory),
         Err(AllocError) => Err(RunFault::OutOfMemory),
     }
 }
@@ -190,7 +190,7 @@ fn made<T: Drop>(made: Result<T, AllocError>) -> Result<T, RunFault>
 /// Writes the lines of a message.
 fn put_message<W: Sink>(
     alloc: Global,
-    dump: Dump<'_>,
+    dump: DumpOptions<'_>,
     message: u32,
     octets: &[u8],
     normal: &Normal,
@@ -205,9 +205,9 @@ fn put_message<W: Sink>(
     ensures writes { IfErr result (λ fault. fault ≢ RunFault.ReadFault) }
     ensures stays { IsTrue (W.is_broken sink.old) → IsTrue (W.is_broken sink.new) }
 {
-    made(put_head(dump, message, &mut out.head))?;
-    made(put_check(dump, octets, &normal.octets, &mut out.lines))?;
-    let mut walk = Walk::new(alloc, dump.profile);
+    or_out_of_memory(put_head(dump, message, &mut out.head))?;
+    or_out_of_memory(put_check(dump, octets, &normal.octets, &mut out.lines))?;
+    let mut walk = ElementWalk::new(alloc, dump.profile);
     put_elements(&mut walk, octets, octets.len(), out, sink)?;
     out.put(sink)
 }
@@ -215,7 +215,7 @@ fn put_message<W: Sink>(
 /// Why no message was read, after the lines of one that is refused were written.
 fn put_failure<W: Sink>(
     alloc: Global,
-    dump: Dump<'_>,
+    dump: DumpOptions<'_>,
     message: u32,
     octets: &[u8],
     failure: ReadFailure,
@@ -243,7 +243,7 @@ fn put_failure<W: Sink>(
 /// Writes the lines of a message that is refused.
 fn put_refused<W: Sink>(
     alloc: Global,
-    dump: Dump<'_>,
+    dump: DumpOptions<'_>,
     message: u32,
     octets: &[u8],
     refusal: Refusal,
@@ -257,17 +257,17 @@ fn put_refused<W: Sink>(
     ensures writes { IfErr result (λ fault. fault ≢ RunFault.ReadFault) }
     ensures stays { IsTrue (W.is_broken sink.old) → IsTrue (W.is_broken sink.new) }
 {
-    made(put_head(dump, message, &mut out.head))?;
-    made(out.lines.text("refused\n"))?;
-    let mut walk = Walk::new(alloc, dump.profile);
+    or_out_of_memory(put_head(dump, message, &mut out.head))?;
+    or_out_of_memory(out.lines.text("refused\n"))?;
+    let mut walk = ElementWalk::new(alloc, dump.profile);
     put_elements(&mut walk, octets, refusal.at as usize, out, sink)?;
-    made(refusal::put_lines(&mut out.lines, &walk, octets, refusal))?;
+    or_out_of_memory(refusal::put_lines(&mut out.lines, &walk, octets, refusal))?;
     out.put(sink)
 }
 
 /// Writes the lines of the elements that begin before `stop`.
 fn put_elements<W: Sink>(
-    walk: &mut Walk,
+    walk: &mut ElementWalk,
     octets: &[u8],
     stop: usize,
     out: &mut Out,
@@ -281,10 +281,10 @@ fn put_elements<W: Sink>(
     ensures stays { IsTrue (W.is_broken sink.old) → IsTrue (W.is_broken sink.new) }
 {
     for _ in 0..=octets.len() {
-        if !made(walk.step(octets, stop, &mut out.lines))? {
+        if !or_out_of_memory(walk.step(octets, stop, &mut out.lines))? {
             return Ok(());
         }
-        if out.lines.octets.len() >= FULL {
+        if out.lines.octets.len() >= FLUSH_AT {
             out.put(sink)?;
         }
     }
@@ -292,7 +292,7 @@ fn put_elements<W: Sink>(
 }
 
 /// What the first line of a message begins with.
-fn put_head(dump: Dump<'_>, message: u32, lines: &mut Lines) -> Result<(), AllocError>
+fn put_head(dump: DumpOptions<'_>, message: u32, lines: &mut LineBuffer) -> Result<(), AllocError>
     ensures { OnOk result (lines.new.octets.items ≡ lines.old.octets.items ++ head dump.entry message) }
 {
     put_label(dump, lines)?;
@@ -302,7 +302,7 @@ fn put_head(dump: Dump<'_>, message: u32, lines: &mut Lines) -> Result<(), Alloc
 }
 
 /// The name of the input, where the first line of a message begins with it.
-fn put_label(dump: Dump<'_>, lines: &mut Lines) -> Result<(), AllocError>
+fn put_label(dump: DumpOptions<'_>, lines: &mut LineBuffer) -> Result<(), AllocError>
     ensures { OnOk result (lines.new.octets.items ≡ lines.old.octets.items ++ label_of dump.entry.is_named dump.entry.name.now) }
 {
     if dump.is_named {
@@ -314,10 +314,10 @@ fn put_label(dump: Dump<'_>, lines: &mut Lines) -> Result<(), AllocError>
 
 /// The rest of the line of a message: its APDU, its size, and whether it is in normal form.
 fn put_check(
-    dump: Dump<'_>,
+    dump: DumpOptions<'_>,
     octets: &[u8],
     normal: &[u8],
-    lines: &mut Lines,
+    lines: &mut LineBuffer,
 ) -> Result<(), AllocError> {
     put_apdu(dump.profile, octets, lines)?;
     lines.text(", ")?;
@@ -331,7 +331,7 @@ fn put_check(
 }
 
 /// The name of the APDU that the octets begin.
-fn put_apdu(profile: Profile, octets: &[u8], lines: &mut Lines) -> Result<(), AllocError> {
+fn put_apdu(profile: Profile, octets: &[u8], lines: &mut LineBuffer) -> Result<(), AllocError> {
     let top = At::top_of(profile);
     let Some((id, _)) = begin(octets).id else {
         return Ok(());

@@ -1,5 +1,5 @@
 //! The values of leaves.
-use crate::lines::Lines;
+use crate::lines::LineBuffer;
 use ber_leaf::{BitString, Leaf, ObjectIdentifier};
 use ill_cells::What;
 use ill_json::add_identifier;
@@ -24,7 +24,7 @@ pub fn leaf_type(what: What) -> Option<LeafType> {
 
 /// The value of a leaf with this content, and whether it is the default of its row.
 pub fn put_leaf(
-    lines: &mut Lines,
+    lines: &mut LineBuffer,
     alloc: Global,
     leaf: LeafType,
     part: PartId,
@@ -47,7 +47,7 @@ pub fn put_leaf(
 
 /// The value of a BOOLEAN or a number, and whether it is the default of its row.
 fn put_value(
-    lines: &mut Lines,
+    lines: &mut LineBuffer,
     alloc: Global,
     leaf: LeafType,
     part: PartId,
@@ -80,7 +80,7 @@ pub fn is_string(what: What) -> bool {
 
 /// The content of a primitive element that is no leaf of profile 2.
 pub fn put_module_leaf(
-    lines: &mut Lines,
+    lines: &mut LineBuffer,
     alloc: Global,
     what: What,
     content: &[u8],
@@ -102,7 +102,7 @@ pub fn put_module_leaf(
 }
 
 /// An OBJECT IDENTIFIER, its numbers with dots between them.
-fn put_identifier(lines: &mut Lines, alloc: Global, content: &[u8]) -> Result<(), AllocError> {
+fn put_identifier(lines: &mut LineBuffer, alloc: Global, content: &[u8]) -> Result<(), AllocError> {
     let mut marks = Vec::new(alloc);
     for octet in content {
         marks.push(Mark::Octet(*octet))?;
@@ -113,7 +113,7 @@ fn put_identifier(lines: &mut Lines, alloc: Global, content: &[u8]) -> Result<()
 }
 
 /// How many bits there are, and the octets that they fill.
-fn put_bits(lines: &mut Lines, content: &[u8]) -> Result<(), AllocError> {
+fn put_bits(lines: &mut LineBuffer, content: &[u8]) -> Result<(), AllocError> {
     let Some((unused, filled)) = content.split_first() else {
         return Ok(());
     };

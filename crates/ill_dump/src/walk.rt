@@ -1,8 +1,8 @@
 //! Goes through a message from element to element, and makes a line of each.
-use crate::found::{Begun, begin};
+use crate::found::{ElementStart, begin};
 use crate::label::{Label, label_of};
-use crate::lines::Lines;
-use crate::note::Notes;
+use crate::lines::LineBuffer;
+use crate::note::DerNotes;
 use crate::value::{has_unused_bits_set, is_string, leaf_type, put_leaf, put_module_leaf};
 use ber_core::{Header, Len};
 use ill_cells::{At, Found, What};
@@ -23,7 +23,7 @@ struct Open {
 
 /// How far a message was gone through.
 #[derive(Drop)]
-pub struct Walk {
+pub struct ElementWalk {
     alloc: Global,
     profile: Profile,
     open: Vec<Open>,
@@ -41,9 +41,9 @@ struct Element {
     size: usize,
 }
 
-impl Walk {
-    pub fn new(alloc: Global, profile: Profile) -> Walk {
-        Walk {
+impl ElementWalk {
+    pub fn new(alloc: Global, profile: Profile) -> ElementWalk {
+        ElementWalk {
             alloc,
             profile,
             open: Vec::new(alloc),
@@ -89,7 +89,7 @@ impl Walk {
     }
 
     /// The names of the open elements, with points between them. Returns whether there are any.
-    pub fn put_path(&self, lines: &mut Lines) -> Result<bool, AllocError> {
+    pub fn put_path(&self, lines: &mut LineBuffer) -> Result<bool, AllocError> {
         let mut some = false;
         for open in self.open.as_slice() {
             if open.label.is_named() {
@@ -108,7 +108,7 @@ impl Walk {
         &mut self,
         octets: &[u8],
         stop: usize,
-        lines: &mut Lines,
+        lines: &mut LineBuffer,
     ) -> Result<bool, AllocError> {
         self.close_ended();
         if self.at >= stop {
@@ -148,7 +148,7 @@ impl Walk {
     }
 
     /// The line of an end mark.
-    fn end_mark(&mut self, lines: &mut Lines) -> Result<(), AllocError> {
+    fn end_mark(&mut self, lines: &mut LineBuffer) -> Result<(), AllocError> {
         let _ = self.open.pop();
         lines.offset(self.at)?;
         lines.text("  ")?;
@@ -159,7 +159,7 @@ impl Walk {
     }
 
     /// The element that a header begins, if one is due.
-    fn element(&self, begun: Begun) -> Option<Element> {
+    fn element(&self, begun: ElementStart) -> Option<Element> {
         let (id, id_size) = begun.id?;
         let header = begun.header?;
         let place = self.place();
@@ -179,7 +179,7 @@ impl Walk {
         octets: &[u8],
         rest: &[u8],
         stop: usize,
-        lines: &mut Lines,
+        lines: &mut LineBuffer,
     ) -> Result<(), AllocError> {
         lines.offset(self.at)?;
         lines.text("  ")?;
@@ -187,7 +187,7 @@ impl Walk {
         lines.hex(rest.get(..element.size).unwrap_or(&[]))?;
         lines.text("  ")?;
         element.label.put(lines)?;
-        let mut notes = Notes::new();
+        let mut notes = DerNotes::new();
         let size = element.size.saturating_sub(element.id_size);
         if element.header.id.constructed() {
             notes.length(lines, element.header.len, size)?;
@@ -204,8 +204,8 @@ impl Walk {
         element: Element,
         octets: &[u8],
         stop: usize,
-        lines: &mut Lines,
-        notes: &mut Notes,
+        lines: &mut LineBuffer,
+        notes: &mut DerNotes,
     ) -> Result<(), AllocError> {
         match element.found.what() {
             What::Segment => notes.note(lines, "segment"),
@@ -234,8 +234,8 @@ impl Walk {
         &self,
         element: Element,
         rest: &[u8],
-        lines: &mut Lines,
-        notes: &mut Notes,
+        lines: &mut LineBuffer,
+        notes: &mut DerNotes,
     ) -> Result<(), AllocError> {
         let length = element.size.saturating_sub(element.id_size);
         let Some(content) = rest.get(element.size..element.end_from(0)) else {

@@ -6,7 +6,7 @@ use Rattle.clap.specs.declared.error.Error.{Error}
 use Rattle.clap.specs.declared.error.kind.ErrorKind.{ErrorKind}
 use Rattle.ill_jobs.specs.declared.fault.RunFault.{RunFault}
 use Rattle.ill_jobs.specs.declared.job.Verdict.{Verdict}
-use Rattle.ill_files.specs.declared.fault.Fault.{Fault}
+use Rattle.ill_files.specs.declared.error.ProgramError.{ProgramError}
 use Rattle.ill_orders.specs.declared.fault.LineFault.{LineFault}
 
 -- of a job: 3 for memory, the source and the sink, 1 for the messages and their text
@@ -26,36 +26,36 @@ kind_status _ = 2
 abbrev pub line_status_is : Error → ℕ
 line_status_is error = kind_status (kind_of error)
 
-abbrev pub fault_status : Fault → ℕ
-fault_status (Fault.Line (LineFault.Line error)) = line_status_is error
-fault_status (Fault.Line _) = 2
-fault_status Fault.HiddenCharacters = 2
-fault_status Fault.SameFile = 2
-fault_status (Fault.Run line) = run_status_is line.0
-fault_status _ = 3
+abbrev pub error_status : ProgramError → ℕ
+error_status (ProgramError.Line (LineFault.Line error)) = line_status_is error
+error_status (ProgramError.Line _) = 2
+error_status ProgramError.HiddenCharacters = 2
+error_status ProgramError.SameFile = 2
+error_status (ProgramError.Run line) = run_status_is line.0
+error_status _ = 3
 
 -- 0 where all is well, 1 where a message is not normal or two are different
-abbrev pub status_is : Result Verdict Fault → ℕ
+abbrev pub status_is : Result Verdict ProgramError → ℕ
 status_is (Ok Verdict.Good) = 0
 status_is (Ok Verdict.NotGood) = 1
-status_is (Err fault) = fault_status fault
+status_is (Err fault) = error_status fault
 
 -- some of the output was not written: a write, flush or sync fault, or nobody reads it
-abbrev pub is_output_lost : Result Verdict Fault → Bool
-is_output_lost (Err Fault.Flush) = true
-is_output_lost (Err Fault.Closed) = true
-is_output_lost (Err (Fault.Run line)) = elim line.0 as (λ _. Bool) [ RunFault.WriteFault n ↦ true | _ ↦ false ]
+abbrev pub is_output_lost : Result Verdict ProgramError → Bool
+is_output_lost (Err ProgramError.Flush) = true
+is_output_lost (Err ProgramError.Closed) = true
+is_output_lost (Err (ProgramError.Run line)) = elim line.0 as (λ _. Bool) [ RunFault.WriteFault n ↦ true | _ ↦ false ]
 is_output_lost _ = false
 
 -- some of the output was not written, or some of the input was not read, or memory ran out
-abbrev pub loses_output : Fault → Bool
-loses_output Fault.Flush = true
-loses_output Fault.Closed = true
-loses_output (Fault.Run line) = elim line.0 as (λ _. Bool) [ RunFault.WriteFault n ↦ true | RunFault.ReadFault ↦ true | RunFault.OutOfMemory ↦ true | _ ↦ false ]
+abbrev pub loses_output : ProgramError → Bool
+loses_output ProgramError.Flush = true
+loses_output ProgramError.Closed = true
+loses_output (ProgramError.Run line) = elim line.0 as (λ _. Bool) [ RunFault.WriteFault n ↦ true | RunFault.ReadFault ↦ true | RunFault.OutOfMemory ↦ true | _ ↦ false ]
 loses_output _ = false
 
 -- an output that is a file stays as it was; as a `whole` it is replaced only where all messages were good
-abbrev pub keeps_output : Bool → Result Verdict Fault → Bool
+abbrev pub keeps_output : Bool → Result Verdict ProgramError → Bool
 keeps_output whole (Ok Verdict.Good) = false
 keeps_output whole (Ok Verdict.NotGood) = whole
 keeps_output whole (Err fault) = if whole then true else loses_output fault
@@ -66,4 +66,4 @@ worst statuses = if list_any (λ s. s == 3) statuses then 3 else (if list_any (�
 
 -- the status of files of which some were done, at most n, and ended so
 abbrev pub IsStatusOfEach : ℕ → ℕ → Type 0
-IsStatusOfEach n status = (ends : List (Result Verdict Fault)) × (length ends ≤ n) × (status ≡ worst (map status_is ends))
+IsStatusOfEach n status = (ends : List (Result Verdict ProgramError)) × (length ends ≤ n) × (status ≡ worst (map status_is ends))

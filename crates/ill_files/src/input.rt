@@ -1,13 +1,13 @@
 //! Inputs that are files or standard input.
 ghost use Rattle.ill_files.specs.Opened.{left_of, is_broken_of};
 
-use crate::fault::Fault;
+use crate::error::ProgramError;
 use crate::host::Host;
-use crate::output::{Flushing, Output, OutputOf};
-use crate::progress::{Progress, Watched};
+use crate::output::{FlushBeforeRead, Output, OutputOf};
+use crate::progress::{ProgressLine, ProgressReader};
 use crate::same_file::FileId;
 use ber_core::{Ahead, Broken, FromBuffer, FromRead, Source};
-use ill_jobs::{RunFault, read_most};
+use ill_jobs::{RunFault, read_at_most};
 use std::alloc::Global;
 use std::fs::{self, OpenFile};
 use std::io::{Printer, Read, Write};
@@ -62,15 +62,15 @@ impl<S: Ahead, F: Ahead> Ahead for Opened<S, F> {
 
 /// The source of an input, from readers that have the output written before they read.
 pub type Shared<'o, I, J, S, F> = Opened<
-    FromBuffer<Flushing<'o, I, S, F>>,
-    FromBuffer<Flushing<'o, J, S, F>>,
+    FromBuffer<FlushBeforeRead<'o, I, S, F>>,
+    FromBuffer<FlushBeforeRead<'o, J, S, F>>,
 >;
 
 /// The source of an input under the runtime `R`, which shares the output, and shows how far it is.
 pub type InputSource<'o, 'r, R> = Shared<
     'o,
-    Watched<'o, R, Box<<R as Input>::Reader>>,
-    Watched<'o, R, <R as Files>::File>,
+    ProgressReader<'o, R, Box<<R as Input>::Reader>>,
+    ProgressReader<'o, R, <R as Files>::File>,
     Printer<'r, R>,
     <R as Files>::File,
 >;
@@ -84,8 +84,8 @@ pub fn open_input<'o, 'r: 'o, R: Print + Eprint + Input + Files + AllocGlobal + 
     rt: &'r R,
     name: &str,
     output: &'o OutputOf<'r, R>,
-    progress: &'o Progress,
-) -> Result<InputSource<'o, 'r, R>, Fault> {
+    progress: &'o ProgressLine,
+) -> Result<InputSource<'o, 'r, R>, ProgramError> {
     let (source, _) = open_and_identify(rt, name, output, progress)?;
     Ok(source)
 }
@@ -98,7 +98,7 @@ pub fn open_input<'o, 'r: 'o, R: Print + Eprint + Input + Files + AllocGlobal + 
 pub fn read_whole<R: Input + Files + AllocGlobal>(
     rt: &R,
     name: &str,
-) -> Result<(Vec<u8>, Option<FileId>), Fault> {
+) -> Result<(Vec<u8>, Option<FileId>), ProgramError> {
     let alloc = rt.alloc();
     if name == "-" {
         let file = FileId::of_standard_input(rt);
@@ -110,11 +110,11 @@ pub fn read_whole<R: Input + Files + AllocGlobal>(
 }
 
 /// Reads a source to its end.
-fn read_all<S: Source + Drop>(alloc: Global, source: S) -> Result<Vec<u8>, Fault> {
+fn read_all<S: Source + Drop>(alloc: Global, source: S) -> Result<Vec<u8>, ProgramError> {
     let mut source = source;
-    match read_most(alloc, &mut source, usize::MAX) {
+    match read_at_most(alloc, &mut source, usize::MAX) {
         Ok(octets) => Ok(octets),
-        Err(why) => Err(Fault::from(RunFault::from(why))),
+        Err(why) => Err(ProgramError::from(RunFault::from(why))),
     }
 }
 
@@ -129,7 +129,7 @@ pub type AloneSource<R> = Opened<FromRead<Box<<R as Input>::Reader>>, FromRead<<
 pub fn open_alone<R: Input + Files + AllocGlobal>(
     rt: &R,
     name: &str,
-) -> Result<AloneSource<R>, Fault> {
+) -> Result<AloneSource<R>, ProgramError> {
     if name == "-" {
         let reader = standard_input(rt)?;
         return Ok(Opened::Standard(FromRead::new(reader)));
@@ -138,13 +138,13 @@ pub fn open_alone<R: Input + Files + AllocGlobal>(
 }
 
 /// The reader of standard input. It is large, so that memory is taken for it, and no file has room for it.
-fn standard_input<R: Input + AllocGlobal>(rt: &R) -> Result<Box<R::Reader>, Fault> {
-    Box::new(rt.alloc(), rt.reader()).map_err(|_| Fault::out_of_memory())
+fn standard_input<R: Input + AllocGlobal>(rt: &R) -> Result<Box<R::Reader>, ProgramError> {
+    Box::new(rt.alloc(), rt.reader()).map_err(|_| ProgramError::out_of_memory())
 }
 
 /// Opens the file of this name.
-fn open_file<R: Files + AllocGlobal>(rt: &R, name: &str) -> Result<R::File, Fault> {
-    fs::open(rt, name).map_err(|_| Fault::cannot_open(rt.alloc(), name))
+fn open_file<R: Files + AllocGlobal>(rt: &R, name: &str) -> Result<R::File, ProgramError> {
+    fs::open(rt, name).map_err(|_| ProgramError::cannot_open(rt.alloc(), name))
 }
 
 /// Opens an input as [`open_input`] does, and returns which regular file it is, None where it is not one.
@@ -152,15 +152,15 @@ pub fn open_and_identify<'o, 'r: 'o, R: Print + Eprint + Input + Files + AllocGl
     rt: &'r R,
     name: &str,
     output: &'o OutputOf<'r, R>,
-    progress: &'o Progress,
-) -> Result<(InputSource<'o, 'r, R>, Option<FileId>), Fault> {
+    progress: &'o ProgressLine,
+) -> Result<(InputSource<'o, 'r, R>, Option<FileId>), ProgramError> {
     let alloc = rt.alloc();
     if name == "-" {
         let file = FileId::of_standard_input(rt);
         let inner = standard_input(rt)?;
         let source = buffered(
             alloc,
-            Watched {
+            ProgressReader {
                 rt,
                 inner,
                 progress,
@@ -173,7 +173,7 @@ pub fn open_and_identify<'o, 'r: 'o, R: Print + Eprint + Input + Files + AllocGl
     let file = FileId::of(inner.metadata());
     let source = buffered(
         alloc,
-        Watched {
+        ProgressReader {
             rt,
             inner,
             progress,
@@ -188,6 +188,8 @@ fn buffered<'o, I: Read + Drop, S: Write + Drop, F: Write + Drop>(
     alloc: Global,
     inner: I,
     output: &'o Output<S, F>,
-) -> Result<FromBuffer<Flushing<'o, I, S, F>>, Fault> {
-    FromBuffer::new(alloc, Flushing { inner, output }).map_err(|_| Fault::out_of_memory())
+) -> Result<FromBuffer<FlushBeforeRead<'o, I, S, F>>, ProgramError> {
+    FromBuffer::new(alloc, FlushBeforeRead { inner, output }).map_err(
+        |_| ProgramError::out_of_memory(),
+    )
 }

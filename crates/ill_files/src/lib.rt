@@ -1,4 +1,4 @@
-//! The files of the program `illcanon`: its inputs and outputs, the line that a fault is printed as, and the exit status.
+//! The files of the program `illcanon`: its inputs and outputs, the line that an error is printed as, and the exit status.
 //!
 //! All of it is generic over the runtime, so that tests run it on streams and files of their own. A file is opened and read by
 //!
@@ -9,7 +9,7 @@
 #![tactic(auto)]
 
 mod count;
-mod fault;
+mod error;
 mod host;
 mod input;
 mod names;
@@ -20,8 +20,9 @@ mod same_file;
 mod streams;
 
 pub use count::Count;
-pub use fault::{
-    CauseName, Fault, RunLine, is_output_lost, keeps_output, print_fault, print_fault_of, status_of,
+pub use error::{
+    CauseName, ProgramError, RunLine, is_output_lost, keeps_output, print_error, print_error_of,
+    status_of,
 };
 pub use host::Host;
 pub use input::{
@@ -29,9 +30,9 @@ pub use input::{
 };
 pub use names::{Name, NameOf, printable, printed, word};
 pub use output::{
-    Destination, Flushing, Output, OutputOf, ToOutput, close_output, open_output,
+    FlushBeforeRead, Output, OutputDestination, OutputOf, ToOutput, close_output, open_output,
     open_standard_output,
 };
-pub use progress::{Progress, Watched};
+pub use progress::{ProgressLine, ProgressReader};
 pub use same_file::FileId;
 pub use streams::open_closed_streams;

@@ -19,7 +19,7 @@ impl Name {
     ///
     /// Only out of memory.
     pub fn of(alloc: Global, word: &str) -> Result<Name, AllocError> {
-        let Some(octets) = word.strip_prefix(CODED) else {
+        let Some(octets) = word.strip_prefix(NOT_UTF8_MARK) else {
             return Ok(Name(word.as_bytes().to_vec(alloc)?));
         };
         let mut name = Vec::new(alloc);
@@ -34,7 +34,7 @@ impl Name {
 
 /// The first character of the text that stands for a word that is no UTF-8 text. No word has it, and no file can be opened by a
 /// name that has it.
-const CODED: char = '\0';
+const NOT_UTF8_MARK: char = '\0';
 
 /// A word of the command line as text. One that is no UTF-8 text is NUL and the character of each octet's number, so that it is no option, and
 /// names a file that can't be opened.
@@ -48,7 +48,7 @@ pub fn word(alloc: Global, octets: Vec<u8>) -> Result<String, AllocError> {
         Err(error) => error.into_bytes(),
     };
     let mut word = String::new(alloc);
-    word.push(CODED)?;
+    word.push(NOT_UTF8_MARK)?;
     for octet in &octets {
         word.push(char::from(*octet))?;
     }
@@ -61,7 +61,7 @@ pub fn word(alloc: Global, octets: Vec<u8>) -> Result<String, AllocError> {
 ///
 /// Only out of memory.
 pub fn printable(alloc: Global, word: &str) -> Result<Option<String>, AllocError> {
-    if word.starts_with(CODED) {
+    if word.starts_with(NOT_UTF8_MARK) {
         let name = Name::of(alloc, word)?;
         return Ok(Some(format!(in alloc; "{name}")?));
     }

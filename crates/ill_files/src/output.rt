@@ -1,10 +1,10 @@
 //! The output of a command. It is flushed before the input waits for more.
 ghost use Rattle.std.specs.Prelude.{◌≤◌, length, IfOk};
 
-use crate::fault::{Fault, RunLine, is_output_lost, keeps_output};
+use crate::error::{ProgramError, RunLine, is_output_lost, keeps_output};
 use crate::host::Host;
 use crate::names::NameOf;
-use crate::replacement::{self, Obstacle, Replacement, Way, sync_folder};
+use crate::replacement::{self, ReplaceMode, ReplaceObstacle, Replacement, sync_folder};
 use crate::same_file::FileId;
 use ill_jobs::{RunFault, Verdict};
 use std::alloc::Global;
@@ -15,24 +15,24 @@ use std::rt::Files;
 
 /// Standard output or a file, with the number of octets that it took.
 #[derive(Drop)]
-pub struct Target<S, F> {
-    kind: Kind<S, F>,
+pub struct OutputFile<S, F> {
+    kind: OutputKind<S, F>,
     written: u128,
     /// Whether a write found that nobody reads the output any more.
     is_closed: bool,
 }
 
 #[derive(Drop)]
-enum Kind<S, F> {
+enum OutputKind<S, F> {
     Standard(S),
     File(F),
 }
 
-impl<S: Write, F: Write> Write for Target<S, F> {
+impl<S: Write, F: Write> Write for OutputFile<S, F> {
     fn write(&mut self, buf: &[u8]) -> io::Result<usize> {
         let written = match &mut self.kind {
-            Kind::Standard(writer) => writer.write(buf),
-            Kind::File(writer) => writer.write(buf),
+            OutputKind::Standard(writer) => writer.write(buf),
+            OutputKind::File(writer) => writer.write(buf),
         };
         match written {
             Ok(count) => {
@@ -48,16 +48,16 @@ impl<S: Write, F: Write> Write for Target<S, F> {
 
     fn flush(&mut self) -> io::Result<()> {
         match &mut self.kind {
-            Kind::Standard(writer) => writer.flush(),
-            Kind::File(writer) => writer.flush(),
+            OutputKind::Standard(writer) => writer.flush(),
+            OutputKind::File(writer) => writer.flush(),
         }
     }
 }
 
 /// What a command writes to, once it is open.
 #[derive(Drop)]
-struct Open<S: Write + Drop, F: Write + Drop> {
-    writer: BufWriter<Target<S, F>>,
+struct OpenOutput<S: Write + Drop, F: Write + Drop> {
+    writer: BufWriter<OutputFile<S, F>>,
     /// Whether a flush failed, so that nothing more is put.
     is_lost: bool,
 }
@@ -65,7 +65,7 @@ struct Open<S: Write + Drop, F: Write + Drop> {
 /// The output of a command, which its input shares.
 #[derive(Drop)]
 pub struct Output<S: Write + Drop, F: Write + Drop> {
-    open: RefCell<Option<Open<S, F>>>,
+    open: RefCell<Option<OpenOutput<S, F>>>,
 }
 
 /// The output of a command under the runtime `R`.
@@ -79,21 +79,21 @@ impl<S: Write + Drop, F: Write + Drop> Output<S, F> {
         }
     }
 
-    fn open(&self, alloc: Global, kind: Kind<S, F>) -> Result<(), Fault> {
-        let target = Target {
+    fn open(&self, alloc: Global, kind: OutputKind<S, F>) -> Result<(), ProgramError> {
+        let target = OutputFile {
             kind,
             written: 0,
             is_closed: false,
         };
-        let writer = BufWriter::new(alloc, target).map_err(|_| Fault::out_of_memory())?;
-        let open = Open {
+        let writer = BufWriter::new(alloc, target).map_err(|_| ProgramError::out_of_memory())?;
+        let open = OpenOutput {
             writer,
             is_lost: false,
         };
         match self.open.try_replace(Some(open)) {
             Ok(_) => Ok(()),
             // No call holds the output now; what a cell holds, no contract says.
-            Err(_) => Err(Fault::Flush),
+            Err(_) => Err(ProgramError::Flush),
         }
     }
 
@@ -147,18 +147,18 @@ impl<S: Write + Drop, F: Write + Drop> Output<S, F> {
         false
     }
 
-    /// Writes what is still in the buffer, so that the output of the messages before a fault isn't lost. A write fault counts the octets that
-    /// left the buffer, and is [`Fault::Closed`] where nobody reads the output any more.
-    pub fn finish(&self, done: Result<Verdict, Fault>) -> Result<Verdict, Fault> {
+    /// Writes what is still in the buffer, so that the output of the messages before a error isn't lost. A write error counts the octets that
+    /// left the buffer, and is [`ProgramError::Closed`] where nobody reads the output any more.
+    pub fn finish(&self, done: Result<Verdict, ProgramError>) -> Result<Verdict, ProgramError> {
         let flushed = self.flush();
         if (flushed.is_err() || is_output_lost(&done)) && self.is_closed() {
-            return Err(Fault::Closed);
+            return Err(ProgramError::Closed);
         }
         match done {
-            Err(Fault::Run(RunLine(RunFault::WriteFault(_)))) => {
-                Err(Fault::from(RunFault::WriteFault(self.written())))
+            Err(ProgramError::Run(RunLine(RunFault::WriteFault(_)))) => {
+                Err(ProgramError::from(RunFault::WriteFault(self.written())))
             }
-            _ if flushed.is_err() => Err(Fault::Flush),
+            _ if flushed.is_err() => Err(ProgramError::Flush),
             done => done,
         }
     }
@@ -169,7 +169,7 @@ impl<S: Write + Drop, F: Write + OpenFile + Drop> Output<S, F> {
     fn sync(&self) -> io::Result<()> {
         if let Ok(held) = self.open.try_borrow() {
             if let Some(open) = held.as_ref() {
-                if let Kind::File(file) = &open.writer.get_ref().kind {
+                if let OutputKind::File(file) = &open.writer.get_ref().kind {
                     return file.sync_all();
                 }
             }
@@ -181,7 +181,7 @@ impl<S: Write + Drop, F: Write + OpenFile + Drop> Output<S, F> {
     fn file_id(&self) -> Option<FileId> {
         if let Ok(held) = self.open.try_borrow() {
             if let Some(open) = held.as_ref() {
-                if let Kind::File(file) = &open.writer.get_ref().kind {
+                if let OutputKind::File(file) = &open.writer.get_ref().kind {
                     return FileId::of(file.metadata());
                 }
             }
@@ -210,12 +210,12 @@ impl<S: Write + Drop, F: Write + Drop> Write for ToOutput<'_, S, F> {
 
 /// A reader that has the output written before it reads, since that may wait.
 #[derive(Drop)]
-pub struct Flushing<'o, I, S: Write + Drop, F: Write + Drop> {
+pub struct FlushBeforeRead<'o, I, S: Write + Drop, F: Write + Drop> {
     pub inner: I,
     pub output: &'o Output<S, F>,
 }
 
-impl<I: Read, S: Write + Drop, F: Write + Drop> Read for Flushing<'_, I, S, F> {
+impl<I: Read, S: Write + Drop, F: Write + Drop> Read for FlushBeforeRead<'_, I, S, F> {
     fn read(&mut self, buf: &mut [u8]) -> io::Result<usize> {
         // Where it can't be written, the next octet that is put breaks the sink.
         let _ = self.output.flush();
@@ -227,8 +227,8 @@ impl<I: Read, S: Write + Drop, F: Write + Drop> Read for Flushing<'_, I, S, F> {
 pub fn open_standard_output<'r, R: Print + Files + AllocGlobal>(
     rt: &'r R,
     output: &OutputOf<'r, R>,
-) -> Result<(), Fault> {
-    output.open(rt.alloc(), Kind::Standard(io::writer(rt)))
+) -> Result<(), ProgramError> {
+    output.open(rt.alloc(), OutputKind::Standard(io::writer(rt)))
 }
 
 /// The name by which the system knows standard output.
@@ -236,11 +236,11 @@ const STANDARD_OUTPUT: &str = "/dev/stdout";
 
 /// Where the octets of an output go until it is closed.
 #[derive(Drop)]
-pub enum Destination {
+pub enum OutputDestination {
     /// To the output itself.
-    Itself,
+    InPlace,
     /// To a new file of this name, which takes the name of the output at the end.
-    Beside(String),
+    NewFile(String),
 }
 
 /// Opens the output of this name, `-` or `/dev/stdout` for standard output. Where it is to be replaced as a whole, nothing else is opened.
@@ -254,19 +254,19 @@ pub fn open_output<'r, R: Print + Eprint + Host + AllocGlobal>(
     output: &OutputOf<'r, R>,
     name: &str,
     whole: bool,
-) -> Result<Destination, Fault> {
+) -> Result<OutputDestination, ProgramError> {
     let way = if name == "-" || name == STANDARD_OUTPUT {
         None
     } else {
         Some(replacement::begin(rt, name)?)
     };
     match way {
-        Some(Way::Beside(new)) => open_beside(rt, output, new),
-        _ if whole => Err(Fault::cannot_replace(rt.alloc(), name)),
-        Some(Way::Direct(obstacle)) => open_directly(rt, output, name, obstacle),
+        Some(ReplaceMode::Beside(new)) => open_beside(rt, output, new),
+        _ if whole => Err(ProgramError::cannot_replace(rt.alloc(), name)),
+        Some(ReplaceMode::Direct(obstacle)) => open_directly(rt, output, name, obstacle),
         None => {
             open_standard_output(rt, output)?;
-            Ok(Destination::Itself)
+            Ok(OutputDestination::InPlace)
         }
     }
 }
@@ -276,13 +276,13 @@ fn open_beside<'r, R: Print + Host + AllocGlobal>(
     rt: &'r R,
     output: &OutputOf<'r, R>,
     new: Replacement<R::File>,
-) -> Result<Destination, Fault> {
+) -> Result<OutputDestination, ProgramError> {
     let Replacement { name: part, file } = new;
-    match output.open(rt.alloc(), Kind::File(file)) {
-        Ok(()) => Ok(Destination::Beside(part)),
-        Err(fault) => {
+    match output.open(rt.alloc(), OutputKind::File(file)) {
+        Ok(()) => Ok(OutputDestination::NewFile(part)),
+        Err(error) => {
             let _ = fs::remove_file(rt, part.as_str());
-            Err(fault)
+            Err(error)
         }
     }
 }
@@ -292,17 +292,17 @@ fn open_directly<'r, R: Print + Eprint + Host + AllocGlobal>(
     rt: &'r R,
     output: &OutputOf<'r, R>,
     name: &str,
-    obstacle: Option<Obstacle>,
-) -> Result<Destination, Fault> {
+    obstacle: Option<ReplaceObstacle>,
+) -> Result<OutputDestination, ProgramError> {
     let alloc = rt.alloc();
-    let file = fs::create(rt, name).map_err(|_| Fault::cannot_open(alloc, name))?;
-    output.open(alloc, Kind::File(file))?;
+    let file = fs::create(rt, name).map_err(|_| ProgramError::cannot_open(alloc, name))?;
+    output.open(alloc, OutputKind::File(file))?;
     if let Some(obstacle) = obstacle {
         let name = NameOf(name.as_bytes());
         // A line that can't be written changes nothing of the output.
         let _ = eprintln!(rt; "illcanon: {name} is written directly: {obstacle}");
     }
-    Ok(Destination::Itself)
+    Ok(OutputDestination::InPlace)
 }
 
 /// Writes what is still in the buffer, and gives a new file the name of the output. Where the old one has to be kept, or not all of the output
@@ -310,13 +310,13 @@ fn open_directly<'r, R: Print + Eprint + Host + AllocGlobal>(
 pub fn close_output<'r, R: Print + Host + AllocGlobal>(
     rt: &'r R,
     output: &OutputOf<'r, R>,
-    destination: Destination,
+    destination: OutputDestination,
     name: &str,
     keep: bool,
-    done: Result<Verdict, Fault>,
-) -> Result<Verdict, Fault> {
+    done: Result<Verdict, ProgramError>,
+) -> Result<Verdict, ProgramError> {
     let done = output.finish(done);
-    let Destination::Beside(part) = destination else {
+    let OutputDestination::NewFile(part) = destination else {
         return done;
     };
     if keep || keeps_output(false, &done) {
@@ -325,15 +325,15 @@ pub fn close_output<'r, R: Print + Host + AllocGlobal>(
     }
     if output.sync().is_err() {
         let _ = fs::remove_file(rt, part.as_str());
-        return Err(Fault::Flush);
+        return Err(ProgramError::Flush);
     }
     match is_still_named(rt, output, part.as_str()) {
         // Another file has this name by now, which is not ours to remove.
-        Some(false) => return Err(Fault::cannot_replace(rt.alloc(), name)),
+        Some(false) => return Err(ProgramError::cannot_replace(rt.alloc(), name)),
         Some(true) if fs::rename(rt, part.as_str(), name).is_ok() => {}
         _ => {
             let _ = fs::remove_file(rt, part.as_str());
-            return Err(Fault::cannot_replace(rt.alloc(), name));
+            return Err(ProgramError::cannot_replace(rt.alloc(), name));
         }
     }
     sync_folder(rt, name);

@@ -6,18 +6,18 @@ use std::io::{self, Read};
 use std::time::{Duration, Instant};
 
 /// How many milliseconds the work goes on before its line is shown.
-const PATIENCE: u64 = 2_000;
+const SHOW_AFTER: u64 = 2_000;
 
 /// How many milliseconds a line stays as it is.
-const PAUSE: u64 = 200;
+const UPDATE_INTERVAL: u64 = 200;
 
 /// Goes to the front of the line on a terminal, and erases it (ECMA-48, 8.3.15 and 8.3.41).
-const ERASE: &str = "\r\x1b[K";
+const ERASE_LINE: &str = "\r\x1b[K";
 
 /// How far the work is: how many files were opened, and how many octets were read. A line on a terminal says so while the work takes
 /// more than two seconds.
 #[derive(Drop)]
-pub struct Progress {
+pub struct ProgressLine {
     state: Cell<State>,
 }
 
@@ -31,23 +31,23 @@ struct State {
     is_shown: bool,
 }
 
-impl Progress {
+impl ProgressLine {
     /// Shows no line.
-    pub fn none() -> Progress {
-        Progress::due_at(None)
+    pub fn none() -> ProgressLine {
+        ProgressLine::due_at(None)
     }
 
     /// Shows a line if standard error is a terminal.
-    pub fn begin<R: Host>(rt: &R) -> Progress {
+    pub fn begin<R: Host>(rt: &R) -> ProgressLine {
         if rt.is_terminal() {
-            Progress::due_at(time_in(rt, PATIENCE))
+            ProgressLine::due_at(time_in(rt, SHOW_AFTER))
         } else {
-            Progress::none()
+            ProgressLine::none()
         }
     }
 
-    fn due_at(due: Option<Instant>) -> Progress {
-        Progress {
+    fn due_at(due: Option<Instant>) -> ProgressLine {
+        ProgressLine {
             state: Cell::new(State {
                 files: 0,
                 octets: 0,
@@ -84,9 +84,9 @@ impl Progress {
         let files = Count(state.files, "file");
         let octets = Count(state.octets, "octet");
         // Where standard error is closed, nothing is shown.
-        let _ = eprint!(rt; "{ERASE}illcanon: {files}, {octets}");
+        let _ = eprint!(rt; "{ERASE_LINE}illcanon: {files}, {octets}");
         self.state.set(State {
-            due: time_in(rt, PAUSE),
+            due: time_in(rt, UPDATE_INTERVAL),
             is_shown: true,
             ..state
         });
@@ -99,7 +99,7 @@ impl Progress {
             return;
         }
         // Where standard error is closed, nothing was shown.
-        let _ = eprint!(rt; "{ERASE}");
+        let _ = eprint!(rt; "{ERASE_LINE}");
         self.state.set(State {
             is_shown: false,
             ..state
@@ -117,13 +117,13 @@ fn time_in<R: Host>(rt: &R, milliseconds: u64) -> Option<Instant> {
 
 /// A reader that shows how far the work is before it reads, since that may wait.
 #[derive(Drop)]
-pub struct Watched<'o, R, I> {
+pub struct ProgressReader<'o, R, I> {
     pub rt: &'o R,
     pub inner: I,
-    pub progress: &'o Progress,
+    pub progress: &'o ProgressLine,
 }
 
-impl<R: Eprint + Host, I: Read> Read for Watched<'_, R, I> {
+impl<R: Eprint + Host, I: Read> Read for ProgressReader<'_, R, I> {
     fn read(&mut self, buf: &mut [u8]) -> io::Result<usize> {
         self.progress.show(self.rt);
         let count = self.inner.read(buf)?;

@@ -1,5 +1,5 @@
 //! A new file that is written beside the one that it replaces, so that this one is replaced or as it was.
-use crate::fault::Fault;
+use crate::error::ProgramError;
 use crate::host::Host;
 use std::alloc::{AllocError, Global};
 use std::fmt;
@@ -9,7 +9,7 @@ use std::os::unix::fs::{MetadataExt, OpenOptionsExt, PermissionsExt};
 use std::rt::Files;
 
 /// How many names a new file is tried under.
-const NAMES: u32 = 100;
+const MAX_PART_NAMES: u32 = 100;
 
 /// The bits of a mode that say who may read, write and run a file.
 const PERMISSIONS: u32 = 0o7777;
@@ -29,16 +29,16 @@ pub struct Replacement<F> {
 
 /// The way in which the file of a name is written.
 #[derive(Drop)]
-pub enum Way<F> {
+pub enum ReplaceMode<F> {
     /// To a new file beside it, which takes its name at the end.
     Beside(Replacement<F>),
     /// Directly. A regular file that is there can't be replaced for this reason; None where there is no regular file.
-    Direct(Option<Obstacle>),
+    Direct(Option<ReplaceObstacle>),
 }
 
 /// The reason why a regular file is written directly, and not replaced.
 #[derive(Clone, Copy, Debug, PartialEq, Eq)]
-pub enum Obstacle {
+pub enum ReplaceObstacle {
     /// Its name is a link to it.
     Link,
     /// It has other names.
@@ -49,26 +49,26 @@ pub enum Obstacle {
     Owner,
 }
 
-impl fmt::Display for Obstacle {
+impl fmt::Display for ReplaceObstacle {
     fn fmt<W: fmt::Write>(&self, f: &mut fmt::Formatter<W>) -> fmt::Result {
         f.write_str(match self {
-            Obstacle::Link => "it is a link",
-            Obstacle::Names => "it has several names",
-            Obstacle::Folder => "no new file can be made beside it",
-            Obstacle::Owner => "its owner and mode can't be given to a new file",
+            ReplaceObstacle::Link => "it is a link",
+            ReplaceObstacle::Names => "it has several names",
+            ReplaceObstacle::Folder => "no new file can be made beside it",
+            ReplaceObstacle::Owner => "its owner and mode can't be given to a new file",
         })
     }
 }
 
 /// What a name stands for before it is written to.
 #[derive(Drop)]
-enum Target {
+enum ExistingFile {
     /// No file.
     Absent,
     /// A regular file with no other name.
     File(Metadata),
     /// What can't be replaced: a regular file for this reason, or a device, a pipe, a folder.
-    Other(Option<Obstacle>),
+    Other(Option<ReplaceObstacle>),
 }
 
 /// Creates a new file beside the one of this name, with its owner, group and mode, or says why the file of this name has to
@@ -77,14 +77,17 @@ enum Target {
 /// # Errors
 ///
 /// The file of this name is there and may not be written to, all names for a new file are taken, or memory ran out.
-pub fn begin<R: Host + AllocGlobal>(rt: &R, name: &str) -> Result<Way<R::File>, Fault> {
-    match target_of(rt, name) {
-        Target::Other(obstacle) => Ok(Way::Direct(obstacle)),
-        Target::Absent => match create_beside(rt, name, 0o666)? {
-            Some(new) => Ok(Way::Beside(new)),
-            None => Ok(Way::Direct(Some(Obstacle::Folder))),
+pub fn begin<R: Host + AllocGlobal>(
+    rt: &R,
+    name: &str,
+) -> Result<ReplaceMode<R::File>, ProgramError> {
+    match existing_file(rt, name) {
+        ExistingFile::Other(obstacle) => Ok(ReplaceMode::Direct(obstacle)),
+        ExistingFile::Absent => match create_beside(rt, name, 0o666)? {
+            Some(new) => Ok(ReplaceMode::Beside(new)),
+            None => Ok(ReplaceMode::Direct(Some(ReplaceObstacle::Folder))),
         },
-        Target::File(old) => begin_beside(rt, name, &old),
+        ExistingFile::File(old) => begin_beside(rt, name, &old),
     }
 }
 
@@ -93,35 +96,35 @@ fn begin_beside<R: Host + AllocGlobal>(
     rt: &R,
     name: &str,
     old: &Metadata,
-) -> Result<Way<R::File>, Fault> {
+) -> Result<ReplaceMode<R::File>, ProgramError> {
     let Some(new) = create_beside(rt, name, old.mode() & 0o700)? else {
-        return Ok(Way::Direct(Some(Obstacle::Folder)));
+        return Ok(ReplaceMode::Direct(Some(ReplaceObstacle::Folder)));
     };
-    let taken_over = take_over(rt, &new, old);
+    let taken_over = copy_owner_and_mode(rt, &new, old);
     if let Ok(true) = taken_over {
-        return Ok(Way::Beside(new));
+        return Ok(ReplaceMode::Beside(new));
     }
     let _ = fs::remove_file(rt, new.name.as_str());
     match taken_over {
-        Ok(_) => Err(Fault::cannot_open(rt.alloc(), name)),
-        Err(_) => Ok(Way::Direct(Some(Obstacle::Owner))),
+        Ok(_) => Err(ProgramError::cannot_open(rt.alloc(), name)),
+        Err(_) => Ok(ReplaceMode::Direct(Some(ReplaceObstacle::Owner))),
     }
 }
 
 /// The target of a name. It is not opened, since what it stands for may change meanwhile, and to open a pipe may wait.
-fn target_of<R: Files>(rt: &R, name: &str) -> Target {
+fn existing_file<R: Files>(rt: &R, name: &str) -> ExistingFile {
     if name.is_empty() || name.ends_with('/') {
-        return Target::Other(None);
+        return ExistingFile::Other(None);
     }
     match fs::symlink_metadata(rt, name) {
-        Ok(found) if found.is_file() && found.nlink() == 1 => Target::File(found),
-        Ok(found) if found.is_file() => Target::Other(Some(Obstacle::Names)),
+        Ok(found) if found.is_file() && found.nlink() == 1 => ExistingFile::File(found),
+        Ok(found) if found.is_file() => ExistingFile::Other(Some(ReplaceObstacle::Names)),
         Ok(_) => match fs::metadata(rt, name) {
-            Ok(found) if found.is_file() => Target::Other(Some(Obstacle::Link)),
-            _ => Target::Other(None),
+            Ok(found) if found.is_file() => ExistingFile::Other(Some(ReplaceObstacle::Link)),
+            _ => ExistingFile::Other(None),
         },
-        Err(error) if error.kind() == ErrorKind::NotFound => Target::Absent,
-        Err(_) => Target::Other(None),
+        Err(error) if error.kind() == ErrorKind::NotFound => ExistingFile::Absent,
+        Err(_) => ExistingFile::Other(None),
     }
 }
 
@@ -134,9 +137,9 @@ fn create_beside<R: Files + AllocGlobal>(
     rt: &R,
     name: &str,
     mode: u32,
-) -> Result<Option<Replacement<R::File>>, Fault> {
-    for number in 0..NAMES {
-        let part = part_name(rt.alloc(), name, number).map_err(|_| Fault::out_of_memory())?;
+) -> Result<Option<Replacement<R::File>>, ProgramError> {
+    for number in 0..MAX_PART_NAMES {
+        let part = part_name(rt.alloc(), name, number).map_err(|_| ProgramError::out_of_memory())?;
         let mut options = OpenOptions::new();
         options.write(true).create_new(true).mode(mode);
         match options.open(rt, part.as_str()) {
@@ -145,7 +148,7 @@ fn create_beside<R: Files + AllocGlobal>(
             Err(_) => return Ok(None),
         }
     }
-    Err(Fault::names_are_taken(rt.alloc(), name))
+    Err(ProgramError::names_are_taken(rt.alloc(), name))
 }
 
 /// `NAME.part`, and `NAME.part1` and so on.
@@ -159,7 +162,11 @@ fn part_name(alloc: Global, name: &str, number: u32) -> Result<String, AllocErro
 
 /// Gives a new file the owner, the group and the mode of the old one. False where the old one may not be written: it has the owner that
 /// new files have, and this owner may not write it.
-fn take_over<R: Host>(rt: &R, new: &Replacement<R::File>, old: &Metadata) -> io::Result<bool> {
+fn copy_owner_and_mode<R: Host>(
+    rt: &R,
+    new: &Replacement<R::File>,
+    old: &Metadata,
+) -> io::Result<bool> {
     let made = new.file.metadata()?;
     let is_own = made.uid() == old.uid();
     if is_own && made.uid() != ROOT && old.mode() & OWNER_WRITES == 0 {

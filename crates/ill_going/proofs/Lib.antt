@@ -1,3 +1,3 @@
 pub mod TakenElements
-pub mod GoneMessages
+pub mod SkippedMessages
 pub mod OneWay

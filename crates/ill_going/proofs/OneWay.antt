@@ -5,7 +5,7 @@ use Rattle.ill_schema.specs.Profiles.{profile_of}
 use Rattle.ill_schema.specs.declared.profile.Profile.{Profile as Named}
 use Rattle.ber_frame.specs.Framed.{IsFrame}
 use Rattle.ber_frame.proofs.Frames.{one_frame}
-use Rattle.ill_going.specs.Gone.{HasNoEnd}
+use Rattle.ill_going.specs.Skipping.{HasNoEnd}
 use Rattle.ill_schema.specs.declared.refusal.Refusal.{Refusal}
 use Rattle.ill_schema.specs.Apdu.{Apdu, SpellsApdu}
 use Rattle.ill_refusals.specs.Fault.{Fault, fault_of, Refuses}
@@ -13,17 +13,17 @@ use Rattle.ill_schema.specs.declared.refusal.Cause.{Cause}
 use Rattle.ill_refusals.proofs.Prefixes.{refusal_stays}
 use Rattle.ill_refusals.specs.Outcome.{OnlyRefuses}
 use Rattle.ill_normal.specs.Messages.{Spelling, first, after, output_from}
-use Rattle.ill_normal.specs.declared.messages.Position.{Position}
+use Rattle.ill_normal.specs.declared.messages.MessagePlace.{MessagePlace}
 use Rattle.ill_normal.proofs.Canonical.{spells_once, refuses_whole}
 use Rattle.ill_going.specs.Items.{Item, good, bad, AreItems, written_from, good_ones, HasNoMore, IsRefusedFor}
 use Rattle.ill_going.proofs.TakenElements.{spelling_framed, none_begins}
 
-module _ (text : Position → Spelling → List ℕ) (same : (q r : Position) (m : Spelling) → text q m ≡ text r m) where
-  output_at : (p q : Position) (ms : List Spelling) → output_from text p ms ≡ output_from text q ms
+module _ (text : MessagePlace → Spelling → List ℕ) (same : (q r : MessagePlace) (m : Spelling) → text q m ≡ text r m) where
+  output_at : (p q : MessagePlace) (ms : List Spelling) → output_from text p ms ≡ output_from text q ms
   output_at p q [] = refl
   output_at p q (m ∷ ms) = ap₂ (λ (a b : List ℕ). a ++ b) (same p q m) (output_at (after p (length m.octets)) (after q (length m.octets)) ms)
 
-  pub good_written : (p : Position) (items : List Item) → written_from text p items ≡ output_from text first (good_ones items)
+  pub good_written : (p : MessagePlace) (items : List Item) → written_from text p items ≡ output_from text first (good_ones items)
   good_written p [] = refl
   good_written p (good m ∷ items) =
       let n = length m.octets in ap₂ (λ (a b : List ℕ). a ++ b) (same p first m) (good_written (after p n) items ∙ output_at first (after first n) (good_ones items))
@@ -68,24 +68,24 @@ module _ (q : Named) where
   heads s a b t u p q h k =
       let e = one_frame a b t u h k (sym p ∙ q) in (e, append_cancel_left a t u (sym p ∙ q ∙ ap (λ z. z ++ u) (sym e)))
 
-  pub one_way : (s rest over : List ℕ) (items others : List Item) → AreItems (profile_of q) s items rest → HasNoMore rest → AreItems (profile_of q) s others over → HasNoMore over
+  pub one_reading_of_an_input : (s rest over : List ℕ) (items others : List Item) → AreItems (profile_of q) s items rest → HasNoMore rest → AreItems (profile_of q) s others over → HasNoMore over
       → (items ≡ others) × (rest ≡ over)
-  one_way s rest over [] [] h n k m = (refl, sym h ∙ k)
-  one_way s rest over [] (good y ∷ ys) h n k m = absurd (n y.octets k.0 (spelling_framed q y.apdu y.octets k.2) (sym h ∙ k.1))
-  one_way s rest over [] (bad o r ∷ ys) h n k m = absurd (n o k.0 k.2 (sym h ∙ k.1))
-  one_way s rest over (good x ∷ xs) [] h n k m = absurd (m x.octets h.0 (spelling_framed q x.apdu x.octets h.2) (sym k ∙ h.1))
-  one_way s rest over (bad o r ∷ xs) [] h n k m = absurd (m o h.0 h.2 (sym k ∙ h.1))
-  one_way s rest over (good x ∷ xs) (good y ∷ ys) h n k m =
+  one_reading_of_an_input s rest over [] [] h n k m = (refl, sym h ∙ k)
+  one_reading_of_an_input s rest over [] (good y ∷ ys) h n k m = absurd (n y.octets k.0 (spelling_framed q y.apdu y.octets k.2) (sym h ∙ k.1))
+  one_reading_of_an_input s rest over [] (bad o r ∷ ys) h n k m = absurd (n o k.0 k.2 (sym h ∙ k.1))
+  one_reading_of_an_input s rest over (good x ∷ xs) [] h n k m = absurd (m x.octets h.0 (spelling_framed q x.apdu x.octets h.2) (sym k ∙ h.1))
+  one_reading_of_an_input s rest over (bad o r ∷ xs) [] h n k m = absurd (m o h.0 h.2 (sym k ∙ h.1))
+  one_reading_of_an_input s rest over (good x ∷ xs) (good y ∷ ys) h n k m =
       let e = heads s x.octets y.octets h.0 k.0 h.1 k.1 (spelling_framed q x.apdu x.octets h.2) (spelling_framed q y.apdu y.octets k.2) in
-      let next = one_way h.0 rest over xs ys h.3 n (subst (λ z. AreItems (profile_of q) z ys over) (sym e.1) k.3) m in
+      let next = one_reading_of_an_input h.0 rest over xs ys h.3 n (subst (λ z. AreItems (profile_of q) z ys over) (sym e.1) k.3) m in
       (ap₂ (λ (a : Spelling) (b : List Item). good a ∷ b) (same_good x y e.0 h.2 k.2) next.0, next.1)
-  one_way s rest over (good x ∷ xs) (bad o r ∷ ys) h n k m =
+  one_reading_of_an_input s rest over (good x ∷ xs) (bad o r ∷ ys) h n k m =
       let e = heads s x.octets o h.0 k.0 h.1 k.1 (spelling_framed q x.apdu x.octets h.2) k.2 in not_both x.apdu x.octets o r h.2 e.0 k.3
-  one_way s rest over (bad o r ∷ xs) (good y ∷ ys) h n k m =
+  one_reading_of_an_input s rest over (bad o r ∷ xs) (good y ∷ ys) h n k m =
       let e = heads s o y.octets h.0 k.0 h.1 k.1 h.2 (spelling_framed q y.apdu y.octets k.2) in not_both y.apdu y.octets o r k.2 (sym e.0) h.3
-  one_way s rest over (bad o r ∷ xs) (bad p x ∷ ys) h n k m =
+  one_reading_of_an_input s rest over (bad o r ∷ xs) (bad p x ∷ ys) h n k m =
       let e = heads s o p h.0 k.0 h.1 k.1 h.2 k.2 in
-      let next = one_way h.0 rest over xs ys h.4 n (subst (λ z. AreItems (profile_of q) z ys over) (sym e.1) k.4) m in
+      let next = one_reading_of_an_input h.0 rest over xs ys h.4 n (subst (λ z. AreItems (profile_of q) z ys over) (sym e.1) k.4) m in
       (ap₂ (λ (a : Item) (b : List Item). a ∷ b) (ap₂ (λ (a : List ℕ) (b : Refusal). bad a b) e.0 (refused_once r x o p e.0 h.3 k.3)) next.0, next.1)
 
   pub still_refused : (octets rest : List ℕ) (refusal : Refusal) → refusal.cause ≢ Cause.Truncated → IsRefusedFor (profile_of q) octets refusal → Refuses (profile_of q) (octets ++ rest) (fault_of refusal)

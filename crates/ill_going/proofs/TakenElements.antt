@@ -25,9 +25,9 @@ use Rattle.ill_refusals.specs.Outcome.{OnlyRefuses}
 use Rattle.ill_read.specs.Answers.{IsUnfinishedIn}
 use Rattle.ill_normal.specs.Messages.{Spelling, counted, MakesIn}
 use Rattle.ill_normal.proofs.WrittenMessages.{counted_left}
-use Rattle.ill_normal.specs.declared.messages.Piece.{Piece}
-use Rattle.ill_going.specs.declared.next.Next.{Next}
-use Rattle.ill_going.specs.Gone.{HasNoEnd}
+use Rattle.ill_normal.specs.declared.messages.RenderedMessage.{RenderedMessage}
+use Rattle.ill_going.specs.declared.next.NextMessage.{NextMessage}
+use Rattle.ill_going.specs.Skipping.{HasNoEnd}
 use Rattle.ill_going.specs.code.Taking.{Framing, Takes, TakesElement, TakesPart, TakesRest, TakesUnframed, Took, IsNext, end_of}
 
 -- all octets of a slice of which no fewer leave more to be needed
@@ -211,8 +211,8 @@ module _ (left left' : Option (List ℕ)) (kept : List ℕ) (size : ℕ) (frame 
       none_left [] z = refl
       none_left (o ∷ x) z = absurd (omega (arith, z))
 
-  pub read_next : {T : Type 0} (q : Named) (is : T → List ℕ → Type 0) (text : Spelling → List ℕ) (is_good : Spelling → Bool) (piece : Piece T) (rest : List ℕ) (m : List ℕ) → Consumes (Some kept) (Some rest) m
-      → MakesIn (profile_of q) is text is_good piece m → IsNext (profile_of q) is text is_good left left' (Next.Read piece)
+  pub read_next : {T : Type 0} (q : Named) (is : T → List ℕ → Type 0) (text : Spelling → List ℕ) (is_good : Spelling → Bool) (piece : RenderedMessage T) (rest : List ℕ) (m : List ℕ) → Consumes (Some kept) (Some rest) m
+      → MakesIn (profile_of q) is text is_good piece m → IsNext (profile_of q) is text is_good left left' (NextMessage.Read piece)
   read_next q is text is_good piece rest m c h =
       let same = message_is q h.apdu m rest h.spells c in
       (m, subst (Consumes left left') same t.taken, h)
@@ -230,7 +230,7 @@ module _ (left left' : Option (List ℕ)) (kept : List ℕ) (size : ℕ) (frame 
   end_is framed.Part j = inr (j, t.part j)
 
   pub refused_next : {T : Type 0} (q : Named) (is : T → List ℕ → Type 0) (text : Spelling → List ℕ) (is_good : Spelling → Bool) (refusal : Refusal) (end : Option ℕ) → end ≡ end_of frame size
-      → OnlyRefuses (profile_of q) kept (fault_of refusal) → IsNext (profile_of q) {T = T} is text is_good left left' (Next.Refused refusal end)
+      → OnlyRefuses (profile_of q) kept (fault_of refusal) → IsNext (profile_of q) {T = T} is text is_good left left' (NextMessage.Refused refusal end)
   refused_next q is text is_good refusal end e h = (
     t.octets,
     t.taken,
@@ -285,8 +285,8 @@ unframed_broken left left' left'' kept kept' size t r = record {
 
 module _ (left left' : Option (List ℕ)) (kept : List ℕ) (size : ℕ) where
   -- what the reader made of what was kept
-  pub read_took : {T : Type 0} (q : Named) (is : T → List ℕ → Type 0) (text : Spelling → List ℕ) (is_good : Spelling → Bool) (frame : Frame) → Took left left' kept size frame → (piece : Piece T) (rest m : List ℕ)
-      → Consumes (Some kept) (Some rest) m → MakesIn (profile_of q) is text is_good piece m → IsNext (profile_of q) is text is_good left left' (Next.Read piece)
+  pub read_took : {T : Type 0} (q : Named) (is : T → List ℕ → Type 0) (text : Spelling → List ℕ) (is_good : Spelling → Bool) (frame : Frame) → Took left left' kept size frame → (piece : RenderedMessage T) (rest m : List ℕ)
+      → Consumes (Some kept) (Some rest) m → MakesIn (profile_of q) is text is_good piece m → IsNext (profile_of q) is text is_good left left' (NextMessage.Read piece)
   read_took q is text is_good framed.Whole t piece rest m c h = read_next left left' kept size framed.Whole t q is text is_good piece rest m c h
   read_took q is text is_good framed.Part t piece rest m c h = read_next left left' kept size framed.Part t q is text is_good piece rest m c h
   read_took q is text is_good framed.Unframed t piece rest m c h =
@@ -306,7 +306,7 @@ module _ (left left' : Option (List ℕ)) (kept : List ℕ) (size : ℕ) where
       absurd (t.unframed none_is_part.0 (subst (λ z. IsFrame (z ++ none_is_part.0)) (sym none) none_is_part.2))
 
   pub refused_took : {T : Type 0} (q : Named) (is : T → List ℕ → Type 0) (text : Spelling → List ℕ) (is_good : Spelling → Bool) (frame : Frame) → Took left left' kept size frame → (refusal : Refusal) (end : Option ℕ)
-      → end ≡ end_of frame size → OnlyRefuses (profile_of q) kept (fault_of refusal) → IsNext (profile_of q) {T = T} is text is_good left left' (Next.Refused refusal end)
+      → end ≡ end_of frame size → OnlyRefuses (profile_of q) kept (fault_of refusal) → IsNext (profile_of q) {T = T} is text is_good left left' (NextMessage.Refused refusal end)
   refused_took q is text is_good framed.Whole t refusal end e h = refused_next left left' kept size framed.Whole t q is text is_good refusal end e h
   refused_took q is text is_good framed.Part t refusal end e h = refused_next left left' kept size framed.Part t q is text is_good refusal end e h
   refused_took q is text is_good framed.Unframed t refusal end e h = (

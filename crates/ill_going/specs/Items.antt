@@ -7,8 +7,8 @@ use Rattle.ill_schema.specs.Apdu.{SpellsApdu}
 use Rattle.ill_refusals.specs.Fault.{fault_of}
 use Rattle.ill_refusals.specs.Outcome.{OnlyRefuses}
 use Rattle.ill_normal.specs.Messages.{Spelling, after, one_if}
-use Rattle.ill_normal.specs.declared.messages.Position.{Position}
-use Rattle.ill_going.specs.declared.report.Report.{Report}
+use Rattle.ill_normal.specs.declared.messages.MessagePlace.{MessagePlace}
+use Rattle.ill_going.specs.declared.report.RefusalReport.{RefusalReport}
 
 -- one message of an input: a spelling, or octets that are refused
 pub data Item : Type 0 where
@@ -30,7 +30,7 @@ item_octets (good m) = m.octets
 item_octets (bad octets refusal) = octets
 
 -- the position after messages
-abbrev pub position_past : Position → List Item → Position
+abbrev pub position_past : MessagePlace → List Item → MessagePlace
 position_past p [] = p
 position_past p (x ∷ items) = position_past (after p (length (item_octets x))) items
 
@@ -40,15 +40,15 @@ written_of text (good m) = text m
 written_of text (bad octets refusal) = []
 
 -- what is written of messages from this position on, where `text p m` is written of the message at p if it isn't refused
-abbrev pub written_from : (Position → Spelling → List ℕ) → Position → List Item → List ℕ
+abbrev pub written_from : (MessagePlace → Spelling → List ℕ) → MessagePlace → List Item → List ℕ
 written_from text p [] = []
 written_from text p (x ∷ items) = written_of (text p) x ++ written_from text (after p (length (item_octets x))) items
 
-abbrev pub report : ℕ → Refusal → Bool → Report
+abbrev pub report : ℕ → Refusal → Bool → RefusalReport
 report i refusal ends = record { message = i; refusal = refusal; ends = ends }
 
 -- what is reported: each message that is refused
-abbrev pub reports_from : ℕ → List Item → List Report
+abbrev pub reports_from : ℕ → List Item → List RefusalReport
 reports_from i [] = []
 reports_from i (good m ∷ items) = reports_from (suc i) items
 reports_from i (bad octets refusal ∷ items) = report i refusal true ∷ reports_from (suc i) items
@@ -72,7 +72,7 @@ good_ones (good m ∷ items) = m ∷ good_ones items
 good_ones (bad octets refusal ∷ items) = good_ones items
 
 -- known reports grow by these
-abbrev pub Adds : Option (List Report) → Option (List Report) → List Report → Type 0
+abbrev pub Adds : Option (List RefusalReport) → Option (List RefusalReport) → List RefusalReport → Type 0
 Adds None new more = Unit {0}
 Adds (Some old) None more = ⊥
 Adds (Some old) (Some new) more = new ≡ old ++ more

@@ -1,3 +1,3 @@
 pub mod Items
-pub mod Gone
+pub mod Skipping
 pub mod code

@@ -4,21 +4,21 @@ ghost use Rattle.std.specs.Io.KnownBytes.{Consumes, IsAtEnd, Keeps};
 ghost use Rattle.ill_schema.specs.Profiles.{profile_of};
 ghost use Rattle.ill_normal.specs.Calls.{taking, putting};
 ghost use Rattle.ill_going.specs.Items.{report};
-ghost use Rattle.ill_going.specs.Gone.{GoesThrough, HaltsAfter, reporting};
-ghost use Rattle.ill_going.specs.code.Ending.{GoesOn, gone_to, halted_at};
+ghost use Rattle.ill_going.specs.Skipping.{SkipsToEnd, SkipsAndStops, reporting};
+ghost use Rattle.ill_going.specs.code.Ending.{GoesOn, counts_of, error_at};
 
-use crate::next::{Next, next_message};
-use crate::report::{Report, Reports};
+use crate::next::{NextMessage, next_message};
+use crate::report::{RefusalReport, ReportRefusals};
 use ber_core::{Look, Sink, Source};
-use ill_normal::{Maker, Output, Position, Refusal};
+use ill_normal::{MessagePlace, Refusal, Render, Rendered};
 use std::alloc::Global;
 
 /// How many messages an input may have.
-const MESSAGES: u32 = 1_000_000;
+const MAX_MESSAGES: u32 = 1_000_000;
 
 /// What an input was that was gone through.
 #[derive(Clone, Copy, Debug, PartialEq, Eq)]
-pub struct Gone {
+pub struct SkippingCounts {
     /// How many messages it has, those that are refused too.
     pub messages: u32,
     /// How many of them are refused.
@@ -33,7 +33,7 @@ pub struct Gone {
 
 /// Why the work stopped.
 #[derive(Clone, Copy, Debug, PartialEq, Eq)]
-pub enum Why {
+pub enum SkippingErrorKind {
     OutOfMemory,
     /// The source is broken.
     ReadFault,
@@ -45,7 +45,7 @@ pub enum Why {
 
 /// How far the work came, and why no further.
 #[derive(Clone, Copy, Debug, PartialEq, Eq)]
-pub struct Halted {
+pub struct SkippingError {
     /// How many messages were gone through, those that are refused too.
     pub messages: u32,
     /// How many of them are refused. They were reported.
@@ -56,7 +56,7 @@ pub struct Halted {
     pub octets: u64,
     /// How many octets were written.
     pub written: u128,
-    pub why: Why,
+    pub why: SkippingErrorKind,
 }
 
 /// Goes through the messages of an input, one after another up to its end, by a way to look at the source, and writes what is made of each.
@@ -69,16 +69,16 @@ pub struct Halted {
 /// # Errors
 ///
 /// How far it came, and why no further, where the input goes on after 1,000,000 messages, too.
-pub fn keep_going<M: Maker, R: Source, L: Look<R>, W: Sink, T: Reports>(
+pub fn for_each_accepted_message<M: Render, R: Source, L: Look<R>, W: Sink, T: ReportRefusals>(
     alloc: Global,
     maker: &M,
     source: &mut R,
     sink: &mut W,
     reports: &mut T,
-) -> Result<Gone, Halted>
-    ensures through { IfOk result (GoesThrough (profile_of (M.profile maker.now)) (M.text maker.now) (M.is_good maker.now) (taking (R.left source.old) (R.left source.new) (R.is_broken source.new))
+) -> Result<SkippingCounts, SkippingError>
+    ensures through { IfOk result (SkipsToEnd (profile_of (M.profile maker.now)) (M.text maker.now) (M.is_good maker.now) (taking (R.left source.old) (R.left source.new) (R.is_broken source.new))
         (putting (W.contents sink.old) (W.contents sink.new) (W.is_broken sink.new)) (reporting (T.reported reports.old) (T.reported reports.new))) }
-    ensures halts { IfErr result (HaltsAfter (profile_of (M.profile maker.now)) (M.text maker.now) (M.is_good maker.now) (taking (R.left source.old) (R.left source.new) (R.is_broken source.new))
+    ensures halts { IfErr result (SkipsAndStops (profile_of (M.profile maker.now)) (M.text maker.now) (M.is_good maker.now) (taking (R.left source.old) (R.left source.new) (R.is_broken source.new))
         (putting (W.contents sink.old) (W.contents sink.new) (W.is_broken sink.new)) (reporting (T.reported reports.old) (T.reported reports.new))) }
     ensures source_stays { IsTrue (R.is_broken source.old) → IsTrue (R.is_broken source.new) }
     ensures sink_stays { IsTrue (W.is_broken sink.old) → IsTrue (W.is_broken sink.new) }
@@ -90,8 +90,8 @@ pub fn keep_going<M: Maker, R: Source, L: Look<R>, W: Sink, T: Reports>(
     let mut reader = M::reader(alloc);
     let mut kept = Vec::new(alloc);
     let mut room = M::Out::empty(alloc);
-    for before in 0..MESSAGES {
-        let position = Position {
+    for before in 0..MAX_MESSAGES {
+        let position = MessagePlace {
             number: before + 1,
             offset,
         };
@@ -105,20 +105,20 @@ pub fn keep_going<M: Maker, R: Source, L: Look<R>, W: Sink, T: Reports>(
             room,
         ) {
             Ok(Some(next)) => next,
-            Ok(None) => return Ok(gone_to(before, refused, good, offset)),
+            Ok(None) => return Ok(counts_of(before, refused, good, offset)),
             Err(unread) => {
                 let why = unread.why();
-                return Err(halted_at(before, refused, good, offset, written, why));
+                return Err(error_at(before, refused, good, offset, written, why));
             }
         };
         match next {
-            Next::Read(piece) => {
+            NextMessage::Read(piece) => {
                 let count = match piece.text.put(sink) {
                     Ok(count) => count,
                     Err(count) => {
                         let written = written + count as u128;
-                        let why = Why::WriteFault(count);
-                        return Err(halted_at(before, refused, good, offset, written, why));
+                        let why = SkippingErrorKind::WriteFault(count);
+                        return Err(error_at(before, refused, good, offset, written, why));
                     }
                 };
                 written += count as u128;
@@ -126,11 +126,11 @@ pub fn keep_going<M: Maker, R: Source, L: Look<R>, W: Sink, T: Reports>(
                 offset = offset.saturating_add(u64::from(piece.octets));
                 room = piece.text;
             }
-            Next::Refused { refusal, end } => {
+            NextMessage::Refused { refusal, end } => {
                 refused += 1;
                 reports.report(report(before + 1, refusal, end));
                 let Some(octets) = end else {
-                    return Ok(gone_to(before + 1, refused, good, offset));
+                    return Ok(counts_of(before + 1, refused, good, offset));
                 };
                 offset = offset.saturating_add(octets);
                 room = M::Out::empty(alloc);
@@ -140,17 +140,17 @@ pub fn keep_going<M: Maker, R: Source, L: Look<R>, W: Sink, T: Reports>(
     drop(reader);
     drop(room);
     match end_of_input(source) {
-        Ok(()) => Ok(gone_to(MESSAGES, refused, good, offset)),
-        Err(why) => Err(halted_at(MESSAGES, refused, good, offset, written, why)),
+        Ok(()) => Ok(counts_of(MAX_MESSAGES, refused, good, offset)),
+        Err(why) => Err(error_at(MAX_MESSAGES, refused, good, offset, written, why)),
     }
 }
 
 #[inline(always)]
-fn gone_to(messages: u32, refused: u32, good: u32, octets: u64) -> Gone
+fn counts_of(messages: u32, refused: u32, good: u32, octets: u64) -> SkippingCounts
     requires { refused + good ≤ messages }
-    ensures { result ≡ gone_to messages refused good octets }
+    ensures { result ≡ counts_of messages refused good octets }
 {
-    Gone {
+    SkippingCounts {
         messages,
         refused,
         good,
@@ -160,10 +160,17 @@ fn gone_to(messages: u32, refused: u32, good: u32, octets: u64) -> Gone
 }
 
 #[inline(always)]
-fn halted_at(messages: u32, refused: u32, good: u32, octets: u64, written: u128, why: Why) -> Halted
-    ensures { result ≡ halted_at messages refused good octets written why }
+fn error_at(
+    messages: u32,
+    refused: u32,
+    good: u32,
+    octets: u64,
+    written: u128,
+    why: SkippingErrorKind,
+) -> SkippingError
+    ensures { result ≡ error_at messages refused good octets written why }
 {
-    Halted {
+    SkippingError {
         messages,
         refused,
         good,
@@ -175,10 +182,10 @@ fn halted_at(messages: u32, refused: u32, good: u32, octets: u64, written: u128,
 
 /// The report of a message that is refused, whose number of octets is known or not.
 #[inline(always)]
-fn report(message: u32, refusal: Refusal, end: Option<u64>) -> Report
+fn report(message: u32, refusal: Refusal, end: Option<u64>) -> RefusalReport
     ensures { result ≡ report message refusal (is_some end) }
 {
-    Report {
+    RefusalReport {
         message,
         refusal,
         ends: end.is_some(),
@@ -186,7 +193,7 @@ fn report(message: u32, refusal: Refusal, end: Option<u64>) -> Report
 }
 
 /// One octet more is one too many, whatever it begins.
-fn end_of_input<R: Source>(source: &mut R) -> Result<(), Why>
+fn end_of_input<R: Source>(source: &mut R) -> Result<(), SkippingErrorKind>
     ensures end { OnOk result (Consumes (R.left source.old) (R.left source.new) [] × IsAtEnd (R.left source.new)) }
     ensures more { IfErr result (GoesOn (R.left source.old) (R.left source.new) (R.is_broken source.new)) }
     ensures stays { IsTrue (R.is_broken source.old) → IsTrue (R.is_broken source.new) }
@@ -194,7 +201,7 @@ fn end_of_input<R: Source>(source: &mut R) -> Result<(), Why>
     let mut room = [0];
     match source.take(&mut room) {
         Ok(0) => Ok(()),
-        Ok(_) => Err(Why::TooMany),
-        Err(_) => Err(Why::ReadFault),
+        Ok(_) => Err(SkippingErrorKind::TooMany),
+        Err(_) => Err(SkippingErrorKind::ReadFault),
     }
 }

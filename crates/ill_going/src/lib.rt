@@ -3,7 +3,7 @@
 //! The normal forms of all messages that are not refused:
 //!
 //! ```
-//! let gone = keep_going::<NormalForms, R, Unseen, W, T>(alloc, &NormalForms, &mut source, &mut sink, &mut reports)?;
+//! let gone = for_each_accepted_message::<NormalForms, R, Unseen, W, T>(alloc, &NormalForms, &mut source, &mut sink, &mut reports)?;
 //! ```
 #![tactic(auto)]
 
@@ -12,6 +12,9 @@ mod laws;
 mod next;
 mod report;
 
-pub use going::{Gone, Halted, Why, keep_going};
-pub use laws::{good_ones_are_written, lost_ends_are_last, one_way, refusals_are_of_the_input};
-pub use report::{Report, Reports};
+pub use going::{SkippingCounts, SkippingError, SkippingErrorKind, for_each_accepted_message};
+pub use laws::{
+    accepted_messages_are_written, one_reading_of_an_input, refusals_are_of_the_input,
+    unknown_ends_are_last,
+};
+pub use report::{RefusalReport, ReportRefusals};

@@ -17,10 +17,10 @@ use Rattle.ill_normal.proofs.NormalStreams.{apdus_of, as_many, stream_of}
 use Rattle.ill_normal.specs.Calls.{taking, putting}
 use Rattle.ill_jobs.specs.declared.job.Counts.{Counts}
 use Rattle.ill_jobs.specs.declared.job.Verdict.{Verdict}
-use Rattle.ill_jobs.specs.declared.job.Work.{Work}
+use Rattle.ill_jobs.specs.declared.job.JobOptions.{JobOptions}
 use Rattle.ill_jobs.specs.declared.fault.RunFault.{RunFault}
 use Rattle.ill_jobs.specs.Output.{verdict_of}
-use Rattle.ill_jobs.specs.Ran.{Writes, Stops, StopsAfter, Done, IsFault, AnswersVerdict, IsRefused, AnswersRefused, AnswersFault}
+use Rattle.ill_jobs.specs.Runs.{Writes, Stops, StopsAfter, Done, IsFault, AnswersVerdict, IsRefused, AnswersRefused, AnswersFault}
 
 pub same_spelling : (m n : Spelling) → m.apdu ≡ n.apdu → m.octets ≡ n.octets → m ≡ n
 same_spelling m n e f = ap (λ (a : Apdu). let x : Spelling = record { apdu = a; octets = m.octets } in x) e ∙ ap (λ (o : List ℕ). let x : Spelling = record { apdu = n.apdu; octets = o } in x) f
@@ -39,7 +39,7 @@ one_reading p s (m ∷ ms) (n ∷ ns) h k =
     ap (λ (x : Spelling). x ∷ ms) (same_spelling m n same.0 octets) ∙ ap (λ (xs : List Spelling). n ∷ xs) more
 
 -- what was taken of s, and what is left
-pub taken_of : (work : Work) (s : List ℕ) (left' held held' : Option (List ℕ)) (ms : List Spelling) → Writes work (Some s) left' held held' ms
+pub taken_of : (work : JobOptions) (s : List ℕ) (left' held held' : Option (List ℕ)) (ms : List Spelling) → Writes work (Some s) left' held held' ms
     → (r : List ℕ) × (left' ≡ Some r) × AreSpelledIn (profile_of work.profile) s ms r
 taken_of work s left' held held' ms w =
     let t = front s left' w.octets w.taken in
@@ -65,7 +65,7 @@ one_left p s r t ms ns h k e =
 over : (p : Profile) (a : Apdu) (n : ℕ) → Accepts p [] a n → ⊥
 over p a n h = nothing_over p [] refl a n h
 
-module _ (work : Work) (s : List ℕ) (left' held held' : Option (List ℕ)) (counts : Counts) where
+module _ (work : JobOptions) (s : List ℕ) (left' held held' : Option (List ℕ)) (counts : Counts) where
   abbrev q : Profile
   q = profile_of work.profile
 

@@ -9,26 +9,26 @@ use Rattle.ill_schema.specs.Profiles.{profile_of}
 use Rattle.ill_read.specs.declared.failure.ReadFailure.{ReadFailure}
 use Rattle.ill_normal.specs.Calls.{Taking, taking, Putting, putting}
 use Rattle.ill_normal.specs.Messages.{Spelling, position, position_after, good_of, PassesAllIn, BreaksWithinIn, EndsIn, EndsAfterIn, TakesNoFurtherIn, part_of}
-use Rattle.ill_normal.specs.declared.messages.Position.{Position}
-use Rattle.ill_normal.specs.declared.messages.Passed.{Passed}
-use Rattle.ill_normal.specs.declared.messages.Stopped.{Stopped}
-use Rattle.ill_normal.specs.declared.messages.Why.{Why}
+use Rattle.ill_normal.specs.declared.messages.MessagePlace.{MessagePlace}
+use Rattle.ill_normal.specs.declared.messages.StreamCounts.{StreamCounts}
+use Rattle.ill_normal.specs.declared.messages.StreamError.{StreamError}
+use Rattle.ill_normal.specs.declared.messages.StreamErrorKind.{StreamErrorKind}
 use Rattle.ill_normal.proofs.WrittenMessages.{output_push}
-use Rattle.ill_jobs.specs.declared.job.Work.{Work}
+use Rattle.ill_jobs.specs.declared.job.JobOptions.{JobOptions}
 use Rattle.ill_jobs.specs.declared.job.Job.{Job}
 use Rattle.ill_jobs.specs.Output.{message_output, output, counts_as_good, counts_of, is_counted_good, verdict_if, verdict_of}
-use Rattle.ill_jobs.specs.Ran.{Writes, BrokeAt, Stops, StopsAfter, Done}
+use Rattle.ill_jobs.specs.Runs.{Writes, BrokeAt, Stops, StopsAfter, Done}
 use Rattle.ill_jobs.specs.code.Endings.{counts_with, fault_after, run_fault, verdict_by}
 
 -- where the first message is
-abbrev start : Position
+abbrev start : MessagePlace
 start = position 1 0
 
 all_true : (ms : List Spelling) → list_all (λ m. true) ms ≡ true
 all_true [] = refl
 all_true (m ∷ ms) = all_true ms
 
-module _ (work : Work) where
+module _ (work : JobOptions) where
   abbrev q : Profile
   q = profile_of work.profile
 
@@ -46,7 +46,7 @@ module _ (work : Work) where
       ap (λ (n : ℕ). counts_with n good size) a ∙ ap (λ (n : ℕ). counts_with (length ms) n size) b
       ∙ ap (counts_with (length ms) (good_of (is_counted_good work) ms)) c
 
-  pub done_all : (left left' held held' : Option (List ℕ)) (p : Passed) → PassesAllIn q (message_output work) (is_counted_good work) left left' held held' p
+  pub done_all : (left left' held held' : Option (List ℕ)) (p : StreamCounts) → PassesAllIn q (message_output work) (is_counted_good work) left left' held held' p
       → Done work left left' held held' (counts_with p.whole p.good p.octets) (verdict_by work.job p.all_good)
   done_all left left' held held' p h = record {
     messages = h.messages;
@@ -77,19 +77,19 @@ module _ (work : Work) where
         not_all = omega (arith, size, b.fewer, ap length all, length-append so_far (text m));
       }
 
-  stops : (left : Option (List ℕ)) (source : Taking) (sink : Putting) (first : Option (List ℕ)) (ms : List Spelling) (whole written : ℕ) (why : Why)
+  stops : (left : Option (List ℕ)) (source : Taking) (sink : Putting) (first : Option (List ℕ)) (ms : List Spelling) (whole written : ℕ) (why : StreamErrorKind)
       → Writes work left source.left first sink.held ms → whole ≡ length ms → written ≡ length (output work ms) + part_of why
       → EndsIn q (message_output work) source sink whole (position_after start ms) why → Stops work source sink first ms (fault_after whole written why)
-  stops left source sink first ms whole written (Why.Read (ReadFailure.Refused refusal)) w count size h =
+  stops left source sink first ms whole written (StreamErrorKind.Read (ReadFailure.Refused refusal)) w count size h =
       (ap (λ (n : ℕ). n + 1) count, omega (arith, count, h.0), h.1, h.2)
-  stops left source sink first ms whole written (Why.Read ReadFailure.OutOfMemory) w count size h = (omega (arith, count, h.0), h.1)
-  stops left source sink first ms whole written (Why.Read ReadFailure.ReadFault) w count size h =
+  stops left source sink first ms whole written (StreamErrorKind.Read ReadFailure.OutOfMemory) w count size h = (omega (arith, count, h.0), h.1)
+  stops left source sink first ms whole written (StreamErrorKind.Read ReadFailure.ReadFault) w count size h =
       (omega (arith, count, h.0), h.1, subst (λ (n : ℕ). TakesNoFurtherIn q n source.left source.left') count h.2, h.3)
-  stops left source sink first ms whole written (Why.Write n) w count size h =
+  stops left source sink first ms whole written (StreamErrorKind.Write n) w count size h =
       (omega (arith, count, h.0), h.1.broken, broke_within left source sink first ms n written w size h.1)
-  stops left source sink first ms whole written Why.TooMany w count size h = (omega (arith, count, h.0), h.1, h.2)
+  stops left source sink first ms whole written StreamErrorKind.TooMany w count size h = (omega (arith, count, h.0), h.1, h.2)
 
-  pub stops_after : (source : Taking) (sink : Putting) (e : Stopped) → EndsAfterIn q (message_output work) (is_counted_good work) source sink e
+  pub stops_after : (source : Taking) (sink : Putting) (e : StreamError) → EndsAfterIn q (message_output work) (is_counted_good work) source sink e
       → StopsAfter work source sink (counts_with e.whole e.good e.before) (run_fault e)
   stops_after source sink e h = record {
     messages = h.messages;
@@ -101,12 +101,12 @@ module _ (work : Work) where
     stops = stops source.left (taking h.rest source.left' source.broken) (putting h.grown sink.held' sink.broken) sink.held h.messages e.whole e.written e.why h.writes h.count h.written h.ends;
   }
 
-  few : (source : Taking) (sink : Putting) (whole : ℕ) (next : Position) (why : Why) → EndsIn q (message_output work) source sink whole next why → whole ≤ 1_000_000
-  few source sink whole next (Why.Read (ReadFailure.Refused refusal)) h = omega (arith, h.0)
-  few source sink whole next (Why.Read ReadFailure.OutOfMemory) h = omega (arith, h.0)
-  few source sink whole next (Why.Read ReadFailure.ReadFault) h = omega (arith, h.0)
-  few source sink whole next (Why.Write n) h = omega (arith, h.0)
-  few source sink whole next Why.TooMany h = omega (arith, h.0)
+  few : (source : Taking) (sink : Putting) (whole : ℕ) (next : MessagePlace) (why : StreamErrorKind) → EndsIn q (message_output work) source sink whole next why → whole ≤ 1_000_000
+  few source sink whole next (StreamErrorKind.Read (ReadFailure.Refused refusal)) h = omega (arith, h.0)
+  few source sink whole next (StreamErrorKind.Read ReadFailure.OutOfMemory) h = omega (arith, h.0)
+  few source sink whole next (StreamErrorKind.Read ReadFailure.ReadFault) h = omega (arith, h.0)
+  few source sink whole next (StreamErrorKind.Write n) h = omega (arith, h.0)
+  few source sink whole next StreamErrorKind.TooMany h = omega (arith, h.0)
 
-  pub few_before : (source : Taking) (sink : Putting) (e : Stopped) → EndsAfterIn q (message_output work) (is_counted_good work) source sink e → e.whole < 4_294_967_295
+  pub few_before : (source : Taking) (sink : Putting) (e : StreamError) → EndsAfterIn q (message_output work) (is_counted_good work) source sink e → e.whole < 4_294_967_295
   few_before source sink e h = let le = few _ _ e.whole _ e.why h.ends in omega (arith, le)

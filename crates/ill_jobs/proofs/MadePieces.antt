@@ -17,35 +17,35 @@ use Rattle.ill_normal.specs.declared.check.Checked.{Checked}
 use Rattle.ill_text.specs.Shown.{shown_text_in}
 use Rattle.ill_json.specs.Json.{json_line_in}
 use Rattle.ill_jobs.specs.declared.job.Job.{Job}
-use Rattle.ill_jobs.specs.declared.job.Work.{Work}
-use Rattle.ill_normal.specs.declared.messages.Position.{Position}
-use Rattle.ill_normal.specs.declared.messages.Piece.{Piece}
-use Rattle.ill_jobs.specs.declared.piece.Found.{Found}
+use Rattle.ill_jobs.specs.declared.job.JobOptions.{JobOptions}
+use Rattle.ill_normal.specs.declared.messages.MessagePlace.{MessagePlace}
+use Rattle.ill_normal.specs.declared.messages.RenderedMessage.{RenderedMessage}
+use Rattle.ill_jobs.specs.declared.piece.CheckedOutline.{CheckedOutline}
 use Rattle.ill_jobs.specs.code.Finding.{IsFound}
 use Rattle.ill_jobs.specs.Output.{file_of, head_of, label_of, line_of_check, line_of_digest}
 use Rattle.ill_jobs.specs.code.Writing.{IsMade, IsMadeForm, IsWritten}
-use Rattle.ill_jobs.specs.declared.written.Written.{Written}
+use Rattle.ill_jobs.specs.declared.written.JobOutput.{JobOutput}
 use Rattle.ill_jobs.proofs.NormalTest.{tests_equality}
 
-module _ (work : Work) (p : Position) where
+module _ (work : JobOptions) (p : MessagePlace) where
   abbrev q : Profile
   q = profile_of work.profile
 
   -- the normal form as it is, and in digits
-  pub makes_normal : work.hex ≡ false → (made : Piece (Vec ℕ Global)) (b : List ℕ) → IsMadeForm work.profile work.compares made b
-      → IsMade Job.Canonicalise work p (record { text = Written.Octets made.text; is_good = made.is_good; octets = made.octets }) b
+  pub makes_normal : work.hex ≡ false → (made : RenderedMessage (Vec ℕ Global)) (b : List ℕ) → IsMadeForm work.profile work.compares made b
+      → IsMade Job.Canonicalise work p (record { text = JobOutput.Octets made.text; is_good = made.is_good; octets = made.octets }) b
   makes_normal binary made b h = rw binary (record { apdu = h.apdu; spells = h.spells; text = h.text; good = h.good; size = h.size })
 
   module _ (text : Vec ℕ Global) where
-    pub makes_hex : work.hex ≡ true → (made : Piece (Vec ℕ Global)) → text.items ≡ encode_lower made.text.items ++ codes "\n" → (b : List ℕ)
+    pub makes_hex : work.hex ≡ true → (made : RenderedMessage (Vec ℕ Global)) → text.items ≡ encode_lower made.text.items ++ codes "\n" → (b : List ℕ)
         → IsMadeForm work.profile work.compares made b
-        → IsMade Job.Canonicalise work p (record { text = Written.Octets text; is_good = made.is_good; octets = made.octets }) b
+        → IsMade Job.Canonicalise work p (record { text = JobOutput.Octets text; is_good = made.is_good; octets = made.octets }) b
     makes_hex digits made e b h =
         rw digits (record { apdu = h.apdu; spells = h.spells; text = e ∙ ap (λ l. encode_lower l ++ codes "\n") h.text; good = h.good; size = h.size })
 
-    pub makes_digest : (made : Piece (Vec ℕ Global)) → text.items ≡ line_of_digest (sha256 made.text.items) work.name.now p.number → (b : List ℕ)
+    pub makes_digest : (made : RenderedMessage (Vec ℕ Global)) → text.items ≡ line_of_digest (sha256 made.text.items) work.name.now p.number → (b : List ℕ)
         → IsMadeForm work.profile work.compares made b
-        → IsMade Job.Digest work p (record { text = Written.Octets text; is_good = made.is_good; octets = made.octets }) b
+        → IsMade Job.Digest work p (record { text = JobOutput.Octets text; is_good = made.is_good; octets = made.octets }) b
     makes_digest made e b h = record {
       apdu = h.apdu;
       spells = h.spells;
@@ -55,7 +55,7 @@ module _ (work : Work) (p : Position) where
     }
 
     pub makes_checked : (x : Checked) → text.items ≡ line_of_check q (label_of work.is_named work.name.now) p.number x.apdu x.octets x.is_normal x.normal → (b : List ℕ)
-        → DescribesIn q x b → IsMade Job.Check work p (record { text = Written.Octets text; is_good = x.is_normal; octets = x.octets }) b
+        → DescribesIn q x b → IsMade Job.Check work p (record { text = JobOutput.Octets text; is_good = x.is_normal; octets = x.octets }) b
     makes_checked x e b h =
         let a = h.0 in
         let i = p.number in
@@ -70,16 +70,16 @@ module _ (work : Work) (p : Position) where
           size = h.3;
         }
 
-  pub makes_shown : (found : Found) (text : Written)
+  pub makes_shown : (found : CheckedOutline) (text : JobOutput)
       → ((a : Apdu) (octets : List ℕ) → SpellsApdu q a octets → IsOutlineOf found.outline a → IsWritten text (label_of work.is_named work.name.now ++ shown_text_in q p.number a))
       → (b : List ℕ) → IsFound q work.compares found b
       → IsMade Job.Show work p (record { text = text; is_good = found.is_good; octets = found.octets }) b
   makes_shown found text is b h = record { apdu = h.apdu; spells = h.spells; text = is h.apdu b h.spells h.outline; good = h.good; size = h.size }
 
-  pub makes_json : (found : Found) (text : Vec ℕ Global)
+  pub makes_json : (found : CheckedOutline) (text : Vec ℕ Global)
       → ((a : Apdu) → IsOutlineOf found.outline a → text.items ≡ json_line_in q (file_of work.is_named work.name.now) (head_of p found.octets found.is_good) a) → (b : List ℕ)
       → IsFound q true found b
-      → IsMade Job.Json work p (record { text = Written.Octets text; is_good = found.is_good; octets = found.octets }) b
+      → IsMade Job.Json work p (record { text = JobOutput.Octets text; is_good = found.is_good; octets = found.octets }) b
   makes_json found text is b h = record {
     apdu = h.apdu;
     spells = h.spells;

@@ -12,7 +12,7 @@ use Rattle.ill_normal.proofs.InputAnswers.{front}
 use Rattle.ill_normal.proofs.Canonical.{spells_once, refuses_whole, refuses_once}
 use Rattle.ill_jobs.specs.declared.job.Verdict.{Verdict}
 use Rattle.ill_jobs.specs.declared.fault.RunFault.{RunFault}
-use Rattle.ill_jobs.specs.Ran.{NoHex, IsFault}
+use Rattle.ill_jobs.specs.Runs.{NoHex, IsFault}
 use Rattle.ill_jobs.specs.Hexadecimal.{hex_octets}
 use Rattle.ill_jobs.specs.Compared.{ReadsSide, SideFails, Compares, NotCompared, side_octets, SaysSame, ComparesBoth, RefusesOne, RefusesTexts, IsRefusedSide, AnswersSide}
 use Rattle.ill_jobs.proofs.TextAnswers.{same_octets, same_ok, same_err, not_both, is_fault}

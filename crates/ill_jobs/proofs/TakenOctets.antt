@@ -2,7 +2,7 @@
 use Rattle.std.proofs.Common.{ℕ, ◌+◌, ◌≤◌, List, ◌++◌, length, Option, arith, length-append}
 use Rattle.std.specs.Io.KnownBytes.{Consumes}
 use Rattle.std.proofs.KnownBytes.{Consumes-trans}
-use Rattle.ill_jobs.specs.Unread.{TakesAtMost}
+use Rattle.ill_jobs.specs.ReadErrors.{TakesAtMost}
 
 -- some octets were taken, and then some more
 pub takes_more : (n : ℕ) (left left' left'' : Option (List ℕ)) (bs cs : List ℕ) → Consumes left left' bs → Consumes left' left'' cs

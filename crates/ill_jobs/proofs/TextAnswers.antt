@@ -12,11 +12,11 @@ use Rattle.ill_normal.specs.Calls.{taking, putting}
 use Rattle.ill_jobs.specs.declared.job.Counts.{Counts}
 use Rattle.ill_jobs.specs.declared.job.Job.{Job}
 use Rattle.ill_jobs.specs.declared.job.Verdict.{Verdict}
-use Rattle.ill_jobs.specs.declared.job.Work.{Work}
+use Rattle.ill_jobs.specs.declared.job.JobOptions.{JobOptions}
 use Rattle.ill_jobs.specs.declared.fault.RunFault.{RunFault}
 use Rattle.ill_jobs.specs.Hexadecimal.{hex_octets, with_fault, without_blanks, TakesText}
 use Rattle.ill_normal.specs.Messages.{AreSpelledIn}
-use Rattle.ill_jobs.specs.Ran.{Done, StopsAfter, TextOf, NoHex, FailsText, IsUnread, IsFault, IsRefused, DoesMessages, RefusesFirst, RefusesMore, RefusesText}
+use Rattle.ill_jobs.specs.Runs.{Done, StopsAfter, TextOf, NoHex, FailsText, IsUnread, IsFault, IsRefused, DoesMessages, RefusesFirst, RefusesMore, RefusesText}
 use Rattle.ill_jobs.proofs.JobAnswers.{does, refuses, refuses_more}
 
 too_long : (text : List ℕ) → 4_194_304 < length text → hex_octets text ≡ Err RunFault.HexTooLong
@@ -44,7 +44,7 @@ same_err r e f h k = cc
 pub not_both : (r : Result (List ℕ) RunFault) (a : List ℕ) (e : RunFault) → r ≡ Ok a → r ≡ Err e → ⊥
 not_both r a e h k = cc
 
-module _ (work : Work) (held held' : Option (List ℕ)) (x y : Bool) (answer : Result Verdict RunFault) (counts : Counts) where
+module _ (work : JobOptions) (held held' : Option (List ℕ)) (x y : Bool) (answer : Result Verdict RunFault) (counts : Counts) where
   abbrev q : Profile
   q = profile_of work.profile
 

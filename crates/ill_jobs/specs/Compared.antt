@@ -10,7 +10,7 @@ use Rattle.ill_normal.specs.declared.compare.Side.{Side}
 use Rattle.ill_jobs.specs.declared.job.Verdict.{Verdict}
 use Rattle.ill_jobs.specs.declared.fault.RunFault.{RunFault}
 use Rattle.ill_jobs.specs.Hexadecimal.{hex_octets}
-use Rattle.ill_jobs.specs.Ran.{TextOf, FailsText, IsUnread, IsFault, AnswersFault}
+use Rattle.ill_jobs.specs.Runs.{TextOf, FailsText, IsUnread, IsFault, AnswersFault}
 
 abbrev pub verdict_line : Verdict → List ℕ
 verdict_line Verdict.Good = codes "same\n"

@@ -1,7 +1,7 @@
 pub mod Output
-pub mod Unread
+pub mod ReadErrors
 pub mod Hexadecimal
-pub mod Ran
+pub mod Runs
 pub mod Compared
 pub mod code
-pub mod Going
+pub mod Skipping

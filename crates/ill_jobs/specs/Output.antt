@@ -12,11 +12,11 @@ use Rattle.ill_text.specs.Shown.{name_or_none, shown_text_in}
 use Rattle.ill_json.specs.Json.{json_line_in}
 use Rattle.ill_json.specs.declared.line.Head.{Head}
 use Rattle.ill_normal.specs.Messages.{Spelling, first, output_from, good_of}
-use Rattle.ill_normal.specs.declared.messages.Position.{Position}
+use Rattle.ill_normal.specs.declared.messages.MessagePlace.{MessagePlace}
 use Rattle.ill_jobs.specs.declared.job.Counts.{Counts}
 use Rattle.ill_jobs.specs.declared.job.Job.{Job}
 use Rattle.ill_jobs.specs.declared.job.Verdict.{Verdict}
-use Rattle.ill_jobs.specs.declared.job.Work.{Work}
+use Rattle.ill_jobs.specs.declared.job.JobOptions.{JobOptions}
 
 -- the octets are the normal form in the profile
 abbrev pub is_normal : Profile → Spelling → Bool
@@ -54,11 +54,11 @@ file_of true name = Some name
 file_of false name = None
 
 -- what a line of JSON says of a message of this many octets beside its value
-abbrev pub head_of : Position → ℕ → Bool → Head
+abbrev pub head_of : MessagePlace → ℕ → Bool → Head
 head_of p octets normal = record { number = p.number; offset = p.offset; octets = octets; is_normal = normal }
 
 -- what is written of the message of the profile at this position of the input of this name, which is named or not
-abbrev pub message_text : Profile → Job → Bool → List ℕ → Bool → Position → Spelling → List ℕ
+abbrev pub message_text : Profile → Job → Bool → List ℕ → Bool → MessagePlace → Spelling → List ℕ
 message_text q Job.Show hex name named p m = label_of named name ++ shown_text_in q p.number m.apdu
 message_text q Job.Json hex name named p m = json_line_in q (file_of named name) (head_of p (length m.octets) (is_normal q m)) m.apdu
 message_text q Job.Check hex name named p m = check_line q (label_of named name) p.number m
@@ -67,14 +67,14 @@ message_text q Job.Canonicalise false name named p m = normal_form_in q m.apdu
 message_text q Job.Canonicalise true name named p m = encode_lower (normal_form_in q m.apdu) ++ codes "\n"
 
 -- what a job writes of it, where this is the work
-abbrev pub text_by : Job → Work → Position → Spelling → List ℕ
+abbrev pub text_by : Job → JobOptions → MessagePlace → Spelling → List ℕ
 text_by job work = message_text (profile_of work.profile) job work.hex work.name.now work.is_named
 
-abbrev pub message_output : Work → Position → Spelling → List ℕ
+abbrev pub message_output : JobOptions → MessagePlace → Spelling → List ℕ
 message_output work = text_by work.job work
 
 -- what is written of the messages of an input
-abbrev pub output : Work → List Spelling → List ℕ
+abbrev pub output : JobOptions → List Spelling → List ℕ
 output work ms = output_from (message_output work) first ms
 
 -- what `check` is asked for, and no other job
@@ -93,14 +93,14 @@ counts_as_good q Job.Json compares m = is_normal q m
 counts_as_good q _ compares m = good_if q compares m
 
 -- what counts as good to a job, where this is the work
-abbrev pub good_by : Job → Work → Spelling → Bool
+abbrev pub good_by : Job → JobOptions → Spelling → Bool
 good_by job work = counts_as_good (profile_of work.profile) job work.compares
 
-abbrev pub is_counted_good : Work → Spelling → Bool
+abbrev pub is_counted_good : JobOptions → Spelling → Bool
 is_counted_good work = good_by work.job work
 
 -- the numbers of messages that have these octets
-abbrev pub counts_of : Work → List ℕ → List Spelling → Counts
+abbrev pub counts_of : JobOptions → List ℕ → List Spelling → Counts
 counts_of work octets ms = record { messages = length ms; good = good_of (is_counted_good work) ms; octets = length octets }
 
 abbrev pub verdict_if : Bool → Verdict

@@ -2,28 +2,30 @@
 ghost use Rattle.std.specs.Prelude.{◌≡◌, ◌+◌, ◌≤◌, IfOk, IfErr, IsTrue};
 ghost use Rattle.ill_schema.specs.Profiles.{profile_of};
 ghost use Rattle.ill_normal.specs.Calls.{taking, putting};
-ghost use Rattle.ill_going.specs.Gone.{GoesThrough, reporting};
+ghost use Rattle.ill_going.specs.Skipping.{SkipsToEnd, reporting};
 ghost use Rattle.ill_jobs.specs.Output.{message_output, is_counted_good};
-ghost use Rattle.ill_jobs.specs.Going.{gone_before, halt_fault, GoesOn, GoesOnFails, HaltsFor, verdict_of_gone};
+ghost use Rattle.ill_jobs.specs.Skipping.{counts_before, fault_of_kind, RunsSkipping, RunsSkippingFails, StopsFor, verdict_of_counts};
 
 use crate::fault::RunFault;
 use crate::hexadecimal::read_hex;
-use crate::job::{Job, Verdict, Work};
+use crate::job::{Job, JobOptions, Verdict};
 use crate::messages::verdict;
 use ber_core::{AtHand, FromSlice, Look, Sink, Source, Unseen};
-use ill_going::{Gone, Halted, Reports, Why, keep_going};
+use ill_going::{
+    ReportRefusals, SkippingCounts, SkippingError, SkippingErrorKind, for_each_accepted_message,
+};
 use std::alloc::Global;
 
 /// Why a job went no further, and what had been gone through by then.
 #[derive(Clone, Copy, Debug, PartialEq, Eq)]
-pub struct Halt {
+pub struct JobError {
     pub fault: RunFault,
-    pub before: Gone,
+    pub before: SkippingCounts,
 }
 
 /// What came of a job: all is well if no message is refused, and for `Check` each is in normal form.
-pub fn verdict_of(job: Job, gone: Gone) -> Verdict
-    ensures { result ≡ verdict_of_gone job gone }
+pub fn verdict_of(job: Job, gone: SkippingCounts) -> Verdict
+    ensures { result ≡ verdict_of_counts job gone }
 {
     if gone.refused == 0 {
         verdict(job, gone.all_good)
@@ -40,21 +42,21 @@ pub fn verdict_of(job: Job, gone: Gone) -> Verdict
 /// # Errors
 ///
 /// Why the job was not done to the end of the input, see [`RunFault`], and what was gone through before; a refused message is no such fault.
-pub fn run_on<R: Source, W: Sink, T: Reports>(
+pub fn run_skipping<R: Source, W: Sink, T: ReportRefusals>(
     alloc: Global,
-    work: Work<'_>,
+    work: JobOptions<'_>,
     source: &mut R,
     sink: &mut W,
     reports: &mut T,
-) -> Result<Gone, Halt>
-    ensures done { IfOk result (GoesOn work.entry.hex work.entry (taking (R.left source.old) (R.left source.new) (R.is_broken source.new))
+) -> Result<SkippingCounts, JobError>
+    ensures done { IfOk result (RunsSkipping work.entry.hex work.entry (taking (R.left source.old) (R.left source.new) (R.is_broken source.new))
         (putting (W.contents sink.old) (W.contents sink.new) (W.is_broken sink.new)) (reporting (T.reported reports.old) (T.reported reports.new))) }
-    ensures fails { IfErr result (GoesOnFails work.entry.hex work.entry (taking (R.left source.old) (R.left source.new) (R.is_broken source.new))
+    ensures fails { IfErr result (RunsSkippingFails work.entry.hex work.entry (taking (R.left source.old) (R.left source.new) (R.is_broken source.new))
         (putting (W.contents sink.old) (W.contents sink.new) (W.is_broken sink.new)) (reporting (T.reported reports.old) (T.reported reports.new))) }
     ensures source_stays { IsTrue (R.is_broken source.old) → IsTrue (R.is_broken source.new) }
     ensures sink_stays { IsTrue (W.is_broken sink.old) → IsTrue (W.is_broken sink.new) }
 {
-    run_on_by::<R, Unseen, W, T>(alloc, work, source, sink, reports)
+    run_skipping_peeking::<R, Unseen, W, T>(alloc, work, source, sink, reports)
 }
 
 /// Does a job as [`run_on`] does, by a way to look at the source.
@@ -62,16 +64,16 @@ pub fn run_on<R: Source, W: Sink, T: Reports>(
 /// # Errors
 ///
 /// Those of [`run_on`].
-pub fn run_on_by<R: Source, L: Look<R>, W: Sink, T: Reports>(
+pub fn run_skipping_peeking<R: Source, L: Look<R>, W: Sink, T: ReportRefusals>(
     alloc: Global,
-    work: Work<'_>,
+    work: JobOptions<'_>,
     source: &mut R,
     sink: &mut W,
     reports: &mut T,
-) -> Result<Gone, Halt>
-    ensures done { IfOk result (GoesOn work.entry.hex work.entry (taking (R.left source.old) (R.left source.new) (R.is_broken source.new))
+) -> Result<SkippingCounts, JobError>
+    ensures done { IfOk result (RunsSkipping work.entry.hex work.entry (taking (R.left source.old) (R.left source.new) (R.is_broken source.new))
         (putting (W.contents sink.old) (W.contents sink.new) (W.is_broken sink.new)) (reporting (T.reported reports.old) (T.reported reports.new))) }
-    ensures fails { IfErr result (GoesOnFails work.entry.hex work.entry (taking (R.left source.old) (R.left source.new) (R.is_broken source.new))
+    ensures fails { IfErr result (RunsSkippingFails work.entry.hex work.entry (taking (R.left source.old) (R.left source.new) (R.is_broken source.new))
         (putting (W.contents sink.old) (W.contents sink.new) (W.is_broken sink.new)) (reporting (T.reported reports.old) (T.reported reports.new))) }
     ensures source_stays { IsTrue (R.is_broken source.old) → IsTrue (R.is_broken source.new) }
     ensures sink_stays { IsTrue (W.is_broken sink.old) → IsTrue (W.is_broken sink.new) }
@@ -87,34 +89,36 @@ pub fn run_on_by<R: Source, L: Look<R>, W: Sink, T: Reports>(
     go_on::<FromSlice<'_>, AtHand, W, T>(alloc, work, &mut messages, sink, reports)
 }
 
-fn go_on<R: Source, L: Look<R>, W: Sink, T: Reports>(
+fn go_on<R: Source, L: Look<R>, W: Sink, T: ReportRefusals>(
     alloc: Global,
-    work: Work<'_>,
+    work: JobOptions<'_>,
     source: &mut R,
     sink: &mut W,
     reports: &mut T,
-) -> Result<Gone, Halt>
-    ensures through { IfOk result (GoesThrough (profile_of work.entry.profile) (message_output work.entry) (is_counted_good work.entry) (taking (R.left source.old) (R.left source.new) (R.is_broken source.new))
+) -> Result<SkippingCounts, JobError>
+    ensures through { IfOk result (SkipsToEnd (profile_of work.entry.profile) (message_output work.entry) (is_counted_good work.entry) (taking (R.left source.old) (R.left source.new) (R.is_broken source.new))
         (putting (W.contents sink.old) (W.contents sink.new) (W.is_broken sink.new)) (reporting (T.reported reports.old) (T.reported reports.new))) }
-    ensures halts { IfErr result (HaltsFor work.entry (taking (R.left source.old) (R.left source.new) (R.is_broken source.new))
+    ensures halts { IfErr result (StopsFor work.entry (taking (R.left source.old) (R.left source.new) (R.is_broken source.new))
         (putting (W.contents sink.old) (W.contents sink.new) (W.is_broken sink.new)) (reporting (T.reported reports.old) (T.reported reports.new))) }
     ensures source_stays { IsTrue (R.is_broken source.old) → IsTrue (R.is_broken source.new) }
     ensures sink_stays { IsTrue (W.is_broken sink.old) → IsTrue (W.is_broken sink.new) }
 {
-    match keep_going::<Work<'_>, R, L, W, T>(alloc, &work, source, sink, reports) {
+    match for_each_accepted_message::<JobOptions<'_>, R, L, W, T>(
+        alloc, &work, source, sink, reports,
+    ) {
         Ok(gone) => Ok(gone),
         Err(halted) => Err(halted_job(halted)),
     }
 }
 
 /// A fault before any message was gone through.
-fn at_start(fault: RunFault) -> Halt
+fn at_start(fault: RunFault) -> JobError
     ensures fault { result.fault ≡ fault }
-    ensures none { result.before ≡ gone_before 0 0 0 0 }
+    ensures none { result.before ≡ counts_before 0 0 0 0 }
 {
-    Halt {
+    JobError {
         fault,
-        before: Gone {
+        before: SkippingCounts {
             messages: 0,
             refused: 0,
             good: 0,
@@ -125,12 +129,12 @@ fn at_start(fault: RunFault) -> Halt
 }
 
 /// Why a job went no further, and what was gone through before.
-fn halted_job(halted: Halted) -> Halt
+fn halted_job(halted: SkippingError) -> JobError
     requires { halted.refused + halted.good ≤ halted.messages }
-    ensures fault { result.fault ≡ halt_fault halted.written halted.why }
-    ensures before { result.before ≡ gone_before halted.messages halted.refused halted.good halted.octets }
+    ensures fault { result.fault ≡ fault_of_kind halted.written halted.why }
+    ensures before { result.before ≡ counts_before halted.messages halted.refused halted.good halted.octets }
 {
-    let Halted {
+    let SkippingError {
         messages,
         refused,
         good,
@@ -138,9 +142,9 @@ fn halted_job(halted: Halted) -> Halt
         written,
         why,
     } = halted;
-    Halt {
+    JobError {
         fault: fault_of(written, why),
-        before: Gone {
+        before: SkippingCounts {
             messages,
             refused,
             good,
@@ -150,13 +154,13 @@ fn halted_job(halted: Halted) -> Halt
     }
 }
 
-fn fault_of(written: u128, why: Why) -> RunFault
-    ensures { result ≡ halt_fault written why }
+fn fault_of(written: u128, why: SkippingErrorKind) -> RunFault
+    ensures { result ≡ fault_of_kind written why }
 {
     match why {
-        Why::OutOfMemory => RunFault::OutOfMemory,
-        Why::ReadFault => RunFault::ReadFault,
-        Why::WriteFault(_) => RunFault::WriteFault(written),
-        Why::TooMany => RunFault::TooManyMessages,
+        SkippingErrorKind::OutOfMemory => RunFault::OutOfMemory,
+        SkippingErrorKind::ReadFault => RunFault::ReadFault,
+        SkippingErrorKind::WriteFault(_) => RunFault::WriteFault(written),
+        SkippingErrorKind::TooMany => RunFault::TooManyMessages,
     }
 }

@@ -3,16 +3,16 @@ ghost use Rattle.std.specs.Prelude.{◌≡◌, ◌≤◌, ◌⊎◌, length, Ok,
 ghost use Rattle.hex.specs.Hex.{decode_of};
 ghost use Rattle.ill_jobs.specs.Hexadecimal.{hex_octets, is_blank, with_fault, without_blanks};
 ghost use Rattle.ill_jobs.specs.declared.fault.RunFault.{RunFault};
-ghost use Rattle.ill_jobs.specs.Ran.{TextOf, FailsText};
+ghost use Rattle.ill_jobs.specs.Runs.{TextOf, FailsText};
 
 use crate::fault::RunFault;
-use crate::text::read_most;
+use crate::text::read_at_most;
 use ber_core::Source;
 use hex::FromHexError;
 use std::alloc::{AllocError, Global};
 
 /// How many octets a hexadecimal text may have.
-const MOST: usize = 4_194_304;
+const MAX_HEX_TEXT: usize = 4_194_304;
 
 /// Reads a text to its end, and returns the octets that it stands for. At most 4,194,305 octets are
 /// taken of the source, whatever the result.
@@ -25,7 +25,7 @@ pub fn read_hex<R: Source>(alloc: Global, source: &mut R) -> Result<Vec<u8>, Run
     ensures fails { IfErr result (FailsText (R.left source.old) (R.left source.new) (R.is_broken source.new)) }
     ensures stays { IsTrue (R.is_broken source.old) → IsTrue (R.is_broken source.new) }
 {
-    let text = read_most(alloc, source, MOST + 1)?;
+    let text = read_at_most(alloc, source, MAX_HEX_TEXT + 1)?;
     text_octets(alloc, &text)
 }
 
@@ -38,7 +38,7 @@ pub fn text_octets(alloc: Global, text: &[u8]) -> Result<Vec<u8>, RunFault>
     ensures octets { IfOk result (λ octets. hex_octets text.now ≡ Ok octets.items) }
     ensures fails { IfErr result (λ fault. (hex_octets text.now ≡ Err fault) ⊎ (fault ≡ RunFault.OutOfMemory)) }
 {
-    if text.len() > MOST {
+    if text.len() > MAX_HEX_TEXT {
         return Err(RunFault::HexTooLong);
     }
     // Digits alone, and one line of them, need no copy.

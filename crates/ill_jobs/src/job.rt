@@ -22,7 +22,7 @@ pub enum Job {
 
 /// What is done with an input: the job, how the input is read, and how the lines of its messages name it.
 #[derive(Clone, Copy, Debug, PartialEq, Eq)]
-pub struct Work<'a> {
+pub struct JobOptions<'a> {
     pub job: Job,
     /// The profile that messages are read in.
     pub profile: Profile,
@@ -36,10 +36,10 @@ pub struct Work<'a> {
     pub compares: bool,
 }
 
-impl Work<'_> {
+impl JobOptions<'_> {
     /// The work on an input that no line needs to name, such as standard input: its name is `-`. Messages are read in profile 2, and
     /// compared by `Check` and `Json` alone.
-    pub fn new(job: Job, hex: bool) -> Work<'static>
+    pub fn new(job: Job, hex: bool) -> JobOptions<'static>
         ensures job { result.job ≡ job }
         ensures profile { result.profile ≡ Named.Two }
         ensures hex { result.hex ≡ hex }
@@ -47,7 +47,7 @@ impl Work<'_> {
         ensures not_named { result.is_named ≡ false }
         ensures not_compared { result.compares ≡ false }
     {
-        Work {
+        JobOptions {
             job,
             profile: Profile::Two,
             hex,
@@ -80,7 +80,7 @@ impl Counts {
 
 /// What came of a job, and the messages that it was done with.
 #[derive(Clone, Copy, Debug, PartialEq, Eq)]
-pub struct Ran {
+pub struct JobOutcome {
     pub result: Result<Verdict, RunFault>,
     pub counts: Counts,
 }

@@ -16,10 +16,10 @@ mod text;
 mod written;
 
 pub use fault::RunFault;
-pub use going::{Halt, run_on, run_on_by, verdict_of};
+pub use going::{JobError, run_skipping, run_skipping_peeking, verdict_of};
 pub use hexadecimal::text_octets;
-pub use ill_going::{Gone, Report, Reports};
-pub use job::{Counts, Job, Ran, Verdict, Work};
-pub use messages::{run, run_as, run_by, run_work};
+pub use ill_going::{RefusalReport, ReportRefusals, SkippingCounts};
+pub use job::{Counts, Job, JobOptions, JobOutcome, Verdict};
+pub use messages::{run, run_as, run_counting, run_with};
 pub use same::{run_same, run_same_as};
-pub use text::{Unread, read_most};
+pub use text::{ReadError, read_at_most};

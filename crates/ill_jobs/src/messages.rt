@@ -6,13 +6,13 @@ ghost use Rattle.ill_schema.specs.declared.profile.Profile.{Profile as Named};
 ghost use Rattle.ill_normal.specs.Calls.{taking, putting};
 ghost use Rattle.ill_jobs.specs.declared.job.Counts.{Counts};
 ghost use Rattle.ill_jobs.specs.code.Endings.{counts_with, run_fault, verdict_by};
-ghost use Rattle.ill_jobs.specs.Ran.{fault_at, Done, StopsAfter, RunDone, RunFails, JobDone, JobFails, DoesMessages, RefusesFirst, RefusesMore, RefusesText};
+ghost use Rattle.ill_jobs.specs.Runs.{fault_at, Done, StopsAfter, RunDone, RunFails, JobDone, JobFails, DoesMessages, RefusesFirst, RefusesMore, RefusesText};
 
 use crate::fault::RunFault;
 use crate::hexadecimal::read_hex;
-use crate::job::{Counts, Job, Ran, Verdict, Work};
+use crate::job::{Counts, Job, JobOptions, JobOutcome, Verdict};
 use ber_core::{AtHand, FromSlice, Look, Sink, Source, Unseen};
-use ill_normal::{ReadFailure, Stopped, Why, each_message};
+use ill_normal::{ReadFailure, StreamError, StreamErrorKind, for_each_message};
 use ill_schema::Profile;
 use std::alloc::Global;
 
@@ -90,11 +90,11 @@ pub fn run_as<R: Source, W: Sink>(
     ensures source_stays { IsTrue (R.is_broken source.old) → IsTrue (R.is_broken source.new) }
     ensures sink_stays { IsTrue (W.is_broken sink.old) → IsTrue (W.is_broken sink.new) }
 {
-    let work = Work {
+    let work = JobOptions {
         profile,
-        ..Work::new(job, hex)
+        ..JobOptions::new(job, hex)
     };
-    run_work(alloc, work, source, sink)
+    run_with(alloc, work, source, sink)
 }
 
 /// Does a job as [`run`] does, on an input whose lines may name it.
@@ -107,11 +107,11 @@ pub fn run_as<R: Source, W: Sink>(
 ///
 /// ```
 /// let work = Work { name: "messages.ber", is_named: true, ..Work::new(Job::Check, false) };
-/// let verdict = run_work(alloc, work, &mut source, &mut sink)?;
+/// let verdict = run_with(alloc, work, &mut source, &mut sink)?;
 /// ```
-pub fn run_work<R: Source, W: Sink>(
+pub fn run_with<R: Source, W: Sink>(
     alloc: Global,
-    work: Work<'_>,
+    work: JobOptions<'_>,
     source: &mut R,
     sink: &mut W,
 ) -> Result<Verdict, RunFault>
@@ -129,7 +129,7 @@ pub fn run_work<R: Source, W: Sink>(
     ensures source_stays { IsTrue (R.is_broken source.old) → IsTrue (R.is_broken source.new) }
     ensures sink_stays { IsTrue (W.is_broken sink.old) → IsTrue (W.is_broken sink.new) }
 {
-    run_by::<R, Unseen, W>(alloc, work, source, sink).result
+    run_counting::<R, Unseen, W>(alloc, work, source, sink).result
 }
 
 /// Does a job as [`run`] does, by a way to look at the source, and counts the messages that it was done with. Those that `work` doesn't
@@ -138,12 +138,12 @@ pub fn run_work<R: Source, W: Sink>(
 /// # Errors
 ///
 /// Those of [`run`].
-pub fn run_by<R: Source, L: Look<R>, W: Sink>(
+pub fn run_counting<R: Source, L: Look<R>, W: Sink>(
     alloc: Global,
-    work: Work<'_>,
+    work: JobOptions<'_>,
     source: &mut R,
     sink: &mut W,
-) -> Ran
+) -> JobOutcome
     // The input was messages to its end, and their output was written.
     ensures done { IfOk result.result (RunDone work.entry.hex work.entry
         (R.left source.old) (R.left source.new) (W.contents sink.old) (W.contents sink.new) result.counts) }
@@ -171,17 +171,17 @@ pub fn run_by<R: Source, L: Look<R>, W: Sink>(
 
 fn run_messages<R: Source, L: Look<R>, W: Sink>(
     alloc: Global,
-    work: Work<'_>,
+    work: JobOptions<'_>,
     source: &mut R,
     sink: &mut W,
-) -> Ran
+) -> JobOutcome
     ensures done { IfOk result.result (Done work.entry (R.left source.old) (R.left source.new) (W.contents sink.old) (W.contents sink.new) result.counts) }
     ensures stops { IfErr result.result (StopsAfter work.entry (taking (R.left source.old) (R.left source.new) (R.is_broken source.new))
         (putting (W.contents sink.old) (W.contents sink.new) (W.is_broken sink.new)) result.counts) }
     ensures source_stays { IsTrue (R.is_broken source.old) → IsTrue (R.is_broken source.new) }
     ensures sink_stays { IsTrue (W.is_broken sink.old) → IsTrue (W.is_broken sink.new) }
 {
-    match each_message::<Work<'_>, R, L, W>(alloc, &work, source, sink) {
+    match for_each_message::<JobOptions<'_>, R, L, W>(alloc, &work, source, sink) {
         Ok(passed) => {
             let verdict = verdict(work.job, passed.all_good);
             ran(
@@ -200,11 +200,11 @@ fn run_messages<R: Source, L: Look<R>, W: Sink>(
 }
 
 #[inline(always)]
-fn ran(came: Result<Verdict, RunFault>, counts: Counts) -> Ran
+fn ran(came: Result<Verdict, RunFault>, counts: Counts) -> JobOutcome
     ensures came { result.result ≡ came }
     ensures counts { result.counts ≡ counts }
 {
-    Ran {
+    JobOutcome {
         result: came,
         counts,
     }
@@ -232,14 +232,14 @@ pub(crate) fn verdict(job: Job, all_good: bool) -> Verdict
 }
 
 /// Why no further message was written.
-fn fault_of(stopped: Stopped) -> RunFault
+fn fault_of(stopped: StreamError) -> RunFault
     requires { stopped.whole < 4_294_967_295 }
     ensures { result ≡ run_fault stopped }
 {
     match stopped.why {
-        Why::Read(failure) => fault_at(stopped.whole + 1, failure),
-        Why::Write(_) => RunFault::WriteFault(stopped.written),
-        Why::TooMany => RunFault::TooManyMessages,
+        StreamErrorKind::Read(failure) => fault_at(stopped.whole + 1, failure),
+        StreamErrorKind::Write(_) => RunFault::WriteFault(stopped.written),
+        StreamErrorKind::TooMany => RunFault::TooManyMessages,
     }
 }
 

@@ -11,14 +11,14 @@ ghost use Rattle.ill_jobs.specs.Output.{check_end, file_of, head_of, label_of, l
 ghost use Rattle.ill_jobs.specs.code.Finding.{IsFound};
 ghost use Rattle.ill_jobs.specs.code.Writing.{IsMade, IsMadeForm, IsWritten};
 
-use crate::job::{Job, Work};
-use crate::written::Written;
+use crate::job::{Job, JobOptions};
+use crate::written::JobOutput;
 use ber_core::{Look, Source};
 use ill_digest::normal_digest;
 use ill_json::{Head, json_line_as};
 use ill_normal::{
-    Checked, Maker, NormalFormsIn, NormalReader, Piece, Position, ReadFailure, apdu_name_as,
-    check_one_in_as,
+    Checked, MessagePlace, NormalFormsIn, NormalReader, ReadFailure, Render, RenderedMessage,
+    apdu_name_as, check_one_in_as,
 };
 use ill_read::{Outline, OutlineReader};
 use ill_schema::Profile;
@@ -27,7 +27,7 @@ use itoa::Buffer;
 use std::alloc::{AllocError, Global};
 
 /// How many octets of a label are counted with those of a text.
-const LONGEST: usize = 1 << 62;
+const MAX_LABEL_LEN: usize = 1 << 62;
 
 /// What reads the messages of an input: their normal forms, and their outlines.
 #[derive(Drop)]
@@ -36,8 +36,8 @@ pub struct Readers {
     outline: OutlineReader,
 }
 
-impl Maker for Work<'_> {
-    type Out = Written;
+impl Render for JobOptions<'_> {
+    type Out = JobOutput;
 
     type Reader = Readers;
 
@@ -60,10 +60,10 @@ impl Maker for Work<'_> {
         &self,
         alloc: Global,
         reader: &mut Readers,
-        position: Position,
+        position: MessagePlace,
         source: &mut R,
-        room: Written,
-    ) -> Result<Option<Piece<Written>>, ReadFailure> {
+        room: JobOutput,
+    ) -> Result<Option<RenderedMessage<JobOutput>>, ReadFailure> {
         next_piece::<R, L>(alloc, reader, *self, position, source, room)
     }
 }
@@ -72,11 +72,11 @@ impl Maker for Work<'_> {
 fn next_piece<R: Source, L: Look<R>>(
     alloc: Global,
     readers: &mut Readers,
-    work: Work<'_>,
-    position: Position,
+    work: JobOptions<'_>,
+    position: MessagePlace,
     source: &mut R,
-    room: Written,
-) -> Result<Option<Piece<Written>>, ReadFailure>
+    room: JobOutput,
+) -> Result<Option<RenderedMessage<JobOutput>>, ReadFailure>
     ensures { ReadsNextIn (profile_of work.entry.profile) (R.left source.old) (R.left source.new) (R.is_broken source.old) (R.is_broken source.new)
         (IsMade work.entry.job work.entry position) result }
 {
@@ -101,11 +101,11 @@ fn next_piece<R: Source, L: Look<R>>(
 fn shown<R: Source, L: Look<R>>(
     alloc: Global,
     readers: &mut Readers,
-    work: Work<'_>,
-    position: Position,
+    work: JobOptions<'_>,
+    position: MessagePlace,
     source: &mut R,
-    room: Written,
-) -> Result<Option<Piece<Written>>, ReadFailure>
+    room: JobOutput,
+) -> Result<Option<RenderedMessage<JobOutput>>, ReadFailure>
     ensures { ReadsNextIn (profile_of work.entry.profile) (R.left source.old) (R.left source.new) (R.is_broken source.old) (R.is_broken source.new)
         (IsMade Job.Show work.entry position) result }
 {
@@ -121,13 +121,13 @@ fn shown<R: Source, L: Look<R>>(
     else {
         return Ok(None);
     };
-    let Found {
+    let CheckedOutline {
         outline,
         octets: size,
         is_good,
     } = found;
     match labelled_text(alloc, octets, work, position.number, outline) {
-        Ok(text) => Ok(Some(Piece {
+        Ok(text) => Ok(Some(RenderedMessage {
             text,
             is_good,
             octets: size,
@@ -139,11 +139,11 @@ fn shown<R: Source, L: Look<R>>(
 fn json<R: Source, L: Look<R>>(
     alloc: Global,
     readers: &mut Readers,
-    work: Work<'_>,
-    position: Position,
+    work: JobOptions<'_>,
+    position: MessagePlace,
     source: &mut R,
-    room: Written,
-) -> Result<Option<Piece<Written>>, ReadFailure>
+    room: JobOutput,
+) -> Result<Option<RenderedMessage<JobOutput>>, ReadFailure>
     ensures { ReadsNextIn (profile_of work.entry.profile) (R.left source.old) (R.left source.new) (R.is_broken source.old) (R.is_broken source.new)
         (IsMade Job.Json work.entry position) result }
 {
@@ -160,8 +160,8 @@ fn json<R: Source, L: Look<R>>(
         head,
         &found.outline,
     ) {
-        Ok(line) => Ok(Some(Piece {
-            text: Written::Octets(line),
+        Ok(line) => Ok(Some(RenderedMessage {
+            text: JobOutput::Octets(line),
             is_good: found.is_good,
             octets: found.octets,
         })),
@@ -170,14 +170,14 @@ fn json<R: Source, L: Look<R>>(
 }
 
 /// The name of the file that a line of JSON has, if there are several files.
-fn file_of(work: Work<'_>) -> Option<&str>
+fn file_of(work: JobOptions<'_>) -> Option<&str>
     ensures { option_map (λ name. name.now) result ≡ file_of work.entry.is_named work.entry.name.now }
 {
     if work.is_named { Some(work.name) } else { None }
 }
 
 /// What a line of JSON says of a message beside its value.
-fn head(position: Position, found: &Found) -> Head
+fn head(position: MessagePlace, found: &CheckedOutline) -> Head
     ensures { result ≡ head_of position found.now.octets found.now.is_good }
 {
     Head {
@@ -190,7 +190,7 @@ fn head(position: Position, found: &Found) -> Head
 
 /// A message that was read: its outline, how many octets it has in the input, and whether it counts as good.
 #[derive(Drop)]
-struct Found {
+struct CheckedOutline {
     outline: Outline,
     octets: u32,
     is_good: bool,
@@ -204,13 +204,13 @@ fn outlined<R: Source, L: Look<R>>(
     compares: bool,
     source: &mut R,
     room: Outline,
-) -> Result<Option<Found>, ReadFailure>
+) -> Result<Option<CheckedOutline>, ReadFailure>
     ensures { ReadsNextIn (profile_of profile) (R.left source.old) (R.left source.new) (R.is_broken source.old) (R.is_broken source.new)
         (IsFound (profile_of profile) compares) result }
 {
     if !compares {
         return match readers.outline.read_as::<R, L>(profile, source, room) {
-            Ok(Some(read)) => Ok(Some(Found {
+            Ok(Some(read)) => Ok(Some(CheckedOutline {
                 outline: read.outline,
                 octets: read.read,
                 is_good: true,
@@ -225,7 +225,7 @@ fn outlined<R: Source, L: Look<R>>(
         return Ok(None);
     };
     match outline_as(&mut readers.outline, profile, &normal, room) {
-        Ok(outline) => Ok(Some(Found {
+        Ok(outline) => Ok(Some(CheckedOutline {
             outline,
             octets: found.octets,
             is_good: found.is_normal,
@@ -239,25 +239,25 @@ fn outlined<R: Source, L: Look<R>>(
 fn labelled_text(
     alloc: Global,
     room: Vec<u8>,
-    work: Work<'_>,
+    work: JobOptions<'_>,
     number: u32,
     outline: Outline,
-) -> Result<Written, AllocError>
+) -> Result<JobOutput, AllocError>
     ensures { (a : Apdu) (octets : List ℕ) → SpellsApdu (profile_of work.entry.profile) a octets → IsOutlineOf outline a
         → IfOk result (λ text. IsWritten text
         (label_of work.entry.is_named work.entry.name.now ++ shown_text_in (profile_of work.entry.profile) number a)) }
 {
     let mut label = label(room, work)?;
     let text = Text::new_as(work.profile, number, outline);
-    if label.len() > LONGEST {
+    if label.len() > MAX_LABEL_LEN {
         label.extend_from_slice(&text.octets(alloc)?)?;
-        return Ok(Written::Octets(label));
+        return Ok(JobOutput::Octets(label));
     }
-    Ok(Written::Shown { label, text })
+    Ok(JobOutput::Shown { label, text })
 }
 
 /// What the line of a message begins with, in the memory of `room`, whose octets are forgotten.
-fn label(room: Vec<u8>, work: Work<'_>) -> Result<Vec<u8>, AllocError>
+fn label(room: Vec<u8>, work: JobOptions<'_>) -> Result<Vec<u8>, AllocError>
     ensures { IfOk result (λ line. line.items ≡ label_of work.entry.is_named work.entry.name.now) }
 {
     let mut line = room;
@@ -273,11 +273,11 @@ fn label(room: Vec<u8>, work: Work<'_>) -> Result<Vec<u8>, AllocError>
 fn checked<R: Source, L: Look<R>>(
     alloc: Global,
     reader: &mut NormalReader,
-    work: Work<'_>,
-    position: Position,
+    work: JobOptions<'_>,
+    position: MessagePlace,
     source: &mut R,
     room: Vec<u8>,
-) -> Result<Option<Piece<Written>>, ReadFailure>
+) -> Result<Option<RenderedMessage<JobOutput>>, ReadFailure>
     ensures { ReadsNextIn (profile_of work.entry.profile) (R.left source.old) (R.left source.new) (R.is_broken source.old) (R.is_broken source.new)
         (IsMade Job.Check work.entry position) result }
 {
@@ -286,8 +286,8 @@ fn checked<R: Source, L: Look<R>>(
         return Ok(None);
     };
     match check_line(normal, work, position.number, found) {
-        Ok(text) => Ok(Some(Piece {
-            text: Written::Octets(text),
+        Ok(text) => Ok(Some(RenderedMessage {
+            text: JobOutput::Octets(text),
             is_good: found.is_normal,
             octets: found.octets,
         })),
@@ -298,7 +298,7 @@ fn checked<R: Source, L: Look<R>>(
 /// The line that says whether a message is its normal form, in the memory of `room`, whose octets are forgotten.
 fn check_line(
     room: Vec<u8>,
-    work: Work<'_>,
+    work: JobOptions<'_>,
     number: u32,
     found: Checked,
 ) -> Result<Vec<u8>, AllocError>
@@ -336,11 +336,11 @@ fn push_check_end(line: &mut Vec<u8>, found: Checked) -> Result<(), AllocError>
 fn digested<R: Source, L: Look<R>>(
     alloc: Global,
     reader: &mut NormalReader,
-    work: Work<'_>,
-    position: Position,
+    work: JobOptions<'_>,
+    position: MessagePlace,
     source: &mut R,
     room: Vec<u8>,
-) -> Result<Option<Piece<Written>>, ReadFailure>
+) -> Result<Option<RenderedMessage<JobOutput>>, ReadFailure>
     ensures { ReadsNextIn (profile_of work.entry.profile) (R.left source.old) (R.left source.new) (R.is_broken source.old) (R.is_broken source.new)
         (IsMade Job.Digest work.entry position) result }
 {
@@ -355,15 +355,15 @@ fn digested<R: Source, L: Look<R>>(
     else {
         return Ok(None);
     };
-    let Piece {
+    let RenderedMessage {
         text,
         is_good,
         octets,
     } = normal;
     let digest = normal_digest(&text);
     match digest_line(alloc, text, &digest, work.name, position.number) {
-        Ok(text) => Ok(Some(Piece {
-            text: Written::Octets(text),
+        Ok(text) => Ok(Some(RenderedMessage {
+            text: JobOutput::Octets(text),
             is_good,
             octets,
         })),
@@ -396,11 +396,11 @@ fn digest_line(
 fn canonical<R: Source, L: Look<R>>(
     alloc: Global,
     reader: &mut NormalReader,
-    work: Work<'_>,
-    position: Position,
+    work: JobOptions<'_>,
+    position: MessagePlace,
     source: &mut R,
     room: Vec<u8>,
-) -> Result<Option<Piece<Written>>, ReadFailure>
+) -> Result<Option<RenderedMessage<JobOutput>>, ReadFailure>
     ensures { ReadsNextIn (profile_of work.entry.profile) (R.left source.old) (R.left source.new) (R.is_broken source.old) (R.is_broken source.new)
         (IsMade Job.Canonicalise work.entry position) result }
 {
@@ -417,15 +417,15 @@ fn canonical<R: Source, L: Look<R>>(
         return Ok(None);
     };
     if !work.hex {
-        return Ok(Some(Piece {
-            text: Written::Octets(normal.text),
+        return Ok(Some(RenderedMessage {
+            text: JobOutput::Octets(normal.text),
             is_good: normal.is_good,
             octets: normal.octets,
         }));
     }
     match hex_line(alloc, &normal.text) {
-        Ok(text) => Ok(Some(Piece {
-            text: Written::Octets(text),
+        Ok(text) => Ok(Some(RenderedMessage {
+            text: JobOutput::Octets(text),
             is_good: normal.is_good,
             octets: normal.octets,
         })),
@@ -441,12 +441,12 @@ fn normal_form<R: Source, L: Look<R>>(
     compares: bool,
     source: &mut R,
     room: Vec<u8>,
-) -> Result<Option<Piece<Vec<u8>>>, ReadFailure>
+) -> Result<Option<RenderedMessage<Vec<u8>>>, ReadFailure>
     ensures { ReadsNextIn (profile_of profile) (R.left source.old) (R.left source.new) (R.is_broken source.old) (R.is_broken source.new)
         (IsMadeForm profile compares) result }
 {
     if !compares {
-        let position = Position {
+        let position = MessagePlace {
             number: 1,
             offset: 0,
         };
@@ -456,7 +456,7 @@ fn normal_form<R: Source, L: Look<R>>(
     let Some((found, text)) = check_one_in_as::<R, L>(alloc, profile, reader, source, room)? else {
         return Ok(None);
     };
-    Ok(Some(Piece {
+    Ok(Some(RenderedMessage {
         text,
         is_good: found.is_normal,
         octets: found.octets,

@@ -8,7 +8,7 @@ ghost use Rattle.ill_jobs.specs.Compared.{verdict_line, ReadsSide, SideFails, Co
 use crate::fault::RunFault;
 use crate::hexadecimal::read_hex;
 use crate::job::Verdict;
-use crate::text::read_most;
+use crate::text::read_at_most;
 use ber_core::{Sink, Source};
 use ill_normal::{Failure, LIMIT, Profile, same_message_as};
 use ill_write::put_all;
@@ -112,5 +112,5 @@ fn read_side<R: Source>(alloc: Global, hex: bool, source: &mut R) -> Result<Vec<
     if hex {
         return read_hex(alloc, source);
     }
-    Ok(read_most(alloc, source, LIMIT as usize + 1)?)
+    Ok(read_at_most(alloc, source, LIMIT as usize + 1)?)
 }

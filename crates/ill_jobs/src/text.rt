@@ -1,8 +1,8 @@
 //! Whole inputs in memory.
 ghost use Rattle.std.specs.Prelude.{◌<◌, ◌≤◌, length, IfOk, IsErrOf, IsTrue};
 ghost use Rattle.std.specs.Io.KnownBytes.{Consumes, IsAtEnd};
-ghost use Rattle.ill_jobs.specs.declared.text.Unread.{Unread};
-ghost use Rattle.ill_jobs.specs.Unread.{TakesAtMost};
+ghost use Rattle.ill_jobs.specs.declared.text.ReadError.{ReadError};
+ghost use Rattle.ill_jobs.specs.ReadErrors.{TakesAtMost};
 
 use crate::fault::RunFault;
 use ber_core::{Broken, Source};
@@ -13,21 +13,21 @@ const CHUNK: usize = 4096;
 
 /// Why an input wasn't read.
 #[derive(Clone, Copy, Debug, PartialEq, Eq)]
-pub enum Unread {
+pub enum ReadError {
     OutOfMemory,
     Broken,
 }
 
-impl From<Unread> for RunFault {
+impl From<ReadError> for RunFault {
     ghost use Rattle.std.specs.Prelude.{◌≡◌};
-    ghost use Rattle.ill_jobs.specs.Unread.{unread_fault};
+    ghost use Rattle.ill_jobs.specs.ReadErrors.{unread_fault};
 
     ghost from_gives = { λ why fault. fault ≡ unread_fault why };
 
-    fn from(why: Unread) -> RunFault {
+    fn from(why: ReadError) -> RunFault {
         match why {
-            Unread::OutOfMemory => RunFault::OutOfMemory,
-            Unread::Broken => RunFault::ReadFault,
+            ReadError::OutOfMemory => RunFault::OutOfMemory,
+            ReadError::Broken => RunFault::ReadFault,
         }
     }
 }
@@ -38,12 +38,16 @@ impl From<Unread> for RunFault {
 /// # Errors
 ///
 /// Out of memory, or a source that is broken.
-pub fn read_most<R: Source>(alloc: Global, source: &mut R, most: usize) -> Result<Vec<u8>, Unread>
+pub fn read_at_most<R: Source>(
+    alloc: Global,
+    source: &mut R,
+    most: usize,
+) -> Result<Vec<u8>, ReadError>
     ensures taken { IfOk result (λ text. Consumes (R.left source.old) (R.left source.new) text.items) }
     ensures most { IfOk result (λ text. length text.items ≤ most) }
     ensures end { IfOk result (λ text. length text.items < most → IsAtEnd (R.left source.new)) }
     ensures bound { TakesAtMost most (R.left source.old) (R.left source.new) }
-    ensures broken { IsErrOf result Unread.Broken → IsTrue (R.is_broken source.new) }
+    ensures broken { IsErrOf result ReadError.Broken → IsTrue (R.is_broken source.new) }
     ensures stays { IsTrue (R.is_broken source.old) → IsTrue (R.is_broken source.new) }
 {
     let mut text = Vec::new(alloc);
@@ -53,10 +57,10 @@ pub fn read_most<R: Source>(alloc: Global, source: &mut R, most: usize) -> Resul
         let count = match source.take(&mut buffer[..room]) {
             Ok(0) => return Ok(text),
             Ok(count) => count,
-            Err(Broken) => return Err(Unread::Broken),
+            Err(Broken) => return Err(ReadError::Broken),
         };
         if text.extend_from_slice(&buffer[..count]).is_err() {
-            return Err(Unread::OutOfMemory);
+            return Err(ReadError::OutOfMemory);
         }
     }
     Ok(text)

@@ -4,7 +4,7 @@ ghost use Rattle.std.specs.Io.KnownBytes.{Appends};
 ghost use Rattle.ill_jobs.specs.code.Writing.{IsShown, IsWritten};
 
 use ber_core::Sink;
-use ill_normal::Output;
+use ill_normal::Rendered;
 use ill_read::Outline;
 use ill_text::Text;
 use ill_write::put_all;
@@ -13,40 +13,40 @@ use std::alloc::Global;
 /// What is written of a message: octets that were made, or the text of an outline, of which only what its first line begins with is
 /// held.
 #[derive(Drop)]
-pub enum Written {
+pub enum JobOutput {
     Octets(Vec<u8>),
     Shown { label: Vec<u8>, text: Text },
 }
 
-impl Written {
+impl JobOutput {
     /// Memory for octets.
     pub fn into_octets(self) -> Vec<u8> {
         match self {
-            Written::Octets(octets) => octets,
-            Written::Shown { label, .. } => label,
+            JobOutput::Octets(octets) => octets,
+            JobOutput::Shown { label, .. } => label,
         }
     }
 
     /// Memory for octets and for an outline.
     pub fn into_both(self, alloc: Global) -> (Vec<u8>, Outline) {
         match self {
-            Written::Octets(octets) => (octets, Outline::new(alloc)),
-            Written::Shown { label, text } => (label, text.into_outline()),
+            JobOutput::Octets(octets) => (octets, Outline::new(alloc)),
+            JobOutput::Shown { label, text } => (label, text.into_outline()),
         }
     }
 }
 
-impl Output for Written {
+impl Rendered for JobOutput {
     ghost is = { λ written octets. IsWritten written octets };
 
-    fn empty(alloc: Global) -> Written {
-        Written::Octets(Vec::new(alloc))
+    fn empty(alloc: Global) -> JobOutput {
+        JobOutput::Octets(Vec::new(alloc))
     }
 
     fn put<W: Sink>(&self, sink: &mut W) -> Result<usize, usize> {
         match self {
-            Written::Octets(octets) => octets.put(sink),
-            Written::Shown { label, text } => put_shown(label, text, sink),
+            JobOutput::Octets(octets) => octets.put(sink),
+            JobOutput::Shown { label, text } => put_shown(label, text, sink),
         }
     }
 }

@@ -10,7 +10,7 @@ use Rattle.ill_jobs.proofs.TextAnswers.{same_octets}
 use Rattle.ill_lines.proofs.PartEnds.{no_end_join, no_end_more, part_ended}
 use Rattle.ill_lines.specs.Lines.{Answer, AreAnswers, IsResult, all_good, has_line_end, lines, output}
 use Rattle.ill_lines.specs.code.After.{Answers, IsSame, StandsAfter}
-use Rattle.ill_lines.specs.declared.job.LineWork.{LineWork}
+use Rattle.ill_lines.specs.declared.job.LineOptions.{LineOptions}
 use Rattle.ill_lines.specs.declared.lines.Lines.{Lines}
 
 abbrev pub texts : List Answer → List (List ℕ)
@@ -21,7 +21,7 @@ answer text result good = record { text = text; result = result; is_good = good 
 
 -- ---- results
 
-pub push_are : (work : LineWork) (answers : List Answer) (a : Answer) → AreAnswers work answers → IsResult work (hex_octets a.text) a.result a.is_good → AreAnswers work (answers ++ a ∷ [])
+pub push_are : (work : LineOptions) (answers : List Answer) (a : Answer) → AreAnswers work answers → IsResult work (hex_octets a.text) a.result a.is_good → AreAnswers work (answers ++ a ∷ [])
 push_are work [] a h k = (k, tt)
 push_are work (b ∷ answers) a h k = (h.0, push_are work answers a h.1 k)
 
@@ -102,7 +102,7 @@ parts_whole s octets i n =
 
 -- ---- steps
 
-module _ (work : LineWork) (s put : List ℕ) (old new : Lines) (h : StandsAfter work s put old) where
+module _ (work : LineOptions) (s put : List ℕ) (old new : Lines) (h : StandsAfter work s put old) where
   pub step_same : IsSame old new → StandsAfter work s put new
   step_same k = record {
     answers = h.answers;

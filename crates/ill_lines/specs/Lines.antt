@@ -18,7 +18,7 @@ use Rattle.ill_jobs.specs.declared.fault.RunFault.{RunFault}
 use Rattle.ill_lines.specs.Parts.{has_end, parts_by}
 use Rattle.ill_lines.specs.Words.{check_words, hex_words, refusal_words}
 use Rattle.ill_lines.specs.declared.job.LineJob.{LineJob}
-use Rattle.ill_lines.specs.declared.job.LineWork.{LineWork}
+use Rattle.ill_lines.specs.declared.job.LineOptions.{LineOptions}
 use Rattle.ill_lines.specs.declared.job.LinesFault.{LinesFault}
 
 -- each line is ended by a line feed; the last may be ended by the end of the input
@@ -29,8 +29,8 @@ abbrev pub has_line_end : List ℕ → Bool
 has_line_end s = has_end 0x0A s
 
 -- the work of a job in a profile
-abbrev pub line_work : Named → LineJob → LineWork
-line_work profile job = record { profile = profile; job = job }
+abbrev pub line_options : Named → LineJob → LineOptions
+line_options profile job = record { profile = profile; job = job }
 
 -- what is said of a message of the profile
 abbrev pub message_words : Profile → LineJob → Spelling → List ℕ
@@ -44,18 +44,18 @@ is_good_message q LineJob.Check m = is_normal q m
 is_good_message q _ m = true
 
 -- what is said of a message, and whether it is good
-pub record IsSaid (work : LineWork) (m : Spelling) (result : List ℕ) (is_good : Bool) : Type 0 where
+pub record IsSaid (work : LineOptions) (m : Spelling) (result : List ℕ) (is_good : Bool) : Type 0 where
   pub words : result ≡ message_words (profile_of work.profile) work.job m
   pub good : is_good ≡ is_good_message (profile_of work.profile) work.job m
 
 -- octets that are one message of the profile have its words, and others those of their one refusal
-abbrev pub IsResultOf : LineWork → List ℕ → List ℕ → Bool → Type 0
+abbrev pub IsResultOf : LineOptions → List ℕ → List ℕ → Bool → Type 0
 IsResultOf work octets result is_good =
     ((a : Apdu) × SpellsApdu (profile_of work.profile) a octets × IsSaid work (spelling a octets) result is_good)
     ⊎ ((f : Fault) × RefusesWholeIn (profile_of work.profile) octets f × (result ≡ refusal_words f) × (is_good ≡ false))
 
 -- the result of a line, by what its text stands for
-abbrev pub IsResult : LineWork → Result (List ℕ) RunFault → List ℕ → Bool → Type 0
+abbrev pub IsResult : LineOptions → Result (List ℕ) RunFault → List ℕ → Bool → Type 0
 IsResult work (Ok octets) result is_good = IsResultOf work octets result is_good
 IsResult work (Err fault) result is_good = (result ≡ hex_words fault) × (is_good ≡ false)
 
@@ -65,7 +65,7 @@ pub record Answer : Type 0 where
   pub result : List ℕ
   pub is_good : Bool
 
-abbrev pub AreAnswers : LineWork → List Answer → Type 0
+abbrev pub AreAnswers : LineOptions → List Answer → Type 0
 AreAnswers work [] = Unit {0}
 AreAnswers work (a ∷ answers) = IsResult work (hex_octets a.text) a.result a.is_good × AreAnswers work answers
 
@@ -78,7 +78,7 @@ abbrev pub all_good : List Answer → Bool
 all_good answers = list_all (λ a. a.is_good) answers
 
 -- the input was taken to its end, and the results of its lines were written
-pub record LinesDone (work : LineWork) (left left' held held' : Option (List ℕ)) (good : Bool) : Type 0 where
+pub record LinesDone (work : LineOptions) (left left' held held' : Option (List ℕ)) (good : Bool) : Type 0 where
   pub octets : List ℕ
   pub answers : List Answer
   pub taken : Consumes left left' octets
@@ -97,12 +97,12 @@ Ends source_broken sink answers rest LinesFault.WriteFault =
     IsTrue sink.broken × ((n : ℕ) × (n < length (output answers)) × Appends sink.held sink.held' (take n (output answers)))
 
 -- these octets were taken, and the call ended early
-pub record EndsWithin (work : LineWork) (octets : List ℕ) (source_broken : Bool) (sink : Putting) (fault : LinesFault) : Type 0 where
+pub record EndsWithin (work : LineOptions) (octets : List ℕ) (source_broken : Bool) (sink : Putting) (fault : LinesFault) : Type 0 where
   pub answers : List Answer
   pub rest : List ℕ
   pub of : lines octets ≡ map (λ a. a.text) answers ++ lines rest
   pub are : AreAnswers work answers
   pub ends : Ends source_broken sink answers rest fault
 
-abbrev pub LinesFail : LineWork → Taking → Putting → LinesFault → Type 0
+abbrev pub LinesFail : LineOptions → Taking → Putting → LinesFault → Type 0
 LinesFail work source sink fault = (octets : List ℕ) × Consumes source.left source.left' octets × EndsWithin work octets source.broken sink fault

@@ -15,7 +15,7 @@ pub enum LineJob {
 
 /// What is done with each line: the job, and the profile that messages are read in.
 #[derive(Clone, Copy, Debug, PartialEq, Eq)]
-pub struct LineWork {
+pub struct LineOptions {
     pub profile: Profile,
     pub job: LineJob,
 }

@@ -11,5 +11,5 @@ mod result;
 mod run;
 mod words;
 
-pub use job::{LineJob, LineWork, LinesFault};
+pub use job::{LineJob, LineOptions, LinesFault};
 pub use run::{run_lines, run_lines_as};

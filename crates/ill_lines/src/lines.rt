@@ -3,13 +3,13 @@ ghost use Rattle.std.specs.Prelude.{◌≡◌, ◌++◌, ◌<◌, ◌≤◌, ℕ
 ghost use Rattle.ill_lines.specs.Lines.{has_line_end};
 ghost use Rattle.ill_lines.specs.code.After.{Answers, IsSame, StandsAfter};
 
-use crate::job::LineWork;
+use crate::job::LineOptions;
 use crate::result::result_of;
 use ill_normal::NormalReader;
 use std::alloc::{AllocError, Global};
 
 /// How many octets the text of a line may have.
-const MOST: usize = 4_194_304;
+const MAX_HEX_TEXT: usize = 4_194_304;
 
 /// What was read of the line that has not ended, and the results that were not written.
 #[derive(Drop)]
@@ -44,7 +44,12 @@ impl Lines {
     /// # Errors
     ///
     /// Out of memory: some of the octets were not read, and the results of the lines before are there.
-    pub fn feed(&mut self, alloc: Global, work: LineWork, octets: &[u8]) -> Result<(), AllocError>
+    pub fn feed(
+        &mut self,
+        alloc: Global,
+        work: LineOptions,
+        octets: &[u8],
+    ) -> Result<(), AllocError>
         ensures all { (s put : List ℕ) → StandsAfter work s put self.old → OnOk result (StandsAfter work (s ++ octets.now) put self.new) }
         ensures some { (s put : List ℕ) → StandsAfter work s put self.old → OnErr result ((n : ℕ) × StandsAfter work (s ++ take n octets.now) put self.new) }
     {
@@ -60,7 +65,7 @@ impl Lines {
     fn feed_line(
         &mut self,
         alloc: Global,
-        work: LineWork,
+        work: LineOptions,
         octets: &[u8],
     ) -> Result<usize, AllocError>
         ensures bound { IfOk result (λ n. n ≤ length octets.now) }
@@ -85,7 +90,7 @@ impl Lines {
         ensures ready { self.new.ready.items ≡ self.old.ready.items }
         ensures good { self.new.is_good ≡ self.old.is_good }
     {
-        let room = (MOST + 1).saturating_sub(self.part.len());
+        let room = (MAX_HEX_TEXT + 1).saturating_sub(self.part.len());
         if octets.len() <= room {
             self.part.extend_from_slice(octets)
         } else {
@@ -98,7 +103,7 @@ impl Lines {
     /// # Errors
     ///
     /// Out of memory. Nothing has changed.
-    pub fn end_line(&mut self, alloc: Global, work: LineWork) -> Result<(), AllocError>
+    pub fn end_line(&mut self, alloc: Global, work: LineOptions) -> Result<(), AllocError>
         ensures answers { OnOk result (Answers work self.old.part.items self.old self.new) }
         ensures same { OnErr result (IsSame self.old self.new) }
     {

@@ -6,10 +6,10 @@ ghost use Rattle.ill_schema.specs.Profiles.{profile_of};
 ghost use Rattle.ill_schema.specs.declared.profile.Profile.{Profile as Named};
 ghost use Rattle.ill_normal.specs.Messages.{spelling};
 ghost use Rattle.ill_jobs.specs.Hexadecimal.{hex_octets};
-ghost use Rattle.ill_lines.specs.Lines.{IsResult, IsResultOf, IsSaid, line_work};
+ghost use Rattle.ill_lines.specs.Lines.{IsResult, IsResultOf, IsSaid, line_options};
 ghost use Rattle.ill_lines.specs.declared.job.LineJob.{LineJob as Job};
 
-use crate::job::{LineJob, LineWork};
+use crate::job::{LineJob, LineOptions};
 use crate::words::{check_words, hex_words, refusal_words};
 use ill_digest::normal_digest;
 use ill_jobs::{RunFault, text_octets};
@@ -27,7 +27,7 @@ pub struct LineResult {
 pub fn result_of(
     alloc: Global,
     reader: &mut NormalReader,
-    work: LineWork,
+    work: LineOptions,
     text: &[u8],
 ) -> Result<LineResult, AllocError>
     ensures { IfOk result (λ found. IsResult work (hex_octets text.now) found.words.items found.is_good) }
@@ -46,7 +46,7 @@ pub fn result_of(
 fn message_result(
     alloc: Global,
     reader: &mut NormalReader,
-    work: LineWork,
+    work: LineOptions,
     octets: &[u8],
 ) -> Result<LineResult, AllocError>
     ensures { IfOk result (λ found. IsResultOf work octets.now found.words.items found.is_good) }
@@ -64,7 +64,7 @@ fn message_result(
 /// The result of a message with this normal form.
 fn form_result(
     alloc: Global,
-    work: LineWork,
+    work: LineOptions,
     octets: &[u8],
     normal: &[u8],
 ) -> Result<LineResult, AllocError>
@@ -95,7 +95,7 @@ fn check_result(
     normal: &[u8],
 ) -> Result<LineResult, AllocError>
     ensures { (a : Apdu) → SpellsApdu (profile_of profile) a octets.now → normal.now ≡ normal_form_in (profile_of profile) a
-        → IfOk result (λ found. IsSaid (line_work profile Job.Check) (spelling a octets.now) found.words.items found.is_good) }
+        → IfOk result (λ found. IsSaid (line_options profile Job.Check) (spelling a octets.now) found.words.items found.is_good) }
 {
     let is_normal = octets == normal;
     let words = check_words(

@@ -4,10 +4,10 @@ ghost use Rattle.std.specs.Io.KnownBytes.{Appends, Consumes, IsAtEnd};
 ghost use Rattle.ill_normal.specs.Calls.{putting, taking};
 ghost use Rattle.ill_schema.specs.declared.profile.Profile.{Profile as Named};
 ghost use Rattle.ill_lines.specs.declared.job.LinesFault.{LinesFault};
-ghost use Rattle.ill_lines.specs.Lines.{EndsWithin, LinesDone, LinesFail, line_work};
+ghost use Rattle.ill_lines.specs.Lines.{EndsWithin, LinesDone, LinesFail, line_options};
 ghost use Rattle.ill_lines.specs.code.After.{HasWritten};
 
-use crate::job::{LineJob, LineWork, LinesFault};
+use crate::job::{LineJob, LineOptions, LinesFault};
 use crate::lines::Lines;
 use ber_core::{Broken, Sink, Source};
 use ill_schema::Profile;
@@ -36,8 +36,8 @@ pub fn run_lines<R: Source, W: Sink>(
     source: &mut R,
     sink: &mut W,
 ) -> Result<bool, LinesFault>
-    ensures done { IfOk result (LinesDone (line_work Named.Two job) (R.left source.old) (R.left source.new) (W.contents sink.old) (W.contents sink.new)) }
-    ensures fails { IfErr result (LinesFail (line_work Named.Two job) (taking (R.left source.old) (R.left source.new) (R.is_broken source.new))
+    ensures done { IfOk result (LinesDone (line_options Named.Two job) (R.left source.old) (R.left source.new) (W.contents sink.old) (W.contents sink.new)) }
+    ensures fails { IfErr result (LinesFail (line_options Named.Two job) (taking (R.left source.old) (R.left source.new) (R.is_broken source.new))
         (putting (W.contents sink.old) (W.contents sink.new) (W.is_broken sink.new))) }
     ensures source_stays { IsTrue (R.is_broken source.old) → IsTrue (R.is_broken source.new) }
     ensures sink_stays { IsTrue (W.is_broken sink.old) → IsTrue (W.is_broken sink.new) }
@@ -63,19 +63,19 @@ pub fn run_lines_as<R: Source, W: Sink>(
     source: &mut R,
     sink: &mut W,
 ) -> Result<bool, LinesFault>
-    ensures done { IfOk result (LinesDone (line_work profile job) (R.left source.old) (R.left source.new) (W.contents sink.old) (W.contents sink.new)) }
-    ensures fails { IfErr result (LinesFail (line_work profile job) (taking (R.left source.old) (R.left source.new) (R.is_broken source.new))
+    ensures done { IfOk result (LinesDone (line_options profile job) (R.left source.old) (R.left source.new) (W.contents sink.old) (W.contents sink.new)) }
+    ensures fails { IfErr result (LinesFail (line_options profile job) (taking (R.left source.old) (R.left source.new) (R.is_broken source.new))
         (putting (W.contents sink.old) (W.contents sink.new) (W.is_broken sink.new))) }
     ensures source_stays { IsTrue (R.is_broken source.old) → IsTrue (R.is_broken source.new) }
     ensures sink_stays { IsTrue (W.is_broken sink.old) → IsTrue (W.is_broken sink.new) }
 {
-    run_work(alloc, LineWork { profile, job }, source, sink)
+    run_with(alloc, LineOptions { profile, job }, source, sink)
 }
 
 /// Does the work with each line.
-fn run_work<R: Source, W: Sink>(
+fn run_with<R: Source, W: Sink>(
     alloc: Global,
-    work: LineWork,
+    work: LineOptions,
     source: &mut R,
     sink: &mut W,
 ) -> Result<bool, LinesFault>
@@ -102,7 +102,7 @@ fn run_work<R: Source, W: Sink>(
 /// Reads octets, and writes the results of the lines that end in them.
 fn pass<W: Sink>(
     alloc: Global,
-    work: LineWork,
+    work: LineOptions,
     octets: &[u8],
     lines: &mut Lines,
     sink: &mut W,
@@ -124,7 +124,7 @@ fn pass<W: Sink>(
 /// Answers the last line, where it has no end, and writes its result.
 fn finish<W: Sink>(
     alloc: Global,
-    work: LineWork,
+    work: LineOptions,
     lines: &mut Lines,
     sink: &mut W,
 ) -> Result<bool, LinesFault>

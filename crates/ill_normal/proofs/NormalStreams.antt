@@ -11,10 +11,10 @@ use Rattle.ill_normal.specs.Calls.{Taking, Putting}
 use Rattle.ill_normal.specs.Messages.{Spelling, AreSpelledIn, after, first, position_after, output_from, WritesIn, PassesAllIn, EndsIn, EndsAfterIn, part_of}
 use Rattle.ill_normal.specs.Streamed.{PassesIn, StopsIn, StopsAfterIn}
 use Rattle.ill_normal.specs.code.Ending.{stream_cause}
-use Rattle.ill_normal.specs.declared.messages.Passed.{Passed}
-use Rattle.ill_normal.specs.declared.messages.Position.{Position}
-use Rattle.ill_normal.specs.declared.messages.Stopped.{Stopped}
-use Rattle.ill_normal.specs.declared.messages.Why.{Why}
+use Rattle.ill_normal.specs.declared.messages.StreamCounts.{StreamCounts}
+use Rattle.ill_normal.specs.declared.messages.MessagePlace.{MessagePlace}
+use Rattle.ill_normal.specs.declared.messages.StreamError.{StreamError}
+use Rattle.ill_normal.specs.declared.messages.StreamErrorKind.{StreamErrorKind}
 
 pub apdus_of : List Spelling → List Apdu
 apdus_of ms = map (λ m. m.apdu) ms
@@ -30,10 +30,10 @@ module _ (q : Named) where
   stream_of s rest (m ∷ ms) h = (m.octets, h.0, h.1, h.2, stream_of h.0 rest ms h.3)
 
   -- what is written of a message in a stream
-  abbrev pub normal_text : Position → Spelling → List ℕ
+  abbrev pub normal_text : MessagePlace → Spelling → List ℕ
   normal_text p m = normal_form_in (profile_of q) m.apdu
 
-  forms : (p : Position) (ms : List Spelling) → output_from normal_text p ms ≡ flat_map (normal_form_in (profile_of q)) (apdus_of ms)
+  forms : (p : MessagePlace) (ms : List Spelling) → output_from normal_text p ms ≡ flat_map (normal_form_in (profile_of q)) (apdus_of ms)
   unfolding apdus_of
   forms p [] = refl
   forms p (m ∷ ms) = ap (λ l. normal_form_in (profile_of q) m.apdu ++ l) (forms (after p (length m.octets)) ms)
@@ -50,20 +50,20 @@ module _ (q : Named) where
     size = sym size;
   }
 
-  pub streamed : (is_good : Spelling → Bool) (left left' held held' : Option (List ℕ)) (p : Passed) → PassesAllIn (profile_of q) normal_text is_good left left' held held' p
+  pub streamed : (is_good : Spelling → Bool) (left left' held held' : Option (List ℕ)) (p : StreamCounts) → PassesAllIn (profile_of q) normal_text is_good left left' held held' p
       → (before : ℕ) × PassesIn (profile_of q) left left' held held' p.whole before × IsAtEnd left' × (p.whole ≤ 1_000_000)
   streamed is_good left left' held held' p h =
       (length h.writes.octets, passes_of left left' held held' h.messages p.whole _ h.writes h.count refl, h.end, omega (arith, h.few, h.count))
 
-  stops : (source : Taking) (sink : Putting) (whole : ℕ) (next : Position) (why : Why) → EndsIn (profile_of q) normal_text source sink whole next why → StopsIn (profile_of q) source sink whole (stream_cause why)
-  stops source sink whole next (Why.Read (ReadFailure.Refused refusal)) h = (h.0, (h.1, h.2))
-  stops source sink whole next (Why.Read ReadFailure.OutOfMemory) h = (h.0, h.1)
-  stops source sink whole next (Why.Read ReadFailure.ReadFault) h = (h.0, h.2, (h.1, h.2.0, h.3))
-  stops source sink whole next (Why.Write n) h =
+  stops : (source : Taking) (sink : Putting) (whole : ℕ) (next : MessagePlace) (why : StreamErrorKind) → EndsIn (profile_of q) normal_text source sink whole next why → StopsIn (profile_of q) source sink whole (stream_cause why)
+  stops source sink whole next (StreamErrorKind.Read (ReadFailure.Refused refusal)) h = (h.0, (h.1, h.2))
+  stops source sink whole next (StreamErrorKind.Read ReadFailure.OutOfMemory) h = (h.0, h.1)
+  stops source sink whole next (StreamErrorKind.Read ReadFailure.ReadFault) h = (h.0, h.2, (h.1, h.2.0, h.3))
+  stops source sink whole next (StreamErrorKind.Write n) h =
       let b = h.1 in (h.0, (b.broken, (b.message.apdu, b.message.octets, b.spells, b.taken, b.written, b.fewer)))
-  stops source sink whole next Why.TooMany h = h
+  stops source sink whole next StreamErrorKind.TooMany h = h
 
-  pub stops_of : (is_good : Spelling → Bool) (source : Taking) (sink : Putting) (e : Stopped) → EndsAfterIn (profile_of q) normal_text is_good source sink e
+  pub stops_of : (is_good : Spelling → Bool) (source : Taking) (sink : Putting) (e : StreamError) → EndsAfterIn (profile_of q) normal_text is_good source sink e
       → StopsAfterIn (profile_of q) source sink (record { whole = e.whole; before = e.before; why = stream_cause e.why })
   stops_of is_good source sink e h = record {
     rest = h.rest;
@@ -74,10 +74,10 @@ module _ (q : Named) where
   }
 
   -- of a normal form no more is written than a message may have
-  part : (source : Taking) (sink : Putting) (whole : ℕ) (next : Position) (why : Why) → EndsIn (profile_of q) normal_text source sink whole next why → part_of why ≤ 1_048_576
-  part source sink whole next (Why.Read failure) h = omega arith
-  part source sink whole next (Why.Write n) h = let b = h.1 in let short : length (normal_form_in (profile_of q) b.message.apdu) ≤ 1_048_576 = b.spells.normal_short in omega (arith, short, b.fewer)
-  part source sink whole next Why.TooMany h = omega arith
+  part : (source : Taking) (sink : Putting) (whole : ℕ) (next : MessagePlace) (why : StreamErrorKind) → EndsIn (profile_of q) normal_text source sink whole next why → part_of why ≤ 1_048_576
+  part source sink whole next (StreamErrorKind.Read failure) h = omega arith
+  part source sink whole next (StreamErrorKind.Write n) h = let b = h.1 in let short : length (normal_form_in (profile_of q) b.message.apdu) ≤ 1_048_576 = b.spells.normal_short in omega (arith, short, b.fewer)
+  part source sink whole next StreamErrorKind.TooMany h = omega arith
 
-  pub part_bound : (is_good : Spelling → Bool) (source : Taking) (sink : Putting) (e : Stopped) → EndsAfterIn (profile_of q) normal_text is_good source sink e → part_of e.why ≤ 1_048_576
+  pub part_bound : (is_good : Spelling → Bool) (source : Taking) (sink : Putting) (e : StreamError) → EndsAfterIn (profile_of q) normal_text is_good source sink e → part_of e.why ≤ 1_048_576
   part_bound is_good source sink e h = part _ _ e.whole (position_after first h.messages) e.why h.ends

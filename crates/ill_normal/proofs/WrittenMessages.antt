@@ -16,18 +16,18 @@ use Rattle.ill_read.specs.declared.failure.ReadFailure.{ReadFailure}
 use Rattle.ill_normal.specs.Calls.{taking, putting}
 use Rattle.ill_normal.specs.Messages.{Spelling, spelling, AreSpelledIn, counted, position, first, after, position_after, output_from, one_if, good_of, MakesIn, WritesIn, PassesAllIn, BreaksWithinIn, EndsIn, EndsAfterIn}
 use Rattle.ill_normal.specs.code.Ending.{GoesOn, all_passed, ended_at}
-use Rattle.ill_normal.specs.declared.messages.Piece.{Piece}
-use Rattle.ill_normal.specs.declared.messages.Position.{Position}
-use Rattle.ill_normal.specs.declared.messages.Why.{Why}
+use Rattle.ill_normal.specs.declared.messages.RenderedMessage.{RenderedMessage}
+use Rattle.ill_normal.specs.declared.messages.MessagePlace.{MessagePlace}
+use Rattle.ill_normal.specs.declared.messages.StreamErrorKind.{StreamErrorKind}
 
-pub output_push : (text : Position → Spelling → List ℕ) (p : Position) (ms : List Spelling) (m : Spelling)
+pub output_push : (text : MessagePlace → Spelling → List ℕ) (p : MessagePlace) (ms : List Spelling) (m : Spelling)
     → output_from text p (ms ++ m ∷ []) ≡ output_from text p ms ++ text (position_after p ms) m
 output_push text p [] m = append-nil (text p m)
 output_push text p (x ∷ ms) m =
     let next = after p (length x.octets) in
     ap (λ l. text p x ++ l) (output_push text next ms m) ∙ sym (append_assoc (text p x) (output_from text next ms) (text (position_after next ms) m))
 
-position_push : (p : Position) (ms : List Spelling) (m : Spelling) → position_after p (ms ++ m ∷ []) ≡ after (position_after p ms) (length m.octets)
+position_push : (p : MessagePlace) (ms : List Spelling) (m : Spelling) → position_after p (ms ++ m ∷ []) ≡ after (position_after p ms) (length m.octets)
 position_push p [] m = refl
 position_push p (x ∷ ms) m = position_push (after p (length x.octets)) ms m
 
@@ -83,7 +83,7 @@ module _ (q : Named) where
   spelled_more b (x ∷ ms) m h k = (h.0 ++ m.octets, ap (λ l. l ++ m.octets) h.1 ∙ append_assoc x.octets h.0 m.octets, h.2, spelled_more h.0 ms m h.3 k)
 
   -- `whole` messages of `before` octets were read and written, whose output has `written` octets, and this many were good
-  pub record Reached (text : Position → Spelling → List ℕ) (is_good : Spelling → Bool) (left left' held held' : Option (List ℕ)) (whole before written good : ℕ) : Type 0 where
+  pub record Reached (text : MessagePlace → Spelling → List ℕ) (is_good : Spelling → Bool) (left left' held held' : Option (List ℕ)) (whole before written good : ℕ) : Type 0 where
     pub messages : List Spelling
     pub writes : WritesIn (profile_of q) text left left' held held' messages
     pub count : whole ≡ length messages
@@ -92,7 +92,7 @@ module _ (q : Named) where
     pub size : written ≡ length (output_from text first messages)
     pub good_ones : good ≡ good_of is_good messages
 
-  pub reached_none : (text : Position → Spelling → List ℕ) (is_good : Spelling → Bool) (left held : Option (List ℕ)) → Reached text is_good left left held held 0 0 0 0
+  pub reached_none : (text : MessagePlace → Spelling → List ℕ) (is_good : Spelling → Bool) (left held : Option (List ℕ)) → Reached text is_good left left held held 0 0 0 0
   reached_none text is_good left held = record {
     messages = [];
     writes = record { octets = []; spelled = refl; taken = Consumes-nil left; written = Appends-nil held };
@@ -104,24 +104,24 @@ module _ (q : Named) where
   }
 
   -- the octets of the next message were taken, and the piece was made of them
-  abbrev pub Made : {T : Type 0} → (T → List ℕ → Type 0) → (Position → Spelling → List ℕ) → (Spelling → Bool) → Position → Option (List ℕ) → Option (List ℕ) → Piece T → Type 0
+  abbrev pub Made : {T : Type 0} → (T → List ℕ → Type 0) → (MessagePlace → Spelling → List ℕ) → (Spelling → Bool) → MessagePlace → Option (List ℕ) → Option (List ℕ) → RenderedMessage T → Type 0
   Made is text is_good p left left' piece = (b : List ℕ) × Consumes left left' b × MakesIn (profile_of q) is (text p) is_good piece b
 
   -- a message has at most 1,048,576 octets
-  pub made_bound : {T : Type 0} (is : T → List ℕ → Type 0) (text : Position → Spelling → List ℕ) (is_good : Spelling → Bool) (i : Position) (left left' : Option (List ℕ)) (piece : Piece T)
+  pub made_bound : {T : Type 0} (is : T → List ℕ → Type 0) (text : MessagePlace → Spelling → List ℕ) (is_good : Spelling → Bool) (i : MessagePlace) (left left' : Option (List ℕ)) (piece : RenderedMessage T)
       → Made is text is_good i left left' piece → piece.octets ≤ 1_048_576
   made_bound is text is_good i left left' piece p = let h : length p.0 ≤ 1_048_576 = p.2.spells.encodes.short in omega (arith, p.2.size)
 
-  module _ (text : Position → Spelling → List ℕ) (is_good : Spelling → Bool) (left left' left'' held held' held'' : Option (List ℕ)) (whole before written good : ℕ)
+  module _ (text : MessagePlace → Spelling → List ℕ) (is_good : Spelling → Bool) (left left' left'' held held' held'' : Option (List ℕ)) (whole before written good : ℕ)
       (r : Reached text is_good left left' held held' whole before written good) where
-    here : Position
+    here : MessagePlace
     here = position (whole + 1) before
 
     pushed : (m : Spelling) → output_from text first (r.messages ++ m ∷ []) ≡ output_from text first r.messages ++ text here m
     unfolding here
-    pushed m = output_push text first r.messages m ∙ ap (λ (p : Position). output_from text first r.messages ++ text p m) r.next
+    pushed m = output_push text first r.messages m ∙ ap (λ (p : MessagePlace). output_from text first r.messages ++ text p m) r.next
 
-    pub reached_more : {T : Type 0} (is : T → List ℕ → Type 0) (piece : Piece T) (p : Made is text is_good (position (whole + 1) before) left' left'' piece) (size : ℕ)
+    pub reached_more : {T : Type 0} (is : T → List ℕ → Type 0) (piece : RenderedMessage T) (p : Made is text is_good (position (whole + 1) before) left' left'' piece) (size : ℕ)
         → before + piece.octets ≤ 18_446_744_073_709_551_615
         → size ≡ length (text (position (whole + 1) before) (spelling p.2.apdu p.0)) → Appends held' held'' (text (position (whole + 1) before) (spelling p.2.apdu p.0))
         → Reached text is_good left left'' held held'' (whole + 1) (before + piece.octets) (written + size) (good + one_if piece.is_good)
@@ -140,7 +140,7 @@ module _ (q : Named) where
           };
           count = omega (arith, r.count, length-append r.messages (m ∷ []));
           input = omega (arith, r.input, p.2.size, length-append r.writes.octets p.0);
-          next = position_push first r.messages m ∙ ap (λ (p : Position). after p (length m.octets)) r.next ∙ ap (after (position (whole + 1) before)) (sym p.2.size) ∙ grows (whole + 1) before piece.octets le;
+          next = position_push first r.messages m ∙ ap (λ (p : MessagePlace). after p (length m.octets)) r.next ∙ ap (after (position (whole + 1) before)) (sym p.2.size) ∙ grows (whole + 1) before piece.octets le;
           size = omega (arith, r.size, n, ap length all, length-append so_far (text (position (whole + 1) before) m));
           good_ones = omega (arith, r.good_ones, ap one_if p.2.good, good_push is_good r.messages m);
         }
@@ -166,13 +166,13 @@ module _ (q : Named) where
     module _ (x y : Bool) where
       -- the next message was not read
       read_ends : {T : Type 0} (was : Bool) (Is : T → List ℕ → Type 0) (e : ReadFailure) → whole < 1_000_000 → ReadsNextIn (profile_of q) left' left'' was x Is (Err e)
-          → EndsIn (profile_of q) text (taking left' left'' x) (putting held' held' y) whole (position_after first r.messages) (Why.Read e)
+          → EndsIn (profile_of q) text (taking left' left'' x) (putting held' held' y) whole (position_after first r.messages) (StreamErrorKind.Read e)
       read_ends was Is (ReadFailure.Refused refusal) lt h = (lt, h.refused, Keeps-refl held')
       read_ends was Is ReadFailure.OutOfMemory lt h = (lt, Keeps-refl held')
       read_ends was Is ReadFailure.ReadFault lt h = (omega arith, h.fault.0, (h.fault.1, λ full. absurd (omega (arith, lt, full))), Keeps-refl held')
 
       pub ends_reading : {T : Type 0} (was : Bool) (Is : T → List ℕ → Type 0) (e : ReadFailure) → whole < 1_000_000 → ReadsNextIn (profile_of q) left' left'' was x Is (Err e)
-          → EndsAfterIn (profile_of q) text is_good (taking left left'' x) (putting held held' y) (ended_at whole good before written (Why.Read e))
+          → EndsAfterIn (profile_of q) text is_good (taking left left'' x) (putting held held' y) (ended_at whole good before written (StreamErrorKind.Read e))
       ends_reading was Is e lt h = record {
         messages = r.messages;
         rest = left';
@@ -187,9 +187,9 @@ module _ (q : Named) where
       }
 
       -- the sink broke
-      pub ends_writing : {T : Type 0} (is : T → List ℕ → Type 0) (piece : Piece T) (n : ℕ) → whole < 1_000_000 → TakesFront left' left'' → (p : Made is text is_good (position (whole + 1) before) left' left'' piece)
+      pub ends_writing : {T : Type 0} (is : T → List ℕ → Type 0) (piece : RenderedMessage T) (n : ℕ) → whole < 1_000_000 → TakesFront left' left'' → (p : Made is text is_good (position (whole + 1) before) left' left'' piece)
           → Appends held' held'' (take n (text (position (whole + 1) before) (spelling p.2.apdu p.0))) → n < length (text (position (whole + 1) before) (spelling p.2.apdu p.0)) → IsTrue y
-          → EndsAfterIn (profile_of q) text is_good (taking left left'' x) (putting held held'' y) (ended_at whole good before (written + n) (Why.Write n))
+          → EndsAfterIn (profile_of q) text is_good (taking left left'' x) (putting held held'' y) (ended_at whole good before (written + n) (StreamErrorKind.Write n))
       ends_writing is piece n lt t p w fewer broken = record {
         messages = r.messages;
         rest = left';
@@ -202,7 +202,7 @@ module _ (q : Named) where
         written = omega (arith, r.size);
         ends = (
           lt,
-          subst (λ (i : Position). BreaksWithinIn (profile_of q) (text i) (taking left' left'' x) (putting held' held'' y) n) (sym r.next) (record {
+          subst (λ (i : MessagePlace). BreaksWithinIn (profile_of q) (text i) (taking left' left'' x) (putting held' held'' y) n) (sym r.next) (record {
             message = spelling p.2.apdu p.0;
             spells = p.2.spells;
             taken = p.1;
@@ -214,9 +214,9 @@ module _ (q : Named) where
       }
 
       -- after the last message that an input may have an octet was taken, or the source broke
-      pub ends_at_last : (n : ℕ) (why : Why) → n ≡ whole → n ≡ 1_000_000 → GoesOn left' left'' x why
+      pub ends_at_last : (n : ℕ) (why : StreamErrorKind) → n ≡ whole → n ≡ 1_000_000 → GoesOn left' left'' x why
           → EndsAfterIn (profile_of q) text is_good (taking left left'' x) (putting held held' y) (ended_at n good before written why)
-      ends_at_last n Why.TooMany same last h = record {
+      ends_at_last n StreamErrorKind.TooMany same last h = record {
         messages = r.messages;
         rest = left';
         grown = held';
@@ -228,7 +228,7 @@ module _ (q : Named) where
         written = omega (arith, r.size);
         ends = (last, h, Keeps-refl held');
       }
-      ends_at_last n (Why.Read ReadFailure.ReadFault) same last h =
+      ends_at_last n (StreamErrorKind.Read ReadFailure.ReadFault) same last h =
           let none = Consumes-kept left' left' left'' [] (Consumes-nil left') h.1 in
           record {
             messages = r.messages;
@@ -242,6 +242,6 @@ module _ (q : Named) where
             written = omega (arith, r.size);
             ends = (omega arith, h.0, (([], none, λ a n accepted. accepts_some (profile_of q) [] a n refl accepted), λ full. h.1), Keeps-refl held');
           }
-      ends_at_last n (Why.Read (ReadFailure.Refused refusal)) same last h = absurd h
-      ends_at_last n (Why.Read ReadFailure.OutOfMemory) same last h = absurd h
-      ends_at_last n (Why.Write k) same last h = absurd h
+      ends_at_last n (StreamErrorKind.Read (ReadFailure.Refused refusal)) same last h = absurd h
+      ends_at_last n (StreamErrorKind.Read ReadFailure.OutOfMemory) same last h = absurd h
+      ends_at_last n (StreamErrorKind.Write k) same last h = absurd h

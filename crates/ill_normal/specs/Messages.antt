@@ -9,11 +9,11 @@ use Rattle.ill_read.specs.declared.failure.ReadFailure.{ReadFailure}
 use Rattle.ill_refusals.specs.Fault.{fault_of}
 use Rattle.ill_refusals.specs.Outcome.{OnlyRefuses}
 use Rattle.ill_normal.specs.Calls.{Taking, taking, Putting, putting}
-use Rattle.ill_normal.specs.declared.messages.Passed.{Passed}
-use Rattle.ill_normal.specs.declared.messages.Piece.{Piece}
-use Rattle.ill_normal.specs.declared.messages.Position.{Position}
-use Rattle.ill_normal.specs.declared.messages.Stopped.{Stopped}
-use Rattle.ill_normal.specs.declared.messages.Why.{Why}
+use Rattle.ill_normal.specs.declared.messages.StreamCounts.{StreamCounts}
+use Rattle.ill_normal.specs.declared.messages.RenderedMessage.{RenderedMessage}
+use Rattle.ill_normal.specs.declared.messages.MessagePlace.{MessagePlace}
+use Rattle.ill_normal.specs.declared.messages.StreamError.{StreamError}
+use Rattle.ill_normal.specs.declared.messages.StreamErrorKind.{StreamErrorKind}
 
 -- an APDU, and octets
 pub record Spelling : Type 0 where
@@ -31,7 +31,7 @@ AreSpelledIn q s (m ∷ ms) rest = (t : List ℕ) × (s ≡ m.octets ++ t) × Sp
 abbrev pub AreSpelled : List ℕ → List Spelling → List ℕ → Type 0
 AreSpelled s ms rest = AreSpelledIn profile_two s ms rest
 
-abbrev pub position : ℕ → ℕ → Position
+abbrev pub position : ℕ → ℕ → MessagePlace
 position number offset = record { number = number; offset = offset }
 
 -- a number of octets, or 18,446,744,073,709,551,615 where they are more
@@ -39,20 +39,20 @@ abbrev pub counted : ℕ → ℕ
 counted n = min n 18_446_744_073_709_551_615
 
 -- where the first message of an input is
-abbrev pub first : Position
+abbrev pub first : MessagePlace
 first = position 1 0
 
 -- the position after a message of n octets
-abbrev pub after : Position → ℕ → Position
+abbrev pub after : MessagePlace → ℕ → MessagePlace
 after p n = position (p.number + 1) (counted (p.offset + n))
 
 -- the position after messages
-abbrev pub position_after : Position → List Spelling → Position
+abbrev pub position_after : MessagePlace → List Spelling → MessagePlace
 position_after p [] = p
 position_after p (m ∷ ms) = position_after (after p (length m.octets)) ms
 
 -- what is written of messages from this position on, where `text p m` is written of the message at p
-abbrev pub output_from : (Position → Spelling → List ℕ) → Position → List Spelling → List ℕ
+abbrev pub output_from : (MessagePlace → Spelling → List ℕ) → MessagePlace → List Spelling → List ℕ
 output_from text p [] = []
 output_from text p (m ∷ ms) = text p m ++ output_from text (after p (length m.octets)) ms
 
@@ -66,7 +66,7 @@ good_of is_good [] = 0
 good_of is_good (m ∷ ms) = one_if (is_good m) + good_of is_good ms
 
 -- the octets spell an APDU, and the piece has what is written of it, and says whether it is as it should be, and how many octets it has
-pub record MakesIn (q : Profile) {T : Type 0} (is : T → List ℕ → Type 0) (output : Spelling → List ℕ) (is_good : Spelling → Bool) (piece : Piece T) (octets : List ℕ) : Type 0 where
+pub record MakesIn (q : Profile) {T : Type 0} (is : T → List ℕ → Type 0) (output : Spelling → List ℕ) (is_good : Spelling → Bool) (piece : RenderedMessage T) (octets : List ℕ) : Type 0 where
   pub apdu : Apdu
   pub spells : SpellsApdu q apdu octets
   pub text : is piece.text (output (spelling apdu octets))
@@ -74,14 +74,14 @@ pub record MakesIn (q : Profile) {T : Type 0} (is : T → List ℕ → Type 0) (
   pub size : piece.octets ≡ length octets
 
 -- the octets that were taken are these messages, and their output was written
-pub record WritesIn (q : Profile) (text : Position → Spelling → List ℕ) (left left' held held' : Option (List ℕ)) (messages : List Spelling) : Type 0 where
+pub record WritesIn (q : Profile) (text : MessagePlace → Spelling → List ℕ) (left left' held held' : Option (List ℕ)) (messages : List Spelling) : Type 0 where
   pub octets : List ℕ
   pub spelled : AreSpelledIn q octets messages []
   pub taken : Consumes left left' octets
   pub written : Appends held held' (output_from text first messages)
 
 -- the input was messages to its end, at most 1,000,000
-pub record PassesAllIn (q : Profile) (text : Position → Spelling → List ℕ) (is_good : Spelling → Bool) (left left' held held' : Option (List ℕ)) (passed : Passed) : Type 0 where
+pub record PassesAllIn (q : Profile) (text : MessagePlace → Spelling → List ℕ) (is_good : Spelling → Bool) (left left' held held' : Option (List ℕ)) (passed : StreamCounts) : Type 0 where
   pub messages : List Spelling
   pub writes : WritesIn q text left left' held held' messages
   pub end : IsAtEnd left'
@@ -105,24 +105,24 @@ abbrev pub TakesNoFurtherIn : Profile → ℕ → Option (List ℕ) → Option (
 TakesNoFurtherIn q whole left left' = TakesNoMessageIn q left left' × (whole ≡ 1_000_000 → Keeps left left')
 
 -- why no further message was written, after `whole` of them, where `next` is the position of the next one
-abbrev pub EndsIn : Profile → (Position → Spelling → List ℕ) → Taking → Putting → ℕ → Position → Why → Type 0
-EndsIn q text source sink whole next (Why.Read (ReadFailure.Refused refusal)) =
+abbrev pub EndsIn : Profile → (MessagePlace → Spelling → List ℕ) → Taking → Putting → ℕ → MessagePlace → StreamErrorKind → Type 0
+EndsIn q text source sink whole next (StreamErrorKind.Read (ReadFailure.Refused refusal)) =
     (whole < 1_000_000) × IfSome source.left (λ s. (0 < length s) × OnlyRefuses q s (fault_of refusal)) × Keeps sink.held sink.held'
-EndsIn q text source sink whole next (Why.Read ReadFailure.OutOfMemory) = (whole < 1_000_000) × Keeps sink.held sink.held'
-EndsIn q text source sink whole next (Why.Read ReadFailure.ReadFault) =
+EndsIn q text source sink whole next (StreamErrorKind.Read ReadFailure.OutOfMemory) = (whole < 1_000_000) × Keeps sink.held sink.held'
+EndsIn q text source sink whole next (StreamErrorKind.Read ReadFailure.ReadFault) =
     (whole ≤ 1_000_000) × IsTrue source.broken × TakesNoFurtherIn q whole source.left source.left' × Keeps sink.held sink.held'
-EndsIn q text source sink whole next (Why.Write n) = (whole < 1_000_000) × BreaksWithinIn q (text next) source sink n
-EndsIn q text source sink whole next Why.TooMany =
+EndsIn q text source sink whole next (StreamErrorKind.Write n) = (whole < 1_000_000) × BreaksWithinIn q (text next) source sink n
+EndsIn q text source sink whole next StreamErrorKind.TooMany =
     (whole ≡ 1_000_000) × ((octet : ℕ) × Consumes source.left source.left' (octet ∷ [])) × Keeps sink.held sink.held'
 
 -- the octets of the last message that were written, where the sink broke within it
-abbrev pub part_of : Why → ℕ
-part_of (Why.Read failure) = 0
-part_of (Why.Write n) = n
-part_of Why.TooMany = 0
+abbrev pub part_of : StreamErrorKind → ℕ
+part_of (StreamErrorKind.Read failure) = 0
+part_of (StreamErrorKind.Write n) = n
+part_of StreamErrorKind.TooMany = 0
 
 -- the messages before the end, and why there was one; of what follows them no more was taken than a message may have
-pub record EndsAfterIn (q : Profile) (text : Position → Spelling → List ℕ) (is_good : Spelling → Bool) (source : Taking) (sink : Putting) (stopped : Stopped) : Type 0 where
+pub record EndsAfterIn (q : Profile) (text : MessagePlace → Spelling → List ℕ) (is_good : Spelling → Bool) (source : Taking) (sink : Putting) (stopped : StreamError) : Type 0 where
   pub messages : List Spelling
   pub rest : Option (List ℕ)
   pub grown : Option (List ℕ)
@@ -135,14 +135,14 @@ pub record EndsAfterIn (q : Profile) (text : Position → Spelling → List ℕ)
   pub ends : EndsIn q text (taking rest source.left' source.broken) (putting grown sink.held' sink.broken) stopped.whole (position_after first messages) stopped.why
 
 -- the same in profile 2
-abbrev pub Makes : {T : Type 0} → (T → List ℕ → Type 0) → (Spelling → List ℕ) → (Spelling → Bool) → Piece T → List ℕ → Type 0
+abbrev pub Makes : {T : Type 0} → (T → List ℕ → Type 0) → (Spelling → List ℕ) → (Spelling → Bool) → RenderedMessage T → List ℕ → Type 0
 Makes is output is_good piece octets = MakesIn profile_two is output is_good piece octets
 
-abbrev pub PassesAll : (Position → Spelling → List ℕ) → (Spelling → Bool) → Option (List ℕ) → Option (List ℕ) → Option (List ℕ) → Option (List ℕ) → Passed → Type 0
+abbrev pub PassesAll : (MessagePlace → Spelling → List ℕ) → (Spelling → Bool) → Option (List ℕ) → Option (List ℕ) → Option (List ℕ) → Option (List ℕ) → StreamCounts → Type 0
 PassesAll text is_good left left' held held' passed = PassesAllIn profile_two text is_good left left' held held' passed
 
 abbrev pub TakesNoFurther : ℕ → Option (List ℕ) → Option (List ℕ) → Type 0
 TakesNoFurther whole left left' = TakesNoFurtherIn profile_two whole left left'
 
-abbrev pub EndsAfter : (Position → Spelling → List ℕ) → (Spelling → Bool) → Taking → Putting → Stopped → Type 0
+abbrev pub EndsAfter : (MessagePlace → Spelling → List ℕ) → (Spelling → Bool) → Taking → Putting → StreamError → Type 0
 EndsAfter text is_good source sink stopped = EndsAfterIn profile_two text is_good source sink stopped

@@ -40,6 +40,9 @@ pub use laws::{
     normal_form_is_accepted, normal_form_is_its_own, normal_forms_are_equal_exactly_if_apdus_are,
     one_prefix_is_accepted, one_refusal_of_a_slice,
 };
-pub use messages::{Maker, Output, Passed, Piece, Position, Stopped, Why, each_message};
+pub use messages::{
+    MessagePlace, Render, Rendered, RenderedMessage, StreamCounts, StreamError, StreamErrorKind,
+    for_each_message,
+};
 pub use single::{normalise, normalise_as};
 pub use stream::{NormalForms, NormalFormsIn, normalise_stream, normalise_stream_as};

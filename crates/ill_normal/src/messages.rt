@@ -6,7 +6,7 @@ ghost use Rattle.ill_schema.specs.declared.profile.Profile.{Profile as Named};
 ghost use Rattle.ill_read.specs.Answers.{ReadsNextIn};
 ghost use Rattle.ill_normal.specs.Calls.{taking, putting};
 ghost use Rattle.ill_normal.specs.Messages.{EndsAfterIn, MakesIn, PassesAllIn, Spelling};
-ghost use Rattle.ill_normal.specs.declared.messages.Position.{Position};
+ghost use Rattle.ill_normal.specs.declared.messages.MessagePlace.{MessagePlace};
 ghost use Rattle.ill_normal.specs.code.Ending.{GoesOn, all_passed, ended_at};
 
 use ber_core::{Look, Sink, Source};
@@ -15,11 +15,11 @@ use ill_write::put_all;
 use std::alloc::Global;
 
 /// How many messages an input may have.
-const MESSAGES: u32 = 1_000_000;
+const MAX_MESSAGES: u32 = 1_000_000;
 
 /// Where a message is in its input.
 #[derive(Clone, Copy, Debug, PartialEq, Eq)]
-pub struct Position {
+pub struct MessagePlace {
     /// Its number, from 1.
     pub number: u32,
     /// How many octets come before it; 18,446,744,073,709,551,615 where they are more.
@@ -28,7 +28,7 @@ pub struct Position {
 
 /// What is made of a message.
 #[derive(Drop)]
-pub struct Piece<T: Drop> {
+pub struct RenderedMessage<T: Drop> {
     /// What is written of it.
     pub text: T,
     /// Whether the message is as it should be.
@@ -38,7 +38,7 @@ pub struct Piece<T: Drop> {
 }
 
 /// What holds that which is written of a message.
-pub trait Output: Drop {
+pub trait Rendered: Drop {
     // The octets that are written of it.
     ghost is: { Self → List ℕ → Type 0 };
 
@@ -59,7 +59,7 @@ pub trait Output: Drop {
         ensures stays { IsTrue (W.is_broken sink.old) → IsTrue (W.is_broken sink.new) };
 }
 
-impl Output for Vec<u8> {
+impl Rendered for Vec<u8> {
     ghost is = { λ v octets. v.items ≡ octets };
 
     fn empty(alloc: Global) -> Vec<u8> {
@@ -73,9 +73,9 @@ impl Output for Vec<u8> {
 }
 
 /// What makes something of each message of an input.
-pub trait Maker {
+pub trait Render {
     /// What holds that which is written of a message.
-    type Out: Output;
+    type Out: Rendered;
 
     /// What reads one message after another.
     type Reader: Drop;
@@ -84,7 +84,7 @@ pub trait Maker {
     ghost profile: { Self → Named };
 
     // What is written of the message at this position.
-    ghost text: { Self → Position → Spelling → List ℕ };
+    ghost text: { Self → MessagePlace → Spelling → List ℕ };
 
     // Whether a message is as it should be.
     ghost is_good: { Self → Spelling → Bool };
@@ -102,17 +102,17 @@ pub trait Maker {
         &self,
         alloc: Global,
         reader: &mut Self::Reader,
-        position: Position,
+        position: MessagePlace,
         source: &mut R,
         room: Self::Out,
-    ) -> Result<Option<Piece<Self::Out>>, ReadFailure>
+    ) -> Result<Option<RenderedMessage<Self::Out>>, ReadFailure>
         ensures { ReadsNextIn (profile_of (profile self.now)) (R.left source.old) (R.left source.new) (R.is_broken source.old) (R.is_broken source.new)
             (MakesIn (profile_of (profile self.now)) Self.Out.is (text self.now position) (is_good self.now)) result };
 }
 
 /// Messages to the end of an input.
 #[derive(Clone, Copy)]
-pub struct Passed {
+pub struct StreamCounts {
     /// How many they are.
     pub whole: u32,
     /// How many of them are as they should be.
@@ -125,7 +125,7 @@ pub struct Passed {
 
 /// Why no further message of an input was written.
 #[derive(Clone, Copy)]
-pub enum Why {
+pub enum StreamErrorKind {
     /// None was read, or memory ran out.
     Read(ReadFailure),
     /// The sink broke after this many octets of the message.
@@ -136,7 +136,7 @@ pub enum Why {
 
 /// How far the messages of an input were written, and why no further.
 #[derive(Clone, Copy)]
-pub struct Stopped {
+pub struct StreamError {
     /// How many messages were read, and written whole.
     pub whole: u32,
     /// How many of them are as they should be.
@@ -145,7 +145,7 @@ pub struct Stopped {
     pub before: u64,
     /// How many octets were written.
     pub written: u128,
-    pub why: Why,
+    pub why: StreamErrorKind,
 }
 
 /// Writes what is made of each message of an input, one after another up to its end, by a way to look at the source. All that is
@@ -156,12 +156,12 @@ pub struct Stopped {
 ///
 /// How far it came, and why no further, where the input goes on after 1,000,000 messages, too. Of what follows the messages that were
 /// written, at most 1,048,576 octets are taken.
-pub fn each_message<M: Maker, R: Source, L: Look<R>, W: Sink>(
+pub fn for_each_message<M: Render, R: Source, L: Look<R>, W: Sink>(
     alloc: Global,
     maker: &M,
     source: &mut R,
     sink: &mut W,
-) -> Result<Passed, Stopped>
+) -> Result<StreamCounts, StreamError>
     ensures passes { IfOk result (PassesAllIn (profile_of (M.profile maker.now)) (M.text maker.now) (M.is_good maker.now) (R.left source.old) (R.left source.new)
         (W.contents sink.old) (W.contents sink.new)) }
     ensures ends { IfErr result (EndsAfterIn (profile_of (M.profile maker.now)) (M.text maker.now) (M.is_good maker.now) (taking (R.left source.old) (R.left source.new) (R.is_broken source.new))
@@ -174,21 +174,27 @@ pub fn each_message<M: Maker, R: Source, L: Look<R>, W: Sink>(
     let mut written = 0;
     let mut reader = M::reader(alloc);
     let mut room = M::Out::empty(alloc);
-    for whole in 0..MESSAGES {
-        let position = Position {
+    for whole in 0..MAX_MESSAGES {
+        let position = MessagePlace {
             number: whole + 1,
             offset: before,
         };
         let piece = match maker.next::<R, L>(alloc, &mut reader, position, source, room) {
             Ok(Some(piece)) => piece,
             Ok(None) => return Ok(all_passed(whole, good, before)),
-            Err(failure) => return Err(ended(whole, good, before, written, Why::Read(failure))),
+            Err(failure) => return Err(ended(
+                whole,
+                good,
+                before,
+                written,
+                StreamErrorKind::Read(failure),
+            )),
         };
         let count = match piece.text.put(sink) {
             Ok(count) => count,
             Err(count) => {
                 let written = written + count as u128;
-                return Err(ended(whole, good, before, written, Why::Write(count)));
+                return Err(ended(whole, good, before, written, StreamErrorKind::Write(count)));
             }
         };
         before += u64::from(piece.octets);
@@ -199,16 +205,16 @@ pub fn each_message<M: Maker, R: Source, L: Look<R>, W: Sink>(
     drop(reader);
     drop(room);
     match end_of_input(source) {
-        Ok(()) => Ok(all_passed(MESSAGES, good, before)),
-        Err(why) => Err(ended(MESSAGES, good, before, written, why)),
+        Ok(()) => Ok(all_passed(MAX_MESSAGES, good, before)),
+        Err(why) => Err(ended(MAX_MESSAGES, good, before, written, why)),
     }
 }
 
 #[inline(always)]
-fn all_passed(whole: u32, good: u32, octets: u64) -> Passed
+fn all_passed(whole: u32, good: u32, octets: u64) -> StreamCounts
     ensures { result ≡ all_passed whole good octets }
 {
-    Passed {
+    StreamCounts {
         whole,
         good,
         octets,
@@ -218,10 +224,10 @@ fn all_passed(whole: u32, good: u32, octets: u64) -> Passed
 
 /// How far the messages were written, and why no further.
 #[inline(always)]
-fn ended(whole: u32, good: u32, before: u64, written: u128, why: Why) -> Stopped
+fn ended(whole: u32, good: u32, before: u64, written: u128, why: StreamErrorKind) -> StreamError
     ensures { result ≡ ended_at whole good before written why }
 {
-    Stopped {
+    StreamError {
         whole,
         good,
         before,
@@ -231,7 +237,7 @@ fn ended(whole: u32, good: u32, before: u64, written: u128, why: Why) -> Stopped
 }
 
 /// One octet more is one too many, whatever it begins.
-fn end_of_input<R: Source>(source: &mut R) -> Result<(), Why>
+fn end_of_input<R: Source>(source: &mut R) -> Result<(), StreamErrorKind>
     ensures end { OnOk result (Consumes (R.left source.old) (R.left source.new) [] × IsAtEnd (R.left source.new)) }
     ensures more { IfErr result (GoesOn (R.left source.old) (R.left source.new) (R.is_broken source.new)) }
     ensures stays { IsTrue (R.is_broken source.old) → IsTrue (R.is_broken source.new) }
@@ -239,7 +245,7 @@ fn end_of_input<R: Source>(source: &mut R) -> Result<(), Why>
     let mut room = [0];
     match source.take(&mut room) {
         Ok(0) => Ok(()),
-        Ok(_) => Err(Why::TooMany),
-        Err(_) => Err(Why::Read(ReadFailure::ReadFault)),
+        Ok(_) => Err(StreamErrorKind::TooMany),
+        Err(_) => Err(StreamErrorKind::Read(ReadFailure::ReadFault)),
     }
 }

@@ -13,7 +13,7 @@ ghost use Rattle.ill_normal.specs.code.Ending.{stream_cause};
 ghost use Rattle.ill_normal.specs.Streamed.{Passes, PassesIn, StopsAfter, StopsAfterIn, AnswersCount, AnswersRefusedAfter, AnswersTooMany};
 
 use crate::failure::{NormalFailure, StreamCause, StreamFailure};
-use crate::messages::{Maker, Piece, Position, Why, each_message};
+use crate::messages::{MessagePlace, Render, RenderedMessage, StreamErrorKind, for_each_message};
 use ber_core::{Look, Sink, Source, Unseen};
 use ill_read::{NormalReader, ReadFailure};
 use ill_schema::Profile;
@@ -22,7 +22,7 @@ use std::alloc::Global;
 /// Makes the normal form of each message.
 pub struct NormalForms;
 
-impl Maker for NormalForms {
+impl Render for NormalForms {
     type Out = Vec<u8>;
 
     type Reader = NormalReader;
@@ -41,10 +41,10 @@ impl Maker for NormalForms {
         &self,
         alloc: Global,
         reader: &mut NormalReader,
-        position: Position,
+        position: MessagePlace,
         source: &mut R,
         room: Vec<u8>,
-    ) -> Result<Option<Piece<Vec<u8>>>, ReadFailure> {
+    ) -> Result<Option<RenderedMessage<Vec<u8>>>, ReadFailure> {
         let forms = NormalFormsIn {
             profile: Profile::Two,
         };
@@ -58,7 +58,7 @@ pub struct NormalFormsIn {
     pub profile: Profile,
 }
 
-impl Maker for NormalFormsIn {
+impl Render for NormalFormsIn {
     type Out = Vec<u8>;
 
     type Reader = NormalReader;
@@ -77,15 +77,15 @@ impl Maker for NormalFormsIn {
         &self,
         alloc: Global,
         reader: &mut NormalReader,
-        position: Position,
+        position: MessagePlace,
         source: &mut R,
         room: Vec<u8>,
-    ) -> Result<Option<Piece<Vec<u8>>>, ReadFailure> {
+    ) -> Result<Option<RenderedMessage<Vec<u8>>>, ReadFailure> {
         let (_, _) = (alloc, position);
         let Some(normal) = reader.read_as::<R, L>(self.profile, source, room)? else {
             return Ok(None);
         };
-        Ok(Some(Piece {
+        Ok(Some(RenderedMessage {
             text: normal.octets,
             is_good: true,
             octets: normal.read,
@@ -94,14 +94,16 @@ impl Maker for NormalFormsIn {
 }
 
 /// Why a stream went no further.
-fn cause(why: Why) -> StreamCause
+fn cause(why: StreamErrorKind) -> StreamCause
     requires { part_of why ≤ 1_048_576 }
     ensures { result ≡ stream_cause why }
 {
     match why {
-        Why::Read(failure) => StreamCause::Normal(NormalFailure::from(failure)),
-        Why::Write(count) => StreamCause::Normal(NormalFailure::WriteFault(count as u32)),
-        Why::TooMany => StreamCause::TooManyMessages,
+        StreamErrorKind::Read(failure) => StreamCause::Normal(NormalFailure::from(failure)),
+        StreamErrorKind::Write(count) => StreamCause::Normal(NormalFailure::WriteFault(
+            count as u32,
+        )),
+        StreamErrorKind::TooMany => StreamCause::TooManyMessages,
     }
 }
 
@@ -163,7 +165,7 @@ pub fn normalise_stream_as<R: Source, W: Sink>(
     ensures sink_stays { IsTrue (W.is_broken sink.old) → IsTrue (W.is_broken sink.new) }
 {
     let forms = NormalFormsIn { profile };
-    match each_message::<NormalFormsIn, R, Unseen, W>(alloc, &forms, source, sink) {
+    match for_each_message::<NormalFormsIn, R, Unseen, W>(alloc, &forms, source, sink) {
         Ok(passed) => Ok(passed.whole),
         Err(stopped) => Err(StreamFailure {
             whole: stopped.whole,

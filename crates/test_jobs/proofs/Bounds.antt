@@ -1,7 +1,7 @@
 -- How many octets were taken of a known input.
 use Rattle.std.proofs.Common.{◌+◌, ◌≤◌, ℕ, Bool, List, length, Some, ap, arith, length-append}
 use Rattle.std.specs.Io.KnownBytes.{Consumes}
-use Rattle.ill_jobs.specs.Ran.{IsUnread}
+use Rattle.ill_jobs.specs.Runs.{IsUnread}
 use Rattle.ill_jobs.specs.declared.fault.RunFault.{RunFault}
 
 pub bounded : (n : ℕ) (s t b : List ℕ) → Consumes (Some s) (Some t) b → length b ≤ n → length s ≤ n + length t

@@ -7,10 +7,10 @@ use Rattle.ill_schema.specs.Profiles.{profile_of}
 use Rattle.ill_schema.proofs.Streams.{parts_accept, spells_some, stream_fewer}
 use Rattle.ill_refusals.specs.Fault.{Fault, fault_of}
 use Rattle.ill_refusals.specs.Outcome.{OnlyRefuses}
-use Rattle.ill_jobs.specs.Ran.{IsFault}
+use Rattle.ill_jobs.specs.Runs.{IsFault}
 use Rattle.ill_jobs.specs.declared.fault.RunFault.{RunFault}
 use Rattle.std.specs.Prelude.{IfErr, OnOk}
-use Rattle.ill_dump.specs.declared.run.Dump.{Dump}
+use Rattle.ill_dump.specs.declared.run.DumpOptions.{DumpOptions}
 use Rattle.ill_dump.specs.Dumped.{AreDumped, DumpDone, DumpFails, DumpsUpTo, StopsIn}
 
 front_none : (b t : List ℕ) → [] ≡ b ++ t → b ≡ []
@@ -37,12 +37,12 @@ none_refused p s rest xs ys f h k some only = elim (cases_lt (length xs) (length
   | inr ge ↦ (let m = stream_fewer p s rest [] ys xs k h (omega (arith, ge)) in not_refused p m.0 rest f m.2 some only)
 ]
 
-pub whole : (dump : Dump) (s t : List ℕ) (held held' : Option (List ℕ)) (d : AreDumped dump (Some s) (Some t) held held') → IsStream (profile_of dump.profile) s d.apdus []
+pub whole : (dump : DumpOptions) (s t : List ℕ) (held held' : Option (List ℕ)) (d : AreDumped dump (Some s) (Some t) held held') → IsStream (profile_of dump.profile) s d.apdus []
 whole dump s t held held' d =
     let e : s ≡ d.octets = d.taken ∙ ap (λ l. d.octets ++ l) d.end ∙ append-nil d.octets in
     subst (λ l. IsStream (profile_of dump.profile) l d.apdus []) (sym e) d.stream
 
-pub ends : (dump : Dump) (s t : List ℕ) (held held' : Option (List ℕ)) → AreDumped dump (Some s) (Some t) held held' → (e : RunFault) → StopsIn (profile_of dump.profile) s e → IsFault e
+pub ends : (dump : DumpOptions) (s t : List ℕ) (held held' : Option (List ℕ)) → AreDumped dump (Some s) (Some t) held held' → (e : RunFault) → StopsIn (profile_of dump.profile) s e → IsFault e
 ends dump s t held held' d (RunFault.Refused message refusal) h = absurd (none_refused (profile_of dump.profile) s h.1 d.apdus h.0 (fault_of refusal) (whole dump s t held held' d) h.2 h.4 h.5)
 ends dump s t held held' d RunFault.TooManyMessages h = absurd (no_more (profile_of dump.profile) s h.1 d.apdus h.0 (whole dump s t held held' d) h.2 h.4 (omega (arith, d.few, h.3)))
 ends dump s t held held' d (RunFault.RefusedSide side refusal) h = h
@@ -53,7 +53,7 @@ ends dump s t held held' d RunFault.OutOfMemory h = h
 ends dump s t held held' d RunFault.ReadFault h = h
 ends dump s t held held' d (RunFault.WriteFault n) h = h
 
-module _ (dump : Dump) (s t : List ℕ) (held held' : Option (List ℕ)) where
+module _ (dump : DumpOptions) (s t : List ℕ) (held held' : Option (List ℕ)) where
   pub done : (r : Result Unit RunFault) → dump.hex ≡ false → r ≡ Ok tt → OnOk r (DumpDone dump.hex dump (Some s) (Some t) held held') → AreDumped dump (Some s) (Some t) held held'
   done r p e h = subst (λ b. DumpDone b dump (Some s) (Some t) held held') p (subst (λ r. OnOk r (DumpDone dump.hex dump (Some s) (Some t) held held')) e h)
 

@@ -8,15 +8,15 @@ use Rattle.ill_schema.specs.declared.profile.Profile.{Profile as Named}
 use Rattle.ill_schema.proofs.Streams.{accepts_once, parts_accept, tails, take_front}
 use Rattle.ill_normal.specs.Calls.{taking, putting}
 use Rattle.ill_normal.specs.Messages.{AreSpelledIn, Spelling, first, output_from}
-use Rattle.ill_normal.specs.declared.messages.Position.{Position}
+use Rattle.ill_normal.specs.declared.messages.MessagePlace.{MessagePlace}
 use Rattle.ill_jobs.specs.Hexadecimal.{hex_octets}
 use Rattle.ill_jobs.specs.Output.{message_output, message_text}
-use Rattle.ill_jobs.specs.Ran.{Done, FailsText, IsFault, IsUnnamed, JobDone, JobFails, RunFails, StopsAfter, TextOf, Writes}
+use Rattle.ill_jobs.specs.Runs.{Done, FailsText, IsFault, IsUnnamed, JobDone, JobFails, RunFails, StopsAfter, TextOf, Writes}
 use Rattle.ill_jobs.specs.declared.fault.RunFault.{RunFault}
 use Rattle.ill_jobs.specs.declared.job.Counts.{Counts}
 use Rattle.ill_jobs.specs.declared.job.Job.{Job}
 use Rattle.ill_jobs.specs.declared.job.Verdict.{Verdict}
-use Rattle.ill_jobs.specs.declared.job.Work.{Work}
+use Rattle.ill_jobs.specs.declared.job.JobOptions.{JobOptions}
 use Rattle.ill_jobs.proofs.JobAnswers.{one_reading, same_spelling, taken_of}
 use Rattle.ill_jobs.proofs.TextAnswers.{is_fault, not_both, same_octets, same_ok}
 
@@ -38,7 +38,7 @@ appended held held' out None a k = absurd a
 appended held held' out (Some g) a k = k ∙ a
 
 -- the text of a job's messages is that of its work
-text_of : (q : Named) (job : Job) (hex : Bool) (work : Work) → IsUnnamed q job hex work → message_output work ≡ message_text (profile_of q) job hex (codes "-") false
+text_of : (q : Named) (job : Job) (hex : Bool) (work : JobOptions) → IsUnnamed q job hex work → message_output work ≡ message_text (profile_of q) job hex (codes "-") false
 text_of q job hex work u =
     ap (λ (p : Named). message_text (profile_of p) work.job work.hex work.name.now work.is_named) u.profile
     ∙ ap (λ (j : Job). message_text (profile_of q) j work.hex work.name.now work.is_named) u.same_job
@@ -47,27 +47,27 @@ text_of q job hex work u =
     ∙ ap (λ (b : Bool). message_text (profile_of q) job hex (codes "-") b) u.not_named
 
 -- these messages at the front of the octets were written, and nothing else
-record Wrote (p : Profile) (text : Position → Spelling → List ℕ) (s held held' : List ℕ) (messages : List Spelling) : Type 0 where
+record Wrote (p : Profile) (text : MessagePlace → Spelling → List ℕ) (s held held' : List ℕ) (messages : List Spelling) : Type 0 where
   rest : List ℕ
   spelled : AreSpelledIn p s messages rest
   written : held' ≡ held ++ output_from text first messages
 
 module _ (q : Named) (job : Job) (hex : Bool) (s held : List ℕ) where
-  abbrev text : Position → Spelling → List ℕ
+  abbrev text : MessagePlace → Spelling → List ℕ
   text = message_text (profile_of q) job hex (codes "-") false
 
   once : (new other : List ℕ) (ms ns : List Spelling) → Wrote (profile_of q) text s held new ms → Wrote (profile_of q) text s held other ns → length ms ≡ length ns → new ≡ other
   once new other ms ns x y e =
       x.written ∙ ap (λ ms. held ++ output_from text first ms) (same_front (profile_of q) s x.rest y.rest ms ns x.spelled y.spelled e) ∙ sym y.written
 
-  wrote : (work : Work) → IsUnnamed q job hex work → (held' : List ℕ) (left' grown : Option (List ℕ)) (ms : List Spelling) → Writes work (Some s) left' (Some held) grown ms → Keeps grown (Some held')
+  wrote : (work : JobOptions) → IsUnnamed q job hex work → (held' : List ℕ) (left' grown : Option (List ℕ)) (ms : List Spelling) → Writes work (Some s) left' (Some held) grown ms → Keeps grown (Some held')
       → Wrote (profile_of q) text s held held' ms
   wrote work u held' left' grown ms w k =
       let t = taken_of work s left' (Some held) grown ms w in
       record {
         rest = t.0;
         spelled = subst (λ (p : Named). AreSpelledIn (profile_of p) s ms t.0) u.profile t.2;
-        written = appended held held' _ grown w.written k ∙ ap (λ (f : Position → Spelling → List ℕ). held ++ output_from f first ms) (text_of q job hex work u);
+        written = appended held held' _ grown w.written k ∙ ap (λ (f : MessagePlace → Spelling → List ℕ). held ++ output_from f first ms) (text_of q job hex work u);
       }
 
 -- how many messages are written before a fault that is none of memory, the source or the sink
@@ -87,7 +87,7 @@ before_once RunFault.OutOfMemory m n h k = absurd h
 before_once RunFault.ReadFault m n h k = absurd h
 before_once (RunFault.WriteFault i) m n h k = absurd h
 
-module _ (q : Named) (job : Job) (hex : Bool) (s held held' : List ℕ) (left' : Option (List ℕ)) (x y : Bool) (work : Work) (u : IsUnnamed q job hex work) (counts : Counts) where
+module _ (q : Named) (job : Job) (hex : Bool) (s held held' : List ℕ) (left' : Option (List ℕ)) (x y : Bool) (work : JobOptions) (u : IsUnnamed q job hex work) (counts : Counts) where
   done_wrote : (v : Verdict) (d : Done work (Some s) left' (Some held) (Some held') counts v) → Wrote (profile_of q) (message_text (profile_of q) job hex (codes "-") false) s held held' d.messages
   done_wrote v d = wrote q job hex s held work u held' left' (Some held') d.messages d.writes refl
 

@@ -3,7 +3,7 @@
 mod contracts;
 
 use ber_core::{Pieces, Room, Unseen};
-use ill_dump::{Dump, run_dump};
+use ill_dump::{DumpOptions, run_dump};
 use ill_jobs::RunFault;
 use ill_schema::Profile;
 use std::alloc::{AllocError, Global};
@@ -60,7 +60,7 @@ refused at 7: Missing Expired.transaction-id
     due [1] transaction-id
 ";
 
-const PLAIN: Dump<'static> = Dump {
+const PLAIN: DumpOptions<'static> = DumpOptions {
     profile: Profile::Two,
     hex: false,
     name: "-",
@@ -86,7 +86,7 @@ const SOUND: How = How {
 /// What comes of a dump: the result, and how many octets the sink has, None where they are not the first of the text.
 fn dumped(
     alloc: Global,
-    dump: Dump<'_>,
+    dump: DumpOptions<'_>,
     octets: &[u8],
     text: &str,
     how: How,
@@ -125,7 +125,7 @@ fn a_dump_is_the_same_in_pieces_of_any_size(rt: HostRuntime) -> Result<(), Fail>
 }
 
 /// A dump of hexadecimal text from a file whose name is printed.
-const NAMED: Dump<'static> = Dump {
+const NAMED: DumpOptions<'static> = DumpOptions {
     profile: Profile::Two,
     hex: true,
     name: "a b",
@@ -271,7 +271,7 @@ fn ends_with(
     let octets = octets_of(alloc, message)?;
     let mut source = Pieces::new(&octets, 64, None);
     let mut sink: Room<2048> = Room::new(2048, None);
-    let dump = Dump { profile, ..PLAIN };
+    let dump = DumpOptions { profile, ..PLAIN };
     let _ = run_dump::<Pieces<'_>, Unseen, Room<2048>>(alloc, dump, &mut source, &mut sink);
     Ok(sink.octets().ends_with(lines.as_bytes()))
 }

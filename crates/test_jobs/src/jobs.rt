@@ -9,17 +9,17 @@ mod sames;
 mod shows;
 
 use ber_core::{Pieces, ToWrite};
-use ill_jobs::{RunFault, Verdict, Work, run_work};
+use ill_jobs::{JobOptions, RunFault, Verdict, run_with};
 use std::alloc::Global;
 
 /// Whether a job with the messages of a source has this result and writes this.
 fn gives(
     alloc: Global,
-    work: Work<'_>,
+    work: JobOptions<'_>,
     source: &mut Pieces<'_>,
     (answer, output): (Result<Verdict, RunFault>, &[u8]),
 ) -> bool {
     let mut written = Vec::new(alloc);
-    let found = run_work(alloc, work, source, &mut ToWrite::new(&mut written));
+    let found = run_with(alloc, work, source, &mut ToWrite::new(&mut written));
     found == answer && written.as_slice() == output
 }

@@ -1,7 +1,7 @@
 -- The fault that follows from a failure to read a message.
 use Rattle.std.specs.Prelude.{◌≡◌, ℕ}
 use Rattle.ill_read.specs.declared.failure.ReadFailure.{ReadFailure}
-use Rattle.ill_jobs.specs.Ran.{IsFault}
+use Rattle.ill_jobs.specs.Runs.{IsFault}
 use Rattle.ill_jobs.specs.declared.fault.RunFault.{RunFault}
 
 -- message i was refused, or memory, the source or the sink failed

@@ -1,27 +1,27 @@
 -- How the work stops.
 use Rattle.std.specs.Prelude.{ℕ, ◌+◌, nat_eq, Bool, List, [], ◌∷◌, Option, IsTrue}
 use Rattle.std.specs.Io.KnownBytes.{Consumes, Keeps}
-use Rattle.ill_going.specs.declared.going.Gone.{Gone}
-use Rattle.ill_going.specs.declared.going.Halted.{Halted}
-use Rattle.ill_going.specs.declared.going.Why.{Why}
-use Rattle.ill_going.specs.declared.next.Unread.{Unread}
+use Rattle.ill_going.specs.declared.going.SkippingCounts.{SkippingCounts}
+use Rattle.ill_going.specs.declared.going.SkippingError.{SkippingError}
+use Rattle.ill_going.specs.declared.going.SkippingErrorKind.{SkippingErrorKind}
+use Rattle.ill_going.specs.declared.next.TakeError.{TakeError}
 
 -- an octet more was taken, or the source broke and none was
-abbrev pub GoesOn : Option (List ℕ) → Option (List ℕ) → Bool → Why → Type 0
-GoesOn left left' broken Why.TooMany = (octet : ℕ) × Consumes left left' (octet ∷ [])
-GoesOn left left' broken Why.ReadFault = IsTrue broken × Keeps left left'
+abbrev pub GoesOn : Option (List ℕ) → Option (List ℕ) → Bool → SkippingErrorKind → Type 0
+GoesOn left left' broken SkippingErrorKind.TooMany = (octet : ℕ) × Consumes left left' (octet ∷ [])
+GoesOn left left' broken SkippingErrorKind.ReadFault = IsTrue broken × Keeps left left'
 GoesOn left left' broken _ = ⊥
 
 -- messages that were gone through to their end
-abbrev pub gone_to : ℕ → ℕ → ℕ → ℕ → Gone
-gone_to messages refused good octets =
+abbrev pub counts_of : ℕ → ℕ → ℕ → ℕ → SkippingCounts
+counts_of messages refused good octets =
     record { messages = messages; refused = refused; good = good; octets = octets; all_good = nat_eq (refused + good) messages }
 
 -- messages that were gone through before the work was halted
-abbrev pub halted_at : ℕ → ℕ → ℕ → ℕ → ℕ → Why → Halted
-halted_at messages refused good octets written why =
+abbrev pub error_at : ℕ → ℕ → ℕ → ℕ → ℕ → SkippingErrorKind → SkippingError
+error_at messages refused good octets written why =
     record { messages = messages; refused = refused; good = good; octets = octets; written = written; why = why }
 
-abbrev pub why_of : Unread → Why
-why_of Unread.OutOfMemory = Why.OutOfMemory
-why_of Unread.Broken = Why.ReadFault
+abbrev pub why_of : TakeError → SkippingErrorKind
+why_of TakeError.OutOfMemory = SkippingErrorKind.OutOfMemory
+why_of TakeError.Broken = SkippingErrorKind.ReadFault

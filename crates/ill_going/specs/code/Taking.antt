@@ -13,9 +13,9 @@ use Rattle.ber_frame.specs.declared.framer.Framer.{Framer}
 use Rattle.ber_frame.specs.Framed.{IsFrame, IsPart, IsUnframed}
 use Rattle.ber_frame.specs.Framer.{Judged, IsFed}
 use Rattle.ill_going.specs.Items.{IsRefusedFor}
-use Rattle.ill_going.specs.Gone.{HasNoEnd}
-use Rattle.ill_going.specs.declared.next.Next.{Next}
-use Rattle.ill_going.specs.declared.next.Next.TheVariants.{Read, Refused}
+use Rattle.ill_going.specs.Skipping.{HasNoEnd}
+use Rattle.ill_going.specs.declared.next.NextMessage.{NextMessage}
+use Rattle.ill_going.specs.declared.next.NextMessage.TheVariants.{Read, Refused}
 
 -- a framer was fed the octets that were taken, and the first 1,048,576 of them were kept
 pub record Framing (left left' : Option (List ℕ)) (framer : Framer) (kept : List ℕ) (least size : ℕ) : Type 0 where
@@ -80,7 +80,7 @@ end_of frame.Whole size = Some size
 end_of _ size = None
 
 -- the next message was read, or refused
-abbrev pub IsNext : Profile → {T : Type 0} → (T → List ℕ → Type 0) → (Spelling → List ℕ) → (Spelling → Bool) → Option (List ℕ) → Option (List ℕ) → Next T → Type 0
+abbrev pub IsNext : Profile → {T : Type 0} → (T → List ℕ → Type 0) → (Spelling → List ℕ) → (Spelling → Bool) → Option (List ℕ) → Option (List ℕ) → NextMessage T → Type 0
 IsNext q is text is_good left left' (Read piece) = (b : List ℕ) × Consumes left left' b × MakesIn q is text is_good piece b
 IsNext q is text is_good left left' (Refused refusal end) =
     (b : List ℕ) × Consumes left left' b × IsRefusedFor q b refusal × MatchOption end (HasNoEnd b left') (λ n. IsFrame b × (n ≡ counted (length b)))

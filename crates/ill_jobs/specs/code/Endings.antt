@@ -1,19 +1,19 @@
 -- How the program reports why no further message was written.
 use Rattle.std.specs.Prelude.{ℕ, ◌+◌, Bool}
-use Rattle.ill_normal.specs.declared.messages.Stopped.{Stopped}
-use Rattle.ill_normal.specs.declared.messages.Why.{Why}
+use Rattle.ill_normal.specs.declared.messages.StreamError.{StreamError}
+use Rattle.ill_normal.specs.declared.messages.StreamErrorKind.{StreamErrorKind}
 use Rattle.ill_jobs.specs.declared.fault.RunFault.{RunFault}
 use Rattle.ill_jobs.specs.declared.job.Counts.{Counts}
 use Rattle.ill_jobs.specs.declared.job.Job.{Job}
 use Rattle.ill_jobs.specs.declared.job.Verdict.{Verdict}
 use Rattle.ill_jobs.specs.Output.{verdict_if}
-use Rattle.ill_jobs.specs.Ran.{fault_at}
+use Rattle.ill_jobs.specs.Runs.{fault_at}
 
 -- after this many messages, and this many octets that were written
-abbrev pub fault_after : ℕ → ℕ → Why → RunFault
-fault_after whole written (Why.Read failure) = fault_at (whole + 1) failure
-fault_after whole written (Why.Write n) = RunFault.WriteFault written
-fault_after whole written Why.TooMany = RunFault.TooManyMessages
+abbrev pub fault_after : ℕ → ℕ → StreamErrorKind → RunFault
+fault_after whole written (StreamErrorKind.Read failure) = fault_at (whole + 1) failure
+fault_after whole written (StreamErrorKind.Write n) = RunFault.WriteFault written
+fault_after whole written StreamErrorKind.TooMany = RunFault.TooManyMessages
 
 -- the verdict where all messages that were counted are good, or not
 abbrev pub verdict_by : Job → Bool → Verdict
@@ -23,5 +23,5 @@ verdict_by _ all_good = Verdict.Good
 abbrev pub counts_with : ℕ → ℕ → ℕ → Counts
 counts_with messages good octets = record { messages = messages; good = good; octets = octets }
 
-abbrev pub run_fault : Stopped → RunFault
+abbrev pub run_fault : StreamError → RunFault
 run_fault e = fault_after e.whole e.written e.why

@@ -4,11 +4,11 @@ use Rattle.ber_leaf.specs.Profile.{Profile}
 use Rattle.ill_schema.specs.Apdu.{Apdu, SpellsApdu}
 use Rattle.ill_read.specs.Outline.{IsOutlineOf}
 use Rattle.ill_normal.specs.Messages.{spelling}
-use Rattle.ill_jobs.specs.declared.piece.Found.{Found}
+use Rattle.ill_jobs.specs.declared.piece.CheckedOutline.{CheckedOutline}
 use Rattle.ill_jobs.specs.Output.{good_if}
 
 -- the octets spell an APDU of the profile, of which this is the outline, how many octets it has, and whether it counts as good
-pub record IsFound (q : Profile) (compares : Bool) (found : Found) (octets : List ℕ) : Type 0 where
+pub record IsFound (q : Profile) (compares : Bool) (found : CheckedOutline) (octets : List ℕ) : Type 0 where
   pub apdu : Apdu
   pub spells : SpellsApdu q apdu octets
   pub outline : IsOutlineOf found.outline apdu

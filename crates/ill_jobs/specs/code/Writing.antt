@@ -5,28 +5,28 @@ use Rattle.ill_schema.specs.Apdu.{normal_form_in}
 use Rattle.ill_schema.specs.Profiles.{profile_of}
 use Rattle.ill_schema.specs.declared.profile.Profile.{Profile as Named}
 use Rattle.ill_normal.specs.Messages.{MakesIn}
-use Rattle.ill_normal.specs.declared.messages.Piece.{Piece}
-use Rattle.ill_normal.specs.declared.messages.Position.{Position}
+use Rattle.ill_normal.specs.declared.messages.RenderedMessage.{RenderedMessage}
+use Rattle.ill_normal.specs.declared.messages.MessagePlace.{MessagePlace}
 use Rattle.ill_text.specs.TextOf.{IsTextOf}
 use Rattle.ill_text.specs.declared.text.Text.{Text}
 use Rattle.ill_jobs.specs.declared.job.Job.{Job}
-use Rattle.ill_jobs.specs.declared.job.Work.{Work}
-use Rattle.ill_jobs.specs.declared.written.Written.{Written}
+use Rattle.ill_jobs.specs.declared.job.JobOptions.{JobOptions}
+use Rattle.ill_jobs.specs.declared.written.JobOutput.{JobOutput}
 use Rattle.ill_jobs.specs.Output.{good_by, good_if, text_by}
 
 -- a text after a label, which is short enough that the octets can be counted
 abbrev pub IsShown : List ℕ → Text → List ℕ → Type 0
 IsShown label text octets = (shown : List ℕ) × IsTextOf text shown × (octets ≡ label ++ shown) × (length label ≤ 2 ^ 62)
 
-abbrev pub IsWritten : Written → List ℕ → Type 0
-IsWritten (Written.Octets v) octets = v.items ≡ octets
-IsWritten (Written.Shown label text) octets = IsShown label.items text octets
+abbrev pub IsWritten : JobOutput → List ℕ → Type 0
+IsWritten (JobOutput.Octets v) octets = v.items ≡ octets
+IsWritten (JobOutput.Shown label text) octets = IsShown label.items text octets
 
 -- the octets spell an APDU of the work's profile, and the piece has what the job writes of it
-abbrev pub IsMade : Job → Work → Position → Piece Written → List ℕ → Type 0
+abbrev pub IsMade : Job → JobOptions → MessagePlace → RenderedMessage JobOutput → List ℕ → Type 0
 IsMade job work position = MakesIn (profile_of work.profile) IsWritten (text_by job work position) (good_by job work)
 
 -- they spell an APDU of the profile, and the piece has its normal form
-abbrev pub IsMadeForm : Named → Bool → Piece (Vec ℕ Global) → List ℕ → Type 0
+abbrev pub IsMadeForm : Named → Bool → RenderedMessage (Vec ℕ Global) → List ℕ → Type 0
 IsMadeForm profile compares =
     MakesIn (profile_of profile) (λ v octets. v.items ≡ octets) (λ m. normal_form_in (profile_of profile) m.apdu) (good_if (profile_of profile) compares)

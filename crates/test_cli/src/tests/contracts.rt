@@ -1,20 +1,20 @@
 //! Contracts that leave one result: what the calls return is proved of their contracts alone. So a body that returns anything else
 //! doesn't meet its contract.
 use ber_core::{Pieces, Source};
-use ill_cli::{Action, InputTask, Plan, Reading};
-use ill_files::{Fault, Opened, is_output_lost, keeps_output, status_of};
+use ill_cli::{Action, InputAction, Plan, ReadOptions};
+use ill_files::{Opened, ProgramError, is_output_lost, keeps_output, status_of};
 use ill_jobs::{Job, Verdict};
-use ill_lines::{LineJob, LineWork};
+use ill_lines::{LineJob, LineOptions};
 use ill_orders::{EachJob, Inputs, Order, Task};
 
 /// The end has one status, which is 0 only where all is well.
-fn ends_have_one_status(done: &Result<Verdict, Fault>) {
+fn ends_have_one_status(done: &Result<Verdict, ProgramError>) {
     prove!(status_of(done) == status_of(done));
     prove!(status_of(done) < 4);
 }
 
 /// An output that is lost replaces nothing; as a whole it is replaced only where all is well.
-fn only_good_outputs_are_replaced(done: &Result<Verdict, Fault>) {
+fn only_good_outputs_are_replaced(done: &Result<Verdict, ProgramError>) {
     prove!(!is_output_lost(done) || keeps_output(false, done));
     prove!(keeps_output(true, done) || status_of(done) == 0);
 }
@@ -32,13 +32,13 @@ fn files_end_only_at_their_end(octets: &[u8], buffer: &mut [u8]) {
 fn canonicalise_makes_normal_forms(order: Order<'_>, input: &str, output: &str) {
     let lines = order.lines;
     let asked = order.whole;
-    let reading = Reading {
+    let reading = ReadOptions {
         profile: order.profile,
         hex: order.hex,
         keep_going: order.keep_going,
         compares: order.summary,
     };
-    let results = LineWork {
+    let results = LineOptions {
         profile: order.profile,
         job: LineJob::Canonicalise,
     };
@@ -59,13 +59,13 @@ fn canonicalise_makes_normal_forms(order: Order<'_>, input: &str, output: &str) 
 /// `check` checks each message, or each line.
 fn check_checks(order: Order<'_>, inputs: Inputs<'_>) {
     let lines = order.lines;
-    let reading = Reading {
+    let reading = ReadOptions {
         profile: order.profile,
         hex: order.hex,
         keep_going: order.keep_going,
         compares: order.summary,
     };
-    let results = LineWork {
+    let results = LineOptions {
         profile: order.profile,
         job: LineJob::Check,
     };
@@ -96,9 +96,14 @@ fn same_reads_what_it_is_asked_to(order: Order<'_>, first: &str, second: &str) {
 
 /// The lines of an input name it exactly where it is one of several. It is read as hexadecimal text exactly where that is asked for, and
 /// the job is the one that is asked for.
-fn inputs_are_named_where_there_are_several(job: Job, reading: Reading, name: &str, count: usize) {
-    match InputTask::new(Action::Messages(job, reading), name, count) {
-        InputTask::Messages(work) | InputTask::GoodMessages(work) => {
+fn inputs_are_named_where_there_are_several(
+    job: Job,
+    reading: ReadOptions,
+    name: &str,
+    count: usize,
+) {
+    match InputAction::new(Action::Messages(job, reading), name, count) {
+        InputAction::Messages(work) | InputAction::AcceptedMessages(work) => {
             prove!(work.is_named == (count > 1));
             prove!(work.name == name);
             prove!(work.hex == reading.hex && work.job == job);

@@ -4,18 +4,18 @@ ghost use Rattle.std.specs.Prelude.{◌≡◌, ℕ, List, [], length, false, Ok,
 ghost use Rattle.ill_schema.specs.Apdu.{Apdu, IsStream};
 ghost use Rattle.ill_schema.specs.Profiles.{profile_of};
 ghost use Rattle.ill_dump.specs.Dumped.{Dumps};
-ghost use Rattle.ill_jobs.specs.Ran.{IsFault};
+ghost use Rattle.ill_jobs.specs.Runs.{IsFault};
 ghost use Rattle.ill_jobs.specs.declared.fault.RunFault.{RunFault};
 
 use ber_core::{Pieces, Room, Sink, Source, Unseen};
-use ill_dump::{Dump, run_dump};
+use ill_dump::{DumpOptions, run_dump};
 use ill_jobs::RunFault;
 use ill_schema::Refusal;
 use std::alloc::Global;
 
 /// Equal inputs end in one way: where one is dumped to its end, the other is too, unless memory, the source or the sink fails.
 fn inputs_end_in_one_way(
-    dump: Dump<'_>,
+    dump: DumpOptions<'_>,
     source: &mut Pieces,
     sink: &mut Room<64>,
     other: &mut Pieces,
@@ -34,7 +34,7 @@ fn inputs_end_in_one_way(
 
 /// Each message of an input that is dumped to its end is written, and each up to one that is refused, which is written, too.
 fn each_message_is_dumped(
-    dump: Dump<'_>,
+    dump: DumpOptions<'_>,
     source: &mut Pieces,
     sink: &mut Room<64>,
     alloc: Global,
@@ -50,7 +50,7 @@ fn each_message_is_dumped(
 
 /// A read fault is of a source that is broken, and a write fault of a sink that is.
 fn dumps_fail_where_something_is_broken(
-    dump: Dump<'_>,
+    dump: DumpOptions<'_>,
     source: &mut Pieces,
     sink: &mut Room<64>,
     alloc: Global,

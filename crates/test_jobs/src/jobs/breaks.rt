@@ -2,7 +2,7 @@
 use super::gives;
 use crate::memory::module::{NORMAL, SPELLED};
 use ber_core::{Pieces, Room};
-use ill_jobs::{Job, RunFault, Verdict, Work, run, run_same};
+use ill_jobs::{Job, JobOptions, RunFault, Verdict, run, run_same};
 use ill_normal::{NormalFailure, normalise_as};
 use ill_schema::Profile;
 use std::alloc::Global;
@@ -53,7 +53,7 @@ fn a_broken_sink_has_the_first_octets(rt: HostRuntime) -> Result<(), Fail> {
 #[test]
 fn a_broken_source_leaves_the_output_of_whole_messages(rt: HostRuntime) -> Result<(), Fail> {
     let octets = octets_of(rt.alloc(), TWICE)?;
-    let work = Work::new(Job::Canonicalise, false);
+    let work = JobOptions::new(Job::Canonicalise, false);
     for n in 0..66 {
         let mut source = Pieces::new(&octets, 64, Some(n));
         let whole = &octets[..if n < 33 { 0 } else { octets.len().min(33) }];
@@ -73,7 +73,7 @@ fn a_broken_source_leaves_the_output_of_whole_messages(rt: HostRuntime) -> Resul
 #[test]
 fn nothing_is_written_where_a_text_breaks(rt: HostRuntime) {
     let mut source = Pieces::new(TWICE.as_bytes(), 64, Some(100));
-    let work = Work::new(Job::Show, true);
+    let work = JobOptions::new(Job::Show, true);
     assert!(rt;
         gives(
             rt.alloc(),

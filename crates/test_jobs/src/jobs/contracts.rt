@@ -3,7 +3,7 @@
 //! that may come besides.
 ghost use Rattle.std.specs.Prelude.{◌≡◌, ◌≤◌, ◌+◌, ℕ, Bool, List, [], Ok, Err, true, false, IfOk, IfErr, length};
 ghost use Rattle.ber_leaf.specs.Profile.{profile_two};
-ghost use Rattle.ill_jobs.specs.Ran.{IsFault};
+ghost use Rattle.ill_jobs.specs.Runs.{IsFault};
 ghost use Rattle.ill_read.specs.Outline.{IsOutlineOf};
 ghost use Rattle.ill_schema.specs.Apdu.{Apdu, SpellsApdu, choice_of};
 ghost use Rattle.ill_schema.specs.Profiles.{profile_of};
@@ -12,7 +12,8 @@ ghost use Rattle.ill_schema.specs.Message.{apdu_of};
 
 use ber_core::{Pieces, Room, Sink, Source, Unseen};
 use ill_jobs::{
-    Job, Ran, Reports, RunFault, Verdict, Work, run_as, run_by, run_on, run_same_as, run_work,
+    Job, JobOptions, JobOutcome, ReportRefusals, RunFault, Verdict, run_as, run_counting,
+    run_same_as, run_skipping, run_with,
 };
 use ill_json::{Head, json_line, json_line_as};
 use ill_lines::{LineJob, LinesFault, run_lines_as};
@@ -153,14 +154,14 @@ fn jobs_fail_where_something_is_broken(
 }
 
 /// The same where a job goes on after a message that is refused.
-fn jobs_that_go_on_fail_where_something_is_broken<T: Reports>(
-    work: Work<'_>,
+fn jobs_that_go_on_fail_where_something_is_broken<T: ReportRefusals>(
+    work: JobOptions<'_>,
     source: &mut Pieces,
     sink: &mut Room<64>,
     reports: &mut T,
     alloc: Global,
 ) {
-    if let Err(halt) = run_on(alloc, work, source, sink, reports) {
+    if let Err(halt) = run_skipping(alloc, work, source, sink, reports) {
         match halt.fault {
             RunFault::ReadFault => {
                 prove!(source.broken());
@@ -215,7 +216,7 @@ fn lines_have_one_output(
 
 /// A write fault of a job counts the octets that the sink took of the whole output.
 fn write_faults_count_what_the_sink_took(
-    work: Work<'_>,
+    work: JobOptions<'_>,
     source: &mut Pieces,
     sink: &mut Room<64>,
     alloc: Global,
@@ -224,12 +225,12 @@ fn write_faults_count_what_the_sink_took(
     requires empty { sink.old.octets ≡ [] }
     ensures { (n : ℕ) → result ≡ Err (RunFault.WriteFault n) → length sink.new.octets ≡ n }
 {
-    run_work(alloc, work, source, sink)
+    run_with(alloc, work, source, sink)
 }
 
 /// Of a text at most 4,194,305 octets are taken, whatever the result.
 fn texts_are_taken_to_their_bound(
-    work: Work<'_>,
+    work: JobOptions<'_>,
     source: &mut Pieces,
     sink: &mut Room<64>,
     alloc: Global,
@@ -237,21 +238,21 @@ fn texts_are_taken_to_their_bound(
     requires { work.hex ≡ true }
     ensures { length source.old.octets ≤ 4_194_305 + length source.new.octets }
 {
-    run_work(alloc, work, source, sink)
+    run_with(alloc, work, source, sink)
 }
 
 /// After 1,000,000 messages at most one octet is taken, whatever the result.
 fn inputs_are_taken_to_their_limit(
-    work: Work<'_>,
+    work: JobOptions<'_>,
     source: &mut Pieces,
     sink: &mut Room<64>,
     alloc: Global,
-) -> Ran
+) -> JobOutcome
     requires { work.hex ≡ false }
     ensures { result.counts.messages ≡ 1_000_000
         → length source.old.octets ≤ result.counts.octets + 1 + length source.new.octets }
 {
-    run_by::<Pieces, Unseen, Room<64>>(alloc, work, source, sink)
+    run_counting::<Pieces, Unseen, Room<64>>(alloc, work, source, sink)
 }
 
 /// Equal pairs of inputs have one verdict in each profile, and one line is written. Where one pair has a verdict, the other is not refused.

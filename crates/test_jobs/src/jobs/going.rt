@@ -1,6 +1,8 @@
 //! What `run_on` writes and reports, row by row.
 use ber_core::{Pieces, ToWrite};
-use ill_jobs::{Gone, Job, Report, Reports, RunFault, Work, run_on};
+use ill_jobs::{
+    Job, JobOptions, RefusalReport, ReportRefusals, RunFault, SkippingCounts, run_skipping,
+};
 use ill_normal::{Cause, Refusal};
 use std::alloc::Global;
 use std::test::Fail;
@@ -9,15 +11,15 @@ use test_support::octets_of;
 /// What was reported.
 #[derive(Drop)]
 struct Reported {
-    reports: Vec<Report>,
+    reports: Vec<RefusalReport>,
 }
 
-impl Reports for Reported {
+impl ReportRefusals for Reported {
     ghost use Rattle.std.specs.Prelude.{None};
 
     ghost reported = { λ _. None };
 
-    fn report(&mut self, report: Report) {
+    fn report(&mut self, report: RefusalReport) {
         let _ = self.reports.push(report);
     }
 }
@@ -30,7 +32,7 @@ struct Row {
     hex: bool,
     input: &'static str,
     output: &'static str,
-    answer: Result<Gone, RunFault>,
+    answer: Result<SkippingCounts, RunFault>,
 }
 
 /// An EXPIRED in normal form, a NULL, and the EXPIRED with indefinite lengths.
@@ -44,7 +46,7 @@ static ROWS: [Row; 6] = [
         hex: false,
         input: BETWEEN,
         output: "message 1: Expired, 33 octets, normal\nmessage 3: Expired, 47 octets, not normal, normal form 33 octets\n",
-        answer: Ok(Gone {
+        answer: Ok(SkippingCounts {
             messages: 3,
             refused: 1,
             good: 1,
@@ -58,7 +60,7 @@ static ROWS: [Row; 6] = [
         hex: true,
         input: BETWEEN,
         output: "message 1: Expired, 33 octets, normal\nmessage 3: Expired, 47 octets, not normal, normal form 33 octets\n",
-        answer: Ok(Gone {
+        answer: Ok(SkippingCounts {
             messages: 3,
             refused: 1,
             good: 1,
@@ -72,7 +74,7 @@ static ROWS: [Row; 6] = [
         hex: true,
         input: BETWEEN,
         output: "741f301d800102a10aa1031b0147a2031b0151a20ca00a80083230323430323239\n741f301d800102a10aa1031b0147a2031b0151a20ca00a80083230323430323239\n",
-        answer: Ok(Gone {
+        answer: Ok(SkippingCounts {
             messages: 3,
             refused: 1,
             good: 2,
@@ -86,7 +88,7 @@ static ROWS: [Row; 6] = [
         hex: false,
         input: BETWEEN,
         output: "message 1 Expired\nprotocol-version-num = 2\ntransaction-id.transaction-group-qualifier = general \"G\"\ntransaction-id.transaction-qualifier = general \"Q\"\nservice-date-time.date-time-of-this-service.date = 20240229\nmessage 3 Expired\nprotocol-version-num = 2\ntransaction-id.transaction-group-qualifier = general \"G\"\ntransaction-id.transaction-qualifier = general \"Q\"\nservice-date-time.date-time-of-this-service.date = 20240229\n",
-        answer: Ok(Gone {
+        answer: Ok(SkippingCounts {
             messages: 3,
             refused: 1,
             good: 2,
@@ -113,7 +115,7 @@ static ROWS: [Row; 6] = [
 ];
 
 /// What is reported of the second message.
-const NULL: Report = Report {
+const NULL: RefusalReport = RefusalReport {
     message: 2,
     refusal: Refusal {
         at: 0,
@@ -129,9 +131,9 @@ fn comes_true(alloc: Global, row: &Row, octets: &[u8]) -> bool {
     let mut reported = Reported {
         reports: Vec::new(alloc),
     };
-    let answer = match run_on(
+    let answer = match run_skipping(
         alloc,
-        Work::new(row.job, row.hex),
+        JobOptions::new(row.job, row.hex),
         &mut source,
         &mut ToWrite::new(&mut written),
         &mut reported,

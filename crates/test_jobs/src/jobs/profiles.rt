@@ -1,7 +1,7 @@
 //! Jobs with messages of the module profile, row by row, and of the same messages in profile 2. The digests are by `sha256sum`.
 use super::gives;
 use ber_core::{Pieces, ToWrite};
-use ill_jobs::{Job, RunFault, Verdict, Work, run_as, run_same_as};
+use ill_jobs::{Job, JobOptions, RunFault, Verdict, run_as, run_same_as};
 use ill_lines::{LineJob, run_lines_as};
 use ill_normal::{Cause, NodeId, PartId, Profile, Refusal};
 use std::alloc::{AllocError, Global};
@@ -147,9 +147,9 @@ const FORWARD_NOTIFICATION: PartId = PartId {
 /// Tells whether a row comes true, with as many octets a call.
 fn comes_true(alloc: Global, row: &Row) -> Result<bool, AllocError> {
     let input = octets_of(alloc, row.input)?;
-    let work = Work {
+    let work = JobOptions {
         profile: row.profile,
-        ..Work::new(row.job, false)
+        ..JobOptions::new(row.job, false)
     };
     for per_call in [1, 7, 4096] {
         let mut source = Pieces::new(&input, per_call, None);

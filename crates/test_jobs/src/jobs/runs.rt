@@ -1,7 +1,7 @@
 //! What `run` writes and returns, row by row.
 use super::gives;
 use ber_core::{Pieces, Room, ToWrite, Unseen};
-use ill_jobs::{Counts, Job, RunFault, Verdict, Work, run_by, run_work};
+use ill_jobs::{Counts, Job, JobOptions, RunFault, Verdict, run_counting, run_with};
 use ill_normal::{Cause, Profile, Refusal};
 use std::alloc::{AllocError, Global};
 use std::test::Fail;
@@ -10,14 +10,14 @@ use test_support::octets_of;
 /// A run. The input is text where `work.hex` says so, and otherwise octets, here in hexadecimal.
 struct Row {
     name: &'static str,
-    work: Work<'static>,
+    work: JobOptions<'static>,
     input: &'static str,
     output: &'static [u8],
     answer: Result<Verdict, RunFault>,
 }
 
 /// A job with octets of standard input, whose name no line begins with.
-const SHOW: Work<'static> = Work {
+const SHOW: JobOptions<'static> = JobOptions {
     job: Job::Show,
     profile: Profile::Two,
     hex: false,
@@ -26,17 +26,17 @@ const SHOW: Work<'static> = Work {
     compares: false,
 };
 
-const CHECK: Work<'static> = Work {
+const CHECK: JobOptions<'static> = JobOptions {
     job: Job::Check,
     ..SHOW
 };
 
-const DIGEST: Work<'static> = Work {
+const DIGEST: JobOptions<'static> = JobOptions {
     job: Job::Digest,
     ..SHOW
 };
 
-const CANONICALISE: Work<'static> = Work {
+const CANONICALISE: JobOptions<'static> = JobOptions {
     job: Job::Canonicalise,
     ..SHOW
 };
@@ -93,7 +93,7 @@ static ROWS: [Row; 15] = [
     },
     Row {
         name: "hex-odd-number-of-digits",
-        work: Work {
+        work: JobOptions {
             hex: true,
             ..CANONICALISE
         },
@@ -103,7 +103,7 @@ static ROWS: [Row; 15] = [
     },
     Row {
         name: "hex-bad-digit",
-        work: Work {
+        work: JobOptions {
             hex: true,
             ..CANONICALISE
         },
@@ -113,7 +113,7 @@ static ROWS: [Row; 15] = [
     },
     Row {
         name: "hex-upper-case-with-blanks",
-        work: Work {
+        work: JobOptions {
             hex: true,
             ..CANONICALISE
         },
@@ -137,7 +137,7 @@ static ROWS: [Row; 15] = [
     },
     Row {
         name: "hex-stream-of-two",
-        work: Work {
+        work: JobOptions {
             hex: true,
             ..CANONICALISE
         },
@@ -154,7 +154,7 @@ static ROWS: [Row; 15] = [
     },
     Row {
         name: "digests-name-the-input",
-        work: Work {
+        work: JobOptions {
             name: "a b.ber",
             ..DIGEST
         },
@@ -164,7 +164,7 @@ static ROWS: [Row; 15] = [
     },
     Row {
         name: "digests-name-the-input-once",
-        work: Work {
+        work: JobOptions {
             name: "a b.ber",
             is_named: true,
             ..DIGEST
@@ -175,7 +175,7 @@ static ROWS: [Row; 15] = [
     },
     Row {
         name: "lines-begin-with-the-name",
-        work: Work {
+        work: JobOptions {
             name: "a b.ber",
             is_named: true,
             ..CHECK
@@ -186,7 +186,7 @@ static ROWS: [Row; 15] = [
     },
     Row {
         name: "normal-forms-have-no-name",
-        work: Work {
+        work: JobOptions {
             name: "a b.ber",
             is_named: true,
             ..CANONICALISE
@@ -222,7 +222,7 @@ fn each_run_writes_and_answers_what_it_must(rt: HostRuntime) -> Result<(), Fail>
 }
 
 /// A job that shows messages of a file, whose name is in their first lines.
-const SHOW_NAMED: Work<'static> = Work {
+const SHOW_NAMED: JobOptions<'static> = JobOptions {
     name: "a.ber",
     is_named: true,
     ..SHOW
@@ -236,7 +236,7 @@ const SHOWN: &[u8] =
 fn has_the_first(alloc: Global, octets: &[u8], n: usize) -> bool {
     let mut source = Pieces::new(octets, 4096, None);
     let mut sink: Room<512> = Room::new(512, Some(n));
-    run_work(alloc, SHOW_NAMED, &mut source, &mut sink) == Err(RunFault::WriteFault(n as u128))
+    run_with(alloc, SHOW_NAMED, &mut source, &mut sink) == Err(RunFault::WriteFault(n as u128))
         && SHOWN.get(..n) == Some(sink.octets())
 }
 
@@ -259,7 +259,7 @@ fn answers(
     answer: Result<Verdict, RunFault>,
 ) -> Result<bool, AllocError> {
     let text = vec![in alloc; b' '; blanks]?;
-    let work = Work {
+    let work = JobOptions {
         hex: true,
         ..CANONICALISE
     };
@@ -285,10 +285,10 @@ fn hexadecimal_text_has_a_limit(rt: HostRuntime) -> Result<(), Fail> {
 }
 
 /// Jobs on TWICE, whose messages have 33 octets in normal form and 47 that are not, and how many of them count as good.
-static COUNTED: [(Work<'static>, u32); 8] = [
+static COUNTED: [(JobOptions<'static>, u32); 8] = [
     (SHOW, 2),
     (
-        Work {
+        JobOptions {
             compares: true,
             ..SHOW
         },
@@ -297,7 +297,7 @@ static COUNTED: [(Work<'static>, u32); 8] = [
     (CHECK, 1),
     (DIGEST, 2),
     (
-        Work {
+        JobOptions {
             compares: true,
             ..DIGEST
         },
@@ -305,14 +305,14 @@ static COUNTED: [(Work<'static>, u32); 8] = [
     ),
     (CANONICALISE, 2),
     (
-        Work {
+        JobOptions {
             compares: true,
             ..CANONICALISE
         },
         1,
     ),
     (
-        Work {
+        JobOptions {
             job: Job::Json,
             ..SHOW
         },
@@ -321,11 +321,11 @@ static COUNTED: [(Work<'static>, u32); 8] = [
 ];
 
 /// Whether the messages are counted so.
-fn counts(alloc: Global, octets: &[u8], work: Work<'_>, good: u32) -> bool {
+fn counts(alloc: Global, octets: &[u8], work: JobOptions<'_>, good: u32) -> bool {
     let mut source = Pieces::new(octets, 4096, None);
     let mut written = Vec::new(alloc);
     let mut sink = ToWrite::new(&mut written);
-    let ran = run_by::<Pieces<'_>, Unseen, _>(alloc, work, &mut source, &mut sink);
+    let ran = run_counting::<Pieces<'_>, Unseen, _>(alloc, work, &mut source, &mut sink);
     let counts = Counts {
         messages: 2,
         good,

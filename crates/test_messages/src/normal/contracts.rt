@@ -10,11 +10,11 @@ ghost use Rattle.ill_normal.specs.Messages.{AreSpelled, Spelling, spelling};
 
 use ber_core::{AtHand, FromSlice, Pieces, Room, Sink, Source, Unseen};
 use ill_normal::{
-    Checked, Failure, Maker, Message, Normal, NormalFailure, NormalForms, NormalReader, Passed,
-    Piece, Position, ReadFailure, Refusal, Side, Stopped, StreamFailure, check_one, check_one_in,
-    decode, decode_normal, each_message, is_normal, normalise, normalise_stream,
-    read_kept_normal_by, read_message, read_message_by, read_normal_by, read_normal_in,
-    same_message,
+    Checked, Failure, Message, MessagePlace, Normal, NormalFailure, NormalForms, NormalReader,
+    ReadFailure, Refusal, Render, RenderedMessage, Side, StreamCounts, StreamError, StreamFailure,
+    check_one, check_one_in, decode, decode_normal, for_each_message, is_normal, normalise,
+    normalise_stream, read_kept_normal_by, read_message, read_message_by, read_normal_by,
+    read_normal_in, same_message,
 };
 use std::alloc::Global;
 
@@ -156,14 +156,14 @@ fn kept_normal_forms_have_nothing_of_the_room(
 }
 
 /// Nothing that is in the room, or that the reader read before, comes into what is written of a message, whatever is made of it.
-fn pieces_have_nothing_of_the_room<M: Maker>(
+fn pieces_have_nothing_of_the_room<M: Render>(
     maker: &M,
     reader: &mut M::Reader,
-    position: Position,
+    position: MessagePlace,
     source: &mut Pieces,
     room: M::Out,
     alloc: Global,
-) -> Result<Option<Piece<M::Out>>, ReadFailure>
+) -> Result<Option<RenderedMessage<M::Out>>, ReadFailure>
     ensures { (a : Apdu) (n : ℕ) → Accepts (profile_of (M.profile maker.now)) source.old.octets a n
         → IfOk result (λ found. elim found as (λ _. Type 0) [
           | Some x ↦ M.Out.is x.text (M.text maker.now position (spelling a (take n source.old.octets))) × (x.octets ≡ n)
@@ -266,7 +266,7 @@ fn messages_are_gone_through_to_their_end(
     source: &mut Pieces,
     sink: &mut Room<64>,
     alloc: Global,
-) -> Result<Passed, Stopped>
+) -> Result<StreamCounts, StreamError>
     ensures end { IfOk result (λ passed. (source.new.octets ≡ []) × ((messages : List Spelling) × (length messages ≡ passed.whole)
         × AreSpelled source.old.octets messages [])) }
     ensures counts { IfOk result (λ passed. (passed.good ≡ passed.whole) × (passed.octets ≡ length source.old.octets)) }
@@ -274,5 +274,5 @@ fn messages_are_gone_through_to_their_end(
         × AreSpelled (take stopped.before source.old.octets) messages []) }
     ensures stop { IfErr result (λ stopped. length source.old.octets ≤ stopped.before + (1_048_576 + length source.new.octets)) }
 {
-    each_message::<NormalForms, Pieces, Unseen, Room<64>>(alloc, &NormalForms, source, sink)
+    for_each_message::<NormalForms, Pieces, Unseen, Room<64>>(alloc, &NormalForms, source, sink)
 }

@@ -1,7 +1,10 @@
 //! Messages one after another, where some are refused.
 use super::{EXPIRED, EXPIRED_HEX, INDEFINITE_HEX};
 use ber_core::{AtHand, FromSlice, Look, Unseen};
-use ill_going::{Gone, Halted, Report, Reports, Why, keep_going};
+use ill_going::{
+    RefusalReport, ReportRefusals, SkippingCounts, SkippingError, SkippingErrorKind,
+    for_each_accepted_message,
+};
 use ill_normal::{
     Broken, Cause, NodeId, NormalFailure, NormalForms, PartId, Pieces, Refusal, Room, Source,
     StreamCause, ToWrite, normalise_stream,
@@ -13,15 +16,15 @@ use test_support::octets_of;
 /// What was reported.
 #[derive(Drop)]
 struct Reported {
-    reports: Vec<Report>,
+    reports: Vec<RefusalReport>,
 }
 
-impl Reports for Reported {
+impl ReportRefusals for Reported {
     ghost use Rattle.std.specs.Prelude.{None};
 
     ghost reported = { λ _. None };
 
-    fn report(&mut self, report: Report) {
+    fn report(&mut self, report: RefusalReport) {
         let _ = self.reports.push(report);
     }
 }
@@ -41,12 +44,12 @@ struct Row {
 type Refused = (u32, u32, Cause, bool);
 
 /// Whether these were reported.
-fn are_reported(reports: &[Report], wanted: &[Refused]) -> bool {
+fn are_reported(reports: &[RefusalReport], wanted: &[Refused]) -> bool {
     if reports.len() != wanted.len() {
         return false;
     }
     for (report, want) in reports.iter().zip(wanted) {
-        let Report {
+        let RefusalReport {
             message,
             refusal: Refusal { at, cause },
             ends,
@@ -194,7 +197,7 @@ fn joined(alloc: Global, words: &[&str]) -> Result<Vec<u8>, Fail> {
 /// What comes of messages that are gone over.
 #[derive(Clone, Copy)]
 struct Want<'a> {
-    result: Result<Gone, Halted>,
+    result: Result<SkippingCounts, SkippingError>,
     /// How often EXPIRED is written.
     written: usize,
     reports: &'a [Refused],
@@ -206,7 +209,7 @@ fn comes_of<R: Source, L: Look<R>>(alloc: Global, source: &mut R, want: &Want<'_
     let mut reported = Reported {
         reports: Vec::new(alloc),
     };
-    let result = keep_going::<NormalForms, R, L, ToWrite<&mut Vec<u8>>, Reported>(
+    let result = for_each_accepted_message::<NormalForms, R, L, ToWrite<&mut Vec<u8>>, Reported>(
         alloc,
         &NormalForms,
         source,
@@ -240,7 +243,7 @@ fn stops_at_the_first(alloc: Global, octets: &[u8], refused: &[Refused]) -> bool
 /// Whether a row comes true, of octets in pieces and of octets at hand.
 fn comes_true(alloc: Global, row: &Row, octets: &[u8]) -> bool {
     let want = Want {
-        result: Ok(Gone {
+        result: Ok(SkippingCounts {
             messages: row.messages,
             refused: u32::try_from(row.reports.len()).unwrap_or(u32::MAX),
             good: u32::try_from(row.written).unwrap_or(u32::MAX),
@@ -286,25 +289,25 @@ fn has_the_first(alloc: Global, octets: &[u8], n: usize) -> bool {
     let mut reported = Reported {
         reports: Vec::new(alloc),
     };
-    let result = keep_going::<NormalForms, FromSlice<'_>, AtHand, Room<128>, Reported>(
-        alloc,
-        &NormalForms,
-        &mut source,
-        &mut sink,
-        &mut reported,
-    );
+    let result = for_each_accepted_message::<
+        NormalForms,
+        FromSlice<'_>,
+        AtHand,
+        Room<128>,
+        Reported,
+    >(alloc, &NormalForms, &mut source, &mut sink, &mut reported);
     let (messages, good, before, reports, of_the_last) = if n < 33 {
         (0, 0, 0, [].as_slice(), n)
     } else {
         (2, 1, 35, REFUSED, n - 33)
     };
-    let halted = Halted {
+    let halted = SkippingError {
         messages,
         refused: reports.len() as u32,
         good,
         octets: before,
         written: n as u128,
-        why: Why::WriteFault(of_the_last),
+        why: SkippingErrorKind::WriteFault(of_the_last),
     };
     let (first, second) = sink.octets().split_at(n.min(33).min(sink.octets().len()));
     result == Err(halted)
@@ -331,13 +334,13 @@ fn leaves_what_was_whole(alloc: Global, octets: &[u8], n: usize) -> bool {
         35..=67 => (2, 1, 35, REFUSED),
         _ => (3, 2, 68, REFUSED),
     };
-    let halted = Halted {
+    let halted = SkippingError {
         messages,
         refused: reports.len() as u32,
         good: written as u32,
         octets: before,
         written: 33 * written as u128,
-        why: Why::ReadFault,
+        why: SkippingErrorKind::ReadFault,
     };
     let want = Want {
         result: Err(halted),
@@ -364,7 +367,7 @@ const PAST_THE_LIMIT: &[&str] = &["748400200000 00*2097152", EXPIRED_HEX];
 fn a_message_past_the_limit_is_passed_over(rt: HostRuntime) -> Result<(), Fail> {
     let octets = joined(rt.alloc(), PAST_THE_LIMIT)?;
     let want = Want {
-        result: Ok(Gone {
+        result: Ok(SkippingCounts {
             messages: 2,
             refused: 1,
             good: 1,
@@ -412,12 +415,12 @@ struct Count {
     reports: u32,
 }
 
-impl Reports for Count {
+impl ReportRefusals for Count {
     ghost use Rattle.std.specs.Prelude.{None};
 
     ghost reported = { λ _. None };
 
-    fn report(&mut self, report: Report) {
+    fn report(&mut self, report: RefusalReport) {
         let _ = report;
         self.reports = self.reports.saturating_add(1);
     }
@@ -428,20 +431,20 @@ fn a_million_refused_messages_are_enough(rt: HostRuntime) {
     let mut source = Nulls { at: false };
     let mut sink: Room<1> = Room::new(1, None);
     let mut count = Count { reports: 0 };
-    let result = keep_going::<NormalForms, Nulls, Unseen, Room<1>, Count>(
+    let result = for_each_accepted_message::<NormalForms, Nulls, Unseen, Room<1>, Count>(
         rt.alloc(),
         &NormalForms,
         &mut source,
         &mut sink,
         &mut count,
     );
-    let halted = Halted {
+    let halted = SkippingError {
         messages: 1_000_000,
         refused: 1_000_000,
         good: 0,
         octets: 2_000_000,
         written: 0,
-        why: Why::TooMany,
+        why: SkippingErrorKind::TooMany,
     };
     assert!(rt; result == Err(halted) && count.reports == 1_000_000);
 }

@@ -7,5 +7,5 @@ use Rattle.ill_dump.proofs.run.put_message.Goals as goal
 pub returns-clause-begins : goal.returns-clause-begins
 returns-clause-begins g c =
     let front = c.args.out.now.head.octets.items ++ head c.args.dump c.args.message in
-    let first = subst (λ r. OnOk r (c.put_head.new.lines.octets.items ≡ front)) c.in_ok-made.ensures.same c.put_head.ensures in
+    let first = subst (λ r. OnOk r (c.put_head.new.lines.octets.items ≡ front)) c.in_ok-or_out_of_memory.ensures.same c.put_head.ensures in
     on_ok c.put.result _ _ (λ put. puts_all _ (g.W.Sink.contents c.put_elements.new.sink) _ front _ _ _ first c.in_ok-put_elements.ensures.puts put) c.put.ensures.puts

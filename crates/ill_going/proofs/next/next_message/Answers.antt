@@ -11,7 +11,7 @@ returns-in-Ok-Some-clause-next g c =
     let element = subst (λ k. Took left left' k c.in-Ok.taken.octets c.in-Ok.taken.frame) same c.in-Ok.ensures.element in
     let next = rw c.in-Ok-Some.field-0-is at c.in-Ok-Some.ensures in
     let message = next.message in
-    rw c.in-Ok-Some.field-0-is (read_took left left' c.new-octets.result c.in-Ok.taken.octets (g.M.Maker.profile c.args.maker.now) g.M.Out.Output.is (g.M.Maker.text c.args.maker.now c.args.position) (g.M.Maker.is_good c.args.maker.now) c.in-Ok.taken.frame element
+    rw c.in-Ok-Some.field-0-is (read_took left left' c.new-octets.result c.in-Ok.taken.octets (g.M.Render.profile c.args.maker.now) g.M.Out.Rendered.is (g.M.Render.text c.args.maker.now c.args.position) (g.M.Render.is_good c.args.maker.now) c.in-Ok.taken.frame element
     c.in-Ok-Some.piece c.next.new.source message.0 message.1 message.2)
 
 pub returns-in-Ok-None-clause-next : goal.returns-in-Ok-None-clause-next
@@ -30,5 +30,5 @@ returns-in-Err-Refused-clause-next g c =
     let same = sym (c.new-octets.ensures ∙ c.as_slice.ensures.value) in
     let element = subst (λ k. Took left left' k c.in-Ok.taken.octets c.in-Ok.taken.frame) same c.in-Ok.ensures.element in
     let next = rw c.in-Err-Refused.field-0-is at c.in-Err-Refused.ensures in
-    refused_took left left' c.new-octets.result c.in-Ok.taken.octets (g.M.Maker.profile c.args.maker.now) g.M.Out.Output.is (g.M.Maker.text c.args.maker.now c.args.position) (g.M.Maker.is_good c.args.maker.now) c.in-Ok.taken.frame element
+    refused_took left left' c.new-octets.result c.in-Ok.taken.octets (g.M.Render.profile c.args.maker.now) g.M.Out.Rendered.is (g.M.Render.text c.args.maker.now c.args.position) (g.M.Render.is_good c.args.maker.now) c.in-Ok.taken.frame element
     c.in-Err-Refused.refusal c.end_of-end.result c.end_of-end.ensures next.refused.1

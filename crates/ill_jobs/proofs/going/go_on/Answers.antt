@@ -1,4 +1,4 @@
-use Rattle.ill_going.proofs.GoneMessages.{halted_sum}
+use Rattle.ill_going.proofs.SkippedMessages.{halted_sum}
 use Rattle.ill_jobs.proofs.going.go_on.Goals as goal
 
 pub halted_job-requires : goal.halted_job-requires

@@ -2,11 +2,11 @@ use Rattle.std.proofs.Common.{◌≡◌, ◌+◌, ◌<◌, ◌≤◌, ℕ, Bool,
 use Rattle.std.specs.Prelude.{IfOk, IfErr}
 use Rattle.std.specs.Io.KnownBytes.{Consumes, Keeps}
 use Rattle.ill_normal.specs.Calls.{taking, putting}
-use Rattle.ill_jobs.specs.Ran.{Done, RunDone, RunFails, StopsAfter}
+use Rattle.ill_jobs.specs.Runs.{Done, RunDone, RunFails, StopsAfter}
 use Rattle.ill_jobs.specs.declared.fault.RunFault.{RunFault}
 use Rattle.ill_jobs.specs.declared.job.Counts.{Counts}
 use Rattle.ill_jobs.specs.declared.job.Verdict.{Verdict}
-use Rattle.ill_jobs.specs.declared.job.Work.{Work}
+use Rattle.ill_jobs.specs.declared.job.JobOptions.{JobOptions}
 use Rattle.test_jobs.proofs.jobs.contracts.inputs_are_taken_to_their_limit.Goals as goal
 
 -- one octet at most is taken of what was left
@@ -26,7 +26,7 @@ taken : (s : List ℕ) (rest : Option (List ℕ)) (t b : List ℕ) → Consumes 
 taken s None t b h one = absurd one
 taken s (Some r) t b h one = omega (arith, ap length h, length-append b r, one)
 
-module _ (work : Work) (s t : List ℕ) (x y : Bool) (held held' : Option (List ℕ)) (counts : Counts) (full : counts.messages ≡ 1_000_000) where
+module _ (work : JobOptions) (s t : List ℕ) (x y : Bool) (held held' : Option (List ℕ)) (counts : Counts) (full : counts.messages ≡ 1_000_000) where
   done : (v : Verdict) → Done work (Some s) (Some t) held held' counts v → length s ≤ counts.octets + 1 + length t
   done v d = omega (arith, ap (λ (c : Counts). c.octets) d.counted, ap length d.writes.taken, length-append d.writes.octets t)
 
@@ -55,13 +55,13 @@ module _ (work : Work) (s t : List ℕ) (x y : Bool) (held held' : Option (List 
 pub returns : goal.returns
 returns c full =
     let work = c.args.work in
-    let ran = c.run_by.result in
+    let ran = c.run_counting.result in
     let left = Some c.args.source.now.octets in
-    let left' = Some c.run_by.new.source.octets in
+    let left' = Some c.run_counting.new.source.octets in
     let held = Some c.args.sink.now.octets in
-    let held' = Some c.run_by.new.sink.octets in
-    let x = c.run_by.new.source.broken in
-    let y = c.run_by.new.sink.broken in
-    either work c.args.source.now.octets c.run_by.new.source.octets x y held held' ran.counts full ran.result
-    (subst (λ (h : Bool). IfOk ran.result (RunDone h work left left' held held' ran.counts)) c.requires c.run_by.ensures.done)
-    (subst (λ (h : Bool). IfErr ran.result (RunFails h work (taking left left' x) (putting held held' y) ran.counts)) c.requires c.run_by.ensures.fails)
+    let held' = Some c.run_counting.new.sink.octets in
+    let x = c.run_counting.new.source.broken in
+    let y = c.run_counting.new.sink.broken in
+    either work c.args.source.now.octets c.run_counting.new.source.octets x y held held' ran.counts full ran.result
+    (subst (λ (h : Bool). IfOk ran.result (RunDone h work left left' held held' ran.counts)) c.requires c.run_counting.ensures.done)
+    (subst (λ (h : Bool). IfErr ran.result (RunFails h work (taking left left' x) (putting held held' y) ran.counts)) c.requires c.run_counting.ensures.fails)

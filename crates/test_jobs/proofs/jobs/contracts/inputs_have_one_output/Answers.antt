@@ -2,7 +2,7 @@ use Rattle.std.proofs.Common.{ℕ, Bool, List, Some, Result, sym, subst}
 use Rattle.std.specs.Prelude.{IfErr, IfOk}
 use Rattle.ill_schema.specs.declared.profile.Profile.{Profile as Named}
 use Rattle.ill_normal.specs.Calls.{taking, putting}
-use Rattle.ill_jobs.specs.Ran.{JobDone, JobFails}
+use Rattle.ill_jobs.specs.Runs.{JobDone, JobFails}
 use Rattle.ill_jobs.specs.declared.fault.RunFault.{RunFault}
 use Rattle.ill_jobs.specs.declared.job.Job.{Job}
 use Rattle.ill_jobs.specs.declared.job.Verdict.{Verdict}

@@ -5,21 +5,21 @@ use Rattle.ill_normal.specs.Messages.{AreSpelledIn, Spelling}
 use Rattle.ill_jobs.specs.Hexadecimal.{hex_octets}
 use Rattle.ill_normal.specs.Calls.{taking, putting}
 use Rattle.ill_jobs.specs.Output.{verdict_of}
-use Rattle.ill_jobs.specs.Ran.{AnswersVerdict, DoesMessages, IsUnnamed, JobDone, RunDone}
+use Rattle.ill_jobs.specs.Runs.{AnswersVerdict, DoesMessages, IsUnnamed, JobDone, RunDone}
 use Rattle.ill_jobs.specs.declared.fault.RunFault.{RunFault}
 use Rattle.ill_jobs.specs.declared.job.Counts.{Counts}
 use Rattle.ill_jobs.specs.declared.job.Job.{Job}
 use Rattle.ill_jobs.specs.declared.job.Verdict.{Verdict}
-use Rattle.ill_jobs.specs.declared.job.Work.{Work}
+use Rattle.ill_jobs.specs.declared.job.JobOptions.{JobOptions}
 use Rattle.ill_jobs.proofs.TextAnswers.{same_octets}
 use Rattle.test_jobs.proofs.jobs.contracts.inputs_have_one_verdict.Goals as goal
 
 -- the verdict of a work's messages is that of its job in its profile
-verdict_is : (q : Named) (job : Job) (hex : Bool) (work : Work) (ms : List Spelling) → IsUnnamed q job hex work
+verdict_is : (q : Named) (job : Job) (hex : Bool) (work : JobOptions) (ms : List Spelling) → IsUnnamed q job hex work
     → verdict_of (profile_of work.profile) work.job ms ≡ verdict_of (profile_of q) job ms
 verdict_is q job hex work ms u = ap (λ (p : Named). verdict_of (profile_of p) work.job ms) u.profile ∙ ap (λ (j : Job). verdict_of (profile_of q) j ms) u.same_job
 
-answered : (q : Named) (hex : Bool) (job : Job) (work : Work) (s t : List ℕ) (held held' : Option (List ℕ)) (n : Counts) (v : Verdict) → IsUnnamed q job hex work
+answered : (q : Named) (hex : Bool) (job : Job) (work : JobOptions) (s t : List ℕ) (held held' : Option (List ℕ)) (n : Counts) (v : Verdict) → IsUnnamed q job hex work
     → RunDone hex work (Some s) (Some t) held held' n v → (r : Result Verdict RunFault) → DoesMessages (profile_of q) job hex s r → AnswersVerdict r v
 answered q false job work s t held held' n v u d r does =
     let o = d.writes.octets in

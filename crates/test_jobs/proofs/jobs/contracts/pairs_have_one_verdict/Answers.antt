@@ -2,7 +2,7 @@ use Rattle.std.proofs.Common.{◌≡◌, ◌↔◌, ◌++◌, ◌∙◌, ℕ, Bo
 use Rattle.ber_leaf.specs.Profile.{Profile}
 use Rattle.ill_schema.specs.Profiles.{profile_of}
 use Rattle.ill_jobs.specs.Compared.{ComparesBoth, SameDone, SaysSame, verdict_line}
-use Rattle.ill_jobs.specs.Ran.{IsFault}
+use Rattle.ill_jobs.specs.Runs.{IsFault}
 use Rattle.ill_jobs.specs.declared.fault.RunFault.{RunFault}
 use Rattle.ill_jobs.specs.declared.job.Verdict.{Verdict}
 use Rattle.ill_jobs.proofs.PairAnswers.{side_is}

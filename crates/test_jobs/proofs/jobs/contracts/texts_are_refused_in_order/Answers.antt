@@ -3,7 +3,7 @@ use Rattle.ber_leaf.specs.Profile.{Profile}
 use Rattle.ill_schema.specs.Profiles.{profile_of}
 use Rattle.ill_normal.specs.Calls.{taking, putting}
 use Rattle.ill_jobs.specs.Compared.{RefusesTexts, SameFails, SameStops}
-use Rattle.ill_jobs.specs.Ran.{AnswersFault, IsFault}
+use Rattle.ill_jobs.specs.Runs.{AnswersFault, IsFault}
 use Rattle.ill_jobs.specs.declared.fault.RunFault.{RunFault}
 use Rattle.ill_jobs.specs.declared.job.Verdict.{Verdict}
 use Rattle.ill_jobs.proofs.PairAnswers.{no_text, side_is}

@@ -3,7 +3,7 @@ use Rattle.std.specs.Io.KnownBytes.{Consumes}
 use Rattle.std.proofs.KnownBytes.{Consumes-kept, Consumes-nil, Consumes-trans}
 use Rattle.std.proofs.lemmas.Result.{err_from_is_err_and, IfErr-weaker}
 use Rattle.ill_lines.proofs.MadeResults.{at_start, ends_memory, ends_read, made_written}
-use Rattle.ill_lines.proofs.run.run_work.Goals as goal
+use Rattle.ill_lines.proofs.run.run_with.Goals as goal
 
 pub loop-init : goal.loop-init
 loop-init g c = record {

@@ -13,22 +13,22 @@ use Rattle.ill_schema.proofs.Streams.{accepts_some}
 use Rattle.ill_normal.specs.Calls.{Taking, taking, Putting, putting}
 use Rattle.ill_normal.specs.Messages.{Spelling, spelling, counted, position, first, after, one_if, MakesIn, BreaksWithinIn}
 use Rattle.ill_normal.proofs.WrittenMessages.{all_counted, counted_left, counted_right, one_bound}
-use Rattle.ill_normal.specs.declared.messages.Position.{Position}
-use Rattle.ill_normal.specs.declared.messages.Piece.{Piece}
-use Rattle.ill_going.specs.declared.report.Report.{Report}
-use Rattle.ill_going.specs.declared.going.Halted.{Halted}
-use Rattle.ill_going.specs.declared.going.Why.{Why}
+use Rattle.ill_normal.specs.declared.messages.MessagePlace.{MessagePlace}
+use Rattle.ill_normal.specs.declared.messages.RenderedMessage.{RenderedMessage}
+use Rattle.ill_going.specs.declared.report.RefusalReport.{RefusalReport}
+use Rattle.ill_going.specs.declared.going.SkippingError.{SkippingError}
+use Rattle.ill_going.specs.declared.going.SkippingErrorKind.{SkippingErrorKind}
 use Rattle.ill_going.specs.Items.{Item, good, bad, IsRefusedFor, AreItems, item_octets, position_past, written_of, written_from, report, reports_from, good_in, all_good, Adds}
-use Rattle.ill_going.specs.Gone.{Reporting, reporting, Goes, HasNoEnd, GoesThrough, part_of, Halts, HaltsAfter}
+use Rattle.ill_going.specs.Skipping.{Reporting, reporting, Goes, HasNoEnd, SkipsToEnd, part_of, StopsFor, SkipsAndStops}
 use Rattle.ill_going.specs.code.Taking.{TakesPart}
-use Rattle.ill_going.specs.code.Ending.{GoesOn, gone_to, halted_at, why_of}
-use Rattle.ill_going.specs.declared.next.Unread.{Unread}
+use Rattle.ill_going.specs.code.Ending.{GoesOn, counts_of, error_at, why_of}
+use Rattle.ill_going.specs.declared.next.TakeError.{TakeError}
 
-pub adds_none : (r : Option (List Report)) → Adds r r []
+pub adds_none : (r : Option (List RefusalReport)) → Adds r r []
 adds_none None = tt
 adds_none (Some rs) = sym (append-nil rs)
 
-adds_more : (old new next : Option (List Report)) (xs ys : List Report) → Adds old new xs → Adds new next ys → Adds old next (xs ++ ys)
+adds_more : (old new next : Option (List RefusalReport)) (xs ys : List RefusalReport) → Adds old new xs → Adds new next ys → Adds old next (xs ++ ys)
 adds_more None new next xs ys h k = tt
 adds_more (Some a) None next xs ys h k = absurd h
 adds_more (Some a) (Some b) None xs ys h k = absurd k
@@ -41,15 +41,15 @@ lost_all r g n =
     let b : n + 1 ≡ suc n = omega arith in
     ap₂ (λ (x y : ℕ). nat_eq x y) a b ∙ eqb-suc-suc (r + g) n
 
-module _ (text : Position → Spelling → List ℕ) where
-  written_push : (p : Position) (items : List Item) (x : Item) → written_from text p (items ++ x ∷ []) ≡ written_from text p items ++ written_of (text (position_past p items)) x
+module _ (text : MessagePlace → Spelling → List ℕ) where
+  written_push : (p : MessagePlace) (items : List Item) (x : Item) → written_from text p (items ++ x ∷ []) ≡ written_from text p items ++ written_of (text (position_past p items)) x
   written_push p [] x = append-nil (written_of (text p) x)
   written_push p (y ∷ items) x =
       let next = after p (length (item_octets y)) in
       ap (λ z. written_of (text p) y ++ z) (written_push next items x)
       ∙ sym (append_assoc (written_of (text p) y) (written_from text next items) (written_of (text (position_past next items)) x))
 
-past_push : (p : Position) (items : List Item) (x : Item) → position_past p (items ++ x ∷ []) ≡ after (position_past p items) (length (item_octets x))
+past_push : (p : MessagePlace) (items : List Item) (x : Item) → position_past p (items ++ x ∷ []) ≡ after (position_past p items) (length (item_octets x))
 past_push p [] x = refl
 past_push p (y ∷ items) x = past_push (after p (length (item_octets y))) items x
 
@@ -110,7 +110,7 @@ module _ (q : Named) where
       (h.0 ++ b, ap (λ z. z ++ b) h.1 ∙ append_assoc octets h.0 b, h.2, h.3, items_more h.0 b items x h.4 k)
 
   -- `before` messages were gone through, of which some were refused and some good, whose output has `written` octets; the next one is at `offset`
-  pub record Reached (text : Position → Spelling → List ℕ) (is_good : Spelling → Bool) (left left' held held' : Option (List ℕ)) (reports : Reporting) (before refused good_ones offset written : ℕ) : Type 0 where
+  pub record Reached (text : MessagePlace → Spelling → List ℕ) (is_good : Spelling → Bool) (left left' held held' : Option (List ℕ)) (reports : Reporting) (before refused good_ones offset written : ℕ) : Type 0 where
     pub items : List Item
     pub goes : Goes (profile_of q) text left left' held held' reports items
     pub count : before ≡ length items
@@ -120,7 +120,7 @@ module _ (q : Named) where
     pub next : position_past first items ≡ position (before + 1) offset
     pub size : written ≡ length (written_from text first items)
 
-  pub reached_none : (text : Position → Spelling → List ℕ) (is_good : Spelling → Bool) (left held : Option (List ℕ)) (r : Option (List Report)) → Reached text is_good left left held held (reporting r r) 0 0 0 0 0
+  pub reached_none : (text : MessagePlace → Spelling → List ℕ) (is_good : Spelling → Bool) (left held : Option (List ℕ)) (r : Option (List RefusalReport)) → Reached text is_good left left held held (reporting r r) 0 0 0 0 0
   reached_none text is_good left held r = record {
     items = [];
     goes = record { octets = []; are = refl; taken = Consumes-nil left; written = Appends-nil held; reported = adds_none r };
@@ -133,17 +133,17 @@ module _ (q : Named) where
   }
 
   -- the octets of the next message were taken, and the piece was made of them
-  abbrev pub Made : {T : Type 0} → (T → List ℕ → Type 0) → (Position → Spelling → List ℕ) → (Spelling → Bool) → Position → Option (List ℕ) → Option (List ℕ) → Piece T → Type 0
+  abbrev pub Made : {T : Type 0} → (T → List ℕ → Type 0) → (MessagePlace → Spelling → List ℕ) → (Spelling → Bool) → MessagePlace → Option (List ℕ) → Option (List ℕ) → RenderedMessage T → Type 0
   Made is text is_good p left left' piece = (b : List ℕ) × Consumes left left' b × MakesIn (profile_of q) is (text p) is_good piece b
 
-  module _ (text : Position → Spelling → List ℕ) (is_good : Spelling → Bool) (left left' left'' held held' held'' : Option (List ℕ)) (old new next : Option (List Report)) (before refused good_ones offset written : ℕ)
+  module _ (text : MessagePlace → Spelling → List ℕ) (is_good : Spelling → Bool) (left left' left'' held held' held'' : Option (List ℕ)) (old new next : Option (List RefusalReport)) (before refused good_ones offset written : ℕ)
       (r : Reached text is_good left left' held held' (reporting old new) before refused good_ones offset written) where
-    here : Position
+    here : MessagePlace
     here = position (before + 1) offset
 
     pushed : (x : Item) → written_from text first (r.items ++ x ∷ []) ≡ written_from text first r.items ++ written_of (text here) x
     unfolding here
-    pushed x = written_push text first r.items x ∙ ap (λ (p : Position). written_from text first r.items ++ written_of (text p) x) r.next
+    pushed x = written_push text first r.items x ∙ ap (λ (p : MessagePlace). written_from text first r.items ++ written_of (text p) x) r.next
 
     -- the offset after an item whose octets were counted
     offset_more : (x : Item) (b : List ℕ) (n : ℕ) → n ≡ counted (length b) → item_octets x ≡ b
@@ -174,7 +174,7 @@ module _ (q : Named) where
     }
 
     -- a message was written
-    pub reached_good : {T : Type 0} (is : T → List ℕ → Type 0) (piece : Piece T) (p : Made is text is_good (position (before + 1) offset) left' left'' piece) (size : ℕ)
+    pub reached_good : {T : Type 0} (is : T → List ℕ → Type 0) (piece : RenderedMessage T) (p : Made is text is_good (position (before + 1) offset) left' left'' piece) (size : ℕ)
         → size ≡ length (text (position (before + 1) offset) (spelling p.2.apdu p.0)) → Appends held' held'' (text (position (before + 1) offset) (spelling p.2.apdu p.0)) → new ≡ next
         → Reached text is_good left left'' held held'' (reporting old next) (before + 1) refused (good_ones + one_if piece.is_good) (counted (offset + piece.octets)) (written + size)
     unfolding here goes_more
@@ -185,7 +185,7 @@ module _ (q : Named) where
         let more = offset_more x p.0 piece.octets (p.2.size ∙ sym (min-eq_left (omega (arith, short)))) refl in
         record {
           items = r.items ++ x ∷ [];
-          goes = goes_more x p.0 (refl, p.2.spells) p.1 w (subst (λ (z : Option (List Report)). Adds new z []) e (adds_none new));
+          goes = goes_more x p.0 (refl, p.2.spells) p.1 w (subst (λ (z : Option (List RefusalReport)). Adds new z []) e (adds_none new));
           count = omega (arith, r.count, length-append r.items (x ∷ []));
           bad_ones = r.bad_ones ∙ sym (ap length (reported x ∙ append-nil (reports_from 1 r.items)));
           good_are = omega (arith, r.good_are, ap one_if p.2.good, good_push is_good r.items m);
@@ -215,7 +215,7 @@ module _ (q : Named) where
     module _ (x y : Bool) where
       -- nothing was left
       pub through_end : (n : ℕ) → n ≡ before → n ≤ 1_000_000 → Consumes left' left'' [] → IsAtEnd left'' → held' ≡ held'' → new ≡ next
-          → GoesThrough (profile_of q) text is_good (taking left left'' x) (putting held held'' y) (reporting old next) (gone_to n refused good_ones offset)
+          → SkipsToEnd (profile_of q) text is_good (taking left left'' x) (putting held held'' y) (reporting old next) (counts_of n refused good_ones offset)
       through_end n same le c e h k = record {
         items = r.items;
         rest = left';
@@ -227,7 +227,7 @@ module _ (q : Named) where
           written = subst (λ (z : Option (List ℕ)). Appends held z (written_from text first r.items)) h r.goes.written;
           reported = r.goes.reported;
         };
-        ends = inl (record { none = c; end = e; reported = subst (λ (z : Option (List Report)). Adds new z []) k (adds_none new) }, same ∙ r.count, r.bad_ones);
+        ends = inl (record { none = c; end = e; reported = subst (λ (z : Option (List RefusalReport)). Adds new z []) k (adds_none new) }, same ∙ r.count, r.bad_ones);
         few = le;
         good = r.good_are;
         octets = r.input;
@@ -237,7 +237,7 @@ module _ (q : Named) where
       -- a message was refused whose end can't be known
       pub through_lost : (b : List ℕ) (refusal : Refusal) → before < 1_000_000 → Consumes left' left'' b → IsRefusedFor (profile_of q) b refusal → HasNoEnd b left'' → held' ≡ held''
           → Adds new next (report (before + 1) refusal false ∷ [])
-          → GoesThrough (profile_of q) text is_good (taking left left'' x) (putting held held'' y) (reporting old next) (gone_to (before + 1) (refused + 1) good_ones offset)
+          → SkipsToEnd (profile_of q) text is_good (taking left left'' x) (putting held held'' y) (reporting old next) (counts_of (before + 1) (refused + 1) good_ones offset)
       through_lost b refusal lt c is no_end h a =
           let number : before + 1 ≡ length r.items + 1 = omega (arith, r.count) in
           record {
@@ -262,9 +262,9 @@ module _ (q : Named) where
             all = lost_all refused good_ones before ∙ ap₂ (λ (a b : ℕ). nat_eq a b) (ap₂ (λ (a b : ℕ). a + b) r.bad_ones r.good_are) r.count ∙ counted_all is_good 1 r.items;
           }
 
-      halts : (n written' : ℕ) (why : Why) → n ≡ before → new ≡ next → written' ≡ length (written_from text first r.items) + part_of why
-          → Halts (profile_of q) text (taking left' left'' x) (putting held' held'' y) n (position_past first r.items) why
-          → HaltsAfter (profile_of q) text is_good (taking left left'' x) (putting held held'' y) (reporting old next) (halted_at n refused good_ones offset written' why)
+      halts : (n written' : ℕ) (why : SkippingErrorKind) → n ≡ before → new ≡ next → written' ≡ length (written_from text first r.items) + part_of why
+          → StopsFor (profile_of q) text (taking left' left'' x) (putting held' held'' y) n (position_past first r.items) why
+          → SkipsAndStops (profile_of q) text is_good (taking left left'' x) (putting held held'' y) (reporting old next) (error_at n refused good_ones offset written' why)
       halts n written' why same k size h = record {
         items = r.items;
         rest = left';
@@ -274,7 +274,7 @@ module _ (q : Named) where
           are = r.goes.are;
           taken = r.goes.taken;
           written = r.goes.written;
-          reported = subst (λ (z : Option (List Report)). Adds old z (reports_from 1 r.items)) k r.goes.reported;
+          reported = subst (λ (z : Option (List RefusalReport)). Adds old z (reports_from 1 r.items)) k r.goes.reported;
         };
         messages = same ∙ r.count;
         refused = r.bad_ones;
@@ -284,38 +284,38 @@ module _ (q : Named) where
         halts = h;
       }
 
-      pub halts_unread : (u : Unread) → before < 1_000_000 → held' ≡ held'' → new ≡ next → (u ≡ Unread.Broken → IsTrue x × TakesPart left' left'')
-          → HaltsAfter (profile_of q) text is_good (taking left left'' x) (putting held held'' y) (reporting old next) (halted_at before refused good_ones offset written (why_of u))
-      halts_unread Unread.OutOfMemory lt h k broken =
-          halts before written Why.OutOfMemory refl k (omega (arith, r.size)) (lt, subst (λ (z : Option (List ℕ)). Keeps held' z) h (Keeps-refl held'))
-      halts_unread Unread.Broken lt h k broken =
+      pub halts_unread : (u : TakeError) → before < 1_000_000 → held' ≡ held'' → new ≡ next → (u ≡ TakeError.Broken → IsTrue x × TakesPart left' left'')
+          → SkipsAndStops (profile_of q) text is_good (taking left left'' x) (putting held held'' y) (reporting old next) (error_at before refused good_ones offset written (why_of u))
+      halts_unread TakeError.OutOfMemory lt h k broken =
+          halts before written SkippingErrorKind.OutOfMemory refl k (omega (arith, r.size)) (lt, subst (λ (z : Option (List ℕ)). Keeps held' z) h (Keeps-refl held'))
+      halts_unread TakeError.Broken lt h k broken =
           let b = broken refl in
-          halts before written Why.ReadFault refl k (omega (arith, r.size))
+          halts before written SkippingErrorKind.ReadFault refl k (omega (arith, r.size))
           (omega arith, b.0, ((b.1.octets, b.1.taken, b.1.unfinished q), λ full. absurd (omega (arith, lt, full))), subst (λ (z : Option (List ℕ)). Keeps held' z) h (Keeps-refl held'))
 
-      pub halts_writing : {T : Type 0} (is : T → List ℕ → Type 0) (piece : Piece T) (n written' : ℕ) → before < 1_000_000 → written' ≡ written + n → (p : Made is text is_good (position (before + 1) offset) left' left'' piece)
+      pub halts_writing : {T : Type 0} (is : T → List ℕ → Type 0) (piece : RenderedMessage T) (n written' : ℕ) → before < 1_000_000 → written' ≡ written + n → (p : Made is text is_good (position (before + 1) offset) left' left'' piece)
           → Appends held' held'' (take n (text (position (before + 1) offset) (spelling p.2.apdu p.0))) → n < length (text (position (before + 1) offset) (spelling p.2.apdu p.0)) → IsTrue y → new ≡ next
-          → HaltsAfter (profile_of q) text is_good (taking left left'' x) (putting held held'' y) (reporting old next) (halted_at before refused good_ones offset written' (Why.WriteFault n))
+          → SkipsAndStops (profile_of q) text is_good (taking left left'' x) (putting held held'' y) (reporting old next) (error_at before refused good_ones offset written' (SkippingErrorKind.WriteFault n))
       halts_writing is piece n written' lt sum p w fewer broken k =
-          halts before written' (Why.WriteFault n) refl k (omega (arith, sum, r.size)) (
+          halts before written' (SkippingErrorKind.WriteFault n) refl k (omega (arith, sum, r.size)) (
             lt,
-            subst (λ (i : Position). BreaksWithinIn (profile_of q) (text i) (taking left' left'' x) (putting held' held'' y) n) (sym r.next)
+            subst (λ (i : MessagePlace). BreaksWithinIn (profile_of q) (text i) (taking left' left'' x) (putting held' held'' y) n) (sym r.next)
                 (record { message = spelling p.2.apdu p.0; spells = p.2.spells; taken = p.1; written = w; fewer = fewer; broken = broken }),
           )
 
       -- after the last message that an input may have an octet was taken, or the source broke
-      pub halts_at_last : (n : ℕ) (why : Why) → n ≡ before → n ≡ 1_000_000 → held' ≡ held'' → new ≡ next → GoesOn left' left'' x why
-          → HaltsAfter (profile_of q) text is_good (taking left left'' x) (putting held held'' y) (reporting old next) (halted_at n refused good_ones offset written why)
-      halts_at_last n Why.TooMany same last h k e =
-          halts n written Why.TooMany same k (omega (arith, r.size)) (last, e, subst (λ (z : Option (List ℕ)). Keeps held' z) h (Keeps-refl held'))
-      halts_at_last n Why.ReadFault same last h k e =
+      pub halts_at_last : (n : ℕ) (why : SkippingErrorKind) → n ≡ before → n ≡ 1_000_000 → held' ≡ held'' → new ≡ next → GoesOn left' left'' x why
+          → SkipsAndStops (profile_of q) text is_good (taking left left'' x) (putting held held'' y) (reporting old next) (error_at n refused good_ones offset written why)
+      halts_at_last n SkippingErrorKind.TooMany same last h k e =
+          halts n written SkippingErrorKind.TooMany same k (omega (arith, r.size)) (last, e, subst (λ (z : Option (List ℕ)). Keeps held' z) h (Keeps-refl held'))
+      halts_at_last n SkippingErrorKind.ReadFault same last h k e =
           let none = Consumes-kept left' left' left'' [] (Consumes-nil left') e.1 in
-          halts n written Why.ReadFault same k (omega (arith, r.size))
+          halts n written SkippingErrorKind.ReadFault same k (omega (arith, r.size))
           (omega (arith, last), e.0, (([], none, λ a i accepted. accepts_some (profile_of q) [] a i refl accepted), λ full. e.1), subst (λ (z : Option (List ℕ)). Keeps held' z) h (Keeps-refl held'))
-      halts_at_last n Why.OutOfMemory same last h k e = absurd e
-      halts_at_last n (Why.WriteFault i) same last h k e = absurd e
+      halts_at_last n SkippingErrorKind.OutOfMemory same last h k e = absurd e
+      halts_at_last n (SkippingErrorKind.WriteFault i) same last h k e = absurd e
 
   -- no more are refused or good than were gone through
-  pub halted_sum : (text : Position → Spelling → List ℕ) (is_good : Spelling → Bool) (source : Taking) (sink : Putting) (reports : Reporting) (halted : Halted)
-      → HaltsAfter (profile_of q) text is_good source sink reports halted → halted.refused + halted.good ≤ halted.messages
+  pub halted_sum : (text : MessagePlace → Spelling → List ℕ) (is_good : Spelling → Bool) (source : Taking) (sink : Putting) (reports : Reporting) (halted : SkippingError)
+      → SkipsAndStops (profile_of q) text is_good source sink reports halted → halted.refused + halted.good ≤ halted.messages
   halted_sum text is_good source sink reports halted h = omega (arith, h.messages, h.refused, h.good, sum_bound is_good 1 h.items)

@@ -12,9 +12,9 @@ use std::alloc::Global;
 use std::{fmt, io};
 use thiserror::Error;
 
-/// Why the program has not done what its words say. Each is printed as one line.
+/// An error that ends the work on a file, or all work. Each is printed as one line.
 #[derive(Debug, Drop, Error)]
-pub enum Fault {
+pub enum ProgramError {
     /// The words give no order.
     #[error("{0}")]
     Line(LineFault),
@@ -44,64 +44,64 @@ pub enum Fault {
     Closed,
 }
 
-impl Fault {
+impl ProgramError {
     /// Memory ran out outside a job.
-    pub fn out_of_memory() -> Fault {
-        Fault::from(RunFault::OutOfMemory)
+    pub fn out_of_memory() -> ProgramError {
+        ProgramError::from(RunFault::OutOfMemory)
     }
 
     /// The end of the output could not be written, for this reason.
-    pub fn of_output(error: &io::Error) -> Fault {
+    pub fn of_output(error: &io::Error) -> ProgramError {
         match error.kind() {
-            io::ErrorKind::BrokenPipe => Fault::Closed,
-            _ => Fault::Flush,
+            io::ErrorKind::BrokenPipe => ProgramError::Closed,
+            _ => ProgramError::Flush,
         }
     }
 
     /// There is no file of this name to be read or written.
-    pub fn cannot_open(alloc: Global, name: &str) -> Fault {
+    pub fn cannot_open(alloc: Global, name: &str) -> ProgramError {
         match Name::of(alloc, name) {
-            Ok(name) => Fault::CannotOpen(name),
-            Err(_) => Fault::out_of_memory(),
+            Ok(name) => ProgramError::CannotOpen(name),
+            Err(_) => ProgramError::out_of_memory(),
         }
     }
 
     /// A new file can't be given this name.
-    pub fn cannot_replace(alloc: Global, name: &str) -> Fault {
+    pub fn cannot_replace(alloc: Global, name: &str) -> ProgramError {
         match Name::of(alloc, name) {
-            Ok(name) => Fault::CannotReplace(name),
-            Err(_) => Fault::out_of_memory(),
+            Ok(name) => ProgramError::CannotReplace(name),
+            Err(_) => ProgramError::out_of_memory(),
         }
     }
 
     /// All names for a new file beside the one of this name are taken.
-    pub fn names_are_taken(alloc: Global, name: &str) -> Fault {
+    pub fn names_are_taken(alloc: Global, name: &str) -> ProgramError {
         match Name::of(alloc, name) {
-            Ok(name) => Fault::NamesAreTaken(name),
-            Err(_) => Fault::out_of_memory(),
+            Ok(name) => ProgramError::NamesAreTaken(name),
+            Err(_) => ProgramError::out_of_memory(),
         }
     }
 }
 
-impl From<LineFault> for Fault {
+impl From<LineFault> for ProgramError {
     ghost use Rattle.std.specs.Prelude.{◌≡◌};
-    ghost use Rattle.ill_files.specs.declared.fault.Fault.{Fault};
+    ghost use Rattle.ill_files.specs.declared.error.ProgramError.{ProgramError};
 
-    ghost from_gives = { λ fault result. result ≡ Fault.Line fault };
+    ghost from_gives = { λ fault result. result ≡ ProgramError.Line fault };
 
-    fn from(fault: LineFault) -> Fault {
-        Fault::Line(fault)
+    fn from(fault: LineFault) -> ProgramError {
+        ProgramError::Line(fault)
     }
 }
 
-impl From<RunFault> for Fault {
+impl From<RunFault> for ProgramError {
     ghost use Rattle.std.specs.Prelude.{◌≡◌};
-    ghost use Rattle.ill_files.specs.declared.fault.Fault.{Fault};
+    ghost use Rattle.ill_files.specs.declared.error.ProgramError.{ProgramError};
 
-    ghost from_gives = { λ fault result. result ≡ Fault.Run (record { 0 = fault }) };
+    ghost from_gives = { λ fault result. result ≡ ProgramError.Run (record { 0 = fault }) };
 
-    fn from(fault: RunFault) -> Fault {
-        Fault::Run(RunLine(fault))
+    fn from(fault: RunFault) -> ProgramError {
+        ProgramError::Run(RunLine(fault))
     }
 }
 
@@ -163,21 +163,21 @@ fn write_part<W: fmt::Write>(f: &mut fmt::Formatter<W>, cause: &str, part: PartI
 
 /// The exit status: 0 where all is well, or help was asked for; 1 for what is wrong with the messages; 2 for the command
 /// line; 3 for memory, files and pipes.
-pub fn status_of(done: &Result<Verdict, Fault>) -> u8
+pub fn status_of(done: &Result<Verdict, ProgramError>) -> u8
     ensures { result ≡ status_is done.now }
 {
     match done {
         Ok(Verdict::Good) => 0,
         Ok(Verdict::NotGood) => 1,
-        Err(Fault::Line(LineFault::Line(error))) => line_status(error),
-        Err(Fault::Line(_) | Fault::HiddenCharacters | Fault::SameFile) => 2,
-        Err(Fault::Run(RunLine(fault))) => run_status(fault),
+        Err(ProgramError::Line(LineFault::Line(error))) => line_status(error),
+        Err(ProgramError::Line(_) | ProgramError::HiddenCharacters | ProgramError::SameFile) => 2,
+        Err(ProgramError::Run(RunLine(fault))) => run_status(fault),
         Err(
-            Fault::CannotOpen(_)
-            | Fault::CannotReplace(_)
-            | Fault::NamesAreTaken(_)
-            | Fault::Flush
-            | Fault::Closed,
+            ProgramError::CannotOpen(_)
+            | ProgramError::CannotReplace(_)
+            | ProgramError::NamesAreTaken(_)
+            | ProgramError::Flush
+            | ProgramError::Closed,
         ) => 3,
     }
 }
@@ -206,55 +206,63 @@ fn line_status(error: &LineError) -> u8
 }
 
 /// Whether some of the output was not written.
-pub fn is_output_lost(done: &Result<Verdict, Fault>) -> bool
+pub fn is_output_lost(done: &Result<Verdict, ProgramError>) -> bool
     ensures { result ≡ is_output_lost done.now }
 {
     matches!(
         done,
-        Err(Fault::Flush | Fault::Closed | Fault::Run(RunLine(RunFault::WriteFault(_))))
+        Err(
+            ProgramError::Flush
+                | ProgramError::Closed
+                | ProgramError::Run(RunLine(RunFault::WriteFault(_)))
+        )
     )
 }
 
 /// Whether an output that is a file stays as it was: some of the output was not written, the input could not be read, or memory ran out.
-/// Where it is replaced only as a `whole`, it stays as it was after any fault, and where a message is refused.
-pub fn keeps_output(whole: bool, done: &Result<Verdict, Fault>) -> bool
+/// Where it is replaced only as a `whole`, it stays as it was after any error, and where a message is refused.
+pub fn keeps_output(whole: bool, done: &Result<Verdict, ProgramError>) -> bool
     ensures { result ≡ keeps_output whole done.now }
 {
     match done {
         Ok(Verdict::Good) => false,
         Ok(Verdict::NotGood) => whole,
-        Err(fault) => whole || loses_output(fault),
+        Err(error) => whole || loses_output(error),
     }
 }
 
-fn loses_output(fault: &Fault) -> bool
-    ensures { result ≡ loses_output fault.now }
+fn loses_output(error: &ProgramError) -> bool
+    ensures { result ≡ loses_output error.now }
 {
     matches!(
-        fault,
-        Fault::Flush
-            | Fault::Closed
-            | Fault::Run(RunLine(
+        error,
+        ProgramError::Flush
+            | ProgramError::Closed
+            | ProgramError::Run(RunLine(
                 RunFault::OutOfMemory | RunFault::ReadFault | RunFault::WriteFault(_)
             ))
     )
 }
 
-/// Prints the fault of one of several files as one line, which names the file.
-pub fn print_fault_of<R: Print + Eprint>(rt: &R, name: &[u8], fault: &Fault) -> io::Result<()> {
-    match fault {
-        Fault::CannotOpen(_) | Fault::Closed => print_fault(rt, fault),
-        _ => eprintln!(rt; "illcanon: {}: {fault}", NameOf(name)),
+/// Prints the error of one of several files as one line, which names the file.
+pub fn print_error_of<R: Print + Eprint>(
+    rt: &R,
+    name: &[u8],
+    error: &ProgramError,
+) -> io::Result<()> {
+    match error {
+        ProgramError::CannotOpen(_) | ProgramError::Closed => print_error(rt, error),
+        _ => eprintln!(rt; "illcanon: {}: {error}", NameOf(name)),
     }
 }
 
-/// Prints clap's text as it is, and any other fault as one line on standard error.
-pub fn print_fault<R: Print + Eprint>(rt: &R, fault: &Fault) -> io::Result<()> {
-    match fault {
-        Fault::Line(
+/// Prints clap's text as it is, and any other error as one line on standard error.
+pub fn print_error<R: Print + Eprint>(rt: &R, error: &ProgramError) -> io::Result<()> {
+    match error {
+        ProgramError::Line(
             LineFault::Line(error) | LineFault::Missing(error) | LineFault::Unexpected(error),
         ) => error.print(rt),
-        Fault::Closed => Ok(()),
-        _ => eprintln!(rt; "illcanon: {fault}"),
+        ProgramError::Closed => Ok(()),
+        _ => eprintln!(rt; "illcanon: {error}"),
     }
 }

@@ -2,11 +2,11 @@
 use Rattle.std.specs.Prelude.{ℕ, ◌≤◌, List, length, Option}
 use Rattle.std.specs.Io.KnownBytes.{Consumes}
 use Rattle.ill_jobs.specs.declared.fault.RunFault.{RunFault}
-use Rattle.ill_jobs.specs.declared.text.Unread.{Unread}
+use Rattle.ill_jobs.specs.declared.text.ReadError.{ReadError}
 
-abbrev pub unread_fault : Unread → RunFault
-unread_fault Unread.OutOfMemory = RunFault.OutOfMemory
-unread_fault Unread.Broken = RunFault.ReadFault
+abbrev pub unread_fault : ReadError → RunFault
+unread_fault ReadError.OutOfMemory = RunFault.OutOfMemory
+unread_fault ReadError.Broken = RunFault.ReadFault
 
 -- of what was left, at most n octets were taken, the first ones
 abbrev pub TakesAtMost : ℕ → Option (List ℕ) → Option (List ℕ) → Type 0

@@ -1,7 +1,7 @@
 use Rattle.std.proofs.Common.{◌+◌, refl, arith}
 use Rattle.ill_normal.specs.Messages.{position}
 use Rattle.ill_normal.proofs.WrittenMessages.{ends_at_last, ends_reading, ends_writing, made_bound, one_bound, passes_all, reached_more, reached_none}
-use Rattle.ill_normal.proofs.messages.each_message.Goals as goal
+use Rattle.ill_normal.proofs.messages.for_each_message.Goals as goal
 
 pub returns-in-Ok-None-clause-passes : goal.returns-in-Ok-None-clause-passes
 returns-in-Ok-None-clause-passes g c =
@@ -23,7 +23,7 @@ loop-whole-preserved g c =
     let made = next.message in
     let all = c.in-Ok.ensures.all _ made.2.text in
     let count = c.in-Ok.ensures.count _ made.2.text in
-    let most = made_bound _ _ (g.M.Maker.text c.args.maker.now) (g.M.Maker.is_good c.args.maker.now) (position (c.loop-whole.whole + 1) c.loop-whole.before) _ _ c.in-Ok-Some.piece made in
+    let most = made_bound _ _ (g.M.Render.text c.args.maker.now) (g.M.Render.is_good c.args.maker.now) (position (c.loop-whole.whole + 1) c.loop-whole.before) _ _ c.in-Ok-Some.piece made in
     let more = reached_more _ _ _ _ _ _ _ _ _ _ _ _ _ c.loop-whole.invariant.reached _ c.in-Ok-Some.piece made c.in-Ok.count (omega (arith, c.loop-whole.invariant.before, most, c.loop-whole-test.true)) count.0 all in
     record {
       reached = rw (c.from-good.ensures, c.from-before.ensures) more;

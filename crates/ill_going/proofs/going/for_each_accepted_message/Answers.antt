@@ -5,11 +5,11 @@ use Rattle.ill_schema.specs.Profiles.{profile_of}
 use Rattle.ill_normal.specs.Messages.{counted, position}
 use Rattle.ill_normal.proofs.WrittenMessages.{one_bound}
 use Rattle.ill_going.specs.Items.{report, Adds}
-use Rattle.ill_going.specs.Gone.{HasNoEnd}
+use Rattle.ill_going.specs.Skipping.{HasNoEnd}
 use Rattle.ill_going.specs.code.Taking.{IsNext}
-use Rattle.ill_going.proofs.GoneMessages.{reached_none, reached_good, reached_bad, through_end, through_lost, halts_unread, halts_writing, halts_at_last}
-use Rattle.ill_going.proofs.going.keep_going.Goals as goal
-use Rattle.ill_going.proofs.going.keep_going.Goals.{in-Read+in-Ok, in-Refused+in-Some}
+use Rattle.ill_going.proofs.SkippedMessages.{reached_none, reached_good, reached_bad, through_end, through_lost, halts_unread, halts_writing, halts_at_last}
+use Rattle.ill_going.proofs.going.for_each_accepted_message.Goals as goal
+use Rattle.ill_going.proofs.going.for_each_accepted_message.Goals.{in-Read+in-Ok, in-Refused+in-Some}
 
 pub loop-before-init : goal.loop-before-init
 loop-before-init g c = record {
@@ -23,61 +23,61 @@ loop-before-init g c = record {
 pub returns-in-Ok-None-clause-through : goal.returns-in-Ok-None-clause-through
 returns-in-Ok-None-clause-through g c =
     let end = rw c.in-Ok-None.field-0-is at c.in-Ok-None.ensures.next in
-    rw c.gone_to.ensures
-    (through_end _ _ _ _ _ _ _ (g.W.Sink.contents c.loop-before.sink) _ _ _ (g.T.Reports.reported c.loop-before.reports) _ _ _ _ _ c.loop-before.invariant.reached _ _ _
+    rw c.counts_of.ensures
+    (through_end _ _ _ _ _ _ _ (g.W.Sink.contents c.loop-before.sink) _ _ _ (g.T.ReportRefusals.reported c.loop-before.reports) _ _ _ _ _ c.loop-before.invariant.reached _ _ _
     refl (omega arith) end.0 end.1 refl refl)
 
 pub returns-in-Err-clause-halts : goal.returns-in-Err-clause-halts
 returns-in-Err-clause-halts g c =
-    rw (c.halted_at.ensures, c.why-why.ensures)
-    (halts_unread _ _ _ _ _ _ _ (g.W.Sink.contents c.loop-before.sink) _ _ _ (g.T.Reports.reported c.loop-before.reports) _ _ _ _ _ c.loop-before.invariant.reached _ _ c.in-Err.unread
+    rw (c.error_at.ensures, c.why-why.ensures)
+    (halts_unread _ _ _ _ _ _ _ (g.W.Sink.contents c.loop-before.sink) _ _ _ (g.T.ReportRefusals.reported c.loop-before.reports) _ _ _ _ _ c.loop-before.invariant.reached _ _ c.in-Err.unread
     c.loop-before-test.true refl refl c.in-Err.ensures.broken)
 
 pub returns-in-Err-put-clause-halts : goal.returns-in-Err-put-clause-halts
 returns-in-Err-put-clause-halts g c =
-    let text = g.M.Maker.text c.args.maker.now in
-    let is_good = g.M.Maker.is_good c.args.maker.now in
+    let text = g.M.Render.text c.args.maker.now in
+    let is_good = g.M.Render.is_good c.args.maker.now in
     let here = position (c.loop-before.before + 1) c.loop-before.offset in
     let n = rw c.in-Ok-Some.field-0-is at c.in-Ok-Some.ensures.next in
-    let made = subst (IsNext (profile_of (g.M.Maker.profile c.args.maker.now)) g.M.Out.Output.is (text here) is_good (g.R.Source.left c.loop-before.source) (g.R.Source.left c.next_message.new.source)) c.in-Read.is n in
+    let made = subst (IsNext (profile_of (g.M.Render.profile c.args.maker.now)) g.M.Out.Rendered.is (text here) is_good (g.R.Source.left c.loop-before.source) (g.R.Source.left c.next_message.new.source)) c.in-Read.is n in
     let some = c.in-Err-put.ensures.some _ made.2.text in
     let fewer = c.in-Err-put.ensures.fewer _ made.2.text in
     let broken = c.in-Err-put.ensures.breaks _ made.2.text refl in
-    rw c.halted_at-in-Err-put.ensures
-    (halts_writing _ _ _ _ _ _ _ _ _ _ _ (g.T.Reports.reported c.loop-before.reports) _ _ _ _ _ c.loop-before.invariant.reached _ _ _ c.in-Read.piece c.in-Err-put.count _
+    rw c.error_at-in-Err-put.ensures
+    (halts_writing _ _ _ _ _ _ _ _ _ _ _ (g.T.ReportRefusals.reported c.loop-before.reports) _ _ _ _ _ c.loop-before.invariant.reached _ _ _ c.in-Read.piece c.in-Err-put.count _
     c.loop-before-test.true refl made some fewer broken refl)
 
 pub returns-in_default-clause-through : goal.returns-in_default-clause-through
 returns-in_default-clause-through g c =
-    let text = g.M.Maker.text c.args.maker.now in
-    let is_good = g.M.Maker.is_good c.args.maker.now in
+    let text = g.M.Render.text c.args.maker.now in
+    let is_good = g.M.Render.is_good c.args.maker.now in
     let left = g.R.Source.left c.loop-before.source in
     let left' = g.R.Source.left c.next_message.new.source in
-    let reported = g.T.Reports.reported c.loop-before.reports in
-    let reported' = g.T.Reports.reported c.report-in-Refused.new.self in
+    let reported = g.T.ReportRefusals.reported c.loop-before.reports in
+    let reported' = g.T.ReportRefusals.reported c.report-in-Refused.new.self in
     let here = position (c.loop-before.before + 1) c.loop-before.offset in
     let n = rw c.in-Ok-Some.field-0-is at c.in-Ok-Some.ensures.next in
-    let bad = subst (IsNext (profile_of (g.M.Maker.profile c.args.maker.now)) g.M.Out.Output.is (text here) is_good left left') c.in-Refused.is n in
+    let bad = subst (IsNext (profile_of (g.M.Render.profile c.args.maker.now)) g.M.Out.Rendered.is (text here) is_good left left') c.in-Refused.is n in
     let no_end = subst (λ (e : Option ℕ). MatchOption e (HasNoEnd bad.0 left') (λ n. IsFrame bad.0 × (n ≡ counted (length bad.0)))) c.in_default.is bad.3 in
     let is_report = c.report.ensures ∙ ap (λ (e : Option ℕ). report (c.loop-before.before + 1) c.in-Refused.refusal (is_some e)) c.in_default.is in
     let adds = subst (λ r. Adds reported reported' (r ∷ [])) is_report c.report-in-Refused.ensures in
-    rw c.gone_to-in_default.ensures
+    rw c.counts_of-in_default.ensures
     (through_lost _ _ _ _ _ _ _ (g.W.Sink.contents c.loop-before.sink) _ _ _ reported' _ _ _ _ _ c.loop-before.invariant.reached _ _ bad.0 c.in-Refused.refusal c.loop-before-test.true bad.1 bad.2 no_end refl adds)
 
 pub loop-before-preserved : goal.loop-before-preserved
 loop-before-preserved g c =
-    let text = g.M.Maker.text c.args.maker.now in
-    let is_good = g.M.Maker.is_good c.args.maker.now in
+    let text = g.M.Render.text c.args.maker.now in
+    let is_good = g.M.Render.is_good c.args.maker.now in
     let left = g.R.Source.left c.loop-before.source in
     let left' = g.R.Source.left c.next_message.new.source in
-    let reported = g.T.Reports.reported c.loop-before.reports in
+    let reported = g.T.ReportRefusals.reported c.loop-before.reports in
     let here = position (c.loop-before.before + 1) c.loop-before.offset in
     let n = rw c.in-Ok-Some.field-0-is at c.in-Ok-Some.ensures.next in
     let is = c.loop-before.invariant in
     let stays : IsTrue (g.R.Source.is_broken c.args.source.now) → IsTrue (g.R.Source.is_broken c.next_message.new.source) = λ h. c.in-Ok-Some.ensures.stays (is.source_stays h) in
     elim c.match-next.branch [
       | in-Read+in-Ok w ↦
-          let made = subst (IsNext (profile_of (g.M.Maker.profile c.args.maker.now)) g.M.Out.Output.is (text here) is_good left left') w.in-Read.is n in
+          let made = subst (IsNext (profile_of (g.M.Render.profile c.args.maker.now)) g.M.Out.Rendered.is (text here) is_good left left') w.in-Read.is n in
           let all = w.in-Ok.ensures.all _ made.2.text in
           let count = w.in-Ok.ensures.count _ made.2.text in
           let more = reached_good _ _ _ _ _ _ _ _ _ _ _ reported _ _ _ _ _ is.reached _ w.in-Read.piece made w.in-Ok.count count.0 all refl in
@@ -89,10 +89,10 @@ loop-before-preserved g c =
             sink_stays = λ h. rw w.sink-is (w.in-Ok.ensures.stays (is.sink_stays h));
           }
       | in-Refused+in-Some w ↦
-          let bad = subst (IsNext (profile_of (g.M.Maker.profile c.args.maker.now)) g.M.Out.Output.is (text here) is_good left left') w.in-Refused.is n in
+          let bad = subst (IsNext (profile_of (g.M.Render.profile c.args.maker.now)) g.M.Out.Rendered.is (text here) is_good left left') w.in-Refused.is n in
           let end = subst (λ (e : Option ℕ). MatchOption e (HasNoEnd bad.0 left') (λ n. IsFrame bad.0 × (n ≡ counted (length bad.0)))) w.in-Some.is bad.3 in
           let is_report = w.report.ensures ∙ ap (λ (e : Option ℕ). report (c.loop-before.before + 1) w.in-Refused.refusal (is_some e)) w.in-Some.is in
-          let adds = subst (λ r. Adds reported (g.T.Reports.reported w.report-in-Refused.new.self) (r ∷ [])) is_report w.report-in-Refused.ensures in
+          let adds = subst (λ r. Adds reported (g.T.ReportRefusals.reported w.report-in-Refused.new.self) (r ∷ [])) is_report w.report-in-Refused.ensures in
           let more = reached_bad _ _ _ _ _ _ _ (g.W.Sink.contents c.loop-before.sink) _ _ _ _ _ _ _ _ _ is.reached bad.0 w.in-Refused.refusal w.in-Some.octets end.1 bad.1 bad.2 end.0 refl adds in
           record {
             reached = rw (w.sink-is, w.reports-is, w.refused-is, w.written-is, w.good-is, w.offset-is, w.saturating_add-offset-in-Refused.ensures) more;
@@ -106,12 +106,12 @@ loop-before-preserved g c =
 pub returns-in-Ok-end_of_input-clause-through : goal.returns-in-Ok-end_of_input-clause-through
 returns-in-Ok-end_of_input-clause-through g c =
     let end = c.in-Ok-end_of_input.ensures.end in
-    rw c.gone_to-in-Ok-end_of_input.ensures
-    (through_end _ _ _ _ _ _ _ (g.W.Sink.contents c.loop-before.sink) _ _ _ (g.T.Reports.reported c.loop-before.reports) _ _ _ _ _ c.loop-before.invariant.reached _ _ 1_000_000
+    rw c.counts_of-in-Ok-end_of_input.ensures
+    (through_end _ _ _ _ _ _ _ (g.W.Sink.contents c.loop-before.sink) _ _ _ (g.T.ReportRefusals.reported c.loop-before.reports) _ _ _ _ _ c.loop-before.invariant.reached _ _ 1_000_000
     (omega arith) (omega arith) end.0 end.1 refl refl)
 
 pub returns-clause-halts : goal.returns-clause-halts
 returns-clause-halts g c =
-    rw c.halted_at-in-Err-end_of_input.ensures
-    (halts_at_last _ _ _ _ _ _ _ (g.W.Sink.contents c.loop-before.sink) _ _ _ (g.T.Reports.reported c.loop-before.reports) _ _ _ _ _ c.loop-before.invariant.reached _ _ 1_000_000 c.in-Err-end_of_input.why
+    rw c.error_at-in-Err-end_of_input.ensures
+    (halts_at_last _ _ _ _ _ _ _ (g.W.Sink.contents c.loop-before.sink) _ _ _ (g.T.ReportRefusals.reported c.loop-before.reports) _ _ _ _ _ c.loop-before.invariant.reached _ _ 1_000_000 c.in-Err-end_of_input.why
     (omega arith) refl refl refl c.in-Err-end_of_input.ensures.more)

@@ -1,7 +1,7 @@
 use Rattle.std.proofs.Common.{◌≡◌, ◌∙◌, true, false, sym, subst, rules}
-use Rattle.ill_jobs.specs.Ran.{TextOf}
+use Rattle.ill_jobs.specs.Runs.{TextOf}
 use Rattle.ill_jobs.proofs.TextAnswers.{plain_does, plain_refuses, plain_more, text_does, text_refuses, text_more}
-use Rattle.ill_jobs.proofs.messages.run_by.Goals as goal
+use Rattle.ill_jobs.proofs.messages.run_counting.Goals as goal
 
 pub returns-then-not-work-clause-does : goal.returns-then-not-work-clause-does
 returns-then-not-work-clause-does g c =

@@ -1,5 +1,5 @@
 use Rattle.ill_going.proofs.OneWay.{good_written}
-use Rattle.ill_going.proofs.laws.good_ones_are_written.Goals as goal
+use Rattle.ill_going.proofs.laws.accepted_messages_are_written.Goals as goal
 
 pub returns : goal.returns
 returns c = λ text i items same. good_written text same i items

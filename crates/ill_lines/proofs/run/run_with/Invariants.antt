@@ -1,7 +1,7 @@
 use Rattle.std.proofs.Common.{List, ℕ, IsTrue}
 use Rattle.std.specs.Io.KnownBytes.{Consumes}
 use Rattle.ill_lines.specs.code.After.{HasWritten}
-use Rattle.ill_lines.proofs.run.run_work.Given as goal
+use Rattle.ill_lines.proofs.run.run_with.Given as goal
 
 abbrev pub invariant-loop : goal.invariant-loop
 invariant-loop g l = record {

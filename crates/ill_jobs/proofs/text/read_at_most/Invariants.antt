@@ -1,6 +1,6 @@
 use Rattle.std.proofs.Common.{◌-◌, ◌≤◌, IsTrue, length}
 use Rattle.std.specs.Io.KnownBytes.{Consumes}
-use Rattle.ill_jobs.proofs.text.read_most.Given as goal
+use Rattle.ill_jobs.proofs.text.read_at_most.Given as goal
 
 abbrev pub invariant-loop-buffer : goal.invariant-loop-buffer
 invariant-loop-buffer g l = record {

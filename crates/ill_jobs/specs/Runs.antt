@@ -13,20 +13,20 @@ use Rattle.ill_normal.specs.Calls.{Taking, taking, Putting, putting}
 use Rattle.ill_jobs.specs.declared.job.Counts.{Counts}
 use Rattle.ill_jobs.specs.declared.job.Job.{Job}
 use Rattle.ill_jobs.specs.declared.job.Verdict.{Verdict}
-use Rattle.ill_jobs.specs.declared.job.Work.{Work}
+use Rattle.ill_jobs.specs.declared.job.JobOptions.{JobOptions}
 use Rattle.ill_jobs.specs.declared.fault.RunFault.{RunFault}
 use Rattle.ill_normal.specs.Messages.{Spelling, AreSpelledIn, TakesNoFurtherIn}
 use Rattle.ill_normal.specs.Messages as messages
 use Rattle.ill_jobs.specs.Output.{counts_of, message_output, output, verdict_of}
 use Rattle.ill_jobs.specs.Hexadecimal.{hex_octets, TakesText}
-use Rattle.ill_jobs.specs.Unread.{TakesAtMost}
+use Rattle.ill_jobs.specs.ReadErrors.{TakesAtMost}
 
 -- the octets that were taken are these messages, and their output was written
-abbrev pub Writes : Work → Option (List ℕ) → Option (List ℕ) → Option (List ℕ) → Option (List ℕ) → List Spelling → Type 0
+abbrev pub Writes : JobOptions → Option (List ℕ) → Option (List ℕ) → Option (List ℕ) → Option (List ℕ) → List Spelling → Type 0
 Writes work left left' held held' ms = messages.WritesIn (profile_of work.profile) (message_output work) left left' held held' ms
 
 -- where a sink broke: of the output, with that of one message more, the first n octets were written
-pub record BrokeAt (work : Work) (left left' held held' : Option (List ℕ)) (messages : List Spelling) (n : ℕ) : Type 0 where
+pub record BrokeAt (work : JobOptions) (left left' held held' : Option (List ℕ)) (messages : List Spelling) (n : ℕ) : Type 0 where
   pub message : Spelling
   pub spells : SpellsApdu (profile_of work.profile) message.apdu message.octets
   pub taken : Consumes left left' message.octets
@@ -35,7 +35,7 @@ pub record BrokeAt (work : Work) (left left' held held' : Option (List ℕ)) (me
   pub not_all : n < length (output work (messages ++ message ∷ []))
 
 -- why a job stopped after these messages, from where its source and its sink stood then; `first` is what the sink held before all of them
-abbrev pub Stops : Work → Taking → Putting → Option (List ℕ) → List Spelling → RunFault → Type 0
+abbrev pub Stops : JobOptions → Taking → Putting → Option (List ℕ) → List Spelling → RunFault → Type 0
 Stops work source sink first ms (RunFault.Refused message refusal) =
     (message ≡ length ms + 1) × (length ms < 1_000_000)
     × IfSome source.left (λ s. (0 < length s) × OnlyRefuses (profile_of work.profile) s (fault_of refusal)) × Keeps sink.held sink.held'
@@ -55,7 +55,7 @@ fault_at i ReadFailure.OutOfMemory = RunFault.OutOfMemory
 fault_at i ReadFailure.ReadFault = RunFault.ReadFault
 
 -- the messages before the fault, and why the job went no further; of what follows them no more was taken than a message may have
-pub record StopsAfter (work : Work) (source : Taking) (sink : Putting) (counts : Counts) (fault : RunFault) : Type 0 where
+pub record StopsAfter (work : JobOptions) (source : Taking) (sink : Putting) (counts : Counts) (fault : RunFault) : Type 0 where
   pub messages : List Spelling
   pub rest : Option (List ℕ)
   pub grown : Option (List ℕ)
@@ -65,7 +65,7 @@ pub record StopsAfter (work : Work) (source : Taking) (sink : Putting) (counts :
   pub stops : Stops work (taking rest source.left' source.broken) (putting grown sink.held' sink.broken) sink.held messages fault
 
 -- the job was done: the octets are messages to their end, at most 1,000,000
-pub record Done (work : Work) (left left' held held' : Option (List ℕ)) (counts : Counts) (verdict : Verdict) : Type 0 where
+pub record Done (work : JobOptions) (left left' held held' : Option (List ℕ)) (counts : Counts) (verdict : Verdict) : Type 0 where
   pub messages : List Spelling
   pub writes : Writes work left left' held held' messages
   pub counted : counts ≡ counts_of work writes.octets messages
@@ -96,19 +96,19 @@ abbrev pub FailsText : Option (List ℕ) → Option (List ℕ) → Bool → RunF
 FailsText left left' source_broken fault = NoHex left left' fault ⊎ IsUnread 4_194_305 left left' source_broken fault
 
 -- the same of an input that is read as octets, or as hexadecimal text
-abbrev pub RunDone : Bool → Work → Option (List ℕ) → Option (List ℕ) → Option (List ℕ) → Option (List ℕ) → Counts → Verdict → Type 0
+abbrev pub RunDone : Bool → JobOptions → Option (List ℕ) → Option (List ℕ) → Option (List ℕ) → Option (List ℕ) → Counts → Verdict → Type 0
 RunDone false work left left' held held' counts verdict = Done work left left' held held' counts verdict
 RunDone true work left left' held held' counts verdict =
     (octets : List ℕ) × TextOf left left' octets × ((rest : List ℕ) × Done work (Some octets) (Some rest) held held' counts verdict)
 
-abbrev pub RunFails : Bool → Work → Taking → Putting → Counts → RunFault → Type 0
+abbrev pub RunFails : Bool → JobOptions → Taking → Putting → Counts → RunFault → Type 0
 RunFails false work source sink counts fault = StopsAfter work source sink counts fault
 RunFails true work source sink counts fault =
     (FailsText source.left source.left' source.broken fault × Keeps sink.held sink.held' × (counts ≡ counts_of work [] []))
     ⊎ ((octets : List ℕ) × TextOf source.left source.left' octets × ((rest : List ℕ) × StopsAfter work (taking (Some octets) (Some rest) false) sink counts fault))
 
 -- the work of a job on an input that no line names, of messages of the profile
-pub record IsUnnamed (q : Named) (job : Job) (hex : Bool) (work : Work) : Type 0 where
+pub record IsUnnamed (q : Named) (job : Job) (hex : Bool) (work : JobOptions) : Type 0 where
   pub profile : work.profile ≡ q
   pub same_job : work.job ≡ job
   pub same_hex : work.hex ≡ hex
@@ -118,14 +118,14 @@ pub record IsUnnamed (q : Named) (job : Job) (hex : Bool) (work : Work) : Type 0
 
 -- a job was done on an input that no line names
 pub record JobDone (q : Named) (job : Job) (hex : Bool) (source : Taking) (sink : Putting) (verdict : Verdict) : Type 0 where
-  pub work : Work
+  pub work : JobOptions
   pub unnamed : IsUnnamed q job hex work
   pub counts : Counts
   pub done : RunDone hex work source.left source.left' sink.held sink.held' counts verdict
 
 -- it was not
 pub record JobFails (q : Named) (job : Job) (hex : Bool) (source : Taking) (sink : Putting) (fault : RunFault) : Type 0 where
-  pub work : Work
+  pub work : JobOptions
   pub unnamed : IsUnnamed q job hex work
   pub counts : Counts
   pub fails : RunFails hex work source sink counts fault

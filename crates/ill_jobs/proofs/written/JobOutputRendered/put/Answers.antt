@@ -1,6 +1,6 @@
 use Rattle.std.proofs.Common.{sym, subst}
 use Rattle.ill_jobs.specs.code.Writing.{IsShown, IsWritten}
-use Rattle.ill_jobs.proofs.written.WrittenOutput.put.Goals as goal
+use Rattle.ill_jobs.proofs.written.JobOutputRendered.put.Goals as goal
 
 pub returns-in-Shown-clause-some : goal.returns-in-Shown-clause-some
 returns-in-Shown-clause-some g c octets h =

@@ -6,23 +6,23 @@ use Rattle.ber_leaf.specs.Profile.{Profile}
 use Rattle.ill_schema.specs.declared.refusal.Refusal.{Refusal}
 use Rattle.ill_normal.specs.Calls.{Taking, taking, Putting, putting}
 use Rattle.ill_normal.specs.Messages.{Spelling, counted, first, BreaksWithinIn, TakesNoFurtherIn}
-use Rattle.ill_normal.specs.declared.messages.Position.{Position}
+use Rattle.ill_normal.specs.declared.messages.MessagePlace.{MessagePlace}
 use Rattle.ill_going.specs.Items.{Item, AreItems, IsRefusedFor, position_past, written_from, report, reports_from, good_in, all_good, Adds}
-use Rattle.ill_going.specs.declared.report.Report.{Report}
-use Rattle.ill_going.specs.declared.going.Gone.{Gone}
-use Rattle.ill_going.specs.declared.going.Halted.{Halted}
-use Rattle.ill_going.specs.declared.going.Why.{Why}
+use Rattle.ill_going.specs.declared.report.RefusalReport.{RefusalReport}
+use Rattle.ill_going.specs.declared.going.SkippingCounts.{SkippingCounts}
+use Rattle.ill_going.specs.declared.going.SkippingError.{SkippingError}
+use Rattle.ill_going.specs.declared.going.SkippingErrorKind.{SkippingErrorKind}
 
 -- what was reported, over a call, where that is known
 pub record Reporting : Type 0 where
-  pub old : Option (List Report)
-  pub new : Option (List Report)
+  pub old : Option (List RefusalReport)
+  pub new : Option (List RefusalReport)
 
-abbrev pub reporting : Option (List Report) → Option (List Report) → Reporting
+abbrev pub reporting : Option (List RefusalReport) → Option (List RefusalReport) → Reporting
 reporting old new = record { old = old; new = new }
 
 -- the octets that were taken are these messages; what is written of them was put, and what is refused was reported
-pub record Goes (q : Profile) (text : Position → Spelling → List ℕ) (left left' held held' : Option (List ℕ)) (reports : Reporting) (items : List Item) : Type 0 where
+pub record Goes (q : Profile) (text : MessagePlace → Spelling → List ℕ) (left left' held held' : Option (List ℕ)) (reports : Reporting) (items : List Item) : Type 0 where
   pub octets : List ℕ
   pub are : AreItems q octets items []
   pub taken : Consumes left left' octets
@@ -58,16 +58,16 @@ pub record IsDone (left left' : Option (List ℕ)) (reports : Reporting) : Type 
   pub reported : Adds reports.old reports.new []
 
 -- what came after these messages: the end of the input, or one more that was refused, whose end can't be known
-abbrev pub EndsWith : Profile → Option (List ℕ) → Option (List ℕ) → Reporting → List Item → Gone → Type 0
+abbrev pub EndsWith : Profile → Option (List ℕ) → Option (List ℕ) → Reporting → List Item → SkippingCounts → Type 0
 EndsWith q left left' reports items gone =
     (IsDone left left' reports × (gone.messages ≡ length items) × (gone.refused ≡ length (reports_from 1 items)))
     ⊎ (LosesEnd q left left' reports (length items) × (gone.messages ≡ length items + 1) × (gone.refused ≡ length (reports_from 1 items) + 1))
 
 -- the input was gone through, as far as the ends of its messages can be known
-pub record GoesThrough (q : Profile) (text : Position → Spelling → List ℕ) (is_good : Spelling → Bool) (source : Taking) (sink : Putting) (reports : Reporting) (gone : Gone) : Type 0 where
+pub record SkipsToEnd (q : Profile) (text : MessagePlace → Spelling → List ℕ) (is_good : Spelling → Bool) (source : Taking) (sink : Putting) (reports : Reporting) (gone : SkippingCounts) : Type 0 where
   pub items : List Item
   pub rest : Option (List ℕ)
-  pub reported : Option (List Report)
+  pub reported : Option (List RefusalReport)
   pub goes : Goes q text source.left rest sink.held sink.held' (reporting reports.old reported) items
   pub ends : EndsWith q rest source.left' (reporting reported reports.new) items gone
   pub few : gone.messages ≤ 1_000_000
@@ -76,21 +76,21 @@ pub record GoesThrough (q : Profile) (text : Position → Spelling → List ℕ)
   pub all : gone.all_good ≡ all_good is_good items
 
 -- why no further message was gone through, after `before` of them, where `next` is the position of the next one
-abbrev pub Halts : Profile → (Position → Spelling → List ℕ) → Taking → Putting → ℕ → Position → Why → Type 0
-Halts q text source sink before next Why.OutOfMemory = (before < 1_000_000) × Keeps sink.held sink.held'
-Halts q text source sink before next Why.ReadFault =
+abbrev pub StopsFor : Profile → (MessagePlace → Spelling → List ℕ) → Taking → Putting → ℕ → MessagePlace → SkippingErrorKind → Type 0
+StopsFor q text source sink before next SkippingErrorKind.OutOfMemory = (before < 1_000_000) × Keeps sink.held sink.held'
+StopsFor q text source sink before next SkippingErrorKind.ReadFault =
     (before ≤ 1_000_000) × IsTrue source.broken × TakesNoFurtherIn q before source.left source.left' × Keeps sink.held sink.held'
-Halts q text source sink before next (Why.WriteFault n) = (before < 1_000_000) × BreaksWithinIn q (text next) source sink n
-Halts q text source sink before next Why.TooMany =
+StopsFor q text source sink before next (SkippingErrorKind.WriteFault n) = (before < 1_000_000) × BreaksWithinIn q (text next) source sink n
+StopsFor q text source sink before next SkippingErrorKind.TooMany =
     (before ≡ 1_000_000) × ((octet : ℕ) × Consumes source.left source.left' (octet ∷ [])) × Keeps sink.held sink.held'
 
 -- the octets of the last message that were written, where the sink broke within it
-abbrev pub part_of : Why → ℕ
-part_of (Why.WriteFault n) = n
+abbrev pub part_of : SkippingErrorKind → ℕ
+part_of (SkippingErrorKind.WriteFault n) = n
 part_of _ = 0
 
 -- the messages before the end, and why there was one
-pub record HaltsAfter (q : Profile) (text : Position → Spelling → List ℕ) (is_good : Spelling → Bool) (source : Taking) (sink : Putting) (reports : Reporting) (halted : Halted) : Type 0 where
+pub record SkipsAndStops (q : Profile) (text : MessagePlace → Spelling → List ℕ) (is_good : Spelling → Bool) (source : Taking) (sink : Putting) (reports : Reporting) (halted : SkippingError) : Type 0 where
   pub items : List Item
   pub rest : Option (List ℕ)
   pub grown : Option (List ℕ)
@@ -100,4 +100,4 @@ pub record HaltsAfter (q : Profile) (text : Position → Spelling → List ℕ) 
   pub good : halted.good ≡ good_in is_good items
   pub octets : halted.octets ≡ counted (length goes.octets)
   pub written : halted.written ≡ length (written_from text first items) + part_of halted.why
-  pub halts : Halts q text (taking rest source.left' source.broken) (putting grown sink.held' sink.broken) halted.messages (position_past first items) halted.why
+  pub halts : StopsFor q text (taking rest source.left' source.broken) (putting grown sink.held' sink.broken) halted.messages (position_past first items) halted.why

@@ -1,10 +1,10 @@
 use Rattle.std.proofs.Common.{◌≤◌, ◌*◌, ◌^◌, IsTrue}
 use Rattle.ill_normal.proofs.WrittenMessages.{Reached}
-use Rattle.ill_normal.proofs.messages.each_message.Given as goal
+use Rattle.ill_normal.proofs.messages.for_each_message.Given as goal
 
 abbrev pub invariant-loop-whole : goal.invariant-loop-whole
 invariant-loop-whole g l = record {
-  reached : Reached (g.M.Maker.profile l.fn.maker) (g.M.Maker.text l.fn.maker) (g.M.Maker.is_good l.fn.maker) (g.R.Source.left l.fn.source) (g.R.Source.left l.source)
+  reached : Reached (g.M.Render.profile l.fn.maker) (g.M.Render.text l.fn.maker) (g.M.Render.is_good l.fn.maker) (g.R.Source.left l.fn.source) (g.R.Source.left l.source)
       (g.W.Sink.contents l.fn.sink) (g.W.Sink.contents l.sink) l.whole l.before l.written l.good;
   few : l.good ≤ l.whole;
   before : l.before ≤ l.whole * 1_048_576;
