@@ -127,7 +127,8 @@ impl DerBuffer {
         if id.number() < 31 {
             append_short_header(&mut self.octets, id, 0)?;
         } else {
-            append_whole(&mut self.octets, id, &[])?;
+            let id = id;
+            append_whole(&mut self.octets, &id, &[])?;
         }
         Ok(self.octets.len())
     }
@@ -142,7 +143,9 @@ impl DerBuffer {
             append_short_header(&mut self.octets, id, content.len())?;
             append_content(&mut self.octets, content)
         } else {
-            append_whole(&mut self.octets, id, content)
+            // A copy, so that the usual case needs no memory for it.
+            let id = id;
+            append_whole(&mut self.octets, &id, content)
         }
     }
 
@@ -232,11 +235,11 @@ fn append_content(octets: &mut Vec<u8>, content: &[u8]) -> Result<(), AllocError
 
 // An element whose header is of any size.
 #[inline(never)]
-fn append_whole(octets: &mut Vec<u8>, id: Id, content: &[u8]) -> Result<(), AllocError>
-    ensures { OnOk result (octets.new.items ≡ octets.old.items ++ (shortest_header id (length content.now) ++ content.now)) }
+fn append_whole(octets: &mut Vec<u8>, id: &Id, content: &[u8]) -> Result<(), AllocError>
+    ensures { OnOk result (octets.new.items ≡ octets.old.items ++ (shortest_header id.now (length content.now) ++ content.now)) }
 {
     let mut header = [0; 10];
-    let end = put_header(id, 0, &mut header) as usize;
+    let end = put_header(*id, 0, &mut header) as usize;
     octets.extend_from_slice(&header[..end - 1])?;
     let mut room = [0; 9];
     let at = put_length(content.len(), &mut room);

@@ -233,7 +233,7 @@ impl At {
 
     /// What is due because of the identifier's tag, None where nothing is.
     #[inline(always)]
-    fn find_tag(self, id: Id) -> Option<Found>
+    pub fn find_tag(self, id: Id) -> Option<Found>
         ensures due { MatchOption result (due_by_tag (tag_of_id id) (next_at self) ≡ None)
             (λ found. IsDue (tag_of_id id) self found) }
         ensures two { IsTrue (is_of_two (node_in self)) → IfSome result (λ found. IsTrue (is_two found)) }

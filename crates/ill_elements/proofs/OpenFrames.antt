@@ -8,7 +8,7 @@ use Rattle.ill_schema.specs.TableFacts.{is_of_two}
 use Rattle.ill_schema.proofs.Tags.{at_row}
 use Rattle.ill_cells.specs.Places.{is_two, node_in}
 use Rattle.ill_schema.specs.declared.profile.Profile.TheVariants.{Two, Module}
-use Rattle.ill_elements.specs.Two.{are_of, is_place_of, is_two_frame}
+use Rattle.ill_elements.specs.Two.{are_of, is_found_of, is_place_of, is_two_frame}
 use Rattle.ill_elements.specs.code.Judging.{outermost_end}
 use Rattle.ill_elements.specs.Need.{outermost}
 use Rattle.ill_refusals.specs.Place.{Open, next_in, innermost_end, bound}
@@ -19,6 +19,7 @@ use Rattle.std.proofs.lemmas.Bool.{and_parts}
 use Rattle.std.proofs.Math.Bridge.{le_prop}
 use Rattle.std.proofs.lemmas.List.{set_at, get_or_at}
 use Rattle.ill_cells.specs.declared.at.At.{At}
+use Rattle.ill_cells.specs.declared.at.Found.{Found}
 
 pub next_last : (p : Named) (frames : List Frame) (f : Frame) → slice_get frames (length frames - 1) ≡ Some f → next_at p frames ≡ (shape f.place)
 next_last p [] f e = absurd cc
@@ -160,3 +161,8 @@ last_of Module xs (Some f) h e = refl
 pub place_of : (p : Named) (f : Frame) → IsTrue (are_of p (f ∷ [])) → IsTrue (is_place_of p f.place)
 place_of Two f h = (and_parts (is_of_two (node_in f.place)) _ (and_parts (is_two_frame f) true h).0).0
 place_of Module f h = refl
+
+-- what is found at a place of the profile
+pub found_of : (p : Named) (at : At) (f : Found) → IsTrue (is_place_of p at) → (IsTrue (is_of_two (node_in at)) → IsTrue (is_two f)) → IsTrue (is_found_of p f)
+found_of Two at f h k = k h
+found_of Module at f h k = refl

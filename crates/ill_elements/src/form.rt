@@ -1,6 +1,7 @@
 //! The forms of elements.
-ghost use Rattle.std.specs.Prelude.{◌≡◌};
-ghost use Rattle.ill_elements.specs.code.Judging.{IsFormed, has_form};
+ghost use Rattle.std.specs.Prelude.{◌≡◌, IsTrue, None};
+ghost use Rattle.ill_elements.specs.Due.{read_as};
+ghost use Rattle.ill_elements.specs.code.Judging.{IsFormed, has_form, is_plain};
 
 use ill_cells::{Found, What};
 use ill_schema::Cause;
@@ -38,6 +39,33 @@ fn has_form(what: What, constructed: bool) -> bool
         !matches!(
             what,
             What::Sequence | What::List | What::Wrapper | What::LooseWrapper | What::LeftOut
+        )
+    }
+}
+
+/// Tells whether what was found is, in this form, what most messages are made of: a SEQUENCE, a SEQUENCE OF or an explicit tag, or a leaf
+/// of profile 2.
+#[inline(always)]
+pub fn is_plain(found: Found, constructed: bool) -> bool
+    ensures formed { IsTrue result → IsFormed found constructed None }
+    ensures plain { IsTrue result → IsTrue (is_plain (read_as found) constructed) }
+{
+    if constructed {
+        matches!(
+            found.what(),
+            What::Sequence | What::List | What::Wrapper | What::LooseWrapper
+        )
+    } else {
+        matches!(
+            found.what(),
+            What::Boolean
+                | What::Integer
+                | What::Enumerated
+                | What::General
+                | What::Visible
+                | What::Printable
+                | What::Date
+                | What::Time
         )
     }
 }

@@ -94,7 +94,6 @@ fn long_length(octets: &[u8], first: u8, constructed: bool) -> Option<LengthRead
     match first {
         132 => length_in_four(octets),
         128 => constructed.then_some(LengthRead::Whole(Len::Indefinite, 2)),
-        255 => None,
         _ => length_in(octets, (first - 128) as usize),
     }
 }
@@ -116,11 +115,12 @@ fn length_in_four(octets: &[u8]) -> Option<LengthRead>
 #[inline(always)]
 fn length_in(octets: &[u8], count: usize) -> Option<LengthRead>
     requires some { 0 < count }
-    requires few { count < 127 }
+    requires few { count ≤ 127 }
     requires first { slice_get octets.now 1 ≡ Some (128 + count) }
     ensures { IfSome result (λ read. (constructed : Bool) → IsLengthRead read (read_length constructed (drop 1 octets.now)) octets.now) }
 {
-    if octets.len() < count + 2 {
+    // 127 is no number of octets (X.690, 8.1.3.5).
+    if octets.len() < count + 2 || count == 127 {
         return None;
     }
     let size = number(&octets[2..count + 2]);

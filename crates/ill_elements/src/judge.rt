@@ -1,10 +1,10 @@
 //! What is judged of an element at a place: its tag, form and length, or whether something is missing where an element ends.
-ghost use Rattle.std.specs.Prelude.{◌≡◌, ◌≤◌, false, true, IfOk, IsTrue, length};
+ghost use Rattle.std.specs.Prelude.{◌≡◌, ◌≤◌, false, true, IfOk, IfSome, IsTrue, length};
 ghost use Rattle.ber_core.specs.Id.{form_of_id};
 ghost use Rattle.std.specs.Option.{ForSome};
 
 use crate::due::Next;
-use crate::form::form_fault;
+use crate::form::{form_fault, is_plain};
 use crate::frames::{Frames, MAX_DEPTH};
 use crate::header::LengthRead;
 use ber_core::{Id, Len};
@@ -42,9 +42,9 @@ pub enum Extent {
 }
 
 impl Frames {
-    ghost use Rattle.std.specs.Prelude.{◌+◌, ◌<◌, ℕ, List, ◌++◌, min, drop};
+    ghost use Rattle.std.specs.Prelude.{◌+◌, ◌<◌, ℕ, List, ◌++◌, min, drop, Ok, Some, None};
     ghost use Rattle.ill_elements.specs.Standing.{depth_of, next_at};
-    ghost use Rattle.ill_elements.specs.code.Judging.{HeaderIsIn, unexpected};
+    ghost use Rattle.ill_elements.specs.code.Judging.{HeaderIsIn, IsBegin, is_plain, lacks_part, unexpected};
     ghost use Rattle.ill_refusals.specs.Fault.{fault_of, cut_fault};
     ghost use Rattle.ill_refusals.specs.code.Judge.{judge_length, judge_size};
     ghost use Rattle.ill_elements.specs.code.Judging.{WhereItStands, EndsAs, Fits, Reaches, IsIdentified, IsRoom};
@@ -75,21 +75,48 @@ impl Frames {
         }
     }
 
-    /// The fault where the innermost element ends: a part of it is missing.
+    /// Tells whether a part of the innermost element is missing.
     #[inline(always)]
-    pub fn end_fault(&self, at: u32) -> Option<Refusal>
-        requires { 0 < depth_of self.now }
-        ensures { WhereItStands self.now (λ place. EndsAs self.now.profile place at result) }
+    pub fn lacks_part(&self) -> bool
+        ensures exact { result ≡ lacks_part self.now }
+        ensures complete { 0 < depth_of self.now → result ≡ false → (at : ℕ) → WhereItStands self.now (λ place. EndsAs self.now.profile place at None) }
     {
-        let place = self.place();
-        if !place.is_missing() {
-            return None;
-        }
-        let part = place.missing()?;
-        Some(Refusal {
+        self.place().is_missing()
+    }
+
+    /// The fault where the innermost element ends and a part of it is missing.
+    #[cold]
+    pub fn missing_fault(&self, at: u32) -> Refusal
+        requires depth { 0 < depth_of self.now }
+        requires missing { IsTrue (lacks_part self.now) }
+        ensures { WhereItStands self.now (λ place. EndsAs self.now.profile place at (Some result)) }
+    {
+        let Some(part) = self.place().missing() else {
+            unreachable!()
+        };
+        Refusal {
             at,
             cause: Cause::Missing(part),
-        })
+        }
+    }
+
+    /// What is due with the identifier, where that is plain in its form and may begin. None otherwise.
+    // Makes no refusal, so that most elements do without its memory.
+    #[inline(always)]
+    pub fn find_plain(&self, id: Id) -> Option<Found>
+        ensures begun { IfSome result (λ found. WhereItStands self.now (λ place. IsBegin self.now place (tag_of_id id) found (form_of_id id))) }
+        ensures plain { IfSome result (λ found. IsTrue (is_plain (read_as found) (form_of_id id))) }
+        ensures room { IfSome result (λ _. depth_of self.now < 32) }
+        ensures is_of { IfSome result (λ found. IsTrue (is_found_of self.now.profile found)) }
+    {
+        if self.depth() == MAX_DEPTH {
+            return None;
+        }
+        let found = self.place().find_tag(id)?;
+        if is_plain(found, id.constructed()) {
+            return Some(found);
+        }
+        None
     }
 
     /// The depth, tag and form of an element.
@@ -158,6 +185,62 @@ impl Frames {
                 self.judge_size(at, id, header, size, window, room, came)
             }
         }
+    }
+
+    /// How far an element reaches. None where its length is at fault, or not all of it is there.
+    #[inline(always)]
+    pub fn reach(
+        &self,
+        at: u32,
+        id: Id,
+        length_read: LengthRead,
+        window: &[u8],
+        room: u32,
+    ) -> Option<Extent>
+        requires fits { IsRoom at room window.now }
+        requires header { HeaderIsIn length_read (length window.now) }
+        requires form { (header : ℕ) → length_read ≡ LengthRead.Whole Len.Indefinite header → form_of_id id ≡ true }
+        ensures exact { IfSome result (λ extent. (rest front behind : List ℕ) → window.now ≡ front ++ behind
+            → IsLengthRead length_read (read_length (form_of_id id) behind) window.now → Reaches self.now id at room window.now (Ok extent)
+            (λ found place. judge_length (profile_of self.now.profile) place (element_is (read_as found)) (tag_of_id id) (form_of_id id) at (length front) (cut_fault (profile_of self.now.profile) place at rest) behind)) }
+        ensures fits { IfSome result (Fits id (length window.now)) }
+    {
+        match length_read {
+            LengthRead::Whole(Len::Indefinite, header) => Some(Extent::Opens(header, None)),
+            LengthRead::Whole(Len::Definite(size), header) => {
+                self.reach_definite(at, id, header, size, window, room)
+            }
+            _ => None,
+        }
+    }
+
+    /// How far an element of definite length reaches. None where that is past the bound, or not all of it is there.
+    #[inline(always)]
+    fn reach_definite(
+        &self,
+        at: u32,
+        id: Id,
+        header: u32,
+        size: u32,
+        window: &[u8],
+        room: u32,
+    ) -> Option<Extent>
+        requires fits { IsRoom at room window.now }
+        requires header { (0 < header) × (header ≤ length window.now) }
+        ensures exact { IfSome result (λ extent. (rest : List ℕ) (n : ℕ) → size ≡ min n 4_294_967_295 → Reaches self.now id at room window.now (Ok extent)
+            (λ found place. judge_size (profile_of self.now.profile) place (element_is (read_as found)) (tag_of_id id) (form_of_id id) at header (cut_fault (profile_of self.now.profile) place at rest) n (drop header window.now))) }
+        ensures fits { IfSome result (Fits id (length window.now)) }
+    {
+        if size > room - header {
+            return None;
+        }
+        if id.constructed() {
+            return Some(Extent::Opens(header, Some(at + header + size)));
+        }
+        if window.len() - (header as usize) < size as usize {
+            return None;
+        }
+        Some(Extent::Reads(header, size))
     }
 
     /// The end of an element of definite length.

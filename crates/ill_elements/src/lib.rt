@@ -25,7 +25,7 @@ pub use due::{Next, Slot};
 pub use element::{Element, Wrapped};
 pub use frame::Frame;
 pub use frames::{Frames, MAX_DEPTH};
-pub use header::{HeaderRead, LengthRead, first_identifier, length_after, read_any};
+pub use header::{HeaderRead, LengthRead, first_identifier, length_after, read_header};
 pub use judge::{Extent, Opening, Reading};
 pub use leaf_type::{LeafType, ModuleLeaf};
 pub use need::need_at;

@@ -35,6 +35,7 @@ use Rattle.ill_read.specs.code.Drafts.{HasBits, HasOpened, HasText, IsContentOf,
 use Rattle.ill_elements.specs.Due.{due_with}
 use Rattle.ill_read.specs.code.OctetDrafts.{AreOctets, AreWritten, IsApartAs, IsBehind, IsModuleString, enclosed, form_of, unless_left, written}
 use Rattle.ill_elements.specs.Written.{normal_element}
+use Rattle.ill_elements.specs.code.Judging.{is_plain}
 use Rattle.ill_elements.specs.declared.due.Next.{Next}
 use Rattle.ill_elements.specs.declared.due.Next.TheVariants.{Segments}
 use Rattle.ill_elements.specs.declared.due.Slot.{Slot}
@@ -414,3 +415,23 @@ loose_text w n entries text c k = go n k
     go : (m : Next) → IsContentOf (LooseWrapper w) m entries text c → text ≡ []
     go Segments k = k.0
     go _ k = k.0
+
+-- what is plain in the constructed form is no string
+pub plain_form : (e : CodeElement) → IsTrue (is_plain e true) → form_of e ≡ true
+plain_form (Sequence node) h = refl
+plain_form (ListOf node) h = refl
+plain_form (Wrapper w) h = refl
+plain_form (LooseWrapper w) h = refl
+plain_form _ h = absurd cc
+
+pub not_segment : (e : CodeElement) → IsTrue (is_plain e true) → e ≡ Segment → ⊥
+not_segment Segment h s = cc
+not_segment _ h s = cc
+
+pub not_bit_segment : (e : CodeElement) → IsTrue (is_plain e true) → e ≡ BitSegment → ⊥
+not_bit_segment BitSegment h s = cc
+not_bit_segment _ h s = cc
+
+pub not_bit_string : (e : CodeElement) → IsTrue (is_plain e true) → e ≡ BitString → ⊥
+not_bit_string BitString h s = cc
+not_bit_string _ h s = cc

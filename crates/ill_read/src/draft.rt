@@ -1,8 +1,9 @@
 //! What is made of a message while its elements are read.
-ghost use Rattle.std.specs.Prelude.{◌≡◌, ℕ, List, IfOk, IsTrue, OnOk};
+ghost use Rattle.std.specs.Prelude.{◌≡◌, ℕ, List, true, IfOk, IsTrue, OnOk};
 ghost use Rattle.ill_schema.specs.Apdu.{Apdu};
 ghost use Rattle.ill_schema.specs.declared.profile.Profile.{Profile as Named};
 ghost use Rattle.ill_elements.specs.Due.{read_as, shape};
+ghost use Rattle.ill_elements.specs.code.Judging.{is_plain};
 ghost use Rattle.ill_elements.specs.LeafTypes.{IsContentIn, leaf_is};
 ghost use Rattle.ill_elements.specs.Standing.{Level};
 ghost use Rattle.ill_elements.specs.Two.{is_found_of};
@@ -30,6 +31,18 @@ pub trait Draft: Drop {
     fn open(&mut self, profile: Profile, place: At, opening: Opening) -> Result<usize, AllocError>
         requires takes { takes profile }
         requires is_of { IsTrue (is_found_of profile opening.found) }
+        ensures { IfOk result (λ base. HasOpened holds self.old (shape place) opening base self.new) };
+
+    /// A plain element opens, at this place: a SEQUENCE, a SEQUENCE OF or an explicit tag.
+    fn open_plain(
+        &mut self,
+        profile: Profile,
+        place: At,
+        opening: Opening,
+    ) -> Result<usize, AllocError>
+        requires takes { takes profile }
+        requires is_of { IsTrue (is_found_of profile opening.found) }
+        requires plain { IsTrue (is_plain (read_as opening.found) true) }
         ensures { IfOk result (λ base. HasOpened holds self.old (shape place) opening base self.new) };
 
     /// More octets of the string that is open.

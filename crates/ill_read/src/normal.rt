@@ -1,7 +1,8 @@
 //! Messages as their normal forms.
-ghost use Rattle.std.specs.Prelude.{◌≡◌, ◌≤◌, ℕ, List, ◌++◌, length};
+ghost use Rattle.std.specs.Prelude.{◌≡◌, ◌≤◌, ℕ, List, ◌++◌, length, IfSome};
 ghost use Rattle.std.specs.Io.KnownBytes.{Appends};
 ghost use Rattle.ill_schema.specs.Profiles.{profile_of};
+ghost use Rattle.ill_read.specs.OpenElements.{HasFewOpen, HasFewOpenIn};
 ghost use Rattle.ill_read.specs.Answers.{IsNormalIn, IsNormalOf, NormalAnswers, NormalAnswersIn, ReadsNext, ReadsNextIn};
 
 use crate::failure::{Failure, ReadFailure};
@@ -211,7 +212,8 @@ pub fn read_normal_by<R: Source, L: Look<R>>(
     alloc: Global,
     source: &mut R,
 ) -> Result<Option<Normal>, ReadFailure>
-    ensures { ReadsNext (R.left source.old) (R.left source.new) (R.is_broken source.old) (R.is_broken source.new) IsNormalOf result }
+    ensures next { ReadsNext (R.left source.old) (R.left source.new) (R.is_broken source.old) (R.is_broken source.new) IsNormalOf result }
+    ensures few { IfSome (R.left source.old) HasFewOpen }
 {
     read_normal_in::<R, L>(alloc, source, Vec::new(alloc))
 }
@@ -230,8 +232,9 @@ pub fn read_normal_as<R: Source, L: Look<R>>(
     profile: Profile,
     source: &mut R,
 ) -> Result<Option<Normal>, ReadFailure>
-    ensures { ReadsNextIn (profile_of profile) (R.left source.old) (R.left source.new) (R.is_broken source.old) (R.is_broken source.new)
+    ensures next { ReadsNextIn (profile_of profile) (R.left source.old) (R.left source.new) (R.is_broken source.old) (R.is_broken source.new)
         (IsNormalIn (profile_of profile)) result }
+    ensures few { IfSome (R.left source.old) (HasFewOpenIn (profile_of profile)) }
 {
     NormalReader::new(alloc).read_as::<R, L>(profile, source, Vec::new(alloc))
 }
@@ -246,7 +249,8 @@ pub fn read_normal_in<R: Source, L: Look<R>>(
     source: &mut R,
     room: Vec<u8>,
 ) -> Result<Option<Normal>, ReadFailure>
-    ensures { ReadsNext (R.left source.old) (R.left source.new) (R.is_broken source.old) (R.is_broken source.new) IsNormalOf result }
+    ensures next { ReadsNext (R.left source.old) (R.left source.new) (R.is_broken source.old) (R.is_broken source.new) IsNormalOf result }
+    ensures few { IfSome (R.left source.old) HasFewOpen }
 {
     NormalReader::new(alloc).read::<R, L>(source, room)
 }
@@ -261,8 +265,9 @@ pub fn read_kept_normal_by<R: Source, L: Look<R>>(
     source: &mut R,
     kept: &mut Vec<u8>,
 ) -> Result<Option<Normal>, ReadFailure>
-    ensures { ReadsNext (R.left source.old) (R.left source.new) (R.is_broken source.old) (R.is_broken source.new)
+    ensures next { ReadsNext (R.left source.old) (R.left source.new) (R.is_broken source.old) (R.is_broken source.new)
         (λ n octets. IsNormalOf n octets × (kept.new.items ≡ kept.old.items ++ octets)) result }
+    ensures few { IfSome (R.left source.old) HasFewOpen }
 {
     NormalReader::new(alloc).read_kept::<R, L>(source, Vec::new(alloc), kept)
 }
@@ -278,7 +283,8 @@ pub fn read_kept_normal_by<R: Source, L: Look<R>>(
 ///
 /// Those of [`decode`](crate::decode).
 pub fn decode_normal(alloc: Global, octets: &[u8]) -> Result<Normal, Failure>
-    ensures { NormalAnswers octets.now result }
+    ensures answers { NormalAnswers octets.now result }
+    ensures few { HasFewOpen octets.now }
 {
     NormalReader::new(alloc).decode(octets, Vec::new(alloc))
 }
@@ -293,7 +299,8 @@ pub fn decode_normal(alloc: Global, octets: &[u8]) -> Result<Normal, Failure>
 ///
 /// Those of [`decode`](crate::decode), in the profile.
 pub fn decode_normal_as(alloc: Global, profile: Profile, octets: &[u8]) -> Result<Normal, Failure>
-    ensures { NormalAnswersIn (profile_of profile) octets.now result }
+    ensures answers { NormalAnswersIn (profile_of profile) octets.now result }
+    ensures few { HasFewOpenIn (profile_of profile) octets.now }
 {
     NormalReader::new(alloc).decode_as(profile, octets, Vec::new(alloc))
 }

@@ -171,6 +171,17 @@ impl Draft for Octets {
         Ok(base)
     }
 
+    #[inline(always)]
+    fn open_plain(
+        &mut self,
+        _profile: Profile,
+        _place: At,
+        opening: Opening,
+    ) -> Result<usize, AllocError> {
+        let base = self.octets.open(opening.id)?;
+        Ok(base)
+    }
+
     fn text(&mut self, octets: &[u8]) -> Result<(), AllocError> {
         self.octets.append(octets)?;
         Ok(())

@@ -245,6 +245,19 @@ impl Draft for Outlining {
         self.octets.open(profile, place, opening)
     }
 
+    #[inline(always)]
+    fn open_plain(
+        &mut self,
+        profile: Profile,
+        place: At,
+        opening: Opening,
+    ) -> Result<usize, AllocError> {
+        let element = Element::of(opening.found);
+        lead(&mut self.marks, place, opening.found)?;
+        begin(&mut self.marks, element)?;
+        self.octets.open_plain(profile, place, opening)
+    }
+
     fn text(&mut self, octets: &[u8]) -> Result<(), AllocError> {
         self.octets.text(octets)?;
         put_octets(&mut self.marks, octets)

@@ -1,6 +1,7 @@
 //! Messages as their outlines.
-ghost use Rattle.std.specs.Prelude.{◌≡◌, ◌≤◌};
+ghost use Rattle.std.specs.Prelude.{◌≡◌, ◌≤◌, IfSome};
 ghost use Rattle.ill_schema.specs.Profiles.{profile_of};
+ghost use Rattle.ill_read.specs.OpenElements.{HasFewOpen, HasFewOpenIn};
 ghost use Rattle.ill_read.specs.Answers.{ReadsNext, ReadsNextIn};
 ghost use Rattle.ill_read.specs.Outlined.{IsOutlined, IsOutlinedIn};
 
@@ -121,7 +122,8 @@ pub fn read_outline_in<R: Source, L: Look<R>>(
     source: &mut R,
     room: Outline,
 ) -> Result<Option<Outlined>, ReadFailure>
-    ensures { ReadsNext (R.left source.old) (R.left source.new) (R.is_broken source.old) (R.is_broken source.new) IsOutlined result }
+    ensures next { ReadsNext (R.left source.old) (R.left source.new) (R.is_broken source.old) (R.is_broken source.new) IsOutlined result }
+    ensures few { IfSome (R.left source.old) HasFewOpen }
 {
     OutlineReader::new(alloc).read::<R, L>(source, room)
 }
@@ -141,8 +143,9 @@ pub fn read_outline_as<R: Source, L: Look<R>>(
     source: &mut R,
     room: Outline,
 ) -> Result<Option<Outlined>, ReadFailure>
-    ensures { ReadsNextIn (profile_of profile) (R.left source.old) (R.left source.new) (R.is_broken source.old) (R.is_broken source.new)
+    ensures next { ReadsNextIn (profile_of profile) (R.left source.old) (R.left source.new) (R.is_broken source.old) (R.is_broken source.new)
         (IsOutlinedIn (profile_of profile)) result }
+    ensures few { IfSome (R.left source.old) (HasFewOpenIn (profile_of profile)) }
 {
     OutlineReader::new(alloc).read_as::<R, L>(profile, source, room)
 }

@@ -46,7 +46,8 @@ pub fn read_message_by<R: Source, L: Look<R>>(
     alloc: Global,
     source: &mut R,
 ) -> Result<Option<Message>, ReadFailure>
-    ensures { ReadsNext (R.left source.old) (R.left source.new) (R.is_broken source.old) (R.is_broken source.new) IsSpelled result }
+    ensures next { ReadsNext (R.left source.old) (R.left source.new) (R.is_broken source.old) (R.is_broken source.new) IsSpelled result }
+    ensures few { IfSome (R.left source.old) HasFewOpen }
 {
     read_into::<R, L, Forget>(alloc, source, &mut Forget)
 }
@@ -61,8 +62,9 @@ pub fn read_kept<R: Source>(
     source: &mut R,
     kept: &mut Vec<u8>,
 ) -> Result<Option<Message>, ReadFailure>
-    ensures { ReadsNext (R.left source.old) (R.left source.new) (R.is_broken source.old) (R.is_broken source.new)
+    ensures next { ReadsNext (R.left source.old) (R.left source.new) (R.is_broken source.old) (R.is_broken source.new)
         (λ m octets. IsSpelled m octets × (kept.new.items ≡ kept.old.items ++ octets)) result }
+    ensures few { IfSome (R.left source.old) HasFewOpen }
 {
     read_kept_by::<R, Unseen>(alloc, source, kept)
 }
@@ -77,8 +79,9 @@ pub fn read_kept_by<R: Source, L: Look<R>>(
     source: &mut R,
     kept: &mut Vec<u8>,
 ) -> Result<Option<Message>, ReadFailure>
-    ensures { ReadsNext (R.left source.old) (R.left source.new) (R.is_broken source.old) (R.is_broken source.new)
+    ensures next { ReadsNext (R.left source.old) (R.left source.new) (R.is_broken source.old) (R.is_broken source.new)
         (λ m octets. IsSpelled m octets × (kept.new.items ≡ kept.old.items ++ octets)) result }
+    ensures few { IfSome (R.left source.old) HasFewOpen }
 {
     read_into::<R, L, Vec<u8>>(alloc, source, kept)
 }

@@ -5,9 +5,10 @@ use crate::draft::Draft;
 use crate::failure::Failure;
 use crate::path::Path;
 use ber_core::Id;
+use ill_cells::Found;
 use ill_elements::{
     Extent, HeaderRead, LengthRead, Opening, Reading, first_identifier, length_after, need_at,
-    read_any,
+    read_header,
 };
 use ill_schema::{Cause, LIMIT, Profile, Refusal};
 use std::alloc::Global;
@@ -39,7 +40,7 @@ impl<D: Draft> Reader<D> {
     ghost use Rattle.ill_schema.specs.Profiles.{profile_of};
     ghost use Rattle.ill_schema.specs.declared.profile.Profile.{Profile as Named};
     ghost use Rattle.ill_elements.specs.Two.{is_found_of};
-    ghost use Rattle.std.specs.Prelude.{◌≡◌, ◌≢◌, ℕ, ◌+◌, ◌-◌, ◌<◌, List, [], ◌∷◌, ◌++◌, length, drop, take, true, IsTrue, Ok, Err, Some, None};
+    ghost use Rattle.std.specs.Prelude.{◌≡◌, ◌≢◌, ℕ, ◌+◌, ◌-◌, ◌<◌, List, [], ◌∷◌, ◌++◌, length, drop, take, false, true, IsTrue, Ok, Err, Some, None};
     ghost use Rattle.ber_core.specs.Octets.{are_octets};
     ghost use Rattle.ill_schema.specs.Apdu.{Apdu, Accepts};
     ghost use Rattle.ill_elements.specs.Need.{NeedsAfterIn};
@@ -53,7 +54,9 @@ impl<D: Draft> Reader<D> {
     ghost use Rattle.ill_read.specs.code.Drafts.{HoldsApdu};
     ghost use Rattle.ill_read.specs.code.Filling.{HasLooked, NoneEndsWithin};
     ghost use Rattle.ill_read.specs.code.Judged.{IsJudgement, IsStep};
-    ghost use Rattle.ill_elements.specs.code.Judging.{IsRoom, WhereItStands};
+    ghost use Rattle.ill_elements.specs.code.Judging.{Fits, IsBegin, IsExtent, IsRoom, WhereItStands, is_plain, lacks_part};
+    ghost use Rattle.ill_elements.specs.Due.{read_as};
+    ghost use Rattle.ber_core.specs.Id.{form_of_id, tag_of_id};
     ghost use Rattle.ber_leaf.specs.Profile.{profile_two};
     ghost use Rattle.ill_refusals.specs.Fault.{ends_at};
     ghost use Rattle.ill_refusals.specs.Place.{bound};
@@ -309,14 +312,22 @@ impl<D: Draft> Reader<D> {
         let Some(id) = first_identifier(window) else {
             return self.advance_rarely(window, room, came);
         };
-        match length_after(window, id.constructed()) {
-            Some(length) => self.identified(id, length, window, room, came),
-            None => self.advance_rarely(window, room, came),
-        }
+        let Some(length_read) = length_after(window, id.constructed()) else {
+            return self.advance_rarely(window, room, came);
+        };
+        let frames = &self.path.frames;
+        let Some(found) = frames.find_plain(id) else {
+            return self.advance_rarely(window, room, came);
+        };
+        let Some(extent) = frames.reach(self.at, id, length_read, window, room) else {
+            return self.advance_rarely(window, room, came);
+        };
+        self.open_or_read(found, id, extent, window, true)
     }
 
-    /// The same where no identifier of one octet is there with a whole length.
-    // Apart, so that what most elements have is not put together with what few have.
+    /// The same where the identifier is of more octets, the length isn't whole, or anything is at fault.
+    // Apart, so that what most elements have is not put together with what few have. It begins again at the identifier: so
+    // nothing has to be kept for it.
     #[inline(never)]
     fn advance_rarely(&mut self, window: &[u8], room: u32, came: usize) -> Option<usize>
         requires takes { D.takes self.old.path.frames.profile }
@@ -374,10 +385,26 @@ impl<D: Draft> Reader<D> {
             → LeadsOn p D.holds D.has self.old window room came self.new result (λ place cut. judge_end (profile_of p) place self.old.at marks) }
         ensures profile { self.new.path.frames.profile ≡ self.old.path.frames.profile }
     {
-        match self.path.frames.end_fault(self.at) {
-            Some(refusal) => self.refuse(refusal),
-            None => self.close(marks),
+        if self.path.frames.lacks_part() {
+            return self.refuse_missing();
         }
+        self.close(marks)
+    }
+
+    /// Fails where the innermost element ends and a part of it is missing.
+    #[inline(never)]
+    fn refuse_missing(&mut self) -> Option<usize>
+        requires open { self.old.state ≡ State.Open }
+        requires depth { 0 < depth_of self.old.path.frames }
+        requires missing { IsTrue (lacks_part self.old.path.frames) }
+        ensures none { result ≡ None }
+        ensures pending { self.new.pending ≡ self.old.pending }
+        ensures goes { (p : Named) (window : List ℕ) (room came marks : ℕ)
+            → LeadsOn p D.holds D.has self.old window room came self.new result (λ place cut. judge_end (profile_of p) place self.old.at marks) }
+        ensures profile { self.new.path.frames.profile ≡ self.old.path.frames.profile }
+    {
+        let refusal = self.path.frames.missing_fault(self.at);
+        self.refuse(refusal)
     }
 
     /// An element whose identifier isn't of one octet, or whose length isn't whole.
@@ -391,21 +418,19 @@ impl<D: Draft> Reader<D> {
         ensures goes { (p : Named) → LeadsOn p D.holds D.has self.old window.now room came self.new result (λ place cut. judge_element (profile_of p) place self.old.at cut window.now) }
         ensures profile { self.new.path.frames.profile ≡ self.old.path.frames.profile }
     {
-        match read_any(window) {
+        match read_header(window) {
             HeaderRead::PartIdentifier => self.cut(came),
             HeaderRead::NoIdentifier => self.refuse(Refusal {
                 at: self.at,
                 cause: Cause::BadTag,
             }),
-            HeaderRead::Identified(id, length) => {
-                self.identified(id, length, window, room, came)
-            }
+            HeaderRead::Identified(id, length) => self.judge(id, length, window, room, came),
         }
     }
 
     /// An element whose identifier was read.
-    #[inline(always)]
-    fn identified(
+    #[inline(never)]
+    fn judge(
         &mut self,
         id: Id,
         length_read: LengthRead,
@@ -432,31 +457,62 @@ impl<D: Draft> Reader<D> {
             Ok(extent) => extent,
             Err(refusal) => return self.refuse(refusal),
         };
+        self.open_or_read(found, id, extent, window, false)
+    }
+
+    /// Opens the element that was found if it is constructed, and takes it if it is primitive; `plain` says that it is known to be plain.
+    #[inline(always)]
+    fn open_or_read(
+        &mut self,
+        found: Found,
+        id: Id,
+        extent: Extent,
+        window: &[u8],
+        plain: bool,
+    ) -> Option<usize>
+        requires takes { D.takes self.old.path.frames.profile }
+        requires open { self.old.state ≡ State.Open }
+        requires room { depth_of self.old.path.frames < 32 }
+        requires is_of { IsTrue (is_found_of self.old.path.frames.profile found) }
+        requires plain { IsTrue plain → IsTrue (is_plain (read_as found) (form_of_id id)) }
+        requires extent { Fits id (length window.now) extent }
+        requires fits { self.old.at + length window.now ≤ 1_048_576 }
+        ensures pending { self.new.pending ≡ self.old.pending }
+        ensures progress { Progresses (length window.now) self.old.path.frames self.new.path.frames result }
+        ensures goes { (p : Named) (s rest more : List ℕ) (b : StandsBefore p (HoldsAt p D.holds self.old.path) self.old.at s rest) → rest ≡ window.now ++ more
+            → IsBegin self.old.path.frames b.place (tag_of_id id) found (form_of_id id)
+            → IsExtent p found id self.old.at window.now (Ok extent) (judge (profile_of p) b.place self.old.at rest) → HasAdvanced p D.holds D.has self.new s rest result }
+        ensures profile { self.new.path.frames.profile ≡ self.old.path.frames.profile }
+    {
         match extent {
-            Extent::Opens(header, end) => self.open(Opening {
-                found,
-                id,
-                header,
-                end,
-            }),
-            Extent::Reads(header, size) => self.read(
-                Reading {
+            Extent::Opens(header, end) => {
+                let opening = Opening {
+                    found,
+                    id,
+                    header,
+                    end,
+                };
+                self.open(opening, plain)
+            }
+            Extent::Reads(header, size) => {
+                let reading = Reading {
                     found,
                     id,
                     header,
                     size,
-                },
-                window,
-            ),
+                };
+                self.read(reading, window, plain)
+            }
         }
     }
 
     /// Opens an element.
     #[inline(always)]
-    fn open(&mut self, opening: Opening) -> Option<usize>
+    fn open(&mut self, opening: Opening, plain: bool) -> Option<usize>
         requires takes { D.takes self.old.path.frames.profile }
         requires open { self.old.state ≡ State.Open }
         requires room { depth_of self.old.path.frames < 32 }
+        requires plain { IsTrue plain → IsTrue (is_plain (read_as opening.found) true) }
         requires header { 0 < opening.header }
         requires is_of { IsTrue (is_found_of self.old.path.frames.profile opening.found) }
         requires fits { self.old.at + opening.header ≤ 1_048_576 }
@@ -465,7 +521,7 @@ impl<D: Draft> Reader<D> {
         ensures goes { (p : Named) → Steps p D.holds D.has self.old (Opens opening) self.new result }
         ensures profile { self.new.path.frames.profile ≡ self.old.path.frames.profile }
     {
-        match self.path.open(opening, self.at) {
+        match self.path.open(opening, self.at, plain) {
             Ok(()) => self.go_on(opening.header, false),
             Err(error) => self.fail(Failure::from(error)),
         }
@@ -473,9 +529,10 @@ impl<D: Draft> Reader<D> {
 
     /// Takes a primitive element, which begins the octets.
     #[inline(always)]
-    fn read(&mut self, reading: Reading, octets: &[u8]) -> Option<usize>
+    fn read(&mut self, reading: Reading, octets: &[u8], plain: bool) -> Option<usize>
         requires takes { D.takes self.old.path.frames.profile }
         requires open { self.old.state ≡ State.Open }
+        requires plain { IsTrue plain → IsTrue (is_plain (read_as reading.found) false) }
         requires header { (0 < reading.header) × (reading.header + reading.size ≤ length octets.now) }
         requires is_of { IsTrue (is_found_of self.old.path.frames.profile reading.found) }
         requires fits { self.old.at + length octets.now ≤ 1_048_576 }
@@ -488,7 +545,7 @@ impl<D: Draft> Reader<D> {
     {
         let size = reading.header + reading.size;
         let content = &octets[reading.header as usize..size as usize];
-        match self.path.take(reading, self.at, content) {
+        match self.path.take(reading, self.at, content, plain) {
             Ok(whole) => self.go_on(size, whole),
             Err(failure) => self.fail(failure),
         }

@@ -1,7 +1,11 @@
 //! What the path does when an element opens, is read or ends.
-ghost use Rattle.std.specs.Prelude.{◌≡◌, ◌+◌, ◌<◌, ◌≤◌, [], ◌∷◌, IfOk, IsTrue};
+ghost use Rattle.std.specs.Prelude.{◌≡◌, ◌+◌, ◌<◌, ◌≤◌, [], ◌∷◌, false, true, IfOk, IsTrue};
 ghost use Rattle.ill_read.specs.Paths.{HoldsAt};
 ghost use Rattle.ill_elements.specs.Standing.{top_level};
+ghost use Rattle.ill_elements.specs.Due.{read_as, shape};
+ghost use Rattle.ill_elements.specs.Two.{is_found_of};
+ghost use Rattle.ill_elements.specs.code.Judging.{is_plain};
+ghost use Rattle.ill_read.specs.code.Drafts.{HasOpened};
 
 use crate::draft::Draft;
 use crate::failure::Failure;
@@ -11,10 +15,29 @@ use ill_elements::{Element, Frame, Frames, LeafType, Opening, Reading};
 use ill_schema::{Cause, Profile};
 use std::alloc::AllocError;
 
+/// Opens an element in the draft; `plain` says that it is known to be plain. Returns where its contents begin.
+#[inline(always)]
+fn open_in<D: Draft>(
+    draft: &mut D,
+    profile: Profile,
+    place: At,
+    opening: Opening,
+    plain: bool,
+) -> Result<usize, AllocError>
+    requires takes { D.takes profile }
+    requires is_of { IsTrue (is_found_of profile opening.found) }
+    requires plain { IsTrue plain → IsTrue (is_plain (read_as opening.found) true) }
+    ensures { IfOk result (λ base. HasOpened D.holds draft.old (shape place) opening base draft.new) }
+{
+    if plain {
+        return draft.open_plain(profile, place, opening);
+    }
+    draft.open(profile, place, opening)
+}
+
 impl<D: Draft> Path<D> {
-    ghost use Rattle.ill_elements.specs.Due.{read_as};
     ghost use Rattle.ill_read.specs.code.Drafts.{IsModuleElement, IsNoLeaf};
-    ghost use Rattle.ill_elements.specs.Two.{is_found_of, is_place_of};
+    ghost use Rattle.ill_elements.specs.Two.{is_place_of};
     ghost use Rattle.ill_elements.specs.declared.element.Element.{Element as CodeElement};
     ghost use Rattle.ill_elements.specs.Standing.{depth_of};
     ghost use Rattle.ill_read.specs.code.Stepping.{ClosesExactly, OpensExactly, ReadsExactly, GoesOn};
@@ -41,18 +64,25 @@ impl<D: Draft> Path<D> {
         self.draft = draft;
     }
 
-    /// Opens the element that is due and begins at `start`.
+    /// Opens the element that is due and begins at `start`; `plain` says that it is known to be plain.
     #[inline(always)]
-    pub fn open(&mut self, opening: Opening, start: u32) -> Result<(), AllocError>
+    pub fn open(&mut self, opening: Opening, start: u32, plain: bool) -> Result<(), AllocError>
         requires room { depth_of self.old.frames < 32 }
         requires takes { D.takes self.old.frames.profile }
         requires is_of { IsTrue (is_found_of self.old.frames.profile opening.found) }
+        requires plain { IsTrue plain → IsTrue (is_plain (read_as opening.found) true) }
         ensures exact { IfOk result (λ _. OpensExactly D.holds self.old opening start self.new) }
         ensures depth { depth_of self.new.frames ≤ depth_of self.old.frames + 1 }
         ensures profile { self.new.frames.profile ≡ self.old.frames.profile }
     {
         let profile = self.frames.profile;
-        let base = self.draft.open(profile, self.frames.place(), opening)?;
+        let base = open_in(
+            &mut self.draft,
+            profile,
+            self.frames.place(),
+            opening,
+            plain,
+        )?;
         let frame = Frame {
             found: opening.found,
             place: opening.found.first(),
@@ -65,16 +95,30 @@ impl<D: Draft> Path<D> {
         Ok(())
     }
 
-    /// Takes the content of a primitive element that is due and begins at `start`. Returns whether the message is whole.
+    /// Takes the content of a primitive element that is due and begins at `start`; `plain` says that it is known to be plain. Returns whether the message is whole.
     #[inline(always)]
-    pub fn take(&mut self, reading: Reading, start: u32, content: &[u8]) -> Result<bool, Failure>
+    pub fn take(
+        &mut self,
+        reading: Reading,
+        start: u32,
+        content: &[u8],
+        plain: bool,
+    ) -> Result<bool, Failure>
         requires takes { D.takes self.old.frames.profile }
         requires is_of { IsTrue (is_found_of self.old.frames.profile reading.found) }
+        requires plain { IsTrue plain → IsTrue (is_plain (read_as reading.found) false) }
         ensures exact { ReadsExactly D.holds self.old reading start content.now self.new result }
         ensures depth { depth_of self.new.frames ≡ depth_of self.old.frames }
         ensures profile { self.new.frames.profile ≡ self.old.frames.profile }
     {
-        match Element::of(reading.found) {
+        let element = Element::of(reading.found);
+        if plain {
+            let Element::Leaf(leaf) = element else {
+                unreachable!()
+            };
+            return self.take_leaf(reading, leaf, start, content);
+        }
+        match element {
             Element::Leaf(leaf) => self.take_leaf(reading, leaf, start, content),
             _ => self.take_rest(reading, start, content),
         }

@@ -137,6 +137,15 @@ impl Draft for Values {
         Ok(self.held.len())
     }
 
+    fn open_plain(
+        &mut self,
+        profile: Profile,
+        place: At,
+        opening: Opening,
+    ) -> Result<usize, AllocError> {
+        self.open(profile, place, opening)
+    }
+
     fn text(&mut self, octets: &[u8]) -> Result<(), AllocError> {
         self.text.extend_from_slice(octets)?;
         Ok(())

@@ -2,7 +2,7 @@
 use Rattle.ill_schema.specs.Profiles.{profile_of}
 use Rattle.ill_schema.specs.declared.profile.Profile.{Profile as Named}
 use Rattle.std.specs.Option.{ForSome}
-use Rattle.std.specs.Prelude.{◌≡◌, ℕ, zero, ◌+◌, ◌-◌, ◌<◌, ◌≤◌, Bool, true, false, not, nat_eq, List, [], ◌∷◌, length, Option, Some, None, Result, Ok, Err, if◌then◌else◌, take, drop}
+use Rattle.std.specs.Prelude.{◌≡◌, ℕ, zero, ◌+◌, ◌-◌, ◌<◌, ◌≤◌, Bool, true, false, not, is_some, nat_eq, List, [], ◌∷◌, length, Option, Some, None, Result, Ok, Err, if◌then◌else◌, take, drop}
 use Rattle.ber_core.specs.Id.{tag_of_id, form_of_id}
 use Rattle.ber_core.specs.Identifier.{Tag}
 use Rattle.ber_core.specs.declared.id.Id.{Id}
@@ -15,12 +15,14 @@ use Rattle.ill_refusals.specs.code.Judge.{Judgement, faulty, opens, or_faulty, r
 use Rattle.ill_cells.specs.declared.at.Found.{Found}
 use Rattle.ill_cells.specs.declared.cell.What.{What}
 use Rattle.ill_cells.specs.declared.cell.What.TheVariants as what
-use Rattle.ill_elements.specs.Due.{found_in, read_as, IsDueIn, behind, first_of, shape_at, read_due, slot_in, next_place}
+use Rattle.ill_elements.specs.Due.{found_in, read_as, IsDueIn, behind, next_is, first_of, shape_at, read_due, slot_in, next_place}
 use Rattle.ill_refusals.specs.Place.{Open, bound, allows, next_in}
 use Rattle.ill_elements.specs.Standing.{StandsAt, next_at}
 use Rattle.ill_elements.specs.Found as found
 use Rattle.ill_elements.specs.declared.due.Next.{Next}
 use Rattle.ill_elements.specs.declared.due.Next.TheVariants.{Foreigns}
+use Rattle.ill_elements.specs.declared.element.Element.{Element as CodeElement}
+use Rattle.ill_elements.specs.declared.element.Element.TheVariants as code
 use Rattle.ill_elements.specs.declared.frame.Frame.{Frame}
 use Rattle.ill_elements.specs.declared.judge.Extent.{Extent}
 use Rattle.ill_elements.specs.declared.judge.Extent.TheVariants.{Opens, Reads}
@@ -68,6 +70,10 @@ abbrev pub EndsAs : Named → List Open → ℕ → Option Refusal → Type 0
 EndsAs p place at None = (marks : ℕ) → IsEnd p place marks (judge_end (profile_of p) place at marks)
 EndsAs p place at (Some refusal) = (marks : ℕ) → judge_end (profile_of p) place at marks ≡ faulty (fault_of refusal)
 
+-- whether a part of the innermost element is missing
+abbrev pub lacks_part : Frames → Bool
+lacks_part frames = is_some (missing profile_two (next_is (next_at frames.profile frames.open.items)))
+
 -- the octets lie before the bound, up to which there is this room
 abbrev pub IsRoom : ℕ → ℕ → List ℕ → Type 0
 IsRoom at room octets = (at + room ≤ 1_048_576) × (length octets ≤ room)
@@ -92,6 +98,15 @@ has_form what.BitSegment constructed = true
 has_form what.Foreign constructed = true
 has_form what.LeftOut constructed = false
 has_form _ constructed = constructed
+
+-- what most messages are made of: a SEQUENCE, a SEQUENCE OF or an explicit tag, or a leaf of profile 2
+abbrev pub is_plain : CodeElement → Bool → Bool
+is_plain (code.Leaf l) constructed = not constructed
+is_plain (code.Sequence node) constructed = constructed
+is_plain (code.List node) constructed = constructed
+is_plain (code.Wrapper w) constructed = constructed
+is_plain (code.LooseWrapper w) constructed = constructed
+is_plain _ constructed = false
 
 -- what is found may have the form, or is at fault
 abbrev pub IsFormed : Found → Bool → Option Cause → Type 0

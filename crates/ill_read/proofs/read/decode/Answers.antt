@@ -1,4 +1,5 @@
 use Rattle.std.proofs.Common.{Ok, Err, refl, sym, subst, arith, inl}
+use Rattle.ber_leaf.specs.Profile.{profile_two}
 use Rattle.ill_read.specs.Answers.{DecodeAnswers}
 use Rattle.ill_read.specs.code.ReaderCode.{HasBegun}
 use Rattle.ill_read.proofs.MessageEnds.{decode_fails}
@@ -22,10 +23,10 @@ pub returns-in-Err-clause-answers : goal.returns-in-Err-clause-answers
 returns-in-Err-clause-answers c = decode_fails c.args.octets.now c.in-Err.failure c.in-Err.ensures
 
 pub returns-in-Ok-Some-clause-few : goal.returns-in-Ok-Some-clause-few
-returns-in-Ok-Some-clause-few c = few_open c.args.octets.now
+returns-in-Ok-Some-clause-few c = few_open profile_two c.args.octets.now
 
 pub returns-in-Ok-None-clause-few : goal.returns-in-Ok-None-clause-few
-returns-in-Ok-None-clause-few c = few_open c.args.octets.now
+returns-in-Ok-None-clause-few c = few_open profile_two c.args.octets.now
 
 pub returns-in-Err-clause-few : goal.returns-in-Err-clause-few
-returns-in-Err-clause-few c = few_open c.args.octets.now
+returns-in-Err-clause-few c = few_open profile_two c.args.octets.now

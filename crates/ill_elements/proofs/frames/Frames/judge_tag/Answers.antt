@@ -1,20 +1,13 @@
-use Rattle.std.proofs.Common.{◌<◌, ◌≤◌, ℕ, IsTrue, refl, None, Some, sym, ap, subst, ◌∙◌}
+use Rattle.std.proofs.Common.{◌<◌, ◌≤◌, ℕ, None, Some, sym, ap, subst, ◌∙◌}
 use Rattle.ber_core.specs.Id.{tag_of_id}
 use Rattle.ber_leaf.specs.Profile.{profile_two}
-use Rattle.ill_schema.specs.TableFacts.{is_of_two}
-use Rattle.ill_schema.specs.declared.profile.Profile.{Profile as Named}
-use Rattle.ill_schema.specs.declared.profile.Profile.TheVariants.{Two, Module}
-use Rattle.ill_cells.specs.Places.{is_two, node_in}
-use Rattle.ill_cells.specs.declared.at.At.{At}
-use Rattle.ill_cells.specs.declared.at.Found.{Found}
-use Rattle.ill_elements.specs.Two.{is_found_of, is_place_of}
 use Rattle.ill_elements.specs.Due.{next_is}
 use Rattle.ill_elements.specs.code.Judging.{IsFormed}
 use Rattle.ill_refusals.specs.Fault.{fault}
 use Rattle.ill_refusals.specs.Next.{due}
 use Rattle.ill_refusals.specs.code.Judge.{faulty}
 use Rattle.ill_elements.proofs.DueCells.{is-coming, shape-next}
-use Rattle.ill_elements.proofs.OpenFrames.{frames_open}
+use Rattle.ill_elements.proofs.OpenFrames.{found_of, frames_open}
 use Rattle.ill_elements.proofs.Judgements.{deep_judged, unexpected_judged, formed_judged, misformed_judged}
 use Rattle.ill_elements.proofs.frames.Frames.judge_tag.Goals as goal
 
@@ -39,10 +32,6 @@ returns-in-None-clause-exact c place h =
     let f = c.in-Some.found in
     formed_judged c.args.self.now place c.place.result c.args.id f h (subst (λ (x : ℕ). x < 32) (c.depth.ensures ∙ frames_open c.args.self.now.profile place _ _ h.1) c.if-depth-ge-MAX_DEPTH.false) c.place.ensures.shape
     (is-coming (tag_of_id c.args.id) c.place.result f c.in-Some.ensures.due) (subst (λ b. IsFormed f b None) c.constructed.ensures (subst (IsFormed f c.constructed.result) c.in-None.is c.form_fault.ensures))
-
-found_of : (p : Named) (at : At) (f : Found) → IsTrue (is_place_of p at) → (IsTrue (is_of_two (node_in at)) → IsTrue (is_two f)) → IsTrue (is_found_of p f)
-found_of Two at f h k = k h
-found_of Module at f h k = refl
 
 pub returns-in-None-clause-is_of : goal.returns-in-None-clause-is_of
 returns-in-None-clause-is_of c =

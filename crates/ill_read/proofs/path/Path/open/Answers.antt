@@ -17,9 +17,9 @@ returns-clause-exact g c p place stands begin =
     let items = old.frames.open.items in
     let found = c.args.opening.found in
     let same = stands.3 in
-    opens_at p g.D.Draft.holds old (record { frames = c.push.new.self; draft = c.open.new.self }) c.args.opening _ place c.bound.result stands
+    opens_at p g.D.Draft.holds old (record { frames = c.push.new.self; draft = c.open_in.new.draft }) c.args.opening _ place c.bound.result stands
     (subst (λ q. IsDueIn (tag_of_id c.args.opening.id) (next_at q items) (read_due found)) same begin.is_due)
-    (subst (λ q. shape_at (next_place found) ≡ behind (next_at q items) (slot_in found)) same begin.goes_on) begin.allowed (ap shape_at c.first.ensures.place ∙ begin.begins) (subst (λ q. c.bound.result ≡ bound (profile_of q) place) same (c.bound.ensures.exact place (stands_at p g.D.Draft.holds old place stands))) c.unwrap_or.ensures (subst (λ n. HasOpened g.D.Draft.holds old.draft n c.args.opening c.in_ok-base.base c.open.new.self) (c.place.ensures.shape ∙ ap (λ q. next_at q items) same) c.in_ok-base.ensures) c.push.ensures.items c.push.ensures.profile refl
+    (subst (λ q. shape_at (next_place found) ≡ behind (next_at q items) (slot_in found)) same begin.goes_on) begin.allowed (ap shape_at c.first.ensures.place ∙ begin.begins) (subst (λ q. c.bound.result ≡ bound (profile_of q) place) same (c.bound.ensures.exact place (stands_at p g.D.Draft.holds old place stands))) c.unwrap_or.ensures (subst (λ n. HasOpened g.D.Draft.holds old.draft n c.args.opening c.in_ok-base.base c.open_in.new.draft) (c.place.ensures.shape ∙ ap (λ q. next_at q items) same) c.in_ok-base.ensures) c.push.ensures.items c.push.ensures.profile refl
 
 pub push-requires-clause-is_of : goal.push-requires-clause-is_of
 push-requires-clause-is_of g c = opened_of c.args.self.now.frames.profile _ c.requires.is_of (first_of c.args.self.now.frames.profile c.args.opening.found c.first.result c.requires.is_of c.first.ensures.place)

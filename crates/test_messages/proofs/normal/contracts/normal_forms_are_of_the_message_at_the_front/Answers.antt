@@ -3,4 +3,4 @@ use Rattle.test_messages.proofs.normal.contracts.normal_forms_are_of_the_message
 
 pub returns : goal.returns
 returns c a n h = kept_front c.args.source.now.octets c.read_kept_normal_by.new.source.octets c.args.kept.now.items c.read_kept_normal_by.new.kept.items
-    _ _ a n c.read_kept_normal_by.result h c.read_kept_normal_by.ensures
+    _ _ a n c.read_kept_normal_by.result h c.read_kept_normal_by.ensures.next

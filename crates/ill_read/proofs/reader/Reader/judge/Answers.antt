@@ -3,7 +3,7 @@ use Rattle.ill_refusals.specs.code.Judge.{faulty}
 use Rattle.ill_elements.specs.code.Judging.{judge_identified}
 use Rattle.ill_schema.specs.Profiles.{profile_of}
 use Rattle.ill_read.proofs.ProfileOfPath.{headed_in, stands_at}
-use Rattle.std.proofs.Common.{◌≡◌, ◌<◌, ◌++◌, ◌∙◌, get_or, length, Ok, IsTrue, ap, subst, arith, length-append}
+use Rattle.std.proofs.Common.{◌≡◌, ◌<◌, ◌++◌, ◌∙◌, get_or, length, Ok, IsTrue, subst, sym, arith}
 use Rattle.ber_core.specs.Id.{tag_of_id, form_of_id}
 use Rattle.ber_core.specs.Identifier.{identifier}
 use Rattle.ber_core.specs.Octets.{are_octets}
@@ -14,10 +14,9 @@ use Rattle.ill_elements.specs.Standing.{StandsAt}
 use Rattle.ill_refusals.specs.code.Judge.{judge_length}
 use Rattle.ill_elements.specs.Due.{read_as}
 use Rattle.ill_elements.specs.Elements.{element_is}
-use Rattle.ill_elements.specs.code.Judging.{IsBegin}
-use Rattle.ill_elements.specs.code.Judging.{Fits, IsExtent}
+use Rattle.ill_elements.specs.code.Judging.{IsExtent}
 use Rattle.ill_elements.proofs.Judgements.{behind_identifier}
-use Rattle.ill_read.proofs.reader.Reader.identified.Goals as goal
+use Rattle.ill_read.proofs.reader.Reader.judge.Goals as goal
 
 pub returns-in-Err-clause-goes : goal.returns-in-Err-clause-goes
 returns-in-Err-clause-goes g c p s rest more b came joined bounded judged =
@@ -48,10 +47,9 @@ returns-in-Err-judge_length-clause-goes g c p s rest more b came joined bounded 
           (c.in-Err-judge_length.ensures.exact rest front read.0 came spelled read.2 c.in-Ok.found b.place stands bounded),
     )
 
-pub returns-in-Opens-clause-goes : goal.returns-in-Opens-clause-goes
-returns-in-Opens-clause-goes g c p s rest more b came joined bounded judged =
+pub returns-clause-goes : goal.returns-clause-goes
+returns-clause-goes g c p s rest more b came joined bounded judged =
     let w = c.args.window.now in let id = c.args.id in let at = c.args.self.now.at in
-    let frames = c.args.self.now.path.frames in
     let ok : IsTrue (are_octets w) = octets_fit w (λ k. let l : get_or w k 0 < 256 = omega (arith, c.type_inv.window k) in l) in
     let read = c.requires.header in
     let front = identifier (tag_of_id id) (form_of_id id) in
@@ -59,26 +57,6 @@ returns-in-Opens-clause-goes g c p s rest more b came joined bounded judged =
     let stands : StandsAt c.args.self.now.path.frames b.place = stands_at p g.D.Draft.holds c.args.self.now.path b.place b.stands in
     let begun = c.in-Ok.ensures.exact b.place stands in
     let same = headed_in p c.args.self.now.path b.place (tag_of_id id) c.in-Ok.found (form_of_id id) at (cut_fault (profile_of p) b.place at rest) w front read.0 b.stands.3 stands begun spelled read.1 in
-    let fits = subst (Fits id (length w)) c.in-Opens.is c.in-Ok-judge_length.ensures.fits in
-    let extent = subst (λ x. IsExtent p c.in-Ok.found id at w (Ok x) (judge_length (profile_of p) b.place (element_is (read_as c.in-Ok.found)) (tag_of_id id) (form_of_id id) at (length front) (cut_fault (profile_of p) b.place at rest) read.0)) c.in-Opens.is
-    (subst (λ q. IsExtent q c.in-Ok.found id at w (Ok c.in-Ok-judge_length.extent) (judge_length (profile_of q) b.place (element_is (read_as c.in-Ok.found)) (tag_of_id id) (form_of_id id) at (length front) (cut_fault (profile_of q) b.place at rest) read.0)) b.stands.3
-    (c.in-Ok-judge_length.ensures.exact rest front read.0 came spelled read.2 c.in-Ok.found b.place stands bounded)) in
-    c.open.ensures.goes p s rest (b, (subst (IsBegin frames b.place (tag_of_id id) c.in-Ok.found) fits.0 begun, judged ∙ same ∙ extent))
-    (fits.1, omega (arith, fits.2, ap length joined, length-append w more))
-
-pub returns-in-Reads-clause-goes : goal.returns-in-Reads-clause-goes
-returns-in-Reads-clause-goes g c p s rest more b came joined bounded judged =
-    let w = c.args.window.now in let id = c.args.id in let at = c.args.self.now.at in
-    let frames = c.args.self.now.path.frames in
-    let ok : IsTrue (are_octets w) = octets_fit w (λ k. let l : get_or w k 0 < 256 = omega (arith, c.type_inv.window k) in l) in
-    let read = c.requires.header in
-    let front = identifier (tag_of_id id) (form_of_id id) in
-    let spelled : w ≡ front ++ read.0 = (read_is_identifier w (tag_of_id id) (form_of_id id) read.0 ok read.1).1 in
-    let stands : StandsAt c.args.self.now.path.frames b.place = stands_at p g.D.Draft.holds c.args.self.now.path b.place b.stands in
-    let begun = c.in-Ok.ensures.exact b.place stands in
-    let same = headed_in p c.args.self.now.path b.place (tag_of_id id) c.in-Ok.found (form_of_id id) at (cut_fault (profile_of p) b.place at rest) w front read.0 b.stands.3 stands begun spelled read.1 in
-    let fits = subst (Fits id (length w)) c.in-Reads.is c.in-Ok-judge_length.ensures.fits in
-    let extent = subst (λ x. IsExtent p c.in-Ok.found id at w (Ok x) (judge_length (profile_of p) b.place (element_is (read_as c.in-Ok.found)) (tag_of_id id) (form_of_id id) at (length front) (cut_fault (profile_of p) b.place at rest) read.0)) c.in-Reads.is
-    (subst (λ q. IsExtent q c.in-Ok.found id at w (Ok c.in-Ok-judge_length.extent) (judge_length (profile_of q) b.place (element_is (read_as c.in-Ok.found)) (tag_of_id id) (form_of_id id) at (length front) (cut_fault (profile_of q) b.place at rest) read.0)) b.stands.3
-    (c.in-Ok-judge_length.ensures.exact rest front read.0 came spelled read.2 c.in-Ok.found b.place stands bounded)) in
-    c.read.ensures.goes p s rest more b joined (subst (IsBegin frames b.place (tag_of_id id) c.in-Ok.found) fits.0 begun, judged ∙ same ∙ extent)
+    let extent = subst (λ q. IsExtent q c.in-Ok.found id at w (Ok c.in-Ok-judge_length.extent) (judge_length (profile_of q) b.place (element_is (read_as c.in-Ok.found)) (tag_of_id id) (form_of_id id) at (length front) (cut_fault (profile_of q) b.place at rest) read.0)) b.stands.3
+    (c.in-Ok-judge_length.ensures.exact rest front read.0 came spelled read.2 c.in-Ok.found b.place stands bounded) in
+    c.open_or_read.ensures.goes p s rest more b joined begun (subst (IsExtent p c.in-Ok.found id at w (Ok c.in-Ok-judge_length.extent)) (sym (judged ∙ same)) extent)
