@@ -13,7 +13,7 @@ use Rattle.ber_leaf.specs.declared.fault.LeafFault.{LeafFault}
 use Rattle.ber_leaf.specs.Simple.{whole}
 use Rattle.ber_core.specs.Octets.{are_octets}
 use Rattle.ber_leaf.specs.Leaf.{integer, normal_content, Holds, integer_of, content_fault, big_endian, octet_count, is_padded}
-use Rattle.ber_leaf.specs.code.Sign.{reach, sign_octet}
+use Rattle.ber_leaf.specs.code.Sign.{magnitude, sign_octet}
 use Rattle.ber_leaf.specs.Profile.{Profile}
 
 pub and_parts : (a b : Bool) → IsTrue (a && b) → IsTrue a × IsTrue b
@@ -199,7 +199,7 @@ length-big_endian zero n = refl
 length-big_endian (suc k) n = omega (arith, length-append (big_endian k (n / 256)) (n % 256 ∷ []), length-big_endian k (n / 256))
 
 -- how many octets the normal content of a number has
-pub length-normal : (z : ℤ) → length (normal_content (whole z)) ≡ octet_count (reach z)
+pub length-normal : (z : ℤ) → length (normal_content (whole z)) ≡ octet_count (magnitude z)
 length-normal (pos n) = length-big_endian (octet_count n) n
 length-normal (negsuc n) = length-big_endian (octet_count n) (256 ^ octet_count n - 1 - n)
 
@@ -252,7 +252,7 @@ held_high p (a ∷ r) j n h l e le lt need =
     ]
 
 -- each number within the bounds is held by its normal content
-pub whole_held : (p : Profile) (z : ℤ) → reach z < 9_223_372_036_854_775_808 → Holds p integer (whole z) (normal_content (whole z))
+pub whole_held : (p : Profile) (z : ℤ) → magnitude z < 9_223_372_036_854_775_808 → Holds p integer (whole z) (normal_content (whole z))
 whole_held p (pos n) lt =
     let s = count_of 7 n (omega arith) lt in
     let w = pow-succ' 256 s.0 in
@@ -320,7 +320,7 @@ extended_value (a ∷ r) h lt le =
     ]
 
 -- the number that octets hold is within the bounds
-whole_within : (p : Profile) (o : List ℕ) → IsTrue (are_octets o) → content_fault p integer o ≡ None → reach (integer_of o) < 9_223_372_036_854_775_808
+whole_within : (p : Profile) (o : List ℕ) → IsTrue (are_octets o) → content_fault p integer o ≡ None → magnitude (integer_of o) < 9_223_372_036_854_775_808
 whole_within p [] h e = absurd cc
 whole_within p (a ∷ r) h e =
     let size = integer_size p (a ∷ r) e in
@@ -328,19 +328,19 @@ whole_within p (a ∷ r) h e =
     let m = 256 ^ suc (length r) - 1 - n in
     let weight = pow-le-pow_right {n = 256} (omega arith) {i = length r} {j = 7} (omega (arith, size.1)) in
     elim (two_cases (nat_lt a 128)) [
-      | inl l ↦ subst (λ (b : Bool). reach (if b then pos n else negsuc m) < 9_223_372_036_854_775_808) (sym l) (omega (arith, weight, low_half a r h (ltb-true _ _ l)))
-      | inr l ↦ subst (λ (b : Bool). reach (if b then pos n else negsuc m) < 9_223_372_036_854_775_808) (sym l) (omega (arith, weight, pow-succ' 256 (length r), high_half a r (ltb-false _ _ l)))
+      | inl l ↦ subst (λ (b : Bool). magnitude (if b then pos n else negsuc m) < 9_223_372_036_854_775_808) (sym l) (omega (arith, weight, low_half a r h (ltb-true _ _ l)))
+      | inr l ↦ subst (λ (b : Bool). magnitude (if b then pos n else negsuc m) < 9_223_372_036_854_775_808) (sym l) (omega (arith, weight, pow-succ' 256 (length r), high_half a r (ltb-false _ _ l)))
     ]
 
-reach_bounds : (z : ℤ) → reach z < 9_223_372_036_854_775_808 ↔ ((neg_ℤ (pos 9_223_372_036_854_775_808) ≤ℤ z) × (z ≤ℤ pos 9_223_372_036_854_775_807))
-reach_bounds (pos n) = (λ h. (omega (arith, ints), omega (arith, ints)), λ h. let top = h.1 in omega (arith, ints))
-reach_bounds (negsuc n) = (λ h. (omega (arith, ints), omega (arith, ints)), λ h. let low = h.0 in omega (arith, ints))
+magnitude_bounds : (z : ℤ) → magnitude z < 9_223_372_036_854_775_808 ↔ ((neg_ℤ (pos 9_223_372_036_854_775_808) ≤ℤ z) × (z ≤ℤ pos 9_223_372_036_854_775_807))
+magnitude_bounds (pos n) = (λ h. (omega (arith, ints), omega (arith, ints)), λ h. let top = h.1 in omega (arith, ints))
+magnitude_bounds (negsuc n) = (λ h. (omega (arith, ints), omega (arith, ints)), λ h. let low = h.0 in omega (arith, ints))
 
 -- some octets hold a whole number exactly within the bounds
 pub whole_bounds : (p : Profile) (z : ℤ) → ((o : List ℕ) × Holds p integer (whole z) o) ↔ ((neg_ℤ (pos 9_223_372_036_854_775_808) ≤ℤ z) × (z ≤ℤ pos 9_223_372_036_854_775_807))
 whole_bounds p z = (
   λ h.
       let same : z ≡ integer_of h.0 = let e : whole z ≡ whole (integer_of h.0) = h.1.2 in cc in
-      (reach_bounds z).0 (subst (λ (x : ℤ). reach x < 9_223_372_036_854_775_808) (sym same) (whole_within p h.0 h.1.0 h.1.1)),
-  λ h. (normal_content (whole z), whole_held p z ((reach_bounds z).1 h)),
+      (magnitude_bounds z).0 (subst (λ (x : ℤ). magnitude x < 9_223_372_036_854_775_808) (sym same) (whole_within p h.0 h.1.0 h.1.1)),
+  λ h. (normal_content (whole z), whole_held p z ((magnitude_bounds z).1 h)),
 )

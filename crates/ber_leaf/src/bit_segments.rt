@@ -49,10 +49,10 @@ impl BitSegments {
         ensures { OnOk result (self.new ≡ join_bits self.old segment.now) }
     {
         let [unused, octets @ ..] = segment else {
-            return self.spoil();
+            return self.mark_invalid();
         };
         if !is_bits(segment) || self.content.first() != Some(&0) {
-            return self.spoil();
+            return self.mark_invalid();
         }
         self.content.extend_from_slice(octets)?;
         self.content[0] = *unused;
@@ -60,7 +60,7 @@ impl BitSegments {
     }
 
     /// Makes the content invalid for good.
-    fn spoil(&mut self) -> Result<(), AllocError>
+    fn mark_invalid(&mut self) -> Result<(), AllocError>
         ensures { OnOk result (self.new ≡ 8 ∷ []) }
     {
         self.content.clear();

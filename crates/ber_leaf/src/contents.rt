@@ -22,7 +22,7 @@ pub trait Leaf {
     // a value as the definitions see it
     ghost simple: { Self.Out → Simple };
 
-    /// Why the octets hold no value, or None exactly where they hold one.
+    /// The reason why the octets hold no value, or None exactly where they hold one.
     fn check(octets: &[u8]) -> Option<LeafFault>
         ensures fault { result ≡ content_fault profile_two kind octets.now }
         ensures none { IsNone result ↔ IsContent kind octets.now };
@@ -32,7 +32,7 @@ pub trait Leaf {
         requires { IsContent kind octets.items }
         ensures { Holds profile_two kind (simple result) octets.items };
 
-    /// How many octets the value's normal content has.
+    /// The number of octets that the value's normal content has.
     fn normal_size(value: &Self::Out) -> usize
         ensures { result ≡ length (normal_content (simple value.now)) };
 

@@ -1,4 +1,4 @@
-/// Why octets are no content of a leaf.
+/// The reason why octets are no content of a leaf.
 #[derive(Clone, Copy, Debug, PartialEq, Eq)]
 pub enum LeafFault {
     /// A BOOLEAN's content isn't one octet (X.690, 8.2.1).

@@ -1,6 +1,6 @@
 ghost use Rattle.std.specs.Prelude.{◌≡◌, ◌<◌, ◌≤◌, ◌-◌, ◌++◌, length, replicate};
 ghost use Rattle.ber_leaf.specs.Leaf.{integer, integer_of, is_padded, octet_count};
-ghost use Rattle.ber_leaf.specs.code.Sign.{reach, sign_octet};
+ghost use Rattle.ber_leaf.specs.code.Sign.{magnitude, sign_octet};
 ghost use Rattle.ber_leaf.specs.Simple.{whole};
 
 use crate::{Leaf, LeafFault};
@@ -30,7 +30,7 @@ impl Leaf for Whole {
     }
 
     fn normal_size(value: &i64) -> usize {
-        octet_count(reach(*value))
+        octet_count(magnitude(*value))
     }
 
     fn put_normal(value: &i64, room: &mut [u8]) {
@@ -52,11 +52,11 @@ impl Whole {
         requires few { length octets.now ≤ 8 }
         ensures { result ≡ integer_of octets.now }
     {
-        i64::from_be_bytes(extended(octets))
+        i64::from_be_bytes(sign_extended(octets))
     }
 }
 
-/// Whether there are no octets, or at least two whose first nine bits are equal.
+/// Tells whether there are no octets, or at least two whose first nine bits are equal.
 fn is_padded(octets: &[u8]) -> bool
     ensures { result ≡ is_padded octets.now }
 {
@@ -72,7 +72,7 @@ fn is_padded(octets: &[u8]) -> bool
 }
 
 /// The octets after as many copies of their sign as make eight of them.
-fn extended(octets: &[u8]) -> [u8; 8]
+fn sign_extended(octets: &[u8]) -> [u8; 8]
     requires some { 0 < length octets.now }
     requires few { length octets.now ≤ 8 }
     ensures { result ≡ replicate (8 - length octets.now) (sign_octet octets.now) ++ octets.now }
@@ -84,8 +84,8 @@ fn extended(octets: &[u8]) -> [u8; 8]
 }
 
 /// The least `n` such that the value is from `-n - 1` to `n`.
-fn reach(value: i64) -> u64
-    ensures { result ≡ reach value }
+fn magnitude(value: i64) -> u64
+    ensures { result ≡ magnitude value }
 {
     if value < 0 {
         (-1 - value) as u64
@@ -94,7 +94,7 @@ fn reach(value: i64) -> u64
     }
 }
 
-/// How many octets hold the numbers from `-n - 1` to `n`.
+/// The number of octets that hold the numbers from `-n - 1` to `n`.
 fn octet_count(n: u64) -> usize
     ensures { result ≡ octet_count n }
 {

@@ -13,7 +13,7 @@ pub fn octets_hold_one_value()
         → Holds p kind v octets → Holds p kind w octets → v ≡ w }
 {}
 
-/// The same of the values in Rust, at each kind that implements [`Leaf`].
+/// Values in Rust have one content, too, at each kind that implements [`Leaf`].
 pub fn octets_hold_one_out<L: Leaf>()
     ensures { (v w : L.Out) (octets : List ℕ)
         → Holds profile_two L.kind (L.simple v) octets → Holds profile_two L.kind (L.simple w) octets
@@ -52,7 +52,7 @@ pub fn enumerated_is_held_as_integer()
         → Holds p enumerated v octets ↔ Holds p integer v octets }
 {}
 
-/// What octets hold in the narrow profile they hold in the wide one.
+/// Octets hold in the wide profile what they hold in the narrow one.
 pub fn profile_two_holds_what_one_does()
     ensures { (limit : ℕ) (kind : Kind) (v : Simple) (octets : List ℕ)
         → Holds (profile_one limit) kind v octets → Holds profile_two kind v octets }

@@ -1,4 +1,5 @@
-//! The contents of primitive elements and strings: which octets hold which value.
+//! The contents octets of primitive elements and strings: which octets hold which value. Use it for the texts, dates and numbers in a
+//! message that is built in code.
 //!
 //! A text can't be made of octets outside its alphabet, and a day is one of the calendar:
 //!

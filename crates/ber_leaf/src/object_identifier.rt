@@ -96,7 +96,7 @@ impl Eq for ObjectIdentifier {
     ghost laws = { nat_list_eq_equiv };
 }
 
-/// Whether the octets are one subidentifier or more.
+/// Tells whether the octets are one subidentifier or more.
 fn is_oid(octets: &[u8]) -> bool
     ensures { result ≡ is_oid octets.now }
 {

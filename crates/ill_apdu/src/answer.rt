@@ -14,18 +14,18 @@ use std::alloc::{AllocError, Global};
 /// `ill-answer-extensions` (row 13) are left out.
 #[derive(Debug, Drop, PartialEq, Eq)]
 pub struct IllAnswer {
-    /// What each APDU begins with (rows 0 to 4).
+    /// The rows that each APDU begins with (rows 0 to 4).
     pub head: Head,
     /// The result: 1 conditional, 2 retry, 3 unfilled, 4 locations provided, 5 will supply, 6
     /// hold placed, 7 estimate (row 5).
     pub transaction_results: i64,
-    /// What the result means here (row 6).
+    /// The meaning of the result here (row 6).
     pub results_explanation: Option<Results>,
     /// Whom else to ask (row 9).
     pub send_to_list: Option<Vec<SendTo>>,
     /// Who was asked before (row 10).
     pub already_tried_list: Option<Vec<SystemId>>,
-    /// Which optional messages the responder can send or wants (row 11).
+    /// The optional messages that the responder can send or wants (row 11).
     pub responder_optional_messages: Option<ResponderOptionalMessages>,
     /// A note of the responder (row 12).
     pub responder_note: Option<IllString>,

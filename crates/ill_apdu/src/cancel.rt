@@ -12,7 +12,7 @@ use std::alloc::{AllocError, Global};
 /// `cancel-extensions` (row 6) is left out.
 #[derive(Debug, Drop, PartialEq, Eq)]
 pub struct Cancel {
-    /// What each APDU begins with (rows 0 to 4).
+    /// The rows that each APDU begins with (rows 0 to 4).
     pub head: Head,
     /// A note of the requester (row 5).
     pub requester_note: Option<IllString>,
@@ -68,9 +68,9 @@ impl Typed for Cancel {
 /// `cancel-reply-extensions` (row 7) is left out.
 #[derive(Debug, Drop, PartialEq, Eq)]
 pub struct CancelReply {
-    /// What each APDU begins with (rows 0 to 4).
+    /// The rows that each APDU begins with (rows 0 to 4).
     pub head: Head,
-    /// Whether the request is cancelled (row 5).
+    /// True if the request is cancelled (row 5).
     pub answer: bool,
     /// A note of the responder (row 6).
     pub responder_note: Option<IllString>,

@@ -12,9 +12,9 @@ use std::alloc::{AllocError, Global};
 /// `conditional-reply-extensions` (row 7) is left out.
 #[derive(Debug, Drop, PartialEq, Eq)]
 pub struct ConditionalReply {
-    /// What each APDU begins with (rows 0 to 4).
+    /// The rows that each APDU begins with (rows 0 to 4).
     pub head: Head,
-    /// Whether the conditions are accepted (row 5).
+    /// True if the conditions are accepted (row 5).
     pub answer: bool,
     /// A note of the requester (row 6).
     pub requester_note: Option<IllString>,

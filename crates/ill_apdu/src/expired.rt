@@ -8,7 +8,7 @@ use std::alloc::{AllocError, Global};
 /// `expired-extensions` (row 5) is left out.
 #[derive(Debug, Drop, PartialEq, Eq)]
 pub struct Expired {
-    /// What each APDU begins with (rows 0 to 4).
+    /// The rows that each APDU begins with (rows 0 to 4).
     pub head: Head,
 }
 

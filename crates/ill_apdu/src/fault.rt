@@ -1,4 +1,4 @@
-/// Why an APDU has no message.
+/// The reason why an APDU has no message.
 #[derive(Clone, Copy, Debug, PartialEq, Eq)]
 pub enum MessageFault {
     /// Memory was refused.

@@ -12,7 +12,7 @@ use std::alloc::{AllocError, Global};
 pub struct LocationInfo {
     /// The library (row 0).
     pub location_id: SystemId,
-    /// Where it is reached (row 1).
+    /// Its address (row 1).
     pub location_address: Option<SystemAddress>,
     /// A note on the place (row 2).
     pub location_note: Option<IllString>,
@@ -72,7 +72,7 @@ impl Typed for LocationInfo {
 /// The responder names places where the item may be had (Locations).
 #[derive(Debug, Drop, PartialEq, Eq)]
 pub struct Locations {
-    /// Why only places are given, by the number of the reason (row 0).
+    /// The reason why only places are given, by the number of the reason (row 0).
     pub reason_locs_provided: Option<i64>,
     /// The places (row 1).
     pub location_list: Vec<LocationInfo>,

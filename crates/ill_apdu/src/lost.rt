@@ -11,7 +11,7 @@ use std::alloc::{AllocError, Global};
 /// `lost-extensions` (row 6) is left out.
 #[derive(Debug, Drop, PartialEq, Eq)]
 pub struct Lost {
-    /// What each APDU begins with (rows 0 to 4).
+    /// The rows that each APDU begins with (rows 0 to 4).
     pub head: Head,
     /// A note (row 5).
     pub note: Option<IllString>,
@@ -64,7 +64,7 @@ impl Typed for Lost {
 /// `damaged-details` (row 5) and `damaged-extensions` (row 7) are left out.
 #[derive(Debug, Drop, PartialEq, Eq)]
 pub struct Damaged {
-    /// What each APDU begins with (rows 0 to 4).
+    /// The rows that each APDU begins with (rows 0 to 4).
     pub head: Head,
     /// A note (row 6).
     pub note: Option<IllString>,

@@ -12,9 +12,9 @@ use std::alloc::{AllocError, Global};
 /// `overdue-extensions` (row 7) is left out.
 #[derive(Debug, Drop, PartialEq, Eq)]
 pub struct Overdue {
-    /// What each APDU begins with (rows 0 to 4).
+    /// The rows that each APDU begins with (rows 0 to 4).
     pub head: Head,
-    /// When it was due (row 5).
+    /// The date when it was due (row 5).
     pub date_due: DateDue,
     /// A note of the responder (row 6).
     pub responder_note: Option<IllString>,

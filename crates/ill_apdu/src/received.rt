@@ -12,7 +12,7 @@ use std::alloc::{AllocError, Global};
 /// `supplemental-item-description` (row 6) and `received-extensions` (row 10) are left out.
 #[derive(Debug, Drop, PartialEq, Eq)]
 pub struct Received {
-    /// What each APDU begins with (rows 0 to 4).
+    /// The rows that each APDU begins with (rows 0 to 4).
     pub head: Head,
     /// The party that supplied the item (row 5).
     pub supplier_id: Option<SystemId>,

@@ -12,7 +12,7 @@ use std::alloc::{AllocError, Global};
 /// `renew-extensions` (row 7) is left out.
 #[derive(Debug, Drop, PartialEq, Eq)]
 pub struct Renew {
-    /// What each APDU begins with (rows 0 to 4).
+    /// The rows that each APDU begins with (rows 0 to 4).
     pub head: Head,
     /// Until when the requester would like to keep it (row 5).
     pub desired_due_date: Option<DateText>,
@@ -76,11 +76,11 @@ impl Typed for Renew {
 /// `renew-answer-extensions` (row 8) is left out.
 #[derive(Debug, Drop, PartialEq, Eq)]
 pub struct RenewAnswer {
-    /// What each APDU begins with (rows 0 to 4).
+    /// The rows that each APDU begins with (rows 0 to 4).
     pub head: Head,
-    /// Whether the loan is renewed (row 5).
+    /// True if the loan is renewed (row 5).
     pub answer: bool,
-    /// When it is due now (row 6).
+    /// The date when it is due now (row 6).
     pub date_due: Option<DateDue>,
     /// A note of the responder (row 7).
     pub responder_note: Option<IllString>,

@@ -19,22 +19,22 @@ use std::alloc::{AllocError, Global};
 /// `ill-request-extensions` (row 25) are left out.
 #[derive(Debug, Drop, PartialEq, Eq)]
 pub struct IllRequest {
-    /// What each APDU begins with (rows 0 to 4).
+    /// The rows that each APDU begins with (rows 0 to 4).
     pub head: Head,
     /// The type of transaction: 1 simple, 2 chained, 3 partitioned (row 5, by default 1).
     pub transaction_type: i64,
-    /// Where the item goes (row 6).
+    /// The address that the item goes to (row 6).
     pub delivery_address: Option<DeliveryAddress>,
-    /// How it is to be delivered (row 7).
+    /// The service by which it is to be delivered (row 7).
     pub delivery_service: Option<DeliveryService>,
-    /// Where the bill goes (row 8).
+    /// The address that the bill goes to (row 8).
     pub billing_address: Option<DeliveryAddress>,
     /// The services that are asked for, the first choice first: 1 loan, 2 copy that is not
     /// returned, 3 locations, 4 estimate, 5 specific to the responder (row 9).
     pub ill_service_type: Vec<i64>,
-    /// Which optional messages the requester can send or wants (row 11).
+    /// The optional messages that the requester can send or wants (row 11).
     pub requester_optional_messages: RequesterOptionalMessages,
-    /// How much is to be searched, and until when (row 12).
+    /// The extent of the search, and its end (row 12).
     pub search_type: Option<SearchType>,
     /// The media that are accepted (row 13).
     pub supply_medium_info_type: Option<Vec<SupplyMediumInfo>>,
@@ -43,17 +43,17 @@ pub struct IllRequest {
     pub place_on_hold: i64,
     /// The person for whom it is (row 15).
     pub client_id: Option<ClientId>,
-    /// What is asked for (row 16).
+    /// The item that is asked for (row 16).
     pub item_id: ItemId,
-    /// What the requester will pay (row 18).
+    /// The sum that the requester will pay (row 18).
     pub cost_info_type: Option<CostInfo>,
-    /// Which rule of copyright the request keeps (row 19).
+    /// The rule of copyright that the request keeps (row 19).
     pub copyright_compliance: Option<IllString>,
-    /// What an intermediary may do (row 20).
+    /// The things that an intermediary may do (row 20).
     pub third_party_info_type: Option<ThirdPartyInfo>,
-    /// Whether it is sent again after RETRY (row 21, by default false).
+    /// True if it is sent again after RETRY (row 21, by default false).
     pub retry_flag: bool,
-    /// Whether it was forwarded (row 22, by default false).
+    /// True if it was forwarded (row 22, by default false).
     pub forward_flag: bool,
     /// A note of the requester (row 23).
     pub requester_note: Option<IllString>,
@@ -148,7 +148,7 @@ impl Typed for IllRequest {
     ghost is_node = { λ _. (λ fits. fits, λ fits. fits) };
 }
 
-/// What is ordered, and where it goes: rows 5 to 9 of an ILL-Request.
+/// The order and its destination: rows 5 to 9 of an ILL-Request.
 #[derive(Drop)]
 struct Order {
     transaction_type: i64,
@@ -185,7 +185,7 @@ fn read_order(alloc: Global, entries: &[Option<Value>]) -> Result<Order, AllocEr
     })
 }
 
-/// What the item has to be: rows 11 to 16 of an ILL-Request.
+/// The demands on the item: rows 11 to 16 of an ILL-Request.
 #[derive(Drop)]
 struct Terms {
     requester_optional_messages: RequesterOptionalMessages,
@@ -225,7 +225,7 @@ fn read_terms(alloc: Global, entries: &[Option<Value>]) -> Result<Terms, AllocEr
     })
 }
 
-/// What else is said: rows 18 to 24 of an ILL-Request.
+/// The remaining details: rows 18 to 24 of an ILL-Request.
 #[derive(Drop)]
 struct Remarks {
     cost_info_type: Option<CostInfo>,

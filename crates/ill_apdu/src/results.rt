@@ -76,7 +76,7 @@ impl Typed for Conditional {
 /// The responder may supply the item later (Retry).
 #[derive(Debug, Drop, PartialEq, Eq)]
 pub struct Retry {
-    /// Why it isn't at hand, by the number of the reason (row 0).
+    /// The reason why it isn't at hand, by the number of the reason (row 0).
     pub reason_not_available: Option<i64>,
     /// The day from which to ask again (row 1).
     pub retry_date: Option<DateText>,
@@ -199,11 +199,11 @@ impl Typed for Unfilled {
 /// `electronic-delivery-service` (row 4) is left out.
 #[derive(Debug, Drop, PartialEq, Eq)]
 pub struct WillSupply {
-    /// Why not now, by the number of the reason (row 0).
+    /// The reason why not now, by the number of the reason (row 0).
     pub reason_will_supply: i64,
     /// The day on which it will be sent (row 1).
     pub supply_date: Option<DateText>,
-    /// Where the item has to be returned to (row 2).
+    /// The address that the item has to be returned to (row 2).
     pub return_to_address: Option<PostalAddress>,
     /// Other places where it may be had (row 3).
     pub location_list: Option<Vec<LocationInfo>>,
@@ -330,7 +330,7 @@ impl Typed for HoldPlaced {
     ghost is_node = { λ _. (λ fits. fits, λ fits. fits) };
 }
 
-/// What it would cost to supply the item (Estimate).
+/// The estimated cost of supplying the item (Estimate).
 #[derive(Debug, Drop, PartialEq, Eq)]
 pub struct Estimate {
     /// The cost (row 0).
@@ -390,7 +390,7 @@ impl Typed for Estimate {
     ghost is_node = { λ _. (λ fits. fits, λ fits. fits) };
 }
 
-/// What the responder says of a request, by the result of its answer (Results).
+/// The responder's explanation, by the result of its answer (Results).
 #[derive(Debug, Drop, PartialEq, Eq)]
 pub enum Results {
     /// With result 1 (row 0).

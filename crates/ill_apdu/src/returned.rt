@@ -12,11 +12,11 @@ use std::alloc::{AllocError, Global};
 /// `supplemental-item-description` (row 5) and `returned-extensions` (row 10) are left out.
 #[derive(Debug, Drop, PartialEq, Eq)]
 pub struct Returned {
-    /// What each APDU begins with (rows 0 to 4).
+    /// The rows that each APDU begins with (rows 0 to 4).
     pub head: Head,
     /// The day on which it was sent back (row 6).
     pub date_returned: DateText,
-    /// How it was sent back (row 7).
+    /// The service by which it was sent back (row 7).
     pub returned_via: Option<IllString>,
     /// For how much it is insured (row 8).
     pub insured_for: Option<Amount>,
@@ -89,7 +89,7 @@ impl Typed for Returned {
 /// `checked-in-extensions` (row 7) is left out.
 #[derive(Debug, Drop, PartialEq, Eq)]
 pub struct CheckedIn {
-    /// What each APDU begins with (rows 0 to 4).
+    /// The rows that each APDU begins with (rows 0 to 4).
     pub head: Head,
     /// The day on which it was checked in (row 5).
     pub date_checked_in: DateText,

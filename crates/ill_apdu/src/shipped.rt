@@ -13,9 +13,9 @@ use std::alloc::{AllocError, Global};
 /// `supplemental-item-description` (row 10) and `shipped-extensions` (row 16) are left out.
 #[derive(Debug, Drop, PartialEq, Eq)]
 pub struct Shipped {
-    /// What each APDU begins with (rows 0 to 4).
+    /// The rows that each APDU begins with (rows 0 to 4).
     pub head: Head,
-    /// Where the responder is reached (row 5).
+    /// The address of the responder (row 5).
     pub responder_address: Option<SystemAddress>,
     /// The intermediary (row 6).
     pub intermediary_id: Option<SystemId>,
@@ -27,11 +27,11 @@ pub struct Shipped {
     pub transaction_type: i64,
     /// The service that was given: 1 loan, 2 copy that is not returned (row 11).
     pub shipped_service_type: i64,
-    /// Which optional messages the responder can send or wants (row 12).
+    /// The optional messages that the responder can send or wants (row 12).
     pub responder_optional_messages: Option<ResponderOptionalMessages>,
-    /// What was supplied (row 13).
+    /// The details of the supply (row 13).
     pub supply_details: SupplyDetails,
-    /// Where the item has to be returned to (row 14).
+    /// The address that the item has to be returned to (row 14).
     pub return_to_address: Option<PostalAddress>,
     /// A note of the responder (row 15).
     pub responder_note: Option<IllString>,

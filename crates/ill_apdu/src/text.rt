@@ -11,7 +11,7 @@ use std::alloc::{AllocError, Global};
 /// `message-extensions` (row 6) is left out.
 #[derive(Debug, Drop, PartialEq, Eq)]
 pub struct MessageApdu {
-    /// What each APDU begins with (rows 0 to 4).
+    /// The rows that each APDU begins with (rows 0 to 4).
     pub head: Head,
     /// The text (row 5).
     pub note: IllString,

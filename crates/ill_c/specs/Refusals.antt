@@ -1,34 +1,10 @@
 -- A refusal, as it is reported to C.
 use Rattle.std.specs.Prelude.{ℕ, ◌-◌, List, [], ◌++◌, codes, length, replicate, Option, Some, None}
 use Rattle.ill_schema.specs.Names.{part_name_of}
+use Rattle.ill_schema.specs.Causes.{cause_number}
 use Rattle.ill_schema.specs.declared.refusal.Cause.{Cause}
 use Rattle.ill_refusals.specs.Fault.{Fault}
 use Rattle.ill_c.specs.declared.refusal.IllcanonRefusal.{IllcanonRefusal}
-
--- the number of a cause
-abbrev pub cause_number : Cause → ℕ
-cause_number Cause.Truncated = 1
-cause_number Cause.BadTag = 2
-cause_number Cause.BadLength = 3
-cause_number Cause.TooLong = 4
-cause_number Cause.Overrun = 5
-cause_number Cause.TooDeep = 6
-cause_number Cause.UnexpectedTag = 7
-cause_number (Cause.LeftOut part) = 8
-cause_number Cause.WrongForm = 9
-cause_number (Cause.Missing part) = 10
-cause_number Cause.BadEnd = 11
-cause_number Cause.BadBoolean = 12
-cause_number Cause.BadInteger = 13
-cause_number Cause.IntegerTooLong = 14
-cause_number Cause.BadText = 15
-cause_number Cause.BadDate = 16
-cause_number Cause.BadTime = 17
-cause_number Cause.TrailingBytes = 18
-cause_number Cause.NormalTooLong = 19
-cause_number Cause.BadNull = 20
-cause_number Cause.BadOid = 21
-cause_number Cause.BadBits = 22
 
 -- the name of a node, and that of its row
 abbrev pub dotted : Option (List ℕ × List ℕ) → List ℕ

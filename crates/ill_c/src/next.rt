@@ -56,7 +56,7 @@ fn next(
 {
     match read_front(alloc, profile, octets) {
         Ok(Some(normal)) => {
-            *size = normal.read as usize;
+            *size = normal.input_len as usize;
             Status::Done
         }
         Ok(None) => Status::NeedsMore,
@@ -119,7 +119,7 @@ fn normalise_next(
 {
     match read_front(alloc, profile, octets) {
         Ok(Some(normal)) => {
-            *read = normal.read as usize;
+            *read = normal.input_len as usize;
             put(&normal.octets, buffer, size)
         }
         Ok(None) => Status::NeedsMore,

@@ -3,14 +3,14 @@ ghost use Rattle.std.specs.Prelude.{◌≡◌, ◌+◌};
 ghost use Rattle.ill_schema.specs.Names.{part_name_of};
 ghost use Rattle.ill_refusals.specs.Fault.{fault_of};
 ghost use Rattle.ill_c.specs.Memory.{change};
-ghost use Rattle.ill_c.specs.Refusals.{c_text, cause_number, dotted, part_text, reported};
+ghost use Rattle.ill_c.specs.Refusals.{c_text, dotted, part_text, reported};
 ghost use Rattle.ill_c.specs.code.Steps.{IsReported};
 
 use crate::put::copy_at;
 use crate::status::Status;
 use ill_normal::{Cause, Failure, PartId, Refusal, part_name};
 
-/// Why octets are refused.
+/// The reason why octets are refused.
 #[repr(C)]
 #[derive(Clone, Copy)]
 pub struct IllcanonRefusal {
@@ -41,37 +41,8 @@ pub(crate) fn reported(refusal: Refusal) -> IllcanonRefusal
 {
     IllcanonRefusal {
         at: refusal.at,
-        cause: cause_number(refusal.cause),
+        cause: refusal.cause.number(),
         part: part_of(refusal.cause),
-    }
-}
-
-fn cause_number(cause: Cause) -> u32
-    ensures { result ≡ cause_number cause }
-{
-    match cause {
-        Cause::Truncated => 1,
-        Cause::BadTag => 2,
-        Cause::BadLength => 3,
-        Cause::TooLong => 4,
-        Cause::Overrun => 5,
-        Cause::TooDeep => 6,
-        Cause::UnexpectedTag => 7,
-        Cause::LeftOut(_) => 8,
-        Cause::WrongForm => 9,
-        Cause::Missing(_) => 10,
-        Cause::BadEnd => 11,
-        Cause::BadBoolean => 12,
-        Cause::BadInteger => 13,
-        Cause::IntegerTooLong => 14,
-        Cause::BadText => 15,
-        Cause::BadDate => 16,
-        Cause::BadTime => 17,
-        Cause::TrailingBytes => 18,
-        Cause::NormalTooLong => 19,
-        Cause::BadNull => 20,
-        Cause::BadOid => 21,
-        Cause::BadBits => 22,
     }
 }
 

@@ -2,10 +2,10 @@
 ghost use Rattle.std.specs.Prelude.{◌≡◌};
 ghost use Rattle.ill_c.specs.Status.{status_number};
 
-/// How a call ends. In C it is a number.
+/// The status of a call. In C it is a number.
 #[derive(Clone, Copy)]
 pub enum Status {
-    /// What was asked for is there.
+    /// The call has done what it was asked for.
     Done,
     /// The octets are not what the call reads, and the refusal says why.
     Refused,

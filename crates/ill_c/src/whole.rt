@@ -8,19 +8,24 @@ ghost use Rattle.ill_read.specs.declared.failure.Failure.{Failure};
 ghost use Rattle.ill_c.specs.code.Steps.{OutlineAnswers};
 
 use ill_normal::{
-    AtHand, Cause, Failure, FromSlice, LIMIT, Normal, NormalReader, Profile, ReadFailure, Refusal,
+    Buffered, Cause, Failure, FromSlice, LIMIT, NormalForm, NormalReader, Profile, ReadFailure,
+    Refusal,
 };
-use ill_read::{Outline, Outlined, read_outline_as};
+use ill_read::{Outline, OutlinedMessage, read_outline_as};
 use std::alloc::Global;
 
 /// The normal form of the message in the profile that the octets are, as [`decode_normal_as`](ill_normal::decode_normal_as) gives it.
 /// Memory is taken once, as much as the message has, since a normal form is seldom longer.
-pub(crate) fn read_whole(alloc: Global, profile: Profile, octets: &[u8]) -> Result<Normal, Failure>
+pub(crate) fn read_whole(
+    alloc: Global,
+    profile: Profile,
+    octets: &[u8],
+) -> Result<NormalForm, Failure>
     ensures { NormalAnswersIn (profile_of profile) octets.now result }
 {
-    let room = Vec::with_capacity(alloc, octets.len().min(LIMIT as usize))?;
+    let buffer = Vec::with_capacity(alloc, octets.len().min(LIMIT as usize))?;
     let mut source = FromSlice::new(octets);
-    match NormalReader::new(alloc).read_as::<FromSlice, AtHand>(profile, &mut source, room) {
+    match NormalReader::new(alloc).read_as::<FromSlice, Buffered>(profile, &mut source, buffer) {
         Ok(Some(normal)) => whole(normal, octets.len()),
         Ok(None) => Err(refused(0, Cause::Truncated)),
         Err(ReadFailure::Refused(refusal)) => Err(Failure::Refused(refusal)),
@@ -39,7 +44,7 @@ pub(crate) fn read_whole_outline(
     ensures { OutlineAnswers (profile_of profile) octets.now result }
 {
     let mut source = FromSlice::new(octets);
-    match read_outline_as::<FromSlice, AtHand>(alloc, profile, &mut source, Outline::new(alloc)) {
+    match read_outline_as::<FromSlice, Buffered>(alloc, profile, &mut source, Outline::new(alloc)) {
         Ok(Some(outlined)) => whole_outline(outlined, octets.len()),
         Ok(None) => Err(refused(0, Cause::Truncated)),
         Err(ReadFailure::Refused(refusal)) => Err(Failure::Refused(refusal)),
@@ -50,26 +55,26 @@ pub(crate) fn read_whole_outline(
 }
 
 /// The normal form of a message at the front of octets, if there are no more.
-fn whole(normal: Normal, count: usize) -> Result<Normal, Failure>
+fn whole(normal: NormalForm, count: usize) -> Result<NormalForm, Failure>
     ensures { (p : Meaning) (front rest : List ℕ) → count ≡ length (front ++ rest)
         → IsNormalIn p normal front → NormalAnswersIn p (front ++ rest) result }
 {
-    if normal.read as usize == count {
+    if normal.input_len as usize == count {
         Ok(normal)
     } else {
-        Err(refused(normal.read, Cause::TrailingBytes))
+        Err(refused(normal.input_len, Cause::TrailingBytes))
     }
 }
 
 /// The outline of a message at the front of octets, if there are no more.
-fn whole_outline(outlined: Outlined, count: usize) -> Result<Outline, Failure>
+fn whole_outline(outlined: OutlinedMessage, count: usize) -> Result<Outline, Failure>
     ensures { (p : Meaning) (front rest : List ℕ) → count ≡ length (front ++ rest)
         → IsOutlinedIn p outlined front → OutlineAnswers p (front ++ rest) result }
 {
-    if outlined.read as usize == count {
+    if outlined.input_len as usize == count {
         Ok(outlined.outline)
     } else {
-        Err(refused(outlined.read, Cause::TrailingBytes))
+        Err(refused(outlined.input_len, Cause::TrailingBytes))
     }
 }
 

@@ -1,13 +1,13 @@
 -- What an order does: which job, by which flags, with which files.
 use Rattle.std.specs.Prelude.{ℕ, Bool, List, if◌then◌else◌, nat_lt}
 use Rattle.std.specs.Borrow.{Bor}
-use Rattle.ill_jobs.specs.declared.job.Job.{Job}
-use Rattle.ill_jobs.specs.declared.job.JobOptions.{JobOptions}
+use Rattle.ill_commands.specs.declared.job.Job.{Job}
+use Rattle.ill_commands.specs.declared.job.JobOptions.{JobOptions}
 use Rattle.ill_lines.specs.Lines.{line_options}
 use Rattle.ill_lines.specs.declared.job.LineJob.{LineJob}
-use Rattle.ill_orders.specs.declared.orders.EachJob.{EachJob}
-use Rattle.ill_orders.specs.declared.orders.Order.{Order}
-use Rattle.ill_orders.specs.declared.orders.Task.{Task}
+use Rattle.ill_args.specs.declared.orders.FileJob.{FileJob}
+use Rattle.ill_args.specs.declared.orders.Order.{Order}
+use Rattle.ill_args.specs.declared.orders.Task.{Task}
 use Rattle.ill_cli.specs.declared.plan.Action.{Action}
 use Rattle.ill_cli.specs.declared.plan.InputAction.{InputAction}
 use Rattle.ill_cli.specs.declared.plan.Plan.{Plan}
@@ -26,11 +26,11 @@ abbrev pub by_line : Bool → LineJob → Job → ReadOptions → Action
 by_line lines line message reading = if lines then Action.Lines (line_options reading.profile line) else Action.Messages message reading
 
 -- what a command does with each of its inputs, with `--lines` and `--json` or without
-abbrev pub action_of : EachJob → Bool → Bool → ReadOptions → Action
-action_of EachJob.Show lines json reading = Action.Messages (shown_as json) reading
-action_of EachJob.Check lines json reading = by_line lines LineJob.Check Job.Check reading
-action_of EachJob.Digest lines json reading = by_line lines LineJob.Digest Job.Digest reading
-action_of EachJob.Dump lines json reading = Action.Elements reading
+abbrev pub action_of : FileJob → Bool → Bool → ReadOptions → Action
+action_of FileJob.Show lines json reading = Action.Messages (shown_as json) reading
+action_of FileJob.Check lines json reading = by_line lines LineJob.Check Job.Check reading
+action_of FileJob.Digest lines json reading = by_line lines LineJob.Digest Job.Digest reading
+action_of FileJob.Dump lines json reading = Action.Elements reading
 
 -- what `canonicalise` does with each of its inputs
 abbrev pub canonical : Order → Action
@@ -52,7 +52,7 @@ options_of job reading name count = record {
   profile = reading.profile;
   hex = reading.hex;
   name = name;
-  is_named = nat_lt 1 count;
+  names_input = nat_lt 1 count;
   compares = reading.compares;
 }
 
@@ -61,5 +61,5 @@ abbrev pub input_action_of : Action → Bor (List ℕ) → ℕ → InputAction
 input_action_of (Action.Messages job reading) name count =
     if reading.keep_going then InputAction.AcceptedMessages (options_of job reading name count) else InputAction.Messages (options_of job reading name count)
 input_action_of (Action.Elements reading) name count =
-    InputAction.Elements (record { profile = reading.profile; hex = reading.hex; name = name; is_named = nat_lt 1 count })
+    InputAction.Elements (record { profile = reading.profile; hex = reading.hex; name = name; names_input = nat_lt 1 count })
 input_action_of (Action.Lines work) name count = InputAction.Lines work

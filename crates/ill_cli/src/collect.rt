@@ -3,12 +3,12 @@ use crate::each::{combined_status, list_of, names_of, names_standard_input_twice
 use crate::input::{put_all, write_input};
 use crate::plan::{Action, InputAction};
 use crate::tally::Tally;
+use ill_args::{Inputs, LineFault};
+use ill_commands::Verdict;
 use ill_files::{
     FileId, Host, Output, OutputDestination, OutputOf, ProgramError, close_output, is_output_lost,
     keeps_output, open_input, open_output, printed, status_of,
 };
-use ill_jobs::Verdict;
-use ill_orders::{Inputs, LineFault};
 use std::rt::Files;
 use std::str;
 
@@ -46,7 +46,7 @@ pub fn collect<R: Print + Eprint + Input + Files + AllocGlobal + Host>(
     }
 }
 
-/// Whether one of the files is this one.
+/// Tells whether one of the files is this one.
 fn is_one_of<R: Files>(rt: &R, names: &[&[u8]], file: Option<FileId>) -> bool {
     for name in names {
         if let Ok(name) = str::from_utf8(name) {

@@ -6,8 +6,8 @@ use crate::input::write_input;
 use crate::plan::{InputAction, Plan};
 use crate::tally::{Tally, end};
 use crate::words::{printable_error, words_of};
+use ill_args::{Order, order};
 use ill_files::{Host, ProgramError, ProgressLine, print_error, status_of};
-use ill_orders::{Order, order};
 use std::rt::{Env, Files};
 
 /// Does what the process's words say, prints the line of each error, and returns the exit status: 0, 1, 2 or 3, as [`status_of`] says.

@@ -2,12 +2,12 @@
 ghost use Rattle.std.specs.Prelude.{◌≡◌, IfErr, IfOk};
 ghost use Rattle.ill_schema.specs.Profiles.{profile_of};
 ghost use Rattle.ill_normal.specs.Calls.{putting, taking};
-ghost use Rattle.ill_jobs.specs.Compared.{SameDone, SameFails};
+ghost use Rattle.ill_commands.specs.Compared.{SameDone, SameFails};
 
 use crate::plan::ReadOptions;
 use ber_core::{Sink, Source, ToWrite};
+use ill_commands::{RunFault, Verdict, run_same_as};
 use ill_files::{ProgramError, open_alone};
-use ill_jobs::{RunFault, Verdict, run_same_as};
 use std::alloc::Global;
 use std::io::{self, BufWriter, Write};
 use std::rt::Files;

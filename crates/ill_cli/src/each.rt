@@ -6,9 +6,9 @@ ghost use Rattle.ill_files.specs.Status.{IsStatusOfEach, worst};
 use crate::input::print_input;
 use crate::plan::{Action, InputAction};
 use crate::tally::Tally;
+use ill_args::{Inputs, LineFault};
+use ill_commands::{Job, Verdict};
 use ill_files::{FileId, Host, Name, ProgramError, is_output_lost, printed, read_whole, status_of};
-use ill_jobs::{Job, Verdict};
-use ill_orders::{Inputs, LineFault};
 use std::alloc::{AllocError, Global};
 use std::rt::Files;
 use std::str;
@@ -88,7 +88,7 @@ fn split_name(list: &[u8]) -> Option<(&[u8], &[u8])>
     Some((list, &list[list.len()..]))
 }
 
-/// Whether standard input is to be read more than once.
+/// Tells whether standard input is to be read more than once.
 pub fn names_standard_input_twice(names: &[&[u8]], list: Option<&str>) -> bool {
     let mut found = list == Some("-");
     for name in names {

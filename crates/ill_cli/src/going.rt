@@ -1,6 +1,6 @@
 //! The lines of messages that are refused, where the work goes on after them.
+use ill_commands::{RefusalReport, ReportRefusals, RunFault};
 use ill_files::{NameOf, ProgressLine, RunLine};
-use ill_jobs::{RefusalReport, ReportRefusals, RunFault};
 use std::fmt;
 
 /// A message that is refused, as one line.
@@ -30,7 +30,7 @@ impl fmt::Display for ReportLine {
 pub struct PrintReports<'a, R> {
     pub rt: &'a R,
     pub name: Option<&'a str>,
-    /// Whether the name is the file's own, and not yet as names are printed.
+    /// True if the name is the file's own, and not yet as names are printed.
     pub is_raw: bool,
     pub progress: &'a ProgressLine,
 }

@@ -1,26 +1,26 @@
 //! What is made of one input, and where it is written.
 ghost use Rattle.std.specs.Prelude.{◌≡◌, Bool, None, IfOk};
 ghost use Rattle.ill_normal.specs.Calls.{putting, taking};
-ghost use Rattle.ill_going.specs.Skipping.{reporting};
-ghost use Rattle.ill_going.specs.declared.going.SkippingCounts.{SkippingCounts};
-ghost use Rattle.ill_jobs.specs.declared.job.Counts.{Counts};
-ghost use Rattle.ill_jobs.specs.Skipping.{verdict_of_counts, RunsSkipping};
-ghost use Rattle.ill_jobs.specs.Output.{verdict_if};
-ghost use Rattle.ill_jobs.specs.Runs.{RunDone};
+ghost use Rattle.ill_normal.specs.Skipping.{reporting};
+ghost use Rattle.ill_normal.specs.declared.skipping.SkippingCounts.{SkippingCounts};
+ghost use Rattle.ill_commands.specs.declared.job.Counts.{Counts};
+ghost use Rattle.ill_commands.specs.Skipping.{verdict_of_counts, RunsSkipping};
+ghost use Rattle.ill_commands.specs.Output.{verdict_if};
+ghost use Rattle.ill_commands.specs.Runs.{RunDone};
 ghost use Rattle.ill_dump.specs.Dumped.{DumpDone};
 ghost use Rattle.ill_lines.specs.Lines.{LinesDone};
 
 use crate::going::PrintReports;
 use crate::plan::InputAction;
 use crate::tally::Tally;
-use ber_core::{Ahead, AtHand, Sink, ToWrite};
+use ber_core::{Buffered, BufferedSource, Sink, ToWrite};
+use ill_commands::{
+    Job, JobOptions, RunFault, Verdict, run_counting, run_skipping_peeking, verdict_of,
+};
 use ill_dump::{DumpOptions, run_dump};
 use ill_files::{
     FileId, Host, Output, OutputOf, ProgramError, Shared, ToOutput, close_output, keeps_output,
     open_and_identify, open_output, open_standard_output,
-};
-use ill_jobs::{
-    Job, JobOptions, RunFault, Verdict, run_counting, run_skipping_peeking, verdict_of,
 };
 use ill_lines::{LineOptions, LinesFault, run_lines_as};
 use std::alloc::Global;
@@ -109,7 +109,7 @@ where
 }
 
 /// Does a job with one message after another, up to one that is refused.
-fn put_messages<S: Ahead, W: Sink>(
+fn put_messages<S: BufferedSource, W: Sink>(
     alloc: Global,
     work: JobOptions<'_>,
     source: &mut S,
@@ -120,7 +120,7 @@ fn put_messages<S: Ahead, W: Sink>(
         (S.left source.old) (S.left source.new) (W.contents sink.old) (W.contents sink.new)
         counts verdict) }
 {
-    let ran = run_counting::<S, AtHand, W>(alloc, work, source, sink);
+    let ran = run_counting::<S, Buffered, W>(alloc, work, source, sink);
     tally.summary.add(ran.counts);
     match ran.result {
         Ok(verdict) => Ok(verdict),
@@ -132,7 +132,7 @@ fn put_messages<S: Ahead, W: Sink>(
 }
 
 /// Does a job with each message that isn't refused, and prints a line for each of the others.
-fn put_accepted_messages<R: Eprint + AllocGlobal, S: Ahead, W: Sink>(
+fn put_accepted_messages<R: Eprint + AllocGlobal, S: BufferedSource, W: Sink>(
     rt: &R,
     work: JobOptions<'_>,
     source: &mut S,
@@ -147,11 +147,11 @@ fn put_accepted_messages<R: Eprint + AllocGlobal, S: Ahead, W: Sink>(
 {
     let mut reports = PrintReports {
         rt,
-        name: work.is_named.then_some(work.name),
+        name: work.names_input.then_some(work.name),
         is_raw: matches!(work.job, Job::Json),
         progress: tally.progress,
     };
-    match run_skipping_peeking::<S, AtHand, W, _>(rt.alloc(), work, source, sink, &mut reports) {
+    match run_skipping_peeking::<S, Buffered, W, _>(rt.alloc(), work, source, sink, &mut reports) {
         Ok(gone) => {
             tally.summary.add_skipping(gone);
             Ok(verdict_of(work.job, gone))
@@ -164,7 +164,7 @@ fn put_accepted_messages<R: Eprint + AllocGlobal, S: Ahead, W: Sink>(
 }
 
 /// Writes the elements of one message after another.
-fn put_elements<S: Ahead, W: Sink>(
+fn put_elements<S: BufferedSource, W: Sink>(
     alloc: Global,
     dump: DumpOptions<'_>,
     source: &mut S,
@@ -173,14 +173,14 @@ fn put_elements<S: Ahead, W: Sink>(
     ensures { IfOk result (λ _. DumpDone dump.entry.hex dump.entry
         (S.left source.old) (S.left source.new) (W.contents sink.old) (W.contents sink.new)) }
 {
-    match run_dump::<S, AtHand, W>(alloc, dump, source, sink) {
+    match run_dump::<S, Buffered, W>(alloc, dump, source, sink) {
         Ok(()) => Ok(Verdict::Good),
         Err(error) => Err(ProgramError::from(error)),
     }
 }
 
 /// Writes the result of each line.
-fn put_lines<S: Ahead, W: Sink>(
+fn put_lines<S: BufferedSource, W: Sink>(
     alloc: Global,
     work: LineOptions,
     source: &mut S,

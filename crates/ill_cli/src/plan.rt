@@ -2,26 +2,26 @@
 ghost use Rattle.std.specs.Prelude.{◌≡◌};
 ghost use Rattle.ill_cli.specs.Plans.{action_of, by_line, plan_of, input_action_of};
 
+use ill_args::{FileJob, Inputs, Order, Task};
+use ill_commands::{Job, JobOptions};
 use ill_dump::DumpOptions;
-use ill_jobs::{Job, JobOptions};
 use ill_lines::{LineJob, LineOptions};
-use ill_orders::{EachJob, Inputs, Order, Task};
 use ill_schema::Profile;
 
-/// How the messages of inputs are read.
+/// The options of reading messages.
 #[derive(Clone, Copy, Debug, PartialEq, Eq)]
 pub struct ReadOptions {
     /// The profile that messages are read in.
     pub profile: Profile,
-    /// Whether inputs are hexadecimal text.
+    /// True if inputs are hexadecimal text.
     pub hex: bool,
-    /// Whether a message that is refused is reported, and the next one read.
+    /// True if a message that is refused is reported, and the next one read.
     pub keep_going: bool,
-    /// Whether each message is compared with its normal form, so that those in normal form are counted.
+    /// True if each message is compared with its normal form, so that those in normal form are counted.
     pub compares: bool,
 }
 
-/// What a command does with each of its inputs.
+/// The action of a command on each of its inputs.
 #[derive(Clone, Copy, Debug, PartialEq, Eq)]
 pub enum Action {
     /// A job with one message after another.
@@ -32,33 +32,33 @@ pub enum Action {
     Lines(LineOptions),
 }
 
-/// What an order does with its files. The word `-` is standard input, or standard output for an output.
+/// The plan of an order: its files, and the action on them. The word `-` is standard input, or standard output for an output.
 #[derive(Debug, Drop)]
 pub enum Plan<'a> {
-    /// What is made of each input, in turn, is printed.
+    /// Prints the output for each input, in turn.
     Print {
         action: Action,
         inputs: Inputs<'a>,
     },
-    /// What is made of one input is written to an output.
+    /// Writes the output for one input to a file.
     Write {
         action: Action,
         input: &'a str,
         output: &'a str,
-        /// Whether the output is replaced only if every message was good.
+        /// True if the output is replaced only if every message was good.
         whole: bool,
     },
-    /// What is made of each input, in turn, is written to one output.
+    /// Writes the output for each input, in turn, to one file.
     Collect {
         action: Action,
         inputs: Inputs<'a>,
         output: &'a str,
-        /// Whether the output is replaced only if every message of every input was good.
+        /// True if the output is replaced only if every message of every input was good.
         whole: bool,
     },
     /// Whether two inputs hold the same message is printed.
     Compare {
-        /// How both are read.
+        /// The options of reading both.
         reading: ReadOptions,
         first: &'a str,
         second: &'a str,
@@ -118,16 +118,16 @@ impl<'a> Plan<'a> {
     }
 }
 
-/// What a command does with each of its inputs.
-fn action_of(job: EachJob, lines: bool, json: bool, reading: ReadOptions) -> Action
+/// The action of a command on each of its inputs.
+fn action_of(job: FileJob, lines: bool, json: bool, reading: ReadOptions) -> Action
     ensures { result ≡ action_of job lines json reading }
 {
     match job {
-        EachJob::Show if json => Action::Messages(Job::Json, reading),
-        EachJob::Show => Action::Messages(Job::Show, reading),
-        EachJob::Check => by_line(lines, LineJob::Check, Job::Check, reading),
-        EachJob::Digest => by_line(lines, LineJob::Digest, Job::Digest, reading),
-        EachJob::Dump => Action::Elements(reading),
+        FileJob::Show if json => Action::Messages(Job::Json, reading),
+        FileJob::Show => Action::Messages(Job::Show, reading),
+        FileJob::Check => by_line(lines, LineJob::Check, Job::Check, reading),
+        FileJob::Digest => by_line(lines, LineJob::Digest, Job::Digest, reading),
+        FileJob::Dump => Action::Elements(reading),
     }
 }
 
@@ -145,7 +145,7 @@ fn by_line(lines: bool, line: LineJob, message: Job, reading: ReadOptions) -> Ac
     }
 }
 
-/// What is done with one input.
+/// The action on one input.
 #[derive(Clone, Copy, Debug)]
 pub enum InputAction<'a> {
     /// A job with one message after another, up to one that is refused.
@@ -159,7 +159,7 @@ pub enum InputAction<'a> {
 }
 
 impl<'a> InputAction<'a> {
-    /// What a command does with the input of this name, which is one of `count`. Where there are several, lines name it.
+    /// The action of a command on the input of this name, which is one of `count`. Where there are several, lines name it.
     ///
     /// ```
     /// let task = InputAction::new(action, "messages.ber", 1);
@@ -167,7 +167,7 @@ impl<'a> InputAction<'a> {
     pub fn new(action: Action, name: &'a str, count: usize) -> InputAction<'a>
         ensures { result ≡ input_action_of action name.entry count }
     {
-        let is_named = count > 1;
+        let names_input = count > 1;
         match action {
             Action::Messages(job, reading) => {
                 let work = JobOptions {
@@ -175,7 +175,7 @@ impl<'a> InputAction<'a> {
                     profile: reading.profile,
                     hex: reading.hex,
                     name,
-                    is_named,
+                    names_input,
                     compares: reading.compares,
                 };
                 if reading.keep_going {
@@ -188,7 +188,7 @@ impl<'a> InputAction<'a> {
                 profile: reading.profile,
                 hex: reading.hex,
                 name,
-                is_named,
+                names_input,
             }),
             Action::Lines(work) => InputAction::Lines(work),
         }

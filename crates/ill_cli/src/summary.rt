@@ -1,6 +1,6 @@
 //! What a command came to, in numbers.
+use ill_commands::{Counts, RunFault, SkippingCounts};
 use ill_files::Count;
-use ill_jobs::{Counts, RunFault, SkippingCounts};
 use std::fmt;
 
 /// The files that a command read, and their messages, in numbers. What is too great for a number stays at the greatest one.
@@ -64,7 +64,7 @@ impl Summary {
         }
     }
 
-    /// How many messages there were.
+    /// The number of messages.
     fn messages(&self) -> u64 {
         self.normal
             .saturating_add(self.not_normal)

@@ -3,10 +3,10 @@ ghost use Rattle.std.specs.Prelude.{◌≡◌};
 ghost use Rattle.ill_files.specs.Status.{status_is};
 
 use crate::summary::Summary;
+use ill_commands::Verdict;
 use ill_files::{ProgramError, ProgressLine, print_error, print_error_of, status_of};
-use ill_jobs::Verdict;
 
-/// What a command has counted, and the line that says how far it is.
+/// The counts of a command, and its progress line.
 #[derive(Clone, Copy)]
 pub(crate) struct Tally<'p> {
     pub summary: Summary,

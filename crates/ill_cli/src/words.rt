@@ -1,6 +1,6 @@
 //! The words of the command line.
+use ill_args::{LineFault, order};
 use ill_files::{ProgramError, printable, word};
-use ill_orders::{LineFault, order};
 use std::alloc::{AllocError, Global};
 use std::env::FillError;
 use std::rt::Env;

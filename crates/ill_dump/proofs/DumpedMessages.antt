@@ -12,8 +12,8 @@ use Rattle.ill_refusals.specs.Fault.{Fault, fault_of}
 use Rattle.ill_refusals.specs.Outcome.{OnlyRefuses}
 use Rattle.ill_read.specs.Answers.{IfReadRefused}
 use Rattle.ill_read.specs.declared.failure.ReadFailure.{ReadFailure}
-use Rattle.ill_jobs.specs.Runs.{IsFault}
-use Rattle.ill_jobs.specs.declared.fault.RunFault.{RunFault}
+use Rattle.ill_commands.specs.Runs.{IsFault}
+use Rattle.ill_commands.specs.declared.fault.RunFault.{RunFault}
 use Rattle.ill_dump.specs.declared.run.DumpOptions.{DumpOptions}
 use Rattle.ill_dump.specs.Dumped.{AreDumped, Dumps, DumpsUpTo, StopsIn, dumped_from, head}
 use Rattle.ill_dump.specs.code.Failing.{FollowsFrom}

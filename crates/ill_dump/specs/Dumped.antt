@@ -6,14 +6,14 @@ use Rattle.ill_schema.specs.Apdu.{Apdu, IsStream}
 use Rattle.ill_schema.specs.Profiles.{profile_of}
 use Rattle.ill_refusals.specs.Fault.{fault_of}
 use Rattle.ill_refusals.specs.Outcome.{OnlyRefuses}
-use Rattle.ill_jobs.specs.declared.fault.RunFault.{RunFault}
-use Rattle.ill_jobs.specs.Output.{label_of}
-use Rattle.ill_jobs.specs.Runs.{FailsText, IsFault, TextOf}
+use Rattle.ill_commands.specs.declared.fault.RunFault.{RunFault}
+use Rattle.ill_commands.specs.Output.{label_of}
+use Rattle.ill_commands.specs.Runs.{FailsText, IsFault, TextOf}
 use Rattle.ill_dump.specs.declared.run.DumpOptions.{DumpOptions}
 
 -- what the lines of message i begin with
 abbrev pub head : DumpOptions → ℕ → List ℕ
-head dump i = label_of dump.is_named dump.name.now ++ codes "message " ++ decimal i ++ codes ": "
+head dump i = label_of dump.names_input dump.name.now ++ codes "message " ++ decimal i ++ codes ": "
 
 -- what is written of messages from message i on: the head of each, and more
 abbrev pub dumped_from : DumpOptions → ℕ → List (List ℕ) → List ℕ

@@ -8,12 +8,12 @@ pub struct ElementStart {
     pub id: Option<(Id, usize)>,
     /// The header, once it is whole.
     pub header: Option<Header>,
-    /// How many octets were read: those of the header, or up to where it is invalid.
+    /// The number of octets that were read: those of the header, or up to where it is invalid.
     pub size: usize,
 }
 
 /// Reads the header that the octets begin with.
-pub fn begin(octets: &[u8]) -> ElementStart {
+pub fn read_start(octets: &[u8]) -> ElementStart {
     let mut state = HeaderState::new();
     let mut begun = ElementStart {
         id: None,

@@ -1,7 +1,7 @@
 //! What an element is called.
 use crate::lines::LineBuffer;
 use ber_core::{Class, Id};
-use ill_cells::{Found, Slot, What};
+use ill_grammar::{ElementType, EntryRole, Found};
 use ill_schema::{NodeId, PartId, part_name};
 use std::alloc::AllocError;
 
@@ -24,42 +24,44 @@ pub enum Label {
 pub fn label_of(found: Found, id: Id, round: NodeId, items: usize) -> Label {
     let part = found.part();
     match found.slot() {
-        Slot::Row => match found.alternative() {
+        EntryRole::Row => match found.alternative() {
             Some(_) => {
                 let row = found.row();
                 Label::Alternative(PartId { node: round, row }, part)
             }
             None => Label::Row(part),
         },
-        Slot::Item => Label::Item(part, items),
-        Slot::Inner if found.node() == NodeId::External => Label::Type("EXTERNAL"),
-        Slot::Inner => match found.alternative() {
+        EntryRole::Item => Label::Item(part, items),
+        EntryRole::Inner if found.node() == NodeId::External => Label::Type("EXTERNAL"),
+        EntryRole::Inner => match found.alternative() {
             Some(_) => Label::Row(part),
-            None => Label::Type(type_name(found.what())),
+            None => Label::Type(type_name(found.element_type())),
         },
-        Slot::Segment => Label::Type(type_name(found.what())),
-        Slot::Root | Slot::Foreign => Label::Tag(id.class(), id.number()),
+        EntryRole::Segment => Label::Type(type_name(found.element_type())),
+        EntryRole::Root | EntryRole::Foreign => Label::Tag(id.class(), id.number()),
     }
 }
 
 /// The name of a type.
-fn type_name(what: What) -> &'static str {
-    match what {
-        What::Boolean => "BOOLEAN",
-        What::Integer => "INTEGER",
-        What::Enumerated => "ENUMERATED",
-        What::General => "GeneralString",
-        What::Visible | What::Date | What::Time => "VisibleString",
-        What::Printable => "PrintableString",
-        What::Null => "NULL",
-        What::ObjectIdentifier => "OBJECT IDENTIFIER",
-        What::OctetString | What::Segment => "OCTET STRING",
-        What::BitString | What::BitSegment => "BIT STRING",
-        What::ObjectDescriptor => "ObjectDescriptor",
-        What::Foreign => "ANY",
-        What::Sequence | What::List | What::Wrapper | What::LooseWrapper | What::LeftOut => {
-            "SEQUENCE"
-        }
+fn type_name(element_type: ElementType) -> &'static str {
+    match element_type {
+        ElementType::Boolean => "BOOLEAN",
+        ElementType::Integer => "INTEGER",
+        ElementType::Enumerated => "ENUMERATED",
+        ElementType::General => "GeneralString",
+        ElementType::Visible | ElementType::Date | ElementType::Time => "VisibleString",
+        ElementType::Printable => "PrintableString",
+        ElementType::Null => "NULL",
+        ElementType::ObjectIdentifier => "OBJECT IDENTIFIER",
+        ElementType::OctetString | ElementType::Segment => "OCTET STRING",
+        ElementType::BitString | ElementType::BitSegment => "BIT STRING",
+        ElementType::ObjectDescriptor => "ObjectDescriptor",
+        ElementType::Foreign => "ANY",
+        ElementType::Sequence
+        | ElementType::List
+        | ElementType::Wrapper
+        | ElementType::LooseWrapper
+        | ElementType::LeftOut => { "SEQUENCE" }
     }
 }
 
@@ -72,7 +74,7 @@ fn row_name(part: PartId) -> &'static str {
 }
 
 impl Label {
-    /// Whether the name is one of the tables.
+    /// Tells whether the name is one of the tables.
     pub fn is_named(self) -> bool {
         !matches!(self, Label::Type(_) | Label::Tag(_, _))
     }

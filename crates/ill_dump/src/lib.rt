@@ -1,8 +1,9 @@
-//! Messages as they are spelled: a line for each element, and why a message is refused.
+//! Messages as they are spelled: a line for each element, and why a message is refused. Use it to find what is wrong with a message, or
+//! not normal in it.
 //!
 //! ```
-//! let dump = Dump { hex: false, name: "messages.ber", is_named: false };
-//! run_dump::<R, Unseen, W>(alloc, dump, &mut source, &mut sink)?;
+//! let options = DumpOptions { hex: false, name: "messages.ber", names_input: false };
+//! run_dump::<R, Unbuffered, W>(alloc, options, &mut source, &mut sink)?;
 //! ```
 #![tactic(auto)]
 

@@ -6,7 +6,7 @@ use std::alloc::{AllocError, Global};
 
 const DIGITS: &[u8; 16] = b"0123456789abcdef";
 
-/// How wide the offset of an element is.
+/// The width of the offset of an element, in characters.
 const OCTETS_COLUMN: usize = 7;
 
 /// Lines that were made and not yet written.

@@ -34,7 +34,7 @@ impl DerNotes {
         Ok(())
     }
 
-    /// Of a length in this number of octets.
+    /// Notes a length in this number of octets.
     pub fn length(
         &mut self,
         lines: &mut LineBuffer,
@@ -57,7 +57,7 @@ impl DerNotes {
         lines.text(if least == 1 { " does" } else { " do" })
     }
 
-    /// Of a BOOLEAN.
+    /// Notes a BOOLEAN.
     pub fn flag(&mut self, lines: &mut LineBuffer, content: &[u8]) -> Result<(), AllocError> {
         match content {
             [octet] if *octet != 0 && *octet != 0xFF => {
@@ -70,7 +70,7 @@ impl DerNotes {
     }
 }
 
-/// How many octets a length has at least (X.690, 10.1).
+/// The number of octets that a length has at least (X.690, 10.1).
 fn least_octets(size: u32) -> usize {
     match size {
         0..0x80 => 1,

@@ -1,11 +1,11 @@
 //! A refusal in words: its cause, where it is, what was found there, and what was due.
-use crate::cause::{cause_text, put_refusal};
-use crate::found::{ElementStart, begin};
+use crate::cause::put_refusal;
+use crate::found::{ElementStart, read_start};
 use crate::label::{Label, label_of, put_tag};
 use crate::lines::LineBuffer;
 use crate::walk::ElementWalk;
 use ber_core::{Class, Id, Len};
-use ill_cells::{At, What};
+use ill_grammar::{ElementType, Place};
 use ill_schema::{Cause, Kind, NodeId, Profile, Refusal, kind};
 use std::alloc::AllocError;
 
@@ -30,7 +30,7 @@ pub fn put_lines(
     if refusal.cause == Cause::NormalTooLong {
         return Ok(());
     }
-    let begun = begin(octets_at(octets, refusal.at as usize, walk.bound()));
+    let begun = read_start(octets_at(octets, refusal.at as usize, walk.bound()));
     put_path(lines, walk, begun, refusal.cause)?;
     put_found(lines, octets, begun, refusal)?;
     match refusal.cause {
@@ -40,18 +40,18 @@ pub fn put_lines(
     put_hint(lines, walk, refusal.cause)
 }
 
-/// What a cause says, at the place that was reached.
+/// The text of a cause, at the place that was reached.
 fn text_of(walk: &ElementWalk, cause: Cause) -> &'static str {
     match cause {
         Cause::TooDeep if is_foreign(walk.place()) => {
             "a value of an open type would have more than 20 levels"
         }
-        cause => cause_text(cause),
+        cause => cause.text(),
     }
 }
 
 /// Tells whether a place is in the wrapper of an open type, before its value, or in a foreign tree.
-fn is_foreign(place: At) -> bool {
+fn is_foreign(place: Place) -> bool {
     kind(place.node()) == Kind::Any
 }
 
@@ -86,7 +86,7 @@ fn octets_at(octets: &[u8], at: usize, bound: usize) -> &[u8] {
     }
 }
 
-/// Whether the fault is of an element whose tag was read.
+/// Tells whether the fault is of an element whose tag was read.
 fn is_of_element(cause: Cause) -> bool {
     !matches!(
         cause,
@@ -124,7 +124,7 @@ fn label_of_found(walk: &ElementWalk, begun: ElementStart, cause: Cause) -> Opti
     label.is_named().then_some(label)
 }
 
-/// What was found.
+/// The lines for what was found.
 fn put_found(
     lines: &mut LineBuffer,
     octets: &[u8],
@@ -169,7 +169,7 @@ fn put_header(
     lines.hex(first(rest, size))
 }
 
-/// How many octets the content of a primitive element has.
+/// The number of octets that the content of a primitive element has.
 fn content_size(begun: ElementStart, id: Id) -> usize {
     match begun.header {
         Some(header) if !id.constructed() => match header.len {
@@ -187,7 +187,7 @@ fn first(octets: &[u8], count: usize) -> &[u8] {
     }
 }
 
-/// What was due: a line for each tag, and one for the end of the element, where nothing is missing in it.
+/// The lines for what was due: one for each tag, and one for the end of the element, where nothing is missing in it.
 fn put_due(lines: &mut LineBuffer, walk: &ElementWalk) -> Result<(), AllocError> {
     if is_foreign(walk.place()) {
         return lines.text("    due one element of any tag\n");
@@ -214,7 +214,7 @@ fn put_due_tag(lines: &mut LineBuffer, walk: &ElementWalk, id: Id) -> Result<(),
     put_tag(lines, id.class(), id.number())?;
     lines.text(" ")?;
     label_of(found, id, place.node(), walk.items()).put(lines)?;
-    if found.what() == What::LeftOut {
+    if found.element_type() == ElementType::LeftOut {
         lines.text(" (not read)")?;
     }
     lines.text("\n")

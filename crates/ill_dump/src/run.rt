@@ -3,46 +3,40 @@ ghost use Rattle.std.specs.Prelude.{◌≡◌, ◌≢◌, ◌++◌, [], Ok, IfOk
 ghost use Rattle.std.specs.Io.KnownBytes.{Appends};
 ghost use Rattle.ill_schema.specs.Profiles.{profile_of};
 ghost use Rattle.ill_read.specs.declared.failure.ReadFailure.{ReadFailure};
-ghost use Rattle.ill_jobs.specs.declared.fault.RunFault.{RunFault};
-ghost use Rattle.ill_jobs.specs.Output.{label_of};
-ghost use Rattle.ill_jobs.specs.Runs.{FailsText, IsFault, TextOf};
+ghost use Rattle.ill_commands.specs.declared.fault.RunFault.{RunFault};
+ghost use Rattle.ill_commands.specs.Output.{label_of};
+ghost use Rattle.ill_commands.specs.Runs.{FailsText, IsFault, TextOf};
 ghost use Rattle.ill_dump.specs.Dumped.{AreDumped, BreaksSink, BreaksSource, DumpDone, DumpFails, DumpsUpTo, StopsIn, head};
 ghost use Rattle.ill_dump.specs.code.Failing.{FollowsFrom};
 ghost use Rattle.ill_dump.specs.code.Putting.{BeginsWith, IfRefused, Puts};
 
-use crate::found::begin;
+use crate::found::read_start;
 use crate::label::label_of;
 use crate::lines::LineBuffer;
 use crate::refusal;
 use crate::walk::ElementWalk;
-use ber_core::{AtHand, FromSlice, Look, Sink, Source};
-use ill_cells::At;
-use ill_jobs::{RunFault, read_at_most, text_octets};
-use ill_read::{Normal, NormalReader, ReadFailure};
+use ber_core::{Buffered, FromSlice, Lookahead, Sink, Source, put_all};
+use ill_commands::{RunFault, read_hex};
+use ill_grammar::Place;
+use ill_normal::MAX_MESSAGES;
+use ill_read::{NormalForm, NormalReader, ReadFailure};
 use ill_schema::{Profile, Refusal};
-use ill_write::put_all;
 use std::alloc::{AllocError, Global};
 
-/// How many messages an input may have.
-const MAX_MESSAGES: u32 = 1_000_000;
-
-/// How many octets a hexadecimal text may have.
-const MAX_HEX_TEXT: usize = 4_194_304;
-
-/// How many octets are made before they are written.
+/// The number of octets that are made before they are written.
 const FLUSH_AT: usize = 4096;
 
-/// How an input is read, and how the first line of each message names it.
+/// The options of a dump: how an input is read, and how the first line of each message names it.
 #[derive(Clone, Copy, Debug)]
 pub struct DumpOptions<'a> {
     /// The profile that messages are read in.
     pub profile: Profile,
-    /// Whether the input is hexadecimal text.
+    /// True if the input is hexadecimal text.
     pub hex: bool,
     /// The name of the input.
     pub name: &'a str,
-    /// Whether the first line of a message begins with the name and `: `.
-    pub is_named: bool,
+    /// True if the first line of a message begins with the name and `: `.
+    pub names_input: bool,
 }
 
 /// Writes the messages of an input as they are spelled, one after another up to its end: for each a line as `check` writes it, and then a
@@ -51,8 +45,8 @@ pub struct DumpOptions<'a> {
 ///
 /// # Errors
 ///
-/// Why not all of the input was written, see [`RunFault`]. Of a refused message all lines were written.
-pub fn run_dump<R: Source, L: Look<R>, W: Sink>(
+/// The reason why not all of the input was written, see [`RunFault`]. Of a refused message all lines were written.
+pub fn run_dump<R: Source, L: Lookahead<R>, W: Sink>(
     alloc: Global,
     dump: DumpOptions<'_>,
     source: &mut R,
@@ -73,20 +67,10 @@ pub fn run_dump<R: Source, L: Look<R>, W: Sink>(
     }
     let octets = read_hex(alloc, source)?;
     let mut messages = FromSlice::new(&octets);
-    dump_messages::<FromSlice<'_>, AtHand, W>(alloc, dump, &mut messages, sink)
+    dump_messages::<FromSlice<'_>, Buffered, W>(alloc, dump, &mut messages, sink)
 }
 
-/// Reads a hexadecimal text to its end.
-fn read_hex<R: Source>(alloc: Global, source: &mut R) -> Result<Vec<u8>, RunFault>
-    ensures octets { IfOk result (λ octets. TextOf (R.left source.old) (R.left source.new) octets.items) }
-    ensures fails { IfErr result (FailsText (R.left source.old) (R.left source.new) (R.is_broken source.new)) }
-    ensures stays { IsTrue (R.is_broken source.old) → IsTrue (R.is_broken source.new) }
-{
-    let text = read_at_most(alloc, source, MAX_HEX_TEXT + 1)?;
-    text_octets(alloc, &text)
-}
-
-fn dump_messages<R: Source, L: Look<R>, W: Sink>(
+fn dump_messages<R: Source, L: Lookahead<R>, W: Sink>(
     alloc: Global,
     dump: DumpOptions<'_>,
     source: &mut R,
@@ -101,22 +85,22 @@ fn dump_messages<R: Source, L: Look<R>, W: Sink>(
     ensures source_stays { IsTrue (R.is_broken source.old) → IsTrue (R.is_broken source.new) }
     ensures sink_stays { IsTrue (W.is_broken sink.old) → IsTrue (W.is_broken sink.new) }
 {
-    let mut out = Out {
+    let mut out = DumpSink {
         head: LineBuffer::new(alloc),
         lines: LineBuffer::new(alloc),
         written: 0,
     };
     let mut reader = NormalReader::new(alloc);
     let mut kept = Vec::new(alloc);
-    let mut room = Vec::new(alloc);
+    let mut buffer = Vec::new(alloc);
     for before in 0..MAX_MESSAGES {
         let message = before + 1;
         kept.clear();
-        let read = reader.read_kept_as::<R, L>(dump.profile, source, room, &mut kept);
+        let read = reader.read_recording_as::<R, L>(dump.profile, source, buffer, &mut kept);
         match read {
             Ok(Some(normal)) => {
                 put_message(alloc, dump, message, &kept, &normal, &mut out, sink)?;
-                room = normal.octets;
+                buffer = normal.octets;
             }
             Ok(None) => return Ok(()),
             Err(failure) => {
@@ -133,15 +117,15 @@ fn dump_messages<R: Source, L: Look<R>, W: Sink>(
     }
 }
 
-/// What is to be written of a message: what its first line begins with, and what comes after that; and how many octets were written.
+/// The lines of a message that are not yet written: the beginning of its first line, and what comes after that; and how many octets were written.
 #[derive(Drop)]
-struct Out {
+struct DumpSink {
     head: LineBuffer,
     lines: LineBuffer,
     written: u128,
 }
 
-impl Out {
+impl DumpSink {
     /// Writes what was made.
     fn put<W: Sink>(&mut self, sink: &mut W) -> Result<(), RunFault>
         ensures puts { OnOk result (Appends (W.contents sink.old) (W.contents sink.new)
@@ -176,7 +160,7 @@ fn send<W: Sink>(lines: &mut LineBuffer, written: &mut u128, sink: &mut W) -> Re
     }
 }
 
-/// What was made is in memory, or memory ran out.
+/// Turns a result of memory into a fault of the job.
 fn or_out_of_memory<T: Drop>(or_out_of_memory: Result<T, AllocError>) -> Result<T, RunFault>
     ensures same { IfOk result (λ value. or_out_of_memory ≡ Ok value) }
     ensures memory { IfErr result (λ fault. fault ≡ RunFault.OutOfMemory) }
@@ -193,8 +177,8 @@ fn put_message<W: Sink>(
     dump: DumpOptions<'_>,
     message: u32,
     octets: &[u8],
-    normal: &Normal,
-    out: &mut Out,
+    normal: &NormalForm,
+    out: &mut DumpSink,
     sink: &mut W,
 ) -> Result<(), RunFault>
     ensures begins { OnOk result (BeginsWith (W.contents sink.old) (W.contents sink.new)
@@ -212,14 +196,14 @@ fn put_message<W: Sink>(
     out.put(sink)
 }
 
-/// Why no message was read, after the lines of one that is refused were written.
+/// The reason why no message was read, after the lines of one that is refused were written.
 fn put_failure<W: Sink>(
     alloc: Global,
     dump: DumpOptions<'_>,
     message: u32,
     octets: &[u8],
     failure: ReadFailure,
-    out: &mut Out,
+    out: &mut DumpSink,
     sink: &mut W,
 ) -> RunFault
     ensures follows { FollowsFrom message failure result }
@@ -247,7 +231,7 @@ fn put_refused<W: Sink>(
     message: u32,
     octets: &[u8],
     refusal: Refusal,
-    out: &mut Out,
+    out: &mut DumpSink,
     sink: &mut W,
 ) -> Result<(), RunFault>
     ensures begins { OnOk result (BeginsWith (W.contents sink.old) (W.contents sink.new)
@@ -270,7 +254,7 @@ fn put_elements<W: Sink>(
     walk: &mut ElementWalk,
     octets: &[u8],
     stop: usize,
-    out: &mut Out,
+    out: &mut DumpSink,
     sink: &mut W,
 ) -> Result<(), RunFault>
     ensures puts { OnOk result (Puts (W.contents sink.old) (W.contents sink.new)
@@ -291,7 +275,7 @@ fn put_elements<W: Sink>(
     Ok(())
 }
 
-/// What the first line of a message begins with.
+/// The beginning of the first line of a message.
 fn put_head(dump: DumpOptions<'_>, message: u32, lines: &mut LineBuffer) -> Result<(), AllocError>
     ensures { OnOk result (lines.new.octets.items ≡ lines.old.octets.items ++ head dump.entry message) }
 {
@@ -303,9 +287,9 @@ fn put_head(dump: DumpOptions<'_>, message: u32, lines: &mut LineBuffer) -> Resu
 
 /// The name of the input, where the first line of a message begins with it.
 fn put_label(dump: DumpOptions<'_>, lines: &mut LineBuffer) -> Result<(), AllocError>
-    ensures { OnOk result (lines.new.octets.items ≡ lines.old.octets.items ++ label_of dump.entry.is_named dump.entry.name.now) }
+    ensures { OnOk result (lines.new.octets.items ≡ lines.old.octets.items ++ label_of dump.entry.names_input dump.entry.name.now) }
 {
-    if dump.is_named {
+    if dump.names_input {
         lines.text(dump.name)?;
         lines.text(": ")?;
     }
@@ -332,8 +316,8 @@ fn put_check(
 
 /// The name of the APDU that the octets begin.
 fn put_apdu(profile: Profile, octets: &[u8], lines: &mut LineBuffer) -> Result<(), AllocError> {
-    let top = At::top_of(profile);
-    let Some((id, _)) = begin(octets).id else {
+    let top = Place::top_of(profile);
+    let Some((id, _)) = read_start(octets).id else {
         return Ok(());
     };
     match top.find(id) {

@@ -1,23 +1,23 @@
 //! The values of leaves.
 use crate::lines::LineBuffer;
 use ber_leaf::{BitString, Leaf, ObjectIdentifier};
-use ill_cells::What;
+use ill_grammar::ElementType;
 use ill_json::add_identifier;
 use ill_read::{LeafType, Mark};
 use ill_schema::{PartId, Profile, Value, is_default, row};
 use std::alloc::{AllocError, Global};
 
 /// The type of a leaf; None for what is no leaf.
-pub fn leaf_type(what: What) -> Option<LeafType> {
-    match what {
-        What::Boolean => Some(LeafType::Boolean),
-        What::Integer => Some(LeafType::Integer),
-        What::Enumerated => Some(LeafType::Enumerated),
-        What::General => Some(LeafType::General),
-        What::Visible => Some(LeafType::Visible),
-        What::Printable => Some(LeafType::Printable),
-        What::Date => Some(LeafType::Date),
-        What::Time => Some(LeafType::Time),
+pub fn leaf_type(element_type: ElementType) -> Option<LeafType> {
+    match element_type {
+        ElementType::Boolean => Some(LeafType::Boolean),
+        ElementType::Integer => Some(LeafType::Integer),
+        ElementType::Enumerated => Some(LeafType::Enumerated),
+        ElementType::General => Some(LeafType::General),
+        ElementType::Visible => Some(LeafType::Visible),
+        ElementType::Printable => Some(LeafType::Printable),
+        ElementType::Date => Some(LeafType::Date),
+        ElementType::Time => Some(LeafType::Time),
         _ => None,
     }
 }
@@ -71,10 +71,10 @@ fn put_value(
 }
 
 /// Tells whether a constructed element is a string in segments.
-pub fn is_string(what: What) -> bool {
-    match what {
-        What::OctetString | What::BitString | What::ObjectDescriptor => true,
-        _ => leaf_type(what).is_some(),
+pub fn is_string(element_type: ElementType) -> bool {
+    match element_type {
+        ElementType::OctetString | ElementType::BitString | ElementType::ObjectDescriptor => true,
+        _ => leaf_type(element_type).is_some(),
     }
 }
 
@@ -82,21 +82,22 @@ pub fn is_string(what: What) -> bool {
 pub fn put_module_leaf(
     lines: &mut LineBuffer,
     alloc: Global,
-    what: What,
+    element_type: ElementType,
     content: &[u8],
 ) -> Result<(), AllocError> {
-    match what {
-        What::Null if content.is_empty() => lines.text("NULL"),
-        What::ObjectIdentifier if ObjectIdentifier::check(content).is_none() => {
+    match element_type {
+        ElementType::Null if content.is_empty() => lines.text("NULL"),
+        ElementType::ObjectIdentifier if ObjectIdentifier::check(content).is_none() => {
             put_identifier(lines, alloc, content)
         }
-        What::BitString | What::BitSegment if BitString::check(content).is_none() => {
+        ElementType::BitString | ElementType::BitSegment if BitString::check(content).is_none() => {
             put_bits(lines, content)
         }
-        What::Null | What::ObjectIdentifier | What::BitString | What::BitSegment => {
-            lines.hex(content)
-        }
-        What::OctetString | What::Foreign => lines.content(content),
+        ElementType::Null
+        | ElementType::ObjectIdentifier
+        | ElementType::BitString
+        | ElementType::BitSegment => { lines.hex(content) }
+        ElementType::OctetString | ElementType::Foreign => lines.content(content),
         _ => lines.quoted(content),
     }
 }
@@ -112,7 +113,7 @@ fn put_identifier(lines: &mut LineBuffer, alloc: Global, content: &[u8]) -> Resu
     lines.text(&text)
 }
 
-/// How many bits there are, and the octets that they fill.
+/// The number of bits, and the octets that they fill.
 fn put_bits(lines: &mut LineBuffer, content: &[u8]) -> Result<(), AllocError> {
     let Some((unused, filled)) = content.split_first() else {
         return Ok(());

@@ -1,42 +1,42 @@
 //! Goes through a message from element to element, and makes a line of each.
-use crate::found::{ElementStart, begin};
+use crate::found::{ElementStart, read_start};
 use crate::label::{Label, label_of};
 use crate::lines::LineBuffer;
 use crate::note::DerNotes;
 use crate::value::{has_unused_bits_set, is_string, leaf_type, put_leaf, put_module_leaf};
 use ber_core::{Header, Len};
-use ill_cells::{At, Found, What};
+use ill_grammar::{ElementType, Found, Place};
 use ill_schema::{LIMIT, Profile};
 use std::alloc::{AllocError, Global};
 
 /// An element that is open.
 #[derive(Clone, Copy)]
-struct Open {
+struct OpenElement {
     /// The place in it that was reached.
-    place: At,
+    place: Place,
     label: Label,
-    /// Where it ends, if its length says so.
+    /// The offset of its end, if its length says so.
     end: Option<usize>,
-    /// How many elements it has so far.
+    /// The number of elements that it has so far.
     items: usize,
 }
 
-/// How far a message was gone through.
+/// A walk through the elements of a message, as far as it has come.
 #[derive(Drop)]
 pub struct ElementWalk {
     alloc: Global,
     profile: Profile,
-    open: Vec<Open>,
+    open: Vec<OpenElement>,
     at: usize,
 }
 
 /// An element with a whole header.
 #[derive(Clone, Copy)]
-struct Element {
+struct WalkedElement {
     found: Found,
     header: Header,
     label: Label,
-    /// How many octets its identifier has, and its whole header.
+    /// The number of octets that its identifier has, and its whole header.
     id_size: usize,
     size: usize,
 }
@@ -51,11 +51,11 @@ impl ElementWalk {
         }
     }
 
-    /// Where the next element may begin, once what ended there is closed.
-    pub fn place(&self) -> At {
+    /// The offset where the next element may begin, once what ended there is closed.
+    pub fn place(&self) -> Place {
         match self.open.as_slice().last() {
             Some(open) => open.place,
-            None => At::top_of(self.profile),
+            None => Place::top_of(self.profile),
         }
     }
 
@@ -64,7 +64,7 @@ impl ElementWalk {
         self.profile
     }
 
-    /// How many elements the innermost one has so far.
+    /// The number of elements that the innermost one has so far.
     pub fn items(&self) -> usize {
         match self.open.as_slice().last() {
             Some(open) => open.items,
@@ -72,7 +72,7 @@ impl ElementWalk {
         }
     }
 
-    /// Whether an element is open.
+    /// Tells whether an element is open.
     pub fn is_inside(&self) -> bool {
         !self.open.is_empty()
     }
@@ -121,7 +121,7 @@ impl ElementWalk {
             self.end_mark(lines)?;
             return Ok(true);
         }
-        let Some(element) = self.element(begin(rest)) else {
+        let Some(element) = self.element(read_start(rest)) else {
             return Ok(false);
         };
         self.put_element(element, octets, rest, stop, lines)?;
@@ -159,12 +159,12 @@ impl ElementWalk {
     }
 
     /// The element that a header begins, if one is due.
-    fn element(&self, begun: ElementStart) -> Option<Element> {
+    fn element(&self, begun: ElementStart) -> Option<WalkedElement> {
         let (id, id_size) = begun.id?;
         let header = begun.header?;
         let place = self.place();
         let found = place.find(id)?;
-        Some(Element {
+        Some(WalkedElement {
             found,
             header,
             label: label_of(found, id, place.node(), self.items()),
@@ -175,7 +175,7 @@ impl ElementWalk {
 
     fn put_element(
         &self,
-        element: Element,
+        element: WalkedElement,
         octets: &[u8],
         rest: &[u8],
         stop: usize,
@@ -201,25 +201,25 @@ impl ElementWalk {
 
     fn put_constructed(
         &self,
-        element: Element,
+        element: WalkedElement,
         octets: &[u8],
         stop: usize,
         lines: &mut LineBuffer,
         notes: &mut DerNotes,
     ) -> Result<(), AllocError> {
-        match element.found.what() {
-            What::Segment => notes.note(lines, "segment"),
-            What::LooseWrapper if self.is_bare(element, octets, stop) => {
+        match element.found.element_type() {
+            ElementType::Segment => notes.note(lines, "segment"),
+            ElementType::LooseWrapper if self.is_bare(element, octets, stop) => {
                 notes.note(lines, "without inner SEQUENCE")
             }
-            What::BitSegment => notes.note(lines, "segment"),
-            what if is_string(what) => notes.note(lines, "in segments"),
+            ElementType::BitSegment => notes.note(lines, "segment"),
+            element_type if is_string(element_type) => notes.note(lines, "in segments"),
             _ => Ok(()),
         }
     }
 
-    /// Whether a wrapper has no SEQUENCE in it.
-    fn is_bare(&self, element: Element, octets: &[u8], stop: usize) -> bool {
+    /// Tells whether a wrapper has no SEQUENCE in it.
+    fn is_bare(&self, element: WalkedElement, octets: &[u8], stop: usize) -> bool {
         if element.header.len == Len::Definite(0) {
             return true;
         }
@@ -232,7 +232,7 @@ impl ElementWalk {
 
     fn put_primitive(
         &self,
-        element: Element,
+        element: WalkedElement,
         rest: &[u8],
         lines: &mut LineBuffer,
         notes: &mut DerNotes,
@@ -243,21 +243,25 @@ impl ElementWalk {
             return notes.note(lines, "cut short");
         };
         lines.text(" = ")?;
-        let what = element.found.what();
-        let is_default = match leaf_type(what) {
+        let element_type = element.found.element_type();
+        let is_default = match leaf_type(element_type) {
             Some(leaf) => put_leaf(lines, self.alloc, leaf, element.found.part(), content)?,
             None => {
-                put_module_leaf(lines, self.alloc, what, content)?;
+                put_module_leaf(lines, self.alloc, element_type, content)?;
                 false
             }
         };
         notes.length(lines, element.header.len, length)?;
-        match what {
-            What::Segment | What::BitSegment => notes.note(lines, "segment")?,
-            What::Boolean => notes.flag(lines, content)?,
+        match element_type {
+            ElementType::Segment | ElementType::BitSegment => notes.note(lines, "segment")?,
+            ElementType::Boolean => notes.flag(lines, content)?,
             _ => {}
         }
-        if matches!(what, What::BitString | What::BitSegment) && has_unused_bits_set(content) {
+        if matches!(
+            element_type,
+            ElementType::BitString | ElementType::BitSegment
+        ) && has_unused_bits_set(content)
+        {
             notes.note(lines, "unused bits are not 0")?;
         }
         if is_default {
@@ -267,7 +271,7 @@ impl ElementWalk {
     }
 
     /// Goes on after a primitive element, at most to the end of the input, or into one that is constructed.
-    fn pass(&mut self, element: Element, octets: usize) -> Result<(), AllocError> {
+    fn pass(&mut self, element: WalkedElement, octets: usize) -> Result<(), AllocError> {
         let last = self.open.len().saturating_sub(1);
         if let Some(open) = self.open.get_mut(last) {
             open.place = element.found.after();
@@ -282,7 +286,7 @@ impl ElementWalk {
             Len::Indefinite => None,
         };
         self.at = self.at.saturating_add(element.size);
-        self.open.extend_from_slice(&[Open {
+        self.open.extend_from_slice(&[OpenElement {
             place: element.found.first(),
             label: element.label,
             end,
@@ -291,8 +295,8 @@ impl ElementWalk {
     }
 }
 
-impl Element {
-    /// Where it ends, if it begins there and its length is definite.
+impl WalkedElement {
+    /// The offset of its end, if it begins there and its length is definite.
     fn end_from(self, at: usize) -> usize {
         match self.header.len {
             Len::Definite(size) => at.saturating_add(self.size).saturating_add(size as usize),

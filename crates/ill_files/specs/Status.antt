@@ -4,10 +4,10 @@ use Rattle.std.specs.List.{list_any}
 use Rattle.clap.specs.Words.{kind_of}
 use Rattle.clap.specs.declared.error.Error.{Error}
 use Rattle.clap.specs.declared.error.kind.ErrorKind.{ErrorKind}
-use Rattle.ill_jobs.specs.declared.fault.RunFault.{RunFault}
-use Rattle.ill_jobs.specs.declared.job.Verdict.{Verdict}
+use Rattle.ill_commands.specs.declared.fault.RunFault.{RunFault}
+use Rattle.ill_commands.specs.declared.job.Verdict.{Verdict}
 use Rattle.ill_files.specs.declared.error.ProgramError.{ProgramError}
-use Rattle.ill_orders.specs.declared.fault.LineFault.{LineFault}
+use Rattle.ill_args.specs.declared.fault.LineFault.{LineFault}
 
 -- of a job: 3 for memory, the source and the sink, 1 for the messages and their text
 abbrev pub run_status_is : RunFault → ℕ

@@ -5,9 +5,9 @@ ghost use Rattle.ill_files.specs.Status.{is_output_lost, keeps_output, line_stat
 use crate::names::{Name, NameOf};
 use clap::Error as LineError;
 use clap::error::ErrorKind;
-use ill_jobs::{RunFault, Verdict};
+use ill_args::LineFault;
+use ill_commands::{RunFault, Verdict};
 use ill_normal::{Cause, PartId, Refusal, Side, part_name};
-use ill_orders::LineFault;
 use std::alloc::Global;
 use std::{fmt, io};
 use thiserror::Error;
@@ -147,9 +147,8 @@ impl fmt::Display for CauseName {
     fn fmt<W: fmt::Write>(&self, f: &mut fmt::Formatter<W>) -> fmt::Result {
         let CauseName(cause) = *self;
         match cause {
-            Cause::LeftOut(part) => write_part(f, "LeftOut", part),
-            Cause::Missing(part) => write_part(f, "Missing", part),
-            _ => write!(f, "{cause:?}"),
+            Cause::LeftOut(part) | Cause::Missing(part) => write_part(f, cause.name(), part),
+            _ => f.write_str(cause.name()),
         }
     }
 }
@@ -205,7 +204,7 @@ fn line_status(error: &LineError) -> u8
     }
 }
 
-/// Whether some of the output was not written.
+/// Tells whether some of the output was not written.
 pub fn is_output_lost(done: &Result<Verdict, ProgramError>) -> bool
     ensures { result ≡ is_output_lost done.now }
 {
@@ -219,7 +218,7 @@ pub fn is_output_lost(done: &Result<Verdict, ProgramError>) -> bool
     )
 }
 
-/// Whether an output that is a file stays as it was: some of the output was not written, the input could not be read, or memory ran out.
+/// Tells whether an output that is a file stays as it was: some of the output was not written, the input could not be read, or memory ran out.
 /// Where it is replaced only as a `whole`, it stays as it was after any error, and where a message is refused.
 pub fn keeps_output(whole: bool, done: &Result<Verdict, ProgramError>) -> bool
     ensures { result ≡ keeps_output whole done.now }

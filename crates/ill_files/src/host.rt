@@ -8,7 +8,7 @@ use std::time::Clock;
 
 /// A runtime with files that have owners, and with a standard error that may be a terminal.
 pub trait Host: Files + Clock {
-    /// Whether standard error is a terminal.
+    /// Tells whether standard error is a terminal.
     fn is_terminal(&self) -> bool;
 
     /// Gives a file that is open this owner and group, whatever its name stands for by now.

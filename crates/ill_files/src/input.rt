@@ -6,8 +6,8 @@ use crate::host::Host;
 use crate::output::{FlushBeforeRead, Output, OutputOf};
 use crate::progress::{ProgressLine, ProgressReader};
 use crate::same_file::FileId;
-use ber_core::{Ahead, Broken, FromBuffer, FromRead, Source};
-use ill_jobs::{RunFault, read_at_most};
+use ber_core::{Broken, BufferedSource, FromBuffer, FromRead, Source};
+use ill_commands::{RunFault, read_at_most};
 use std::alloc::Global;
 use std::fs::{self, OpenFile};
 use std::io::{Printer, Read, Write};
@@ -40,22 +40,22 @@ impl<S: Source, F: Source> Source for Opened<S, F> {
     }
 }
 
-impl<S: Ahead, F: Ahead> Ahead for Opened<S, F> {
+impl<S: BufferedSource, F: BufferedSource> BufferedSource for Opened<S, F> {
     ghost use Rattle.ill_files.specs.Opened.{hand_of};
 
     ghost hand = { λ opened. hand_of S.hand F.hand opened };
 
-    fn at_hand(&self) -> &[u8] {
+    fn buffered(&self) -> &[u8] {
         match self {
-            Opened::Standard(source) => source.at_hand(),
-            Opened::File(source) => source.at_hand(),
+            Opened::Standard(source) => source.buffered(),
+            Opened::File(source) => source.buffered(),
         }
     }
 
-    fn pass(&mut self, count: usize) {
+    fn consume(&mut self, count: usize) {
         match self {
-            Opened::Standard(source) => source.pass(count),
-            Opened::File(source) => source.pass(count),
+            Opened::Standard(source) => source.consume(count),
+            Opened::File(source) => source.consume(count),
         }
     }
 }

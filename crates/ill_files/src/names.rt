@@ -126,7 +126,7 @@ fn has_hidden(text: &str) -> bool {
     false
 }
 
-/// Whether a character is not seen where it is printed, or changes what is seen around it (General_Category Cc, Cf, Zl and Zp).
+/// Tells whether a character is not seen where it is printed, or changes what is seen around it (General_Category Cc, Cf, Zl and Zp).
 fn is_hidden(letter: char) -> bool {
     matches!(
         GeneralCategory::for_char(letter),

@@ -6,7 +6,7 @@ use crate::host::Host;
 use crate::names::NameOf;
 use crate::replacement::{self, ReplaceMode, ReplaceObstacle, Replacement, sync_folder};
 use crate::same_file::FileId;
-use ill_jobs::{RunFault, Verdict};
+use ill_commands::{RunFault, Verdict};
 use std::alloc::Global;
 use std::cell::RefCell;
 use std::fs::{self, OpenFile};
@@ -18,7 +18,7 @@ use std::rt::Files;
 pub struct OutputFile<S, F> {
     kind: OutputKind<S, F>,
     written: u128,
-    /// Whether a write found that nobody reads the output any more.
+    /// True if a write found that nobody reads the output any more.
     is_closed: bool,
 }
 
@@ -54,11 +54,11 @@ impl<S: Write, F: Write> Write for OutputFile<S, F> {
     }
 }
 
-/// What a command writes to, once it is open.
+/// The output of a command, once it is open.
 #[derive(Drop)]
 struct OpenOutput<S: Write + Drop, F: Write + Drop> {
     writer: BufWriter<OutputFile<S, F>>,
-    /// Whether a flush failed, so that nothing more is put.
+    /// True if a flush failed, so that nothing more is put.
     is_lost: bool,
 }
 
@@ -127,7 +127,7 @@ impl<S: Write + Drop, F: Write + Drop> Output<S, F> {
         Err(io::Error::from(ErrorKind::Other))
     }
 
-    /// How many octets left the buffer.
+    /// The number of octets that left the buffer.
     fn written(&self) -> u128 {
         if let Ok(held) = self.open.try_borrow() {
             if let Some(open) = held.as_ref() {
@@ -137,7 +137,7 @@ impl<S: Write + Drop, F: Write + Drop> Output<S, F> {
         0
     }
 
-    /// Whether nobody reads the output any more.
+    /// Tells whether nobody reads the output any more.
     fn is_closed(&self) -> bool {
         if let Ok(held) = self.open.try_borrow() {
             if let Some(open) = held.as_ref() {
@@ -177,7 +177,7 @@ impl<S: Write + Drop, F: Write + OpenFile + Drop> Output<S, F> {
         Ok(())
     }
 
-    /// Which regular file the output is; None where it is not one.
+    /// The regular file that the output is; None where it is not one.
     fn file_id(&self) -> Option<FileId> {
         if let Ok(held) = self.open.try_borrow() {
             if let Some(open) = held.as_ref() {
@@ -194,7 +194,7 @@ impl<S: Write + Drop, F: Write + OpenFile + Drop> Output<S, F> {
 #[derive(Drop)]
 pub struct ToOutput<'o, S: Write + Drop, F: Write + Drop> {
     pub output: &'o Output<S, F>,
-    /// Whether each octet is written at once.
+    /// True if each octet is written at once.
     pub is_direct: bool,
 }
 
@@ -234,7 +234,7 @@ pub fn open_standard_output<'r, R: Print + Files + AllocGlobal>(
 /// The name by which the system knows standard output.
 const STANDARD_OUTPUT: &str = "/dev/stdout";
 
-/// Where the octets of an output go until it is closed.
+/// The destination of the octets of an output until it is closed.
 #[derive(Drop)]
 pub enum OutputDestination {
     /// To the output itself.
@@ -340,7 +340,7 @@ pub fn close_output<'r, R: Print + Host + AllocGlobal>(
     done
 }
 
-/// Whether this is still the name of the file that the output is. None where that can't be known.
+/// Tells whether this is still the name of the file that the output is. None where that can't be known.
 fn is_still_named<'r, R: Print + Host + AllocGlobal>(
     rt: &'r R,
     output: &OutputOf<'r, R>,

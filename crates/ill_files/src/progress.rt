@@ -5,16 +5,16 @@ use std::cell::Cell;
 use std::io::{self, Read};
 use std::time::{Duration, Instant};
 
-/// How many milliseconds the work goes on before its line is shown.
+/// The number of milliseconds that the work goes on before its line is shown.
 const SHOW_AFTER: u64 = 2_000;
 
-/// How many milliseconds a line stays as it is.
+/// The number of milliseconds that a line stays as it is.
 const UPDATE_INTERVAL: u64 = 200;
 
 /// Goes to the front of the line on a terminal, and erases it (ECMA-48, 8.3.15 and 8.3.41).
 const ERASE_LINE: &str = "\r\x1b[K";
 
-/// How far the work is: how many files were opened, and how many octets were read. A line on a terminal says so while the work takes
+/// The progress of the work: the numbers of files opened and of octets read. A line on a terminal says so while the work takes
 /// more than two seconds.
 #[derive(Drop)]
 pub struct ProgressLine {
@@ -25,9 +25,9 @@ pub struct ProgressLine {
 struct State {
     files: u64,
     octets: u64,
-    /// When the next line is due; None where no line is wanted.
+    /// The time when the next line is due; None where no line is wanted.
     due: Option<Instant>,
-    /// Whether a line is on the terminal.
+    /// True if a line is on the terminal.
     is_shown: bool,
 }
 

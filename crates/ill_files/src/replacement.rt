@@ -8,7 +8,7 @@ use std::io::{self, ErrorKind};
 use std::os::unix::fs::{MetadataExt, OpenOptionsExt, PermissionsExt};
 use std::rt::Files;
 
-/// How many names a new file is tried under.
+/// The number of names that a new file is tried under.
 const MAX_PART_NAMES: u32 = 100;
 
 /// The bits of a mode that say who may read, write and run a file.
@@ -60,14 +60,14 @@ impl fmt::Display for ReplaceObstacle {
     }
 }
 
-/// What a name stands for before it is written to.
+/// The file that a name stands for before it is written to.
 #[derive(Drop)]
 enum ExistingFile {
     /// No file.
     Absent,
     /// A regular file with no other name.
     File(Metadata),
-    /// What can't be replaced: a regular file for this reason, or a device, a pipe, a folder.
+    /// A file that can't be replaced: a regular file for this reason, or a device, a pipe, a folder.
     Other(Option<ReplaceObstacle>),
 }
 

@@ -10,7 +10,7 @@ const STANDARD_INPUT: &str = "/dev/stdin";
 /// The name by which the system knows standard output.
 const STANDARD_OUTPUT: &str = "/dev/stdout";
 
-/// Which regular file something is: its device and its number there.
+/// The identity of a regular file: its device and its number there.
 #[derive(Clone, Copy, Debug, PartialEq, Eq)]
 pub struct FileId {
     device: u64,

@@ -45,7 +45,7 @@ use Rattle.ill_schema.specs.Tagging.{leaf_of}
 use Rattle.ill_text.specs.Numbers.{number_name, number_names}
 use Rattle.ill_text.specs.Shown.{name_or_none, node_or_left_out, row_name, row_node}
 use Rattle.ill_json.specs.Json.{characters, entry_members, in_member, item_values, json_line_of, leaf_json, line_json, number_json, plain, value_json, with_file}
-use Rattle.ill_json.specs.declared.line.Head.{Head}
+use Rattle.ill_json.specs.declared.line.LineHead.{LineHead}
 use Rattle.ill_json.proofs.InAscii.{AreTexts-json_tokens, HasTexts, IsUtf8-are_low, are_low, in_ascii, in_ascii-cons, tokens-in_ascii}
 
 both : (a b : Bool) → IsTrue (a && b) → IsTrue a × IsTrue b
@@ -415,7 +415,7 @@ with_file_once : (file : Option (List ℕ)) (ms ns : Members) → with_file file
 with_file_once None ms ns e = e
 with_file_once (Some name) ms ns e = (member_same _ _ _ _ _ _ e).2
 
-pub apdu_once : (file : Option (List ℕ)) (head head' : Head) (a b : Apdu) → FitsApdu profile_two a → FitsApdu profile_two b → line_json file head a ≡ line_json file head' b → choice_of a ≡ choice_of b
+pub apdu_once : (file : Option (List ℕ)) (head head' : LineHead) (a b : Apdu) → FitsApdu profile_two a → FitsApdu profile_two b → line_json file head a ≡ line_json file head' b → choice_of a ≡ choice_of b
 apdu_once file head head' a b h k e =
     let number = member_same _ _ _ _ _ _ (with_file_once file _ _ (object_same _ _ e)) in
     let offset = member_same _ _ _ _ _ _ number.2 in
@@ -434,7 +434,7 @@ apdu_once file head head' a b h k e =
 -- ---- texts
 
 -- a head of numbers that 64 bits hold
-abbrev pub IsSmall : Head → Type 0
+abbrev pub IsSmall : LineHead → Type 0
 IsSmall head = (head.number < 2 ^ 64) × (head.offset < 2 ^ 64) × (head.octets < 2 ^ 64)
 
 -- a value that is written and read back
@@ -527,7 +527,7 @@ mutual
       ((v.0, rest.0), (v.1, rest.1))
 
 -- a line with no name of a file
-line_written : (head : Head) (a : Apdu) → IsSmall head → FitsApdu profile_two a → IsWritten (line_json None head a)
+line_written : (head : LineHead) (a : Apdu) → IsSmall head → FitsApdu profile_two a → IsWritten (line_json None head a)
 line_written head a small h =
     let n = a.number - 1 in
     let v = value_written profile_two [] (row_node IllApdu n) a.body (two_at IllApdu n h.1.0 refl h.1.1.1) (row_fits profile_two IllApdu n a.body h.1.0 h.1.1.1 h.1.2) in
@@ -608,13 +608,13 @@ unnamed f name k ts us e =
     begun ts ∙ ap (λ (l : List ℕ). 123 ∷ 34 ∷ l) rest ∙ sym (begun us)
 
 -- lines that are equal are equal without the name of the file
-without_file : (file : Option (List ℕ)) (head head' : Head) (a b : Apdu) → in_ascii (print (json_tokens (line_json file head a))) ≡ in_ascii (print (json_tokens (line_json file head' b)))
+without_file : (file : Option (List ℕ)) (head head' : LineHead) (a b : Apdu) → in_ascii (print (json_tokens (line_json file head a))) ≡ in_ascii (print (json_tokens (line_json file head' b)))
     → in_ascii (print (json_tokens (line_json None head a))) ≡ in_ascii (print (json_tokens (line_json None head' b)))
 without_file None head head' a b e = e
 without_file (Some name) head head' a b e = unnamed (codes "file") name (codes "number") _ _ e
 
 -- APDUs that fit the tables have one line only where they are one APDU
-pub line_once : (file : Option (List ℕ)) (head head' : Head) (a b : Apdu) → IsSmall head → IsSmall head' → FitsApdu profile_two a → FitsApdu profile_two b → json_line_of file head a ≡ json_line_of file head' b → choice_of a ≡ choice_of b
+pub line_once : (file : Option (List ℕ)) (head head' : LineHead) (a b : Apdu) → IsSmall head → IsSmall head' → FitsApdu profile_two a → FitsApdu profile_two b → json_line_of file head a ≡ json_line_of file head' b → choice_of a ≡ choice_of b
 line_once file head head' a b small small' h k e =
     apdu_once None head head' a b h k
     (text_once _ _ (line_written head a small h) (line_written head' b small' k) (without_file file head head' a b (append_cancel_right _ _ (codes "\n") e)))

@@ -21,8 +21,8 @@ use Rattle.ill_text.specs.Marks.{IsEntry, is_at_end, is_there, octets_in}
 use Rattle.ill_text.proofs.Lines.{mark_step, no_entry, no_item}
 use Rattle.ill_json.specs.Json.{characters, entry_members, in_member, item_values, json_line_in, line_json_in, plain, value_json}
 use Rattle.ill_json.specs.code.Adding.{Adds, entry_tokens, file_tokens, head_tokens, part_tokens, value_tokens}
-use Rattle.ill_json.specs.declared.line.Head.{Head}
-use Rattle.ill_json.specs.declared.writing.Out.{Out}
+use Rattle.ill_json.specs.declared.line.LineHead.{LineHead}
+use Rattle.ill_json.specs.declared.writing.LineWriter.{LineWriter}
 use Rattle.ill_json.proofs.Added.{adds_as, adds_then}
 
 -- ---- entries
@@ -43,7 +43,7 @@ next_entry no_entries ms rest h e = absurd (let q : true ≡ false = ap (λ x. i
 next_entry (absent es) ms rest h e = record {
   entry = None;
   later = es;
-  first = mark.Passed h.0 ∷ [];
+  first = mark.Absent h.0 ∷ [];
   second = h.1;
   is = (h.0, refl, h.3);
   joined = h.2;
@@ -62,7 +62,7 @@ next_entry (present c es) ms rest h e = record {
 }
 
 -- so far: the entries that are left, and the tokens of those before them, after those of an opening
-pub record EntriesReached (opening : List Token) (node : NodeId) (es : Entries) (rest left : List Mark) (i : ℕ) (old new : Out) : Type 0 where
+pub record EntriesReached (opening : List Token) (node : NodeId) (es : Entries) (rest left : List Mark) (i : ℕ) (old new : LineWriter) : Type 0 where
   pub later : Entries
   pub marks : List Mark
   pub are : AreEntries later marks
@@ -71,10 +71,10 @@ pub record EntriesReached (opening : List Token) (node : NodeId) (es : Entries) 
   pub adds : Adds (opening ++ put) old new
   pub whole : members_tokens (entry_members node 0 es) ≡ put ++ members_tokens (entry_members node i later)
 
-pub entries_none : (o : List Token) (node : NodeId) (es : Entries) (rest left ms : List Mark) (a b : Out) → Adds o a b → AreEntries es ms → left ≡ ms ++ (mark.End ∷ rest) → EntriesReached o node es rest left 0 a b
+pub entries_none : (o : List Token) (node : NodeId) (es : Entries) (rest left ms : List Mark) (a b : LineWriter) → Adds o a b → AreEntries es ms → left ≡ ms ++ (mark.End ∷ rest) → EntriesReached o node es rest left 0 a b
 entries_none o node es rest left ms a b n h e = record { later = es; marks = ms; are = h; joined = e; put = []; adds = adds_as o (o ++ []) a b (sym (append-nil o)) n; whole = refl }
 
-pub entries_more : (o : List Token) (node : NodeId) (es : Entries) (rest left left' : List Mark) (i : ℕ) (a b c : Out) → EntriesReached o node es rest left i a b → is_at_end left ≡ false
+pub entries_more : (o : List Token) (node : NodeId) (es : Entries) (rest left left' : List Mark) (i : ℕ) (a b c : LineWriter) → EntriesReached o node es rest left i a b → is_at_end left ≡ false
     → ((e : Option Content) (ms more : List Mark) → IsEntry e ms → left ≡ ms ++ more → (left' ≡ more) × Adds (entry_tokens node i e) b c) → EntriesReached o node es rest left' (i + 1) a c
 entries_more o node es rest left left' i a b c r on put =
     let n = next_entry r.later r.marks rest r.are (ap is_at_end (sym r.joined) ∙ on) in
@@ -92,7 +92,7 @@ entries_more o node es rest left left' i a b c r on put =
     }
 
 -- all entries were put, and then the end of the object
-pub entries_ended : (o : List Token) (node : NodeId) (es : Entries) (rest left : List Mark) (i : ℕ) (a b c : Out) → EntriesReached o node es rest left i a b → is_at_end left ≡ true → Adds (end_object ∷ []) b c
+pub entries_ended : (o : List Token) (node : NodeId) (es : Entries) (rest left : List Mark) (i : ℕ) (a b c : LineWriter) → EntriesReached o node es rest left i a b → is_at_end left ≡ true → Adds (end_object ∷ []) b c
     → (drop 1 left ≡ rest) × Adds (o ++ members_tokens (entry_members node 0 es)) a c
 entries_ended o node es rest left i a b c r end put =
     let n = no_entry r.later r.marks rest r.are (ap is_at_end (sym r.joined) ∙ end) in
@@ -117,7 +117,7 @@ next_item : (is : Items) (ms rest : List Mark) → AreItems is ms → is_at_end 
 next_item no_items ms rest h e = absurd (let q : true ≡ false = ap (λ x. is_at_end (x ++ (mark.End ∷ rest))) (sym h) ∙ e in cc)
 next_item (item c is) ms rest h e = record { item = c; later = is; first = h.0; second = h.1; marked = h.3; joined = h.2; are = h.4; tokens = λ row node. refl }
 
-pub record ItemsReached (opening : List Token) (row : List ℕ) (node : NodeId) (is : Items) (rest left : List Mark) (old new : Out) : Type 0 where
+pub record ItemsReached (opening : List Token) (row : List ℕ) (node : NodeId) (is : Items) (rest left : List Mark) (old new : LineWriter) : Type 0 where
   pub later : Items
   pub marks : List Mark
   pub are : AreItems later marks
@@ -126,10 +126,10 @@ pub record ItemsReached (opening : List Token) (row : List ℕ) (node : NodeId) 
   pub adds : Adds (opening ++ put) old new
   pub whole : items_tokens (item_values row node is) ≡ put ++ items_tokens (item_values row node later)
 
-pub items_none : (o : List Token) (row : List ℕ) (node : NodeId) (is : Items) (rest left ms : List Mark) (a b : Out) → Adds o a b → AreItems is ms → left ≡ ms ++ (mark.End ∷ rest) → ItemsReached o row node is rest left a b
+pub items_none : (o : List Token) (row : List ℕ) (node : NodeId) (is : Items) (rest left ms : List Mark) (a b : LineWriter) → Adds o a b → AreItems is ms → left ≡ ms ++ (mark.End ∷ rest) → ItemsReached o row node is rest left a b
 items_none o row node is rest left ms a b n h e = record { later = is; marks = ms; are = h; joined = e; put = []; adds = adds_as o (o ++ []) a b (sym (append-nil o)) n; whole = refl }
 
-pub items_more : (o : List Token) (row : List ℕ) (node : NodeId) (is : Items) (rest left left' : List Mark) (a b c : Out) → ItemsReached o row node is rest left a b → is_at_end left ≡ false
+pub items_more : (o : List Token) (row : List ℕ) (node : NodeId) (is : Items) (rest left left' : List Mark) (a b c : LineWriter) → ItemsReached o row node is rest left a b → is_at_end left ≡ false
     → ((x : Content) (ms more : List Mark) → IsMarked x ms → left ≡ ms ++ more → (left' ≡ more) × Adds (json_tokens (value_json row node x)) b c) → ItemsReached o row node is rest left' a c
 items_more o row node is rest left left' a b c r on put =
     let n = next_item r.later r.marks rest r.are (ap is_at_end (sym r.joined) ∙ on) in
@@ -146,7 +146,7 @@ items_more o row node is rest left left' a b c r on put =
     }
 
 -- all items were put, and then the end of the array
-pub items_ended : (o : List Token) (row : List ℕ) (node : NodeId) (is : Items) (rest left : List Mark) (a b c : Out) → ItemsReached o row node is rest left a b → is_at_end left ≡ true → Adds (end_array ∷ []) b c
+pub items_ended : (o : List Token) (row : List ℕ) (node : NodeId) (is : Items) (rest left : List Mark) (a b c : LineWriter) → ItemsReached o row node is rest left a b → is_at_end left ≡ true → Adds (end_array ∷ []) b c
     → (drop 1 left ≡ rest) × Adds (o ++ items_tokens (item_values row node is)) a c
 items_ended o row node is rest left a b c r end put =
     let n = no_item r.later r.marks rest r.are (ap is_at_end (sym r.joined) ∙ end) in
@@ -194,12 +194,12 @@ entry_nothing node i (Some c) there = absurd cc
 
 -- ---- the whole line
 
-line_whole : (p : Profile) (file : Option (List ℕ)) (head : Head) (a : Apdu) (row : ℕ) → row ≡ a.number - 1
+line_whole : (p : Profile) (file : Option (List ℕ)) (head : LineHead) (a : Apdu) (row : ℕ) → row ≡ a.number - 1
     → begin_object ∷ file_tokens file ++ head_tokens head (row_name (root p) row) ++ key (codes "value") ∷ [] ++ json_tokens (value_json [] (row_node (root p) row) a.body) ++ end_object ∷ [] ≡ json_tokens (line_json_in p file head a)
 line_whole p None head a row e = ap (λ (n : ℕ). begin_object ∷ head_tokens head (row_name (root p) n) ++ key (codes "value") ∷ [] ++ json_tokens (value_json [] (row_node (root p) n) a.body) ++ end_object ∷ []) e
 line_whole p (Some name) head a row e = ap (λ (n : ℕ). begin_object ∷ file_tokens (Some name) ++ head_tokens head (row_name (root p) n) ++ key (codes "value") ∷ [] ++ json_tokens (value_json [] (row_node (root p) n) a.body) ++ end_object ∷ []) e
 
-pub line_same : (p : Profile) (file : Option (List ℕ)) (head : Head) (a : Apdu) (name : List ℕ) (node : NodeId) (row : ℕ) → name ≡ row_name (root p) row → node ≡ row_node (root p) row → row ≡ a.number - 1
+pub line_same : (p : Profile) (file : Option (List ℕ)) (head : LineHead) (a : Apdu) (name : List ℕ) (node : NodeId) (row : ℕ) → name ≡ row_name (root p) row → node ≡ row_node (root p) row → row ≡ a.number - 1
     → begin_object ∷ file_tokens file ++ head_tokens head name ++ key (codes "value") ∷ [] ++ json_tokens (value_json [] node a.body) ++ end_object ∷ [] ≡ json_tokens (line_json_in p file head a)
 line_same p file head a name node row n k e =
     ap₂ (λ (x : List ℕ) (y : NodeId). begin_object ∷ file_tokens file ++ head_tokens head x ++ key (codes "value") ∷ [] ++ json_tokens (value_json [] y a.body) ++ end_object ∷ []) n k ∙ line_whole p file head a row e
@@ -209,7 +209,7 @@ line_same p file head a name node row n k e =
 pub one_more : (a b c x y z : List ℕ) → b ≡ a ++ x → c ≡ b ++ y → z ≡ x ++ y → c ≡ a ++ z
 one_more a b c x y z h k e = k ∙ ap (λ (t : List ℕ). t ++ y) h ∙ append_assoc a x y ∙ ap (λ (t : List ℕ). a ++ t) (sym e)
 
-pub line_text : (q : Profile) (file : Option (List ℕ)) (head : Head) (a : Apdu) (o p : Out) → o.writer.tokens ≡ [] → Adds (json_tokens (line_json_in q file head a)) o p → p.failed ≡ false
+pub line_text : (q : Profile) (file : Option (List ℕ)) (head : LineHead) (a : Apdu) (o p : LineWriter) → o.writer.tokens ≡ [] → Adds (json_tokens (line_json_in q file head a)) o p → p.failed ≡ false
     → flat_map plain (chars (print p.writer.tokens)) ++ codes "\n" ≡ json_line_in q file head a
 unfolding Adds
 line_text q file head a o p empty adds whole =

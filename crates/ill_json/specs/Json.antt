@@ -16,7 +16,7 @@ use Rattle.ill_schema.specs.Apdu.{Apdu, root}
 use Rattle.ill_schema.specs.Content.{Content, simple, sequence, list, alternative, foreign, Entries, no_entries, absent, present, Items, no_items, item}
 use Rattle.ill_text.specs.Numbers.{number_name}
 use Rattle.ill_text.specs.Shown.{hexadecimal, oid_text, row_name, row_node}
-use Rattle.ill_json.specs.declared.line.Head.{Head}
+use Rattle.ill_json.specs.declared.line.LineHead.{LineHead}
 
 -- each octet is the character of its number, in UTF-8
 abbrev pub characters : List ℕ → List ℕ
@@ -77,7 +77,7 @@ with_file None ms = ms
 with_file (Some name) ms = member (codes "file") (string name) ms
 
 -- the APDU of the profile is in the row of ILL-APDU that its number, from 1, says
-abbrev pub line_json_in : Profile → Option (List ℕ) → Head → Apdu → Json
+abbrev pub line_json_in : Profile → Option (List ℕ) → LineHead → Apdu → Json
 line_json_in p file head a = object (with_file file
     (member (codes "number") (number (decimal head.number))
     (member (codes "offset") (number (decimal head.offset))
@@ -86,7 +86,7 @@ line_json_in p file head a = object (with_file file
     (member (codes "normal") (boolean head.is_normal)
     (member (codes "value") (value_json [] (row_node (root p) (a.number - 1)) a.body) no_members)))))))
 
-abbrev pub line_json : Option (List ℕ) → Head → Apdu → Json
+abbrev pub line_json : Option (List ℕ) → LineHead → Apdu → Json
 line_json file head a = line_json_in profile_two file head a
 
 -- a unit of UTF-16 by its number (RFC 8259, section 7), in four digits
@@ -98,9 +98,9 @@ abbrev pub plain : ℕ → List ℕ
 plain c = if nat_lt c 0x7F then c ∷ [] else flat_map unit_text (encode_utf16 c)
 
 -- the text in ASCII, and a line feed
-abbrev pub json_line_in : Profile → Option (List ℕ) → Head → Apdu → List ℕ
+abbrev pub json_line_in : Profile → Option (List ℕ) → LineHead → Apdu → List ℕ
 json_line_in p file head a = flat_map plain (chars (print (json_tokens (line_json_in p file head a)))) ++ codes "\n"
 
 -- the same in profile 2
-abbrev pub json_line_of : Option (List ℕ) → Head → Apdu → List ℕ
+abbrev pub json_line_of : Option (List ℕ) → LineHead → Apdu → List ℕ
 json_line_of file head a = json_line_in profile_two file head a

@@ -27,7 +27,7 @@ pub fn into_ascii(alloc: Global, text: Vec<u8>) -> Result<Vec<u8>, AllocError>
     }
 }
 
-/// Whether each character of the text is before DEL.
+/// Tells whether each character of the text is before DEL.
 fn is_plain(text: &[u8]) -> bool
     ensures { result ≡ list_all (λ octet. nat_lt octet 0x7F) text.now }
 {

@@ -7,21 +7,21 @@ ghost use Rattle.ill_schema.specs.Content.{Content};
 ghost use Rattle.ill_schema.specs.Presence.{default_value};
 ghost use Rattle.ill_schema.specs.Table.{kind_of};
 ghost use Rattle.ill_schema.specs.declared.node.NodeId.{NodeId};
-ghost use Rattle.ill_elements.specs.LeafTypes.{IsContentIn, leaf_is};
+ghost use Rattle.ill_grammar.specs.LeafTypes.{IsContentIn, leaf_is};
 ghost use Rattle.ill_read.specs.Outline.{IsPassed};
 ghost use Rattle.ill_text.specs.Numbers.{number_name};
 ghost use Rattle.ill_text.specs.Marks.{is_there, octets_in};
 ghost use Rattle.ill_json.specs.Json.{leaf_json, number_json, text_json};
 ghost use Rattle.ill_json.specs.code.Adding.{Adds, value_tokens};
 
-use crate::writing::Out;
+use crate::writing::LineWriter;
 use ill_read::{LeafType, Mark};
 use ill_schema::{Kind, LeafKind, NodeId, PartId, Presence, kind, row};
 use ill_text::{is_set, number_in, number_name};
 use json::Token;
 
 /// Puts a leaf with these octets, in a row of this name.
-pub fn put_leaf(leaf: LeafType, octets: &[Mark], name: &str, out: &mut Out)
+pub fn put_leaf(leaf: LeafType, octets: &[Mark], name: &str, out: &mut LineWriter)
     ensures { (p : Named) → IsContentIn p (leaf_is leaf) (octets_in octets.now) → Adds (json_tokens (leaf_json name.now (value (leaf_is leaf) (octets_in octets.now)))) out.old out.new }
 {
     match leaf {
@@ -36,7 +36,7 @@ pub fn put_leaf(leaf: LeafType, octets: &[Mark], name: &str, out: &mut Out)
     }
 }
 
-/// Whether a row that was passed has a default.
+/// Tells whether a row that was passed has a default.
 pub fn has_default(part: PartId) -> bool
     ensures { (e : Option Content) → IsPassed part e → result ≡ is_there e }
 {
@@ -47,7 +47,7 @@ pub fn has_default(part: PartId) -> bool
 }
 
 /// Puts the default of a row that was passed, if it has one.
-pub fn put_default(part: PartId, name: &str, out: &mut Out)
+pub fn put_default(part: PartId, name: &str, out: &mut LineWriter)
     ensures { (e : Option Content) (node : NodeId) → IsPassed part e → Adds (value_tokens name.now node e) out.old out.new }
 {
     let Some(row) = row(part) else {
@@ -60,7 +60,7 @@ pub fn put_default(part: PartId, name: &str, out: &mut Out)
 }
 
 /// Puts the value that the number of a default stands for.
-fn put_value_of(node: NodeId, number: i64, name: &str, out: &mut Out)
+fn put_value_of(node: NodeId, number: i64, name: &str, out: &mut LineWriter)
     ensures { Adds (json_tokens (leaf_json name.now (default_value (kind_of node) number))) out.old out.new }
 {
     match kind(node) {
@@ -70,7 +70,7 @@ fn put_value_of(node: NodeId, number: i64, name: &str, out: &mut Out)
 }
 
 /// Puts a number in a row of this name: with its name, if it has one.
-fn put_number(row: &str, number: i64, out: &mut Out)
+fn put_number(row: &str, number: i64, out: &mut LineWriter)
     ensures { Adds (json_tokens (number_json number (number_name row.now number))) out.old out.new }
 {
     match number_name(row, number) {
@@ -80,7 +80,7 @@ fn put_number(row: &str, number: i64, out: &mut Out)
 }
 
 /// Puts a number and its name.
-fn put_named(number: i64, name: &str, out: &mut Out)
+fn put_named(number: i64, name: &str, out: &mut LineWriter)
     ensures { Adds (json_tokens (number_json number (Some name.now))) out.old out.new }
 {
     out.put(Token::BeginObject);
@@ -92,7 +92,7 @@ fn put_named(number: i64, name: &str, out: &mut Out)
 }
 
 /// Puts a string of an ILL-String under the name of its type.
-fn put_text(kind: &str, octets: &[Mark], out: &mut Out)
+fn put_text(kind: &str, octets: &[Mark], out: &mut LineWriter)
     ensures { Adds (json_tokens (text_json kind.now (octets_in octets.now))) out.old out.new }
 {
     out.put(Token::BeginObject);

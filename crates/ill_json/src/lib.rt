@@ -1,7 +1,7 @@
-//! Messages as JSON: a line for each.
+//! Messages as JSON: a line for each. Use it to hand messages to programs that read JSON.
 //!
 //! ```
-//! let head = Head { number: 1, offset: 0, octets: 33, is_normal: true };
+//! let head = LineHead { number: 1, offset: 0, octets: 33, is_normal: true };
 //! // {"number":1,"offset":0,"octets":33,"apdu":"Expired","normal":true,"value":{..}}
 //! let line = json_line(alloc, Vec::new(alloc), None, head, &outline)?;
 //! ```
@@ -17,4 +17,4 @@ mod value;
 mod writing;
 
 pub use identifier::add_identifier;
-pub use line::{Head, json_line, json_line_as};
+pub use line::{LineHead, json_line, json_line_as};

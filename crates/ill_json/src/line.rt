@@ -8,27 +8,27 @@ ghost use Rattle.ill_json.specs.Json.{json_line_in, json_line_of, line_json_in};
 ghost use Rattle.ill_json.specs.code.Adding.{Adds, file_tokens, head_tokens};
 
 use crate::value::put_value;
-use crate::writing::Out;
+use crate::writing::LineWriter;
 use ill_read::{Mark, Outline};
 use ill_schema::Profile;
 use ill_text::{after_first, alternative, row_name, row_node};
 use json::Token;
 use std::alloc::{AllocError, Global};
 
-/// What the line of a message says of it beside its value.
+/// The head of the line of a message: all of it but the value.
 #[derive(Clone, Copy)]
-pub struct Head {
+pub struct LineHead {
     /// Its number among the messages of the input, from 1.
     pub number: u32,
-    /// How many octets of the input come before it.
+    /// The number of octets of the input that come before it.
     pub offset: u64,
-    /// How many octets it has.
+    /// The number of octets that it has.
     pub octets: u32,
-    /// Whether it is in normal form.
+    /// True if it is in normal form.
     pub is_normal: bool,
 }
 
-/// The line of JSON of the message that the outline is of, in the memory of `room`, whose octets are forgotten,
+/// The line of JSON of the message that the outline is of, in the memory of `buffer`, whose octets are forgotten,
 /// or in new memory where a character is written by its number.
 ///
 /// It ends in a line feed, and is an object of these members, in this order:
@@ -49,14 +49,14 @@ pub struct Head {
 /// Only out of memory.
 pub fn json_line(
     alloc: Global,
-    room: Vec<u8>,
+    buffer: Vec<u8>,
     file: Option<&str>,
-    head: Head,
+    head: LineHead,
     outline: &Outline,
 ) -> Result<Vec<u8>, AllocError>
     ensures { (a : Apdu) → IsOutlineOf outline.now a → IfOk result (λ line. line.items ≡ json_line_of (option_map (λ name. name.now) file.entry) head a) }
 {
-    json_line_as(alloc, Profile::Two, room, file, head, outline)
+    json_line_as(alloc, Profile::Two, buffer, file, head, outline)
 }
 
 /// The line of JSON of a message in the profile, as [`json_line`] gives it.
@@ -74,26 +74,32 @@ pub fn json_line(
 /// # Examples
 ///
 /// ```text
-/// let line = json_line_as(alloc, Profile::Module, room, None, head, &outline)?;
+/// let line = json_line_as(alloc, Profile::Module, buffer, None, head, &outline)?;
 /// ```
 pub fn json_line_as(
     alloc: Global,
     profile: Profile,
-    room: Vec<u8>,
+    buffer: Vec<u8>,
     file: Option<&str>,
-    head: Head,
+    head: LineHead,
     outline: &Outline,
 ) -> Result<Vec<u8>, AllocError>
     ensures { (a : Apdu) → IsOutlineOf outline.now a → IfOk result (λ line. line.items
         ≡ json_line_in (profile_of profile) (option_map (λ name. name.now) file.entry) head a) }
 {
-    let mut out = Out::new(alloc, room);
+    let mut out = LineWriter::new(alloc, buffer);
     put_line(profile, file, head, outline.marks(), &mut out);
     out.into_line(alloc)
 }
 
 /// Puts the object of the message that the marks are of.
-fn put_line(profile: Profile, file: Option<&str>, head: Head, marks: &[Mark], out: &mut Out)
+fn put_line(
+    profile: Profile,
+    file: Option<&str>,
+    head: LineHead,
+    marks: &[Mark],
+    out: &mut LineWriter,
+)
     ensures { (a : Apdu) → IsMarked (choice_of a) marks.now
         → Adds (json_tokens (line_json_in (profile_of profile) (option_map (λ name. name.now) file.entry) head a)) out.old out.new }
 {
@@ -113,7 +119,7 @@ fn put_line(profile: Profile, file: Option<&str>, head: Head, marks: &[Mark], ou
 }
 
 /// Puts the member of the file's name, if it is given.
-fn put_file(file: Option<&str>, out: &mut Out)
+fn put_file(file: Option<&str>, out: &mut LineWriter)
     ensures { Adds (file_tokens (option_map (λ name. name.now) file.entry)) out.old out.new }
 {
     match file {
@@ -126,7 +132,7 @@ fn put_file(file: Option<&str>, out: &mut Out)
 }
 
 /// Puts the members of the head, with the APDU's name.
-fn put_head(head: Head, name: &str, out: &mut Out)
+fn put_head(head: LineHead, name: &str, out: &mut LineWriter)
     ensures { Adds (head_tokens head name.now) out.old out.new }
 {
     out.put(Token::Key("number"));

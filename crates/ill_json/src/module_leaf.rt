@@ -10,21 +10,21 @@ ghost use Rattle.ber_leaf.specs.Simple.{bits};
 ghost use Rattle.ill_schema.specs.Content.{foreign};
 ghost use Rattle.ill_schema.specs.declared.node.NodeId.{NodeId};
 ghost use Rattle.ill_schema.specs.declared.profile.Profile.{Profile as Named};
-ghost use Rattle.ill_elements.specs.LeafTypes.{IsContentIn, module_leaf_is};
+ghost use Rattle.ill_grammar.specs.LeafTypes.{IsContentIn, module_leaf_is};
 ghost use Rattle.ill_text.specs.Marks.{octets_in};
 ghost use Rattle.ill_text.specs.Shown.{hexadecimal};
 ghost use Rattle.ill_json.specs.Json.{leaf_json, value_json};
 ghost use Rattle.ill_json.specs.code.Adding.{Adds};
 
-use crate::writing::Out;
+use crate::writing::LineWriter;
 use ber_leaf::BitString;
-use ill_elements::ModuleLeaf;
+use ill_grammar::ModuleLeaf;
 use ill_read::Mark;
 use json::Token;
 use std::alloc::{AllocError, Global};
 
 /// Puts a leaf with these octets.
-pub fn put_module_leaf(leaf: ModuleLeaf, octets: &[Mark], out: &mut Out)
+pub fn put_module_leaf(leaf: ModuleLeaf, octets: &[Mark], out: &mut LineWriter)
     ensures { (p : Named) (name : List ℕ) → IsContentIn p (module_leaf_is leaf) (octets_in octets.now)
         → Adds (json_tokens (leaf_json name (value (module_leaf_is leaf) (octets_in octets.now)))) out.old out.new }
 {
@@ -37,7 +37,7 @@ pub fn put_module_leaf(leaf: ModuleLeaf, octets: &[Mark], out: &mut Out)
 }
 
 /// Puts a BIT STRING with these octets.
-pub fn put_bits(octets: &[Mark], out: &mut Out)
+pub fn put_bits(octets: &[Mark], out: &mut LineWriter)
     ensures { (p : Named) (name : List ℕ) → IsContentIn p bit_string (octets_in octets.now)
         → Adds (json_tokens (leaf_json name (value bit_string (octets_in octets.now)))) out.old out.new }
 {
@@ -48,7 +48,7 @@ pub fn put_bits(octets: &[Mark], out: &mut Out)
 }
 
 /// Puts a BIT STRING with this content.
-fn put_bits_of(content: Vec<u8>, out: &mut Out)
+fn put_bits_of(content: Vec<u8>, out: &mut LineWriter)
     ensures { (name : List ℕ) → IsContent bit_string content.items
         → Adds (json_tokens (leaf_json name (value bit_string content.items))) out.old out.new }
 {
@@ -59,7 +59,7 @@ fn put_bits_of(content: Vec<u8>, out: &mut Out)
 }
 
 /// Puts an object of the number of bits, and the octets that they fill.
-fn put_counted(count: u128, octets: &[u8], out: &mut Out)
+fn put_counted(count: u128, octets: &[u8], out: &mut LineWriter)
     ensures { (name : List ℕ) → Adds (json_tokens (leaf_json name (bits count octets.now))) out.old out.new }
 {
     out.put(Token::BeginObject);
@@ -91,7 +91,7 @@ fn push_mark(octets: &mut Vec<u8>, mark: Mark) -> Result<(), AllocError>
 }
 
 /// Puts a tree of no known type by its octets.
-pub fn put_foreign(octets: &[Mark], out: &mut Out)
+pub fn put_foreign(octets: &[Mark], out: &mut LineWriter)
     ensures { (T : Tree) (row : List ℕ) (node : NodeId) → octets_in octets.now ≡ encoding T
         → Adds (json_tokens (value_json row node (foreign T))) out.old out.new }
 {
@@ -99,7 +99,7 @@ pub fn put_foreign(octets: &[Mark], out: &mut Out)
 }
 
 /// Puts an object of one member: the octets in hexadecimal.
-fn put_hexadecimal(name: &str, octets: &[Mark], out: &mut Out)
+fn put_hexadecimal(name: &str, octets: &[Mark], out: &mut LineWriter)
     ensures { Adds (json_tokens (object (member name.now (string (hexadecimal (octets_in octets.now))) no_members))) out.old out.new }
 {
     out.put(Token::BeginObject);

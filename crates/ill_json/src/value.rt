@@ -5,7 +5,7 @@ ghost use Rattle.ill_schema.specs.declared.profile.Profile.{Profile as Named};
 ghost use Rattle.ill_text.specs.code.MarkedOctets.{SaysOctets};
 ghost use Rattle.ber_leaf.specs.Leaf.{value};
 ghost use Rattle.ill_schema.specs.Content.{Content, Entries, Items, alternative, list, sequence};
-ghost use Rattle.ill_elements.specs.LeafTypes.{IsContentIn, leaf_is};
+ghost use Rattle.ill_grammar.specs.LeafTypes.{IsContentIn, leaf_is};
 ghost use Rattle.ill_read.specs.Outline.{AreEntries, AreItems, IsMarked, IsPassed};
 ghost use Rattle.ill_read.specs.declared.mark.Mark.{Mark};
 ghost use Rattle.ill_text.specs.Marks.{IsEntry, octets_in};
@@ -15,15 +15,20 @@ ghost use Rattle.ill_json.specs.code.Adding.{Adds, entry_tokens, part_tokens};
 
 use crate::leaf::{has_default, put_default, put_leaf};
 use crate::module_leaf::{put_bits, put_foreign, put_module_leaf};
-use crate::writing::Out;
+use crate::writing::LineWriter;
 use ill_read::{LeafType, Mark};
 use ill_schema::{NodeId, PartId};
-use ill_text::{after_first, at_end, first_mark, front_octets, passed, row_name, row_node};
+use ill_text::{after_first, at_end, first_mark, leading_octets, passed, row_name, row_node};
 use json::Token;
 
 /// Puts the value that the marks begin with, of this node in a row of this name, and returns the marks after it.
 #[cycle(value)]
-pub fn put_value<'m>(marks: &'m [Mark], name: &str, node: NodeId, out: &mut Out) -> &'m [Mark]
+pub fn put_value<'m>(
+    marks: &'m [Mark],
+    name: &str,
+    node: NodeId,
+    out: &mut LineWriter,
+) -> &'m [Mark]
     ensures adds { (c : Content) (ms rest : List Mark) → IsMarked c ms → marks.now ≡ ms ++ rest → (result.now ≡ rest)
         × Adds (json_tokens (value_json name.now node c)) out.old out.new }
     ensures shorter { 0 < length marks.now → length result.now < length marks.now }
@@ -38,7 +43,7 @@ pub fn put_value<'m>(marks: &'m [Mark], name: &str, node: NodeId, out: &mut Out)
         Mark::ModuleLeaf(_) | Mark::BitString | Mark::Foreign => {
             put_module_value(first, rest, out)
         }
-        Mark::Passed(part) => {
+        Mark::Absent(part) => {
             put_default(part, name, out);
             rest
         }
@@ -51,29 +56,34 @@ pub fn put_value<'m>(marks: &'m [Mark], name: &str, node: NodeId, out: &mut Out)
 }
 
 /// Puts a leaf whose octets the marks begin with, and returns the marks after it.
-fn put_marked_leaf<'m>(leaf: LeafType, marks: &'m [Mark], name: &str, out: &mut Out) -> &'m [Mark]
+fn put_marked_leaf<'m>(
+    leaf: LeafType,
+    marks: &'m [Mark],
+    name: &str,
+    out: &mut LineWriter,
+) -> &'m [Mark]
     ensures adds { (p : Named) (octets : List ℕ) (rest : List Mark) → IsContentIn p (leaf_is leaf) octets → marks.now ≡ map Mark.Octet octets ++ (Mark.End ∷ rest) → (result.now ≡ rest)
         × Adds (json_tokens (leaf_json name.now (value (leaf_is leaf) octets))) out.old out.new }
     ensures shorter { length result.now ≤ length marks.now }
 {
-    let count = front_octets(marks);
+    let count = leading_octets(marks);
     put_leaf(leaf, &marks[..count], name, out);
     &marks[(count + 1).min(marks.len())..]
 }
 
 /// Puts what only the module profile has: a leaf, or a foreign tree, whose octets come after this mark. Returns the marks after it.
-fn put_module_value<'m>(first: Mark, marks: &'m [Mark], out: &mut Out) -> &'m [Mark]
+fn put_module_value<'m>(first: Mark, marks: &'m [Mark], out: &mut LineWriter) -> &'m [Mark]
     ensures adds { (c : Content) (name octets : List ℕ) (node : NodeId) (rest : List Mark) → SaysOctets first c octets
         → marks.now ≡ map Mark.Octet octets ++ (Mark.End ∷ rest) → (result.now ≡ rest) × Adds (json_tokens (value_json name node c)) out.old out.new }
     ensures shorter { length result.now ≤ length marks.now }
 {
-    let count = front_octets(marks);
+    let count = leading_octets(marks);
     put_module_octets(first, &marks[..count], out);
     &marks[(count + 1).min(marks.len())..]
 }
 
 /// Puts what these octets say after the mark.
-fn put_module_octets(first: Mark, octets: &[Mark], out: &mut Out)
+fn put_module_octets(first: Mark, octets: &[Mark], out: &mut LineWriter)
     ensures { (c : Content) (name : List ℕ) (node : NodeId) → SaysOctets first c (octets_in octets.now) → Adds (json_tokens (value_json name node c)) out.old out.new }
 {
     match first {
@@ -86,7 +96,12 @@ fn put_module_octets(first: Mark, octets: &[Mark], out: &mut Out)
 
 /// Puts an object with the alternative of row i, or its value alone where the row has no name, and returns the marks after it.
 #[cycle(value)]
-fn put_alternative<'m>(marks: &'m [Mark], node: NodeId, i: usize, out: &mut Out) -> &'m [Mark]
+fn put_alternative<'m>(
+    marks: &'m [Mark],
+    node: NodeId,
+    i: usize,
+    out: &mut LineWriter,
+) -> &'m [Mark]
     ensures adds { (c : Content) (name : List ℕ) (ms rest : List Mark) → IsMarked c ms → marks.now ≡ ms ++ rest → (result.now ≡ rest)
         × Adds (json_tokens (value_json name node (alternative i c))) out.old out.new }
     ensures shorter { 0 < length marks.now → length result.now < length marks.now }
@@ -104,7 +119,7 @@ fn put_alternative<'m>(marks: &'m [Mark], node: NodeId, i: usize, out: &mut Out)
 
 /// Puts the member that the value in row i is, and returns the marks after it.
 #[cycle(value)]
-fn put_part<'m>(marks: &'m [Mark], node: NodeId, i: usize, out: &mut Out) -> &'m [Mark]
+fn put_part<'m>(marks: &'m [Mark], node: NodeId, i: usize, out: &mut LineWriter) -> &'m [Mark]
     ensures adds { (c : Content) (ms rest : List Mark) → IsMarked c ms → marks.now ≡ ms ++ rest → (result.now ≡ rest)
         × Adds (part_tokens node i c) out.old out.new }
     ensures shorter { 0 < length marks.now → length result.now < length marks.now }
@@ -117,7 +132,7 @@ fn put_part<'m>(marks: &'m [Mark], node: NodeId, i: usize, out: &mut Out) -> &'m
 
 /// Puts the member of row i, if it has an entry, and returns the marks after it.
 #[cycle(value)]
-fn put_entry<'m>(marks: &'m [Mark], node: NodeId, i: usize, out: &mut Out) -> &'m [Mark]
+fn put_entry<'m>(marks: &'m [Mark], node: NodeId, i: usize, out: &mut LineWriter) -> &'m [Mark]
     ensures adds { (e : Option Content) (ms rest : List Mark) → IsEntry e ms → marks.now ≡ ms ++ rest → (result.now ≡ rest)
         × Adds (entry_tokens node i e) out.old out.new }
     ensures shorter { 0 < length marks.now → length result.now < length marks.now }
@@ -132,7 +147,7 @@ fn put_entry<'m>(marks: &'m [Mark], node: NodeId, i: usize, out: &mut Out) -> &'
 }
 
 /// Puts the member of row i, which was passed, if it has a default.
-fn put_passed(part: PartId, node: NodeId, i: usize, out: &mut Out)
+fn put_passed(part: PartId, node: NodeId, i: usize, out: &mut LineWriter)
     ensures { (e : Option Content) → IsPassed part e → Adds (entry_tokens node i e) out.old out.new }
 {
     if !has_default(part) {
@@ -145,7 +160,7 @@ fn put_passed(part: PartId, node: NodeId, i: usize, out: &mut Out)
 
 /// Puts an object of the entries that the marks begin with, up to their end, and returns the marks after it.
 #[cycle(value)]
-fn put_entries<'m>(marks: &'m [Mark], node: NodeId, out: &mut Out) -> &'m [Mark]
+fn put_entries<'m>(marks: &'m [Mark], node: NodeId, out: &mut LineWriter) -> &'m [Mark]
     ensures adds { (es : Entries) (name : List ℕ) (ms rest : List Mark) → AreEntries es ms → marks.now ≡ ms ++ (Mark.End ∷ rest) → (result.now ≡ rest)
         × Adds (json_tokens (value_json name node (sequence es))) out.old out.new }
     ensures shorter { length result.now ≤ length marks.now }
@@ -163,7 +178,7 @@ fn put_entries<'m>(marks: &'m [Mark], node: NodeId, out: &mut Out) -> &'m [Mark]
 
 /// Puts an array of the items that the marks begin with, up to their end, and returns the marks after it.
 #[cycle(value)]
-fn put_items<'m>(marks: &'m [Mark], name: &str, node: NodeId, out: &mut Out) -> &'m [Mark]
+fn put_items<'m>(marks: &'m [Mark], name: &str, node: NodeId, out: &mut LineWriter) -> &'m [Mark]
     ensures adds { (is : Items) (ms rest : List Mark) → AreItems is ms → marks.now ≡ ms ++ (Mark.End ∷ rest) → (result.now ≡ rest)
         × Adds (json_tokens (value_json name.now node (list is))) out.old out.new }
     ensures shorter { length result.now ≤ length marks.now }

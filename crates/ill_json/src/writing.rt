@@ -19,7 +19,7 @@ use std::alloc::{AllocError, Global};
 
 /// The text so far, and whether memory was refused for the rest.
 #[derive(Drop)]
-pub struct Out {
+pub struct LineWriter {
     writer: Writer,
     // Nothing comes before the tokens.
     ghost alone: { writer.before ≡ [] },
@@ -29,19 +29,19 @@ pub struct Out {
     failed: bool,
 }
 
-impl Out {
+impl LineWriter {
     ghost use Rattle.ill_json.specs.code.Adding.{Adds};
 
-    /// No text yet, in the memory of `room`, whose octets are forgotten.
-    pub fn new(alloc: Global, room: Vec<u8>) -> Out
+    /// No text yet, in the memory of `buffer`, whose octets are forgotten.
+    pub fn new(alloc: Global, buffer: Vec<u8>) -> LineWriter
         ensures tokens { result.writer.tokens ≡ [] }
-        ensures room { result.writer.spare ≡ vec_capacity room }
+        ensures buffer { result.writer.spare ≡ vec_capacity buffer }
         ensures whole { result.failed ≡ false }
     {
-        let mut room = room;
-        room.clear();
-        Out {
-            writer: Writer::new(room),
+        let mut buffer = buffer;
+        buffer.clear();
+        LineWriter {
+            writer: Writer::new(buffer),
             alloc,
             characters: String::new(alloc),
             failed: false,
@@ -52,7 +52,7 @@ impl Out {
     pub fn into_line(self, alloc: Global) -> Result<Vec<u8>, AllocError>
         ensures { IfOk result (λ line. (self.failed ≡ false) × (line.items ≡ flat_map plain (chars (print self.writer.tokens)) ++ codes "\n")) }
     {
-        let Out {
+        let LineWriter {
             writer,
             alloc: _,
             characters: _,
@@ -146,7 +146,7 @@ impl Out {
         }
     }
 
-    /// Where it takes its memory.
+    /// The allocator of its memory.
     pub fn alloc(&self) -> Global
         ensures { result ≡ self.now.alloc }
     {

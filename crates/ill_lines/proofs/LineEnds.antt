@@ -5,13 +5,13 @@ use Rattle.std.proofs.lemmas.List.{length-drop, map-append, take_all, take_more,
 use Rattle.std.proofs.Math.ListN.{drop_of_length-le}
 use Rattle.std.proofs.Math.Seq.{take-add, take-append-add}
 use Rattle.std.proofs.lemmas.Bool.{cases_lt}
-use Rattle.ill_jobs.specs.Hexadecimal.{hex_octets}
-use Rattle.ill_jobs.proofs.TextAnswers.{same_octets}
+use Rattle.ill_commands.specs.Hexadecimal.{hex_octets}
+use Rattle.ill_commands.proofs.TextAnswers.{same_octets}
 use Rattle.ill_lines.proofs.PartEnds.{no_end_join, no_end_more, part_ended}
 use Rattle.ill_lines.specs.Lines.{Answer, AreAnswers, IsResult, all_good, has_line_end, lines, output}
 use Rattle.ill_lines.specs.code.After.{Answers, IsSame, StandsAfter}
 use Rattle.ill_lines.specs.declared.job.LineOptions.{LineOptions}
-use Rattle.ill_lines.specs.declared.lines.Lines.{Lines}
+use Rattle.ill_lines.specs.declared.lines.LineReader.{LineReader}
 
 abbrev pub texts : List Answer → List (List ℕ)
 texts answers = map (λ a. a.text) answers
@@ -102,7 +102,7 @@ parts_whole s octets i n =
 
 -- ---- steps
 
-module _ (work : LineOptions) (s put : List ℕ) (old new : Lines) (h : StandsAfter work s put old) where
+module _ (work : LineOptions) (s put : List ℕ) (old new : LineReader) (h : StandsAfter work s put old) where
   pub step_same : IsSame old new → StandsAfter work s put new
   step_same k = record {
     answers = h.answers;

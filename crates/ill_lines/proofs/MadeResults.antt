@@ -9,7 +9,7 @@ use Rattle.ill_lines.specs.Lines.{Answer, AreAnswers, EndsWithin, LinesDone, all
 use Rattle.ill_lines.specs.code.After.{Answers, HasWritten, IsAfter, StandsAfter}
 use Rattle.ill_lines.specs.declared.job.LineOptions.{LineOptions}
 use Rattle.ill_lines.specs.declared.job.LinesFault.{LinesFault}
-use Rattle.ill_lines.specs.declared.lines.Lines.{Lines}
+use Rattle.ill_lines.specs.declared.lines.LineReader.{LineReader}
 use Rattle.ill_lines.proofs.PartEnds.{last_part}
 use Rattle.ill_lines.proofs.LineEnds.{answer, more_good, more_made, none_of, push_are, result_of_line, texts}
 
@@ -35,12 +35,12 @@ module _ (work : LineOptions) (s kept made : List ℕ) (good : Bool) (h : IsAfte
   }
 
 -- what was written is what was made
-pub made_written : (work : LineOptions) (s : List ℕ) (first held : Option (List ℕ)) (now : Lines) → (h : HasWritten work s first held now) → Made work s h.2.rest h.0 now.is_good
+pub made_written : (work : LineOptions) (s : List ℕ) (first held : Option (List ℕ)) (now : LineReader) → (h : HasWritten work s first held now) → Made work s h.2.rest h.0 now.is_good
 made_written work s first held now h =
     subst (λ l. Made work s h.2.rest l now.is_good) (ap (λ l. h.0 ++ l) h.3 ∙ append-nil h.0) (made_now work s now.part.items (h.0 ++ now.ready.items) now.is_good h.2)
 
 -- octets were fed, all or the first ones
-module _ (work : LineOptions) (s octets put : List ℕ) (now : Lines) where
+module _ (work : LineOptions) (s octets put : List ℕ) (now : LineReader) where
   pub made_all : StandsAfter work (s ++ octets) put now → (rest : List ℕ) × Made work (s ++ octets) rest (put ++ now.ready.items) now.is_good
   made_all h = (h.rest, made_now work (s ++ octets) now.part.items (put ++ now.ready.items) now.is_good h)
 
@@ -56,7 +56,7 @@ module _ (work : LineOptions) (s octets put : List ℕ) (now : Lines) where
   made_of_fed (Err e) h k = made_some k.0 k.1
 
 -- what was ready is written
-pub has_written : (work : LineOptions) (s put : List ℕ) (first held held' : Option (List ℕ)) (old new : Lines) → StandsAfter work s put old → Appends first held put → Appends held held' old.ready.items
+pub has_written : (work : LineOptions) (s put : List ℕ) (first held held' : Option (List ℕ)) (old new : LineReader) → StandsAfter work s put old → Appends first held put → Appends held held' old.ready.items
     → new.ready.items ≡ [] → new.part.items ≡ old.part.items → new.is_good ≡ old.is_good → HasWritten work s first held' new
 has_written work s put first held held' old new h a b ready part good =
     let all = put ++ old.ready.items in (
@@ -99,7 +99,7 @@ module _ (work : LineOptions) (s rest : List ℕ) (good x y : Bool) (first held 
 -- ---- the end of the input
 
 -- the line that has no end is answered
-pub made_last : (work : LineOptions) (s put : List ℕ) (old new : Lines) → StandsAfter work s put old → 0 < length old.part.items → Answers work old.part.items old new → Made work s [] (put ++ new.ready.items) new.is_good
+pub made_last : (work : LineOptions) (s put : List ℕ) (old new : LineReader) → StandsAfter work s put old → 0 < length old.part.items → Answers work old.part.items old new → Made work s [] (put ++ new.ready.items) new.is_good
 unfolding made_now
 made_last work s put old new h some k =
     let a = answer h.rest k.result k.is_good in
@@ -115,7 +115,7 @@ made_last work s put old new h some k =
     }
 
 -- there is no such line
-pub made_none : (work : LineOptions) (s put : List ℕ) (now : Lines) → StandsAfter work s put now → now.part.items ≡ [] → Made work s [] (put ++ now.ready.items) now.is_good
+pub made_none : (work : LineOptions) (s put : List ℕ) (now : LineReader) → StandsAfter work s put now → now.part.items ≡ [] → Made work s [] (put ++ now.ready.items) now.is_good
 made_none work s put now h empty =
     let here = made_now work s now.part.items (put ++ now.ready.items) now.is_good h in
     let none : h.rest ≡ [] = none_of h.rest (omega (arith, ap length (sym empty ∙ h.is_kept), length-take 4_194_305 h.rest)) in
@@ -135,7 +135,7 @@ lines_done work s put good left left' first held m taken end a = record {
 }
 
 -- before the first octet
-pub at_start : (work : LineOptions) (first : Option (List ℕ)) (now : Lines) → now.part.items ≡ [] → now.ready.items ≡ [] → now.is_good ≡ all_good [] → HasWritten work [] first first now
+pub at_start : (work : LineOptions) (first : Option (List ℕ)) (now : LineReader) → now.part.items ≡ [] → now.ready.items ≡ [] → now.is_good ≡ all_good [] → HasWritten work [] first first now
 at_start work first now part ready good = (
   [],
   Appends-nil first,

@@ -2,34 +2,11 @@
 use Rattle.std.specs.Prelude.{ℕ, Bool, true, false, List, [], ◌++◌, codes, decimal, Option, Some, None}
 use Rattle.ber_leaf.specs.Profile.{Profile}
 use Rattle.ill_schema.specs.Names.{apdu_name_in, part_name_of}
+use Rattle.ill_schema.specs.Causes.{cause_name}
 use Rattle.ill_schema.specs.declared.refusal.Cause.{Cause}
 use Rattle.ill_refusals.specs.Fault.{Fault}
 use Rattle.ill_text.specs.Shown.{name_or_none}
-use Rattle.ill_jobs.specs.declared.fault.RunFault.{RunFault}
-
-abbrev pub cause_name : Cause → List ℕ
-cause_name Cause.Truncated = codes "Truncated"
-cause_name Cause.BadTag = codes "BadTag"
-cause_name Cause.BadLength = codes "BadLength"
-cause_name Cause.TooLong = codes "TooLong"
-cause_name Cause.Overrun = codes "Overrun"
-cause_name Cause.TooDeep = codes "TooDeep"
-cause_name Cause.UnexpectedTag = codes "UnexpectedTag"
-cause_name (Cause.LeftOut part) = codes "LeftOut"
-cause_name Cause.WrongForm = codes "WrongForm"
-cause_name (Cause.Missing part) = codes "Missing"
-cause_name Cause.BadEnd = codes "BadEnd"
-cause_name Cause.BadBoolean = codes "BadBoolean"
-cause_name Cause.BadInteger = codes "BadInteger"
-cause_name Cause.IntegerTooLong = codes "IntegerTooLong"
-cause_name Cause.BadText = codes "BadText"
-cause_name Cause.BadDate = codes "BadDate"
-cause_name Cause.BadTime = codes "BadTime"
-cause_name Cause.TrailingBytes = codes "TrailingBytes"
-cause_name Cause.NormalTooLong = codes "NormalTooLong"
-cause_name Cause.BadNull = codes "BadNull"
-cause_name Cause.BadOid = codes "BadOid"
-cause_name Cause.BadBits = codes "BadBits"
+use Rattle.ill_commands.specs.declared.fault.RunFault.{RunFault}
 
 -- the name of a node, and that of its row
 abbrev pub part_words : Option (List ℕ × List ℕ) → List ℕ

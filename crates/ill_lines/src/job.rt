@@ -2,7 +2,7 @@
 use ill_schema::Profile;
 use std::alloc::AllocError;
 
-/// What is returned for the message of a line.
+/// The result for the message of a line.
 #[derive(Clone, Copy, Debug, PartialEq, Eq)]
 pub enum LineJob {
     /// Whether it is its normal form.
@@ -13,14 +13,14 @@ pub enum LineJob {
     Canonicalise,
 }
 
-/// What is done with each line: the job, and the profile that messages are read in.
+/// The options of a job on lines: the job itself, and the profile that messages are read in.
 #[derive(Clone, Copy, Debug, PartialEq, Eq)]
 pub struct LineOptions {
     pub profile: Profile,
     pub job: LineJob,
 }
 
-/// Why an input was not read to its end, or not all results were written.
+/// The reason why an input was not read to its end, or not all results were written.
 #[derive(Clone, Copy, Debug, PartialEq, Eq)]
 pub enum LinesFault {
     /// Out of memory. The results of the lines before were written.

@@ -1,4 +1,5 @@
-//! A message in each line of an input, in hexadecimal, and a line with its result for each.
+//! A message in each line of an input, in hexadecimal, and a line with its result for each. Use it to serve a process that asks message
+//! by message.
 //!
 //! ```
 //! let all_good = run_lines(alloc, LineJob::Check, &mut source, &mut sink)?;

@@ -5,33 +5,31 @@ ghost use Rattle.ill_lines.specs.code.After.{Answers, IsSame, StandsAfter};
 
 use crate::job::LineOptions;
 use crate::result::result_of;
+use ill_commands::MAX_HEX_TEXT;
 use ill_normal::NormalReader;
 use std::alloc::{AllocError, Global};
 
-/// How many octets the text of a line may have.
-const MAX_HEX_TEXT: usize = 4_194_304;
-
-/// What was read of the line that has not ended, and the results that were not written.
+/// The octets of the line that has not ended, and the results that were not written.
 #[derive(Drop)]
-pub struct Lines {
+pub struct LineReader {
     /// The octets of the line, up to the one that makes them too many.
     pub part: Vec<u8>,
     /// The results of the lines before, a line for each.
     pub ready: Vec<u8>,
-    /// Whether all results are good.
+    /// True if all results are good.
     pub is_good: bool,
-    /// What reads the message of each line.
+    /// The reader of the message of each line.
     reader: NormalReader,
 }
 
-impl Lines {
+impl LineReader {
     /// Before the first octet.
-    pub fn new(alloc: Global) -> Lines
+    pub fn new(alloc: Global) -> LineReader
         ensures part { result.part.items ≡ [] }
         ensures ready { result.ready.items ≡ [] }
         ensures good { result.is_good ≡ true }
     {
-        Lines {
+        LineReader {
             part: Vec::new(alloc),
             ready: Vec::new(alloc),
             is_good: true,
@@ -120,7 +118,7 @@ impl Lines {
     }
 }
 
-/// How many octets come before the first line feed, or all where there is no line feed.
+/// The number of octets that come before the first line feed, or all where there is no line feed.
 #[inline(always)]
 fn line_size(octets: &[u8]) -> usize
     ensures bound { result ≤ length octets.now }

@@ -3,17 +3,15 @@ ghost use Rattle.std.specs.Prelude.{◌≡◌, ℕ, List, true, IfOk};
 ghost use Rattle.hex.specs.Hex.{encode_lower};
 ghost use Rattle.ill_schema.specs.Apdu.{Apdu, SpellsApdu, normal_form_in};
 ghost use Rattle.ill_schema.specs.Profiles.{profile_of};
-ghost use Rattle.ill_schema.specs.declared.profile.Profile.{Profile as Named};
 ghost use Rattle.ill_normal.specs.Messages.{spelling};
-ghost use Rattle.ill_jobs.specs.Hexadecimal.{hex_octets};
+ghost use Rattle.ill_commands.specs.Hexadecimal.{hex_octets};
 ghost use Rattle.ill_lines.specs.Lines.{IsResult, IsResultOf, IsSaid, line_options};
 ghost use Rattle.ill_lines.specs.declared.job.LineJob.{LineJob as Job};
 
 use crate::job::{LineJob, LineOptions};
 use crate::words::{check_words, hex_words, refusal_words};
-use ill_digest::normal_digest;
-use ill_jobs::{RunFault, text_octets};
-use ill_normal::{Failure, NormalReader, Profile};
+use ill_commands::{RunFault, text_octets};
+use ill_normal::{Failure, NormalReader, Profile, apdu_number, normal_digest};
 use std::alloc::{AllocError, Global};
 
 /// The result of a line, and whether it is good.
@@ -110,14 +108,4 @@ fn check_result(
         words,
         is_good: is_normal,
     })
-}
-
-/// The number of the APDU whose normal form this is: its first octet is [APPLICATION number], constructed.
-fn apdu_number(normal: &[u8]) -> u8
-    ensures { (p : Named) (a : Apdu) (b : List ℕ) → SpellsApdu (profile_of p) a b → normal.now ≡ normal_form_in (profile_of p) a → result ≡ a.number }
-{
-    match normal {
-        [first, ..] => first % 32,
-        [] => 0,
-    }
 }

@@ -8,14 +8,13 @@ ghost use Rattle.ill_lines.specs.Lines.{EndsWithin, LinesDone, LinesFail, line_o
 ghost use Rattle.ill_lines.specs.code.After.{HasWritten};
 
 use crate::job::{LineJob, LineOptions, LinesFault};
-use crate::lines::Lines;
-use ber_core::{Broken, Sink, Source};
+use crate::lines::LineReader;
+use ber_core::{Broken, Sink, Source, put_all};
 use ill_schema::Profile;
-use ill_write::put_all;
 use std::alloc::{AllocError, Global};
 
-/// How many octets are asked of the source at once.
-const CHUNK: usize = 16_384;
+/// The number of octets that are asked of the source at once.
+const READ_LEN: usize = 16_384;
 
 /// Reads each line of an input as a message in hexadecimal, and writes a line with its result: for `Canonicalise` the normal form and for
 /// `Digest` the digest, in lower case hexadecimal, for `Check` a line as `Expired, 33 octets, normal`. A line that is no message has
@@ -29,7 +28,7 @@ const CHUNK: usize = 16_384;
 ///
 /// # Errors
 ///
-/// Why the input was not read to its end, or not all results were written.
+/// The reason why the input was not read to its end, or not all results were written.
 pub fn run_lines<R: Source, W: Sink>(
     alloc: Global,
     job: LineJob,
@@ -85,8 +84,8 @@ fn run_with<R: Source, W: Sink>(
     ensures source_stays { IsTrue (R.is_broken source.old) → IsTrue (R.is_broken source.new) }
     ensures sink_stays { IsTrue (W.is_broken sink.old) → IsTrue (W.is_broken sink.new) }
 {
-    let mut lines = Lines::new(alloc);
-    let mut buffer = [0; CHUNK];
+    let mut lines = LineReader::new(alloc);
+    let mut buffer = [0; READ_LEN];
     for _ in 0..u64::MAX {
         let count = match source.take(&mut buffer) {
             Ok(0) => return finish(alloc, work, &mut lines, sink),
@@ -104,7 +103,7 @@ fn pass<W: Sink>(
     alloc: Global,
     work: LineOptions,
     octets: &[u8],
-    lines: &mut Lines,
+    lines: &mut LineReader,
     sink: &mut W,
 ) -> Result<(), LinesFault>
     ensures done { (s : List ℕ) (first : Option (List ℕ)) → HasWritten work s first (W.contents sink.old) lines.old
@@ -125,7 +124,7 @@ fn pass<W: Sink>(
 fn finish<W: Sink>(
     alloc: Global,
     work: LineOptions,
-    lines: &mut Lines,
+    lines: &mut LineReader,
     sink: &mut W,
 ) -> Result<bool, LinesFault>
     ensures done { (s : List ℕ) (first left left' : Option (List ℕ)) → Consumes left left' s → IsAtEnd left' → HasWritten work s first (W.contents sink.old) lines.old
@@ -143,7 +142,7 @@ fn finish<W: Sink>(
 }
 
 /// Writes the results that are there.
-fn put_ready<W: Sink>(lines: &mut Lines, sink: &mut W) -> Result<(), LinesFault>
+fn put_ready<W: Sink>(lines: &mut LineReader, sink: &mut W) -> Result<(), LinesFault>
     ensures all { OnOk result (Appends (W.contents sink.old) (W.contents sink.new) lines.old.ready.items) }
     ensures ready { OnOk result (lines.new.ready.items ≡ []) }
     ensures some { IfErr result (λ fault. (fault ≡ LinesFault.WriteFault) × IsTrue (W.is_broken sink.new)

@@ -3,9 +3,9 @@ ghost use Rattle.std.specs.Prelude.{◌≡◌, IfOk, OnOk, ◌++◌};
 ghost use Rattle.ill_schema.specs.Names.{part_name_of};
 ghost use Rattle.ill_schema.specs.Profiles.{profile_of};
 ghost use Rattle.ill_refusals.specs.Fault.{fault_of};
-ghost use Rattle.ill_lines.specs.Words.{cause_name, cause_words, check_words, hex_words, part_words, refusal_words};
+ghost use Rattle.ill_lines.specs.Words.{cause_words, check_words, hex_words, part_words, refusal_words};
 
-use ill_jobs::RunFault;
+use ill_commands::RunFault;
 use ill_normal::{Cause, PartId, Profile, Refusal, apdu_name_as, part_name};
 use itoa::Buffer;
 use std::alloc::{AllocError, Global};
@@ -25,7 +25,7 @@ pub fn refusal_words(alloc: Global, refusal: Refusal) -> Result<Vec<u8>, AllocEr
 fn push_cause(words: &mut Vec<u8>, cause: Cause) -> Result<(), AllocError>
     ensures { OnOk result (words.new.items ≡ words.old.items ++ cause_words cause) }
 {
-    words.extend_from_slice(cause_name(cause).as_bytes())?;
+    words.extend_from_slice(cause.name().as_bytes())?;
     match cause {
         Cause::LeftOut(part) | Cause::Missing(part) => push_part(words, part),
         _ => Ok(()),
@@ -45,36 +45,7 @@ fn push_part(words: &mut Vec<u8>, part: PartId) -> Result<(), AllocError>
     Ok(())
 }
 
-fn cause_name(cause: Cause) -> &'static str
-    ensures { result.now ≡ cause_name cause }
-{
-    match cause {
-        Cause::Truncated => "Truncated",
-        Cause::BadTag => "BadTag",
-        Cause::BadLength => "BadLength",
-        Cause::TooLong => "TooLong",
-        Cause::Overrun => "Overrun",
-        Cause::TooDeep => "TooDeep",
-        Cause::UnexpectedTag => "UnexpectedTag",
-        Cause::LeftOut(_) => "LeftOut",
-        Cause::WrongForm => "WrongForm",
-        Cause::Missing(_) => "Missing",
-        Cause::BadEnd => "BadEnd",
-        Cause::BadBoolean => "BadBoolean",
-        Cause::BadInteger => "BadInteger",
-        Cause::IntegerTooLong => "IntegerTooLong",
-        Cause::BadText => "BadText",
-        Cause::BadDate => "BadDate",
-        Cause::BadTime => "BadTime",
-        Cause::TrailingBytes => "TrailingBytes",
-        Cause::NormalTooLong => "NormalTooLong",
-        Cause::BadNull => "BadNull",
-        Cause::BadOid => "BadOid",
-        Cause::BadBits => "BadBits",
-    }
-}
-
-/// Why a text stands for no octets.
+/// The reason why a text stands for no octets.
 pub fn hex_words(alloc: Global, fault: RunFault) -> Result<Vec<u8>, AllocError>
     ensures { IfOk result (λ words. words.items ≡ hex_words fault) }
 {
@@ -91,7 +62,7 @@ pub fn hex_words(alloc: Global, fault: RunFault) -> Result<Vec<u8>, AllocError>
     Ok(words)
 }
 
-/// Whether a message of the profile is its normal form: the number of its APDU, how many octets it has, and how many its normal form has.
+/// Tells whether a message of the profile is its normal form: the number of its APDU, how many octets it has, and how many its normal form has.
 pub fn check_words(
     alloc: Global,
     profile: Profile,

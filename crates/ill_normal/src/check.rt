@@ -7,7 +7,7 @@ ghost use Rattle.ill_schema.specs.declared.profile.Profile.{Profile as Named};
 ghost use Rattle.ill_read.specs.Answers.{AnswersSome, ReadsNext, ReadsNextIn};
 ghost use Rattle.ill_normal.specs.Checking.{Describes, DescribesIn, IsFormIn, IsFormOf};
 
-use ber_core::{Look, Source, Unseen};
+use ber_core::{Lookahead, Source, Unbuffered};
 use ill_read::{NormalReader, ReadFailure};
 use ill_schema::Profile;
 use std::alloc::Global;
@@ -17,11 +17,11 @@ use std::alloc::Global;
 pub struct Checked {
     /// The number of the APDU, for [`apdu_name`](crate::apdu_name).
     pub apdu: u8,
-    /// How many octets the message had in the input.
+    /// The number of octets that the message had in the input.
     pub octets: u32,
-    /// How many octets its normal form has.
+    /// The number of octets that its normal form has.
     pub normal: u32,
-    /// Whether it was its normal form, octet for octet.
+    /// True if it was its normal form, octet for octet.
     pub is_normal: bool,
 }
 
@@ -55,8 +55,8 @@ pub fn check_one_as<R: Source>(
     ensures accepts { IfSome (R.left source.old) (λ s. (a : Apdu) (n : ℕ) → Accepts (profile_of profile) s a n → AnswersSome result) }
 {
     let mut reader = NormalReader::new(alloc);
-    let room = Vec::new(alloc);
-    let Some(found) = check_one_in_as::<R, Unseen>(alloc, profile, &mut reader, source, room)?
+    let buffer = Vec::new(alloc);
+    let Some(found) = check_one_in_as::<R, Unbuffered>(alloc, profile, &mut reader, source, buffer)?
     else {
         return Ok(None);
     };
@@ -68,7 +68,7 @@ pub fn check_one_as<R: Source>(
 /// # Errors
 ///
 /// Those of [`check_one`].
-pub fn check_one_by<R: Source, L: Look<R>>(
+pub fn check_one_peeking<R: Source, L: Lookahead<R>>(
     alloc: Global,
     source: &mut R,
 ) -> Result<Option<Checked>, ReadFailure>
@@ -83,24 +83,24 @@ pub fn check_one_by<R: Source, L: Look<R>>(
     Ok(Some(found.0))
 }
 
-/// Checks a message as [`check_one_by`] does, by a reader of one message after another, and returns its normal form besides, in the
-/// memory of `room`, whose octets are forgotten. What the reader read before makes no difference.
+/// Checks a message as [`check_one_peeking`] does, by a reader of one message after another, and returns its normal form besides, in the
+/// memory of `buffer`, whose octets are forgotten. What the reader read before makes no difference.
 ///
 /// # Errors
 ///
 /// Those of [`check_one`].
-pub fn check_one_in<R: Source, L: Look<R>>(
+pub fn check_one_in<R: Source, L: Lookahead<R>>(
     alloc: Global,
     reader: &mut NormalReader,
     source: &mut R,
-    room: Vec<u8>,
+    buffer: Vec<u8>,
 ) -> Result<Option<(Checked, Vec<u8>)>, ReadFailure>
     ensures next { ReadsNext (R.left source.old) (R.left source.new) (R.is_broken source.old) (R.is_broken source.new)
         (λ found octets. Describes found.0 octets × IsFormOf found.1.items octets) result }
     // A spelling at the front is checked, unless memory or the source failed.
     ensures accepts { IfSome (R.left source.old) (λ s. (a : Apdu) (n : ℕ) → Accepts profile_two s a n → AnswersSome result) }
 {
-    check_one_in_as::<R, L>(alloc, Profile::Two, reader, source, room)
+    check_one_in_as::<R, L>(alloc, Profile::Two, reader, source, buffer)
 }
 
 /// Checks a message in the profile as [`check_one_in`] does.
@@ -109,12 +109,12 @@ pub fn check_one_in<R: Source, L: Look<R>>(
 ///
 /// Those of [`check_one`], in the profile.
 #[inline(always)]
-pub fn check_one_in_as<R: Source, L: Look<R>>(
+pub fn check_one_in_as<R: Source, L: Lookahead<R>>(
     alloc: Global,
     profile: Profile,
     reader: &mut NormalReader,
     source: &mut R,
-    room: Vec<u8>,
+    buffer: Vec<u8>,
 ) -> Result<Option<(Checked, Vec<u8>)>, ReadFailure>
     ensures next { ReadsNextIn (profile_of profile) (R.left source.old) (R.left source.new) (R.is_broken source.old) (R.is_broken source.new)
         (λ found octets. DescribesIn (profile_of profile) found.0 octets × IsFormIn (profile_of profile) found.1.items octets) result }
@@ -122,12 +122,12 @@ pub fn check_one_in_as<R: Source, L: Look<R>>(
     ensures accepts { IfSome (R.left source.old) (λ s. (a : Apdu) (n : ℕ) → Accepts (profile_of profile) s a n → AnswersSome result) }
 {
     let mut kept = Vec::new(alloc);
-    let Some(normal) = reader.read_kept_as::<R, L>(profile, source, room, &mut kept)? else {
+    let Some(normal) = reader.read_recording_as::<R, L>(profile, source, buffer, &mut kept)? else {
         return Ok(None);
     };
     let checked = Checked {
         apdu: apdu_number(&normal.octets),
-        octets: normal.read,
+        octets: normal.input_len,
         normal: normal.octets.len() as u32,
         is_normal: kept.as_slice() == normal.octets.as_slice(),
     };
@@ -135,7 +135,11 @@ pub fn check_one_in_as<R: Source, L: Look<R>>(
 }
 
 /// The number of the APDU whose normal form this is: its first octet is [APPLICATION number], constructed.
-fn apdu_number(normal: &[u8]) -> u8
+///
+/// ```text
+/// apdu_number(&normal.octets) // 20: an Expired
+/// ```
+pub fn apdu_number(normal: &[u8]) -> u8
     ensures { (p : Named) (a : Apdu) (b : List ℕ) → SpellsApdu (profile_of p) a b → normal.now ≡ normal_form_in (profile_of p) a
         → result ≡ a.number }
 {

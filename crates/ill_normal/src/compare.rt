@@ -10,14 +10,14 @@ use ill_read::{Failure, decode_normal_as};
 use ill_schema::Profile;
 use std::alloc::Global;
 
-/// Which of two messages.
+/// One of two messages.
 #[derive(Clone, Copy, Debug, PartialEq, Eq)]
 pub enum Side {
     First,
     Second,
 }
 
-/// Whether two messages are of one APDU, which is whether they have one normal form.
+/// Tells whether two messages are of one APDU, which is whether they have one normal form.
 ///
 /// # Errors
 ///
@@ -64,11 +64,11 @@ pub fn same_message_as(
     Ok(one.octets.as_slice() == other.octets.as_slice())
 }
 
-/// Whether the octets are the normal form of the message that they are.
+/// Tells whether the octets are the normal form of the message that they are.
 ///
 /// # Errors
 ///
-/// Why they are not exactly one message; or out of memory.
+/// The reason why they are not exactly one message; or out of memory.
 pub fn is_normal(alloc: Global, octets: &[u8]) -> Result<bool, Failure>
     ensures normal { IfOk result (λ yes. (a : Apdu) × SpellsApdu profile_two a octets.now × (IsTrue yes ↔ (octets.now ≡ normal_form a))) }
     ensures refused { IfErr result (λ e. IfRefused e (RefusesWhole octets.now)) }

@@ -5,7 +5,7 @@ ghost use Rattle.ill_normal.specs.Failures.{of_read};
 use ill_read::ReadFailure;
 use ill_schema::Refusal;
 
-/// Why a message was not normalised.
+/// The reason why a message was not normalised.
 #[derive(Clone, Copy, Debug, PartialEq, Eq)]
 pub enum NormalFailure {
     /// The input begins with no message. Nothing was written.
@@ -30,7 +30,7 @@ impl From<ReadFailure> for NormalFailure {
     }
 }
 
-/// Why no further message of a stream was normalised.
+/// The reason why no further message of a stream was normalised.
 #[derive(Clone, Copy, Debug, PartialEq, Eq)]
 pub enum StreamCause {
     /// The next message was not normalised; a refusal's offset counts from that message's first octet.
@@ -39,12 +39,12 @@ pub enum StreamCause {
     TooManyMessages,
 }
 
-/// How far a stream was normalised, and why no further.
+/// The end of a stream that was not normalised to its end: how far it was, and the reason.
 #[derive(Clone, Copy, Debug, PartialEq, Eq)]
 pub struct StreamFailure {
-    /// How many messages were read, and their normal forms written.
+    /// The number of messages that were read, and their normal forms written.
     pub whole: u32,
-    /// How many octets those messages had in the input.
+    /// The number of octets that those messages had in the input.
     pub before: u64,
     pub why: StreamCause,
 }

@@ -1,4 +1,4 @@
-//! The canonical form of ILL messages.
+//! The normal forms of ILL messages and streams: made, compared, checked and digested. Most callers need no other crate.
 //!
 //! ```
 //! // whether both are spellings of one APDU
@@ -10,39 +10,122 @@
 
 mod check;
 mod compare;
+mod digest;
 mod failure;
 mod laws;
 mod messages;
+mod next_message;
+mod report;
 mod single;
+mod skipping;
+mod skipping_laws;
 mod stream;
 
-pub use ber_core::{
-    Ahead, AtHand, Broken, Class, FromBuffer, FromRead, FromSlice, Look, Pieces, Room, Sink,
-    Source, ToWrite, Unseen,
-};
-pub use ber_leaf::{
-    DateText, GeneralText, IllString, LeafFault, PrintableText, TimeText, VisibleText,
-};
-pub use check::{Checked, check_one, check_one_as, check_one_by, check_one_in, check_one_in_as};
-pub use compare::{Side, is_normal, is_normal_as, same_message, same_message_as};
-pub use failure::{NormalFailure, StreamCause, StreamFailure};
-pub use ill_read::{
-    Failure, Normal, NormalReader, ReadFailure, decode, decode_normal, decode_normal_as,
-    read_kept_normal_by, read_message, read_message_by, read_normal_as, read_normal_by,
-    read_normal_in,
-};
-pub use ill_schema::{
-    Cause, Kind, LIMIT, LeafKind, Message, Mode, NodeId, PartId, Presence, Profile, Refusal, Row,
-    Unfit, Value, apdu_name, apdu_name_as, apdu_node, apdu_node_as, kind, kind_as, part_name,
-    part_name_as, row, row_as, rows, rows_as,
-};
-pub use laws::{
-    normal_form_is_accepted, normal_form_is_its_own, normal_forms_are_equal_exactly_if_apdus_are,
-    one_prefix_is_accepted, one_refusal_of_a_slice,
-};
-pub use messages::{
-    MessagePlace, Render, Rendered, RenderedMessage, StreamCounts, StreamError, StreamErrorKind,
-    for_each_message,
-};
-pub use single::{normalise, normalise_as};
-pub use stream::{NormalForms, NormalFormsIn, normalise_stream, normalise_stream_as};
+pub use ber_core::Broken;
+pub use ber_core::Buffered;
+pub use ber_core::BufferedSource;
+pub use ber_core::Class;
+pub use ber_core::FromBuffer;
+pub use ber_core::FromRead;
+pub use ber_core::FromSlice;
+pub use ber_core::Lookahead;
+pub use ber_core::Pieces;
+pub use ber_core::Room;
+pub use ber_core::Sink;
+pub use ber_core::Source;
+pub use ber_core::ToWrite;
+pub use ber_core::Unbuffered;
+pub use ber_leaf::DateText;
+pub use ber_leaf::GeneralText;
+pub use ber_leaf::IllString;
+pub use ber_leaf::LeafFault;
+pub use ber_leaf::PrintableText;
+pub use ber_leaf::TimeText;
+pub use ber_leaf::VisibleText;
+pub use check::Checked;
+pub use check::apdu_number;
+pub use check::check_one;
+pub use check::check_one_as;
+pub use check::check_one_in;
+pub use check::check_one_in_as;
+pub use check::check_one_peeking;
+pub use compare::Side;
+pub use compare::is_normal;
+pub use compare::is_normal_as;
+pub use compare::same_message;
+pub use compare::same_message_as;
+pub use digest::message_digest;
+pub use digest::message_digest_as;
+pub use digest::normal_digest;
+pub use failure::NormalFailure;
+pub use failure::StreamCause;
+pub use failure::StreamFailure;
+pub use ill_read::Failure;
+pub use ill_read::NormalForm;
+pub use ill_read::NormalReader;
+pub use ill_read::ReadFailure;
+pub use ill_read::decode;
+pub use ill_read::decode_normal;
+pub use ill_read::decode_normal_as;
+pub use ill_read::read_message;
+pub use ill_read::read_message_peeking;
+pub use ill_read::read_normal_as;
+pub use ill_read::read_normal_in;
+pub use ill_read::read_normal_peeking;
+pub use ill_read::read_normal_recording_peeking;
+pub use ill_schema::Cause;
+pub use ill_schema::Kind;
+pub use ill_schema::LIMIT;
+pub use ill_schema::LeafKind;
+pub use ill_schema::Message;
+pub use ill_schema::Mode;
+pub use ill_schema::NodeId;
+pub use ill_schema::PartId;
+pub use ill_schema::Presence;
+pub use ill_schema::Profile;
+pub use ill_schema::Refusal;
+pub use ill_schema::Row;
+pub use ill_schema::Unfit;
+pub use ill_schema::Value;
+pub use ill_schema::apdu_name;
+pub use ill_schema::apdu_name_as;
+pub use ill_schema::apdu_node;
+pub use ill_schema::apdu_node_as;
+pub use ill_schema::kind;
+pub use ill_schema::kind_as;
+pub use ill_schema::part_name;
+pub use ill_schema::part_name_as;
+pub use ill_schema::row;
+pub use ill_schema::row_as;
+pub use ill_schema::rows;
+pub use ill_schema::rows_as;
+pub use laws::normal_form_is_accepted;
+pub use laws::normal_form_is_its_own;
+pub use laws::normal_forms_are_equal_exactly_if_apdus_are;
+pub use laws::one_prefix_is_accepted;
+pub use laws::one_refusal_of_a_slice;
+pub use messages::MAX_MESSAGES;
+pub use messages::MessagePlace;
+pub use messages::Render;
+pub use messages::Rendered;
+pub use messages::RenderedMessage;
+pub use messages::StreamCounts;
+pub use messages::StreamError;
+pub use messages::StreamErrorKind;
+pub use messages::for_each_message;
+pub use report::RefusalReport;
+pub use report::ReportRefusals;
+pub use single::normalise;
+pub use single::normalise_as;
+pub use skipping::SkippingCounts;
+pub use skipping::SkippingError;
+pub use skipping::SkippingErrorKind;
+pub use skipping::for_each_accepted_message;
+pub use skipping_laws::accepted_messages_are_written;
+pub use skipping_laws::one_reading_of_an_input;
+pub use skipping_laws::refusals_are_of_the_input;
+pub use skipping_laws::unknown_ends_are_last;
+pub use stream::NormalForms;
+pub use stream::NormalFormsIn;
+pub use stream::normalise_stream;
+pub use stream::normalise_stream_as;

@@ -9,35 +9,34 @@ ghost use Rattle.ill_normal.specs.Messages.{EndsAfterIn, MakesIn, PassesAllIn, S
 ghost use Rattle.ill_normal.specs.declared.messages.MessagePlace.{MessagePlace};
 ghost use Rattle.ill_normal.specs.code.Ending.{GoesOn, all_passed, ended_at};
 
-use ber_core::{Look, Sink, Source};
+use ber_core::{Lookahead, Sink, Source, put_all};
 use ill_read::ReadFailure;
-use ill_write::put_all;
 use std::alloc::Global;
 
-/// How many messages an input may have.
-const MAX_MESSAGES: u32 = 1_000_000;
+/// The number of messages that an input may have.
+pub const MAX_MESSAGES: u32 = 1_000_000;
 
-/// Where a message is in its input.
+/// The place of a message in its input.
 #[derive(Clone, Copy, Debug, PartialEq, Eq)]
 pub struct MessagePlace {
     /// Its number, from 1.
     pub number: u32,
-    /// How many octets come before it; 18,446,744,073,709,551,615 where they are more.
+    /// The number of octets that come before it; 18,446,744,073,709,551,615 where they are more.
     pub offset: u64,
 }
 
-/// What is made of a message.
+/// A message, as it is rendered.
 #[derive(Drop)]
 pub struct RenderedMessage<T: Drop> {
-    /// What is written of it.
+    /// The output for it.
     pub text: T,
-    /// Whether the message is as it should be.
+    /// True if the message is as it should be.
     pub is_good: bool,
-    /// How many octets it has in the input.
+    /// The number of octets that it has in the input.
     pub octets: u32,
 }
 
-/// What holds that which is written of a message.
+/// The output for a message, not yet written.
 pub trait Rendered: Drop {
     // The octets that are written of it.
     ghost is: { Self → List ℕ → Type 0 };
@@ -72,12 +71,12 @@ impl Rendered for Vec<u8> {
     }
 }
 
-/// What makes something of each message of an input.
+/// A renderer: it makes the output for each message of an input.
 pub trait Render {
-    /// What holds that which is written of a message.
+    /// The output for a message, not yet written.
     type Out: Rendered;
 
-    /// What reads one message after another.
+    /// The reader of one message after another.
     type Reader: Drop;
 
     // The profile of the messages that it reads.
@@ -93,18 +92,18 @@ pub trait Render {
     fn reader(alloc: Global) -> Self::Reader;
 
     /// Reads the message that the source begins with, as [`read_message`](crate::read_message) does, and makes of it what is written. This
-    /// may use the memory of `room`, whose contents are forgotten. What the reader read before makes no difference.
+    /// may use the memory of `buffer`, whose contents are forgotten. What the reader read before makes no difference.
     ///
     /// # Errors
     ///
     /// Those of [`read_message`](crate::read_message), or out of memory.
-    fn next<R: Source, L: Look<R>>(
+    fn next<R: Source, L: Lookahead<R>>(
         &self,
         alloc: Global,
         reader: &mut Self::Reader,
         position: MessagePlace,
         source: &mut R,
-        room: Self::Out,
+        buffer: Self::Out,
     ) -> Result<Option<RenderedMessage<Self::Out>>, ReadFailure>
         ensures { ReadsNextIn (profile_of (profile self.now)) (R.left source.old) (R.left source.new) (R.is_broken source.old) (R.is_broken source.new)
             (MakesIn (profile_of (profile self.now)) Self.Out.is (text self.now position) (is_good self.now)) result };
@@ -113,17 +112,17 @@ pub trait Render {
 /// Messages to the end of an input.
 #[derive(Clone, Copy)]
 pub struct StreamCounts {
-    /// How many they are.
+    /// Their number.
     pub whole: u32,
-    /// How many of them are as they should be.
+    /// The number of those that are as they should be.
     pub good: u32,
-    /// How many octets they have in the input.
+    /// The number of octets that they have in the input.
     pub octets: u64,
-    /// Whether all are as they should be.
+    /// True if all are as they should be.
     pub all_good: bool,
 }
 
-/// Why no further message of an input was written.
+/// The reason why no further message of an input was written.
 #[derive(Clone, Copy)]
 pub enum StreamErrorKind {
     /// None was read, or memory ran out.
@@ -134,16 +133,16 @@ pub enum StreamErrorKind {
     TooMany,
 }
 
-/// How far the messages of an input were written, and why no further.
+/// The end of an input whose messages were not all written: how far they were, and the reason.
 #[derive(Clone, Copy)]
 pub struct StreamError {
-    /// How many messages were read, and written whole.
+    /// The number of messages that were read, and written whole.
     pub whole: u32,
-    /// How many of them are as they should be.
+    /// The number of those that are as they should be.
     pub good: u32,
-    /// How many octets they have in the input.
+    /// The number of octets that they have in the input.
     pub before: u64,
-    /// How many octets were written.
+    /// The number of octets that were written.
     pub written: u128,
     pub why: StreamErrorKind,
 }
@@ -156,7 +155,7 @@ pub struct StreamError {
 ///
 /// How far it came, and why no further, where the input goes on after 1,000,000 messages, too. Of what follows the messages that were
 /// written, at most 1,048,576 octets are taken.
-pub fn for_each_message<M: Render, R: Source, L: Look<R>, W: Sink>(
+pub fn for_each_message<M: Render, R: Source, L: Lookahead<R>, W: Sink>(
     alloc: Global,
     maker: &M,
     source: &mut R,
@@ -173,13 +172,13 @@ pub fn for_each_message<M: Render, R: Source, L: Look<R>, W: Sink>(
     let mut before = 0;
     let mut written = 0;
     let mut reader = M::reader(alloc);
-    let mut room = M::Out::empty(alloc);
+    let mut buffer = M::Out::empty(alloc);
     for whole in 0..MAX_MESSAGES {
         let position = MessagePlace {
             number: whole + 1,
             offset: before,
         };
-        let piece = match maker.next::<R, L>(alloc, &mut reader, position, source, room) {
+        let piece = match maker.next::<R, L>(alloc, &mut reader, position, source, buffer) {
             Ok(Some(piece)) => piece,
             Ok(None) => return Ok(all_passed(whole, good, before)),
             Err(failure) => return Err(ended(
@@ -200,10 +199,10 @@ pub fn for_each_message<M: Render, R: Source, L: Look<R>, W: Sink>(
         before += u64::from(piece.octets);
         written += count as u128;
         good += u32::from(piece.is_good);
-        room = piece.text;
+        buffer = piece.text;
     }
     drop(reader);
-    drop(room);
+    drop(buffer);
     match end_of_input(source) {
         Ok(()) => Ok(all_passed(MAX_MESSAGES, good, before)),
         Err(why) => Err(ended(MAX_MESSAGES, good, before, written, why)),
@@ -222,7 +221,7 @@ fn all_passed(whole: u32, good: u32, octets: u64) -> StreamCounts
     }
 }
 
-/// How far the messages were written, and why no further.
+/// The end of messages that were not all written: how far they were, and the reason.
 #[inline(always)]
 fn ended(whole: u32, good: u32, before: u64, written: u128, why: StreamErrorKind) -> StreamError
     ensures { result ≡ ended_at whole good before written why }
@@ -242,8 +241,8 @@ fn end_of_input<R: Source>(source: &mut R) -> Result<(), StreamErrorKind>
     ensures more { IfErr result (GoesOn (R.left source.old) (R.left source.new) (R.is_broken source.new)) }
     ensures stays { IsTrue (R.is_broken source.old) → IsTrue (R.is_broken source.new) }
 {
-    let mut room = [0];
-    match source.take(&mut room) {
+    let mut buffer = [0];
+    match source.take(&mut buffer) {
         Ok(0) => Ok(()),
         Ok(_) => Err(StreamErrorKind::TooMany),
         Err(_) => Err(StreamErrorKind::Read(ReadFailure::ReadFault)),

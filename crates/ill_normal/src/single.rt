@@ -11,13 +11,12 @@ ghost use Rattle.ill_normal.specs.Calls.{taking, putting};
 ghost use Rattle.ill_normal.specs.Normalised.{ForwardsIn, Fails, FailsIn, Answers, AnswersRefused};
 
 use crate::failure::NormalFailure;
-use ber_core::{Sink, Source, Unseen};
+use ber_core::{Sink, Source, Unbuffered, put_all};
 use ill_read::read_normal_as;
 use ill_schema::Profile;
-use ill_write::put_all;
 use std::alloc::Global;
 
-/// How many octets a message had in the input, and how many its normal form has.
+/// The number of octets that a message had in the input, and how many its normal form has.
 #[derive(Clone, Copy)]
 pub(crate) struct Forwarded {
     pub(crate) read: u32,
@@ -42,12 +41,12 @@ pub(crate) fn forward<R: Source, W: Sink>(
     ensures source_stays { IsTrue (R.is_broken source.old) → IsTrue (R.is_broken source.new) }
     ensures sink_stays { IsTrue (W.is_broken sink.old) → IsTrue (W.is_broken sink.new) }
 {
-    let Some(normal) = read_normal_as::<R, Unseen>(alloc, profile, source)? else {
+    let Some(normal) = read_normal_as::<R, Unbuffered>(alloc, profile, source)? else {
         return Ok(None);
     };
     match put_all(sink, &normal.octets) {
         Ok(()) => Ok(Some(Forwarded {
-            read: normal.read,
+            read: normal.input_len,
             written: normal.octets.len() as u32,
         })),
         Err(count) => Err(NormalFailure::WriteFault(count as u32)),

@@ -14,7 +14,7 @@ ghost use Rattle.ill_normal.specs.Streamed.{Passes, PassesIn, StopsAfter, StopsA
 
 use crate::failure::{NormalFailure, StreamCause, StreamFailure};
 use crate::messages::{MessagePlace, Render, RenderedMessage, StreamErrorKind, for_each_message};
-use ber_core::{Look, Sink, Source, Unseen};
+use ber_core::{Lookahead, Sink, Source, Unbuffered};
 use ill_read::{NormalReader, ReadFailure};
 use ill_schema::Profile;
 use std::alloc::Global;
@@ -37,18 +37,18 @@ impl Render for NormalForms {
         NormalReader::new(alloc)
     }
 
-    fn next<R: Source, L: Look<R>>(
+    fn next<R: Source, L: Lookahead<R>>(
         &self,
         alloc: Global,
         reader: &mut NormalReader,
         position: MessagePlace,
         source: &mut R,
-        room: Vec<u8>,
+        buffer: Vec<u8>,
     ) -> Result<Option<RenderedMessage<Vec<u8>>>, ReadFailure> {
         let forms = NormalFormsIn {
             profile: Profile::Two,
         };
-        forms.next::<R, L>(alloc, reader, position, source, room)
+        forms.next::<R, L>(alloc, reader, position, source, buffer)
     }
 }
 
@@ -73,27 +73,27 @@ impl Render for NormalFormsIn {
         NormalReader::new(alloc)
     }
 
-    fn next<R: Source, L: Look<R>>(
+    fn next<R: Source, L: Lookahead<R>>(
         &self,
         alloc: Global,
         reader: &mut NormalReader,
         position: MessagePlace,
         source: &mut R,
-        room: Vec<u8>,
+        buffer: Vec<u8>,
     ) -> Result<Option<RenderedMessage<Vec<u8>>>, ReadFailure> {
         let (_, _) = (alloc, position);
-        let Some(normal) = reader.read_as::<R, L>(self.profile, source, room)? else {
+        let Some(normal) = reader.read_as::<R, L>(self.profile, source, buffer)? else {
             return Ok(None);
         };
         Ok(Some(RenderedMessage {
             text: normal.octets,
             is_good: true,
-            octets: normal.read,
+            octets: normal.input_len,
         }))
     }
 }
 
-/// Why a stream went no further.
+/// The reason why a stream went no further.
 fn cause(why: StreamErrorKind) -> StreamCause
     requires { part_of why ≤ 1_048_576 }
     ensures { result ≡ stream_cause why }
@@ -165,7 +165,7 @@ pub fn normalise_stream_as<R: Source, W: Sink>(
     ensures sink_stays { IsTrue (W.is_broken sink.old) → IsTrue (W.is_broken sink.new) }
 {
     let forms = NormalFormsIn { profile };
-    match for_each_message::<NormalFormsIn, R, Unseen, W>(alloc, &forms, source, sink) {
+    match for_each_message::<NormalFormsIn, R, Unbuffered, W>(alloc, &forms, source, sink) {
         Ok(passed) => Ok(passed.whole),
         Err(stopped) => Err(StreamFailure {
             whole: stopped.whole,

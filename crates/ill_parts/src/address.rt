@@ -150,13 +150,13 @@ impl Typed for SystemAddress {
     ghost is_node = { λ _. (λ fits. fits, λ fits. fits) };
 }
 
-/// Where something is delivered: an address for mail, an electronic one or both
+/// The address where something is delivered: one for mail, an electronic one or both
 /// (Delivery-Address).
 #[derive(Debug, Drop, PartialEq, Eq)]
 pub struct DeliveryAddress {
-    /// Where mail goes (row 0).
+    /// The address for mail (row 0).
     pub postal_address: Option<PostalAddress>,
-    /// Where electronic mail or files go (row 1).
+    /// The address for electronic mail or files (row 1).
     pub electronic_address: Option<SystemAddress>,
 }
 

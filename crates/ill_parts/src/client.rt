@@ -11,7 +11,7 @@ pub struct ClientId {
     pub client_name: Option<IllString>,
     /// The client's status, as student or staff (row 1).
     pub client_status: Option<IllString>,
-    /// How the requester knows the client (row 2).
+    /// The identifier by which the requester knows the client (row 2).
     pub client_identifier: Option<IllString>,
 }
 

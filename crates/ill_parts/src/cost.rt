@@ -66,18 +66,18 @@ impl Typed for Amount {
     ghost is_node = { λ _. (λ fits. fits, λ fits. fits) };
 }
 
-/// What the requester will pay, and how (Cost-Info).
+/// The sum that the requester will pay, and how (Cost-Info).
 #[derive(Debug, Drop, PartialEq, Eq)]
 pub struct CostInfo {
     /// The account to charge (row 0).
     pub account_number: Option<IllString>,
     /// The most that the requester will pay (row 1).
     pub maximum_cost: Option<Amount>,
-    /// Whether an agreement between the libraries covers the cost (row 2, by default false).
+    /// True if an agreement between the libraries covers the cost (row 2, by default false).
     pub reciprocal_agreement: bool,
-    /// Whether the requester will pay a fee (row 3, by default false).
+    /// True if the requester will pay a fee (row 3, by default false).
     pub will_pay_fee: bool,
-    /// Whether the payment comes with the request (row 4, by default false).
+    /// True if the payment comes with the request (row 4, by default false).
     pub payment_provided: bool,
 }
 

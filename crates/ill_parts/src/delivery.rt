@@ -4,7 +4,7 @@ use ill_schema::{NodeId, Value};
 use ill_typed::{Node, Part, Typed, alternative, chosen};
 use std::alloc::{AllocError, Global};
 
-/// How the item is to be delivered (Delivery-Service).
+/// The service by which the item is to be delivered (Delivery-Service).
 ///
 /// `electronic-delivery` (row 1) is left out.
 #[derive(Debug, Drop, PartialEq, Eq)]
@@ -55,7 +55,7 @@ impl Typed for DeliveryService {
     ghost is_node = { λ _. (λ fits. fits, λ fits. fits) };
 }
 
-/// How the item was sent (Shipped-Via).
+/// The service by which the item was sent (Shipped-Via).
 ///
 /// `electronic-delivery` (row 1) is left out.
 #[derive(Debug, Drop, PartialEq, Eq)]

@@ -13,14 +13,14 @@ use ill_schema::Value;
 use ill_typed::{Node, both, optional, optional_value, push_all, required, required_value};
 use std::alloc::{AllocError, Global};
 
-/// What each APDU begins with: its first five rows.
+/// The head of each APDU: its first five rows.
 #[derive(Debug, Drop, PartialEq, Eq)]
 pub struct Head {
     /// The version of the protocol: 1 or 2 (row 0).
     pub protocol_version_num: i64,
-    /// Which transaction the message belongs to (row 1).
+    /// The transaction that the message belongs to (row 1).
     pub transaction_id: TransactionId,
-    /// When the service was invoked (row 2).
+    /// The time when the service was invoked (row 2).
     pub service_date_time: ServiceDateTime,
     /// The party that asks (row 3).
     pub requester_id: Option<SystemId>,
@@ -28,7 +28,7 @@ pub struct Head {
     pub responder_id: Option<SystemId>,
 }
 
-/// What the first entries of an APDU hold.
+/// The head of an APDU, read from its first entries.
 ///
 /// Best called after the other reads, or in `both` with one of them: an error after it has all its fields to drop, in code and in proofs.
 pub fn read_head(alloc: Global, entries: &[Option<Value>]) -> Result<Head, AllocError>

@@ -6,7 +6,7 @@ use ill_typed::{
 };
 use std::alloc::{AllocError, Global};
 
-/// What is asked for: a monograph, a serial or a part of one (Item-Id).
+/// The item that is asked for: a monograph, a serial or a part of one (Item-Id).
 ///
 /// `national-bibliography-no` (row 17) and `system-no` (row 20) are left out.
 #[derive(Debug, Drop, PartialEq, Eq)]
@@ -26,7 +26,7 @@ pub struct ItemId {
     pub sub_title: Option<IllString>,
     /// The body that sponsors it (row 6).
     pub sponsoring_body: Option<IllString>,
-    /// Where it was published (row 7).
+    /// The place of publication (row 7).
     pub place_of_publication: Option<IllString>,
     /// The publisher (row 8).
     pub publisher: Option<IllString>,
@@ -36,9 +36,9 @@ pub struct ItemId {
     pub volume_issue: Option<IllString>,
     /// The edition (row 11).
     pub edition: Option<IllString>,
-    /// When it was published (row 12).
+    /// The date of publication (row 12).
     pub publication_date: Option<IllString>,
-    /// When the part was published (row 13).
+    /// The date of publication of the part (row 13).
     pub publication_date_of_component: Option<IllString>,
     /// The author of the article (row 14).
     pub author_of_article: Option<IllString>,
@@ -52,7 +52,7 @@ pub struct ItemId {
     pub issn: Option<IllString>,
     /// Further numbers or letters that identify it (row 21).
     pub additional_no_letters: Option<IllString>,
-    /// Where the description was verified (row 22).
+    /// The source that verifies the description (row 22).
     pub verification_reference_source: Option<IllString>,
 }
 

@@ -12,7 +12,7 @@ pub struct SupplyMediumInfo {
     /// The medium: 1 printed, 2 photocopy, 3 microform, 4 film or video, 5 audio, 6
     /// machine-readable, 7 other (row 0).
     pub supply_medium_type: i64,
-    /// What the medium has to be like (row 1).
+    /// The demands on the medium (row 1).
     pub medium_characteristics: Option<IllString>,
 }
 
@@ -63,7 +63,7 @@ impl Typed for SupplyMediumInfo {
     ghost is_node = { λ _. (λ fits. fits, λ fits. fits) };
 }
 
-/// How many units were supplied in a medium (Units-Per-Medium).
+/// The number of units that were supplied in a medium (Units-Per-Medium).
 #[derive(Debug, Drop, PartialEq, Eq)]
 pub struct UnitsPerMedium {
     /// The medium: 1 printed, 2 photocopy, 3 microform, 4 film or video, 5 audio, 6

@@ -3,13 +3,13 @@ use ill_schema::{NodeId, Value};
 use ill_typed::{Node, Part, Typed, entries, required, required_value, sequence};
 use std::alloc::{AllocError, Global};
 
-/// Which optional messages the requester can send, and which it wants
+/// The optional messages that the requester can send, and those that it wants
 /// (Requester-Optional-Messages).
 #[derive(Debug, Drop, PartialEq, Eq)]
 pub struct RequesterOptionalMessages {
-    /// Whether it can send RECEIVED (row 0).
+    /// True if it can send RECEIVED (row 0).
     pub can_send_received: bool,
-    /// Whether it can send RETURNED (row 1).
+    /// True if it can send RETURNED (row 1).
     pub can_send_returned: bool,
     /// Whether it wants SHIPPED: 1 requires, 2 desires, 3 neither (row 2).
     pub requester_shipped: i64,
@@ -68,13 +68,13 @@ impl Typed for RequesterOptionalMessages {
     ghost is_node = { λ _. (λ fits. fits, λ fits. fits) };
 }
 
-/// Which optional messages the responder can send, and which it wants
+/// The optional messages that the responder can send, and those that it wants
 /// (Responder-Optional-Messages).
 #[derive(Debug, Drop, PartialEq, Eq)]
 pub struct ResponderOptionalMessages {
-    /// Whether it can send SHIPPED (row 0).
+    /// True if it can send SHIPPED (row 0).
     pub can_send_shipped: bool,
-    /// Whether it can send CHECKED-IN (row 1).
+    /// True if it can send CHECKED-IN (row 1).
     pub can_send_checked_in: bool,
     /// Whether it wants RECEIVED: 1 requires, 2 desires, 3 neither (row 2).
     pub responder_received: i64,

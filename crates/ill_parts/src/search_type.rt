@@ -6,14 +6,14 @@ use ill_typed::{
 };
 use std::alloc::{AllocError, Global};
 
-/// How much is to be searched, and until when (Search-Type).
+/// The extent of the search, and its end (Search-Type).
 #[derive(Debug, Drop, PartialEq, Eq)]
 pub struct SearchType {
     /// The level of service that is asked for (row 0).
     pub level_of_service: Option<IllString>,
     /// The day before which the item is needed (row 1).
     pub need_before_date: Option<DateText>,
-    /// When the request expires: 1 with the day of need, 2 on another day, 3 never (row 2, by
+    /// The time when the request expires: 1 with the day of need, 2 on another day, 3 never (row 2, by
     /// default 3).
     pub expiry_flag: i64,
     /// The day on which the request expires (row 3).

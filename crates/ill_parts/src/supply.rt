@@ -10,12 +10,12 @@ use ill_typed::{
 };
 use std::alloc::{AllocError, Global};
 
-/// When an item is due back (Date-Due).
+/// The date when an item is due back (Date-Due).
 #[derive(Debug, Drop, PartialEq, Eq)]
 pub struct DateDue {
     /// The day (row 0).
     pub date_due_field: DateText,
-    /// Whether the loan can be renewed (row 1, by default true).
+    /// True if the loan can be renewed (row 1, by default true).
     pub renewable: bool,
 }
 
@@ -66,26 +66,26 @@ impl Typed for DateDue {
     ghost is_node = { λ _. (λ fits. fits, λ fits. fits) };
 }
 
-/// What was supplied, how, at what cost and until when (Supply-Details).
+/// The details of what was supplied, how, at what cost and until when (Supply-Details).
 #[derive(Debug, Drop, PartialEq, Eq)]
 pub struct SupplyDetails {
     /// The day on which it was sent (row 0).
     pub date_shipped: Option<DateText>,
-    /// When it is due back (row 1).
+    /// The date when it is due back (row 1).
     pub date_due: Option<DateDue>,
-    /// How many units are charged (row 2).
+    /// The number of units that are charged (row 2).
     pub chargeable_units: Option<i64>,
-    /// What it costs (row 3).
+    /// The cost (row 3).
     pub cost: Option<Amount>,
     /// The condition of use, by its number (row 4).
     pub shipped_conditions: Option<i64>,
-    /// How it was sent (row 5).
+    /// The service by which it was sent (row 5).
     pub shipped_via: Option<ShippedVia>,
     /// For how much it is insured (row 6).
     pub insured_for: Option<Amount>,
     /// For how much it has to be insured on its way back (row 7).
     pub return_insurance_require: Option<Amount>,
-    /// How many units of each medium were sent (row 8).
+    /// The number of units of each medium that were sent (row 8).
     pub no_of_units_per_medium: Option<Vec<UnitsPerMedium>>,
 }
 

@@ -15,7 +15,7 @@ pub struct SendTo {
     pub system_id: SystemId,
     /// The account that the requester has there (row 1).
     pub account_number: Option<IllString>,
-    /// Where it is reached (row 2).
+    /// Its address (row 2).
     pub system_address: Option<SystemAddress>,
 }
 
@@ -70,18 +70,18 @@ impl Typed for SendTo {
     ghost is_node = { λ _. (λ fits. fits, λ fits. fits) };
 }
 
-/// What an intermediary may do with the request, and whom it may ask (Third-Party-Info).
+/// The things that an intermediary may do with the request, and the parties that it may ask (Third-Party-Info).
 #[derive(Debug, Drop, PartialEq, Eq)]
 pub struct ThirdPartyInfo {
-    /// Whether the request may be forwarded (row 0, by default false).
+    /// True if the request may be forwarded (row 0, by default false).
     pub permission_to_forward: bool,
-    /// Whether it may be chained (row 1, by default false).
+    /// True if it may be chained (row 1, by default false).
     pub permission_to_chain: bool,
-    /// Whether it may be partitioned (row 2, by default false).
+    /// True if it may be partitioned (row 2, by default false).
     pub permission_to_partition: bool,
-    /// Whether the list of those to ask may be changed (row 3, by default false).
+    /// True if the list of those to ask may be changed (row 3, by default false).
     pub permission_to_change_send_to_list: bool,
-    /// Where the party that began the transaction is reached (row 4).
+    /// The address of the party that began the transaction (row 4).
     pub initial_requester_address: Option<SystemAddress>,
     /// Whether those to ask have an order: 1 ordered, 2 unordered (row 5, by default 2).
     pub preference: i64,

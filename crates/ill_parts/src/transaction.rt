@@ -7,7 +7,7 @@ use ill_typed::{
 };
 use std::alloc::{AllocError, Global};
 
-/// Which transaction or subtransaction a message belongs to (Transaction-Id).
+/// The transaction or subtransaction that a message belongs to (Transaction-Id).
 #[derive(Debug, Drop, PartialEq, Eq)]
 pub struct TransactionId {
     /// The party that began the transaction (row 0).
@@ -128,12 +128,12 @@ impl Typed for DateTime {
     ghost is_node = { λ _. (λ fits. fits, λ fits. fits) };
 }
 
-/// When a service was invoked, and when first, where it is repeated (Service-Date-Time).
+/// The time when a service was invoked, and when first, where it is repeated (Service-Date-Time).
 #[derive(Debug, Drop, PartialEq, Eq)]
 pub struct ServiceDateTime {
-    /// When this service was invoked (row 0).
+    /// The time when this service was invoked (row 0).
     pub date_time_of_this_service: DateTime,
-    /// When the service that is repeated here was first invoked (row 1).
+    /// The time when the service that is repeated here was first invoked (row 1).
     pub date_time_of_original_service: Option<DateTime>,
 }
 

@@ -19,24 +19,24 @@ use Rattle.ill_schema.specs.declared.part.Row.{Row}
 use Rattle.ill_schema.proofs.Unique.{means_unique}
 use Rattle.ill_refusals.specs.Element.{Component}
 use Rattle.ill_refusals.specs.Next as next
-use Rattle.ill_elements.specs.Elements.{component_of, component_at, element_is, found_is}
-use Rattle.ill_elements.specs.Due.{IsBegun, IsDueIn, IsDueInRows, IsRowDue, IsInnerDue, IsItemDue, behind}
+use Rattle.ill_grammar.specs.Elements.{component_of, component_at, element_is, found_is}
+use Rattle.ill_grammar.specs.Due.{IsBegun, IsDueIn, IsDueInRows, IsRowDue, IsInnerDue, IsItemDue, behind}
 use Rattle.ill_read.specs.code.Drafts.{rows_before}
-use Rattle.ill_elements.specs.Due.{due_with}
-use Rattle.ill_elements.specs.Standing.{HoldsPart, IsHeld, foreign_entries}
-use Rattle.ill_elements.specs.Contents.{with_alternative, absent_content, IsValueOf}
+use Rattle.ill_grammar.specs.Due.{due_with}
+use Rattle.ill_grammar.specs.Standing.{HoldsPart, IsHeld, foreign_entries}
+use Rattle.ill_grammar.specs.Contents.{with_alternative, absent_content, IsValueOf}
 use Rattle.ill_refusals.specs.code.Step.{snoc}
-use Rattle.ill_elements.specs.Due.{Due}
-use Rattle.ill_elements.specs.declared.due.Next.{Next}
-use Rattle.ill_elements.specs.declared.due.Next.TheVariants.{Rows, Inner, Items, Either, Segments, BitSegments, Root, Foreigns, Nothing}
-use Rattle.ill_elements.specs.declared.due.Slot.{Slot}
-use Rattle.ill_elements.specs.declared.due.Slot.TheVariants.{Row as AtRow, Item, Inner as Inside, Segment as InString, Foreign as InForeign}
-use Rattle.ill_elements.specs.declared.element.Element.{Element as CodeElement}
-use Rattle.ill_elements.specs.declared.element.Element.TheVariants.{Leaf, Sequence, List as ListOf, Wrapper, LooseWrapper, Segment, ModuleLeaf, BitString, BitSegment, Foreign}
-use Rattle.ill_elements.specs.Found.{Found}
-use Rattle.ill_elements.specs.declared.element.Wrapped.{Wrapped}
-use Rattle.ill_elements.proofs.Entries.{row_added, item_added}
-use Rattle.ill_elements.proofs.Meanings.{begun_means, begun_proper, row_means}
+use Rattle.ill_grammar.specs.Due.{Due}
+use Rattle.ill_grammar.specs.declared.due.Next.{Next}
+use Rattle.ill_grammar.specs.declared.due.Next.TheVariants.{Rows, Inner, Items, Either, Segments, BitSegments, Root, Foreigns, Nothing}
+use Rattle.ill_grammar.specs.declared.due.Slot.{Slot}
+use Rattle.ill_grammar.specs.declared.due.Slot.TheVariants.{Row as AtRow, Item, Inner as Inside, Segment as InString, Foreign as InForeign}
+use Rattle.ill_grammar.specs.declared.element.Element.{Element as CodeElement}
+use Rattle.ill_grammar.specs.declared.element.Element.TheVariants.{Leaf, Sequence, List as ListOf, Wrapper, LooseWrapper, Segment, ModuleLeaf, BitString, BitSegment, Foreign}
+use Rattle.ill_grammar.specs.Found.{Found}
+use Rattle.ill_grammar.specs.declared.element.Wrapped.{Wrapped}
+use Rattle.ill_grammar.proofs.Entries.{row_added, item_added}
+use Rattle.ill_grammar.proofs.Meanings.{begun_means, begun_proper, row_means}
 use Rattle.ill_refusals.proofs.OpenElements.{row_proper}
 use Rattle.ill_refusals.proofs.WholeElements.{IsProperComponent}
 

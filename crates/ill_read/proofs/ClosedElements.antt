@@ -1,18 +1,18 @@
 -- The innermost element closes.
 use Rattle.ill_schema.specs.Profiles.{profile_of}
 use Rattle.ber_core.specs.Identifier.{Tag}
-use Rattle.ill_elements.specs.declared.element.Element.TheVariants.{BitSegment}
+use Rattle.ill_grammar.specs.declared.element.Element.TheVariants.{BitSegment}
 use Rattle.ill_schema.specs.declared.profile.Profile.{Profile as Named}
 use Rattle.std.proofs.Common.{◌⊎◌, inl, inr}
 use Rattle.ber_leaf.specs.Leaf.{bit_string}
 use Rattle.ber_leaf.specs.Segments.{segment_tag}
 use Rattle.ill_refusals.specs.Element.{Element}
-use Rattle.ill_elements.specs.Due.{IsDueIn}
-use Rattle.ill_elements.specs.declared.due.Next.{Next}
-use Rattle.ill_elements.specs.declared.due.Next.TheVariants.{Segments, BitSegments}
-use Rattle.ill_elements.specs.declared.due.Slot.{Slot}
-use Rattle.ill_elements.proofs.BitSegments.{bits_joined}
-use Rattle.ill_elements.proofs.DueTags.{bit_segment_due, segment_due}
+use Rattle.ill_grammar.specs.Due.{IsDueIn}
+use Rattle.ill_grammar.specs.declared.due.Next.{Next}
+use Rattle.ill_grammar.specs.declared.due.Next.TheVariants.{Segments, BitSegments}
+use Rattle.ill_grammar.specs.declared.due.Slot.{Slot}
+use Rattle.ill_grammar.proofs.BitSegments.{bits_joined}
+use Rattle.ill_grammar.proofs.DueTags.{bit_segment_due, segment_due}
 use Rattle.ill_read.proofs.Strings.{IsSegmentOf, is_bit_segment}
 use Rattle.std.specs.Prelude.{⊤}
 use Rattle.std.proofs.Common.{◌≡◌, ℕ, ◌+◌, ◌-◌, List, [], ◌∷◌, ◌++◌, length, length-append, take, drop, Bool, false, Option, Some, None, Result, Ok, Err, refl, sym, ap, ap₂, subst, ◌∙◌, arith, slice_get}
@@ -27,31 +27,31 @@ use Rattle.ill_refusals.specs.Fault.{fault, element_fault, string_fault}
 use Rattle.ill_refusals.specs.Place.{Open, next_in}
 use Rattle.ill_refusals.specs.code.Judge.{Judgement, closes, or_faulty}
 use Rattle.ill_refusals.specs.code.Step.{moved}
-use Rattle.ill_cells.specs.Places.{alternative_of, where_of}
-use Rattle.ill_elements.specs.Elements.{element_is}
+use Rattle.ill_grammar.specs.Places.{alternative_of, where_of}
+use Rattle.ill_grammar.specs.Elements.{element_is}
 use Rattle.ill_read.specs.code.Drafts.{ChecksText, HasClosed, IsNoSegment, IsRightText, with_entry}
-use Rattle.ill_elements.specs.Due.{due_with}
-use Rattle.ill_elements.specs.code.Judging.{IsEnd}
+use Rattle.ill_grammar.specs.Due.{due_with}
+use Rattle.ill_grammar.specs.code.Judging.{IsEnd}
 use Rattle.ill_read.specs.code.Judged.{IsStep}
 use Rattle.ill_read.specs.code.Stepping.{GoesOn}
-use Rattle.ill_elements.specs.Standing.{Level, level_of, pushed, next_at, IsHeld, IsFrame, AreFrames}
+use Rattle.ill_grammar.specs.Standing.{Level, level_of, pushed, next_at, IsHeld, IsFrame, AreFrames}
 use Rattle.ill_read.specs.Paths.{text_so_far, HoldsAt}
-use Rattle.ill_elements.specs.Contents.{with_alternative}
-use Rattle.ill_elements.specs.declared.due.Next.{Next}
-use Rattle.ill_elements.specs.declared.due.Next.TheVariants.{Segments}
-use Rattle.ill_elements.specs.declared.element.Element.{Element as CodeElement}
-use Rattle.ill_elements.specs.declared.element.Element.TheVariants.{Leaf, Segment, ModuleLeaf, BitString}
+use Rattle.ill_grammar.specs.Contents.{with_alternative}
+use Rattle.ill_grammar.specs.declared.due.Next.{Next}
+use Rattle.ill_grammar.specs.declared.due.Next.TheVariants.{Segments}
+use Rattle.ill_grammar.specs.declared.element.Element.{Element as CodeElement}
+use Rattle.ill_grammar.specs.declared.element.Element.TheVariants.{Leaf, Segment, ModuleLeaf, BitString}
 use Rattle.ill_read.specs.declared.failure.Failure.{Failure}
-use Rattle.ill_elements.specs.declared.frame.Frame.{Frame}
+use Rattle.ill_grammar.specs.declared.frame.Frame.{Frame}
 use Rattle.ill_read.specs.declared.path.Path.{Path}
 use Rattle.ill_read.proofs.EndedElements.{frame_ended}
 use Rattle.ill_read.proofs.DeliveredEntries.{entry_added, pushed_apart, pushed_segment}
-use Rattle.ill_elements.proofs.OpenFrames.{last_open}
-use Rattle.ill_elements.proofs.DueTags.{segment_due}
+use Rattle.ill_grammar.proofs.OpenFrames.{last_open}
+use Rattle.ill_grammar.proofs.DueTags.{segment_due}
 use Rattle.ill_read.proofs.Segments.{segments_alone, text_with}
 use Rattle.ill_read.proofs.Strings.{is_segment, segment_added, text_after}
-use Rattle.ill_cells.specs.declared.at.At.{At}
-use Rattle.ill_elements.specs.Due.{shape, shape_at, read_as, slot_in, next_place}
+use Rattle.ill_grammar.specs.declared.place.Place.{Place}
+use Rattle.ill_grammar.specs.Due.{shape, shape_at, read_as, slot_in, next_place}
 
 -- the frames without the last one
 record IsPopped (p : Named) (levels : List Level) (old frames : List Frame) (f : Frame) (o : Open) (path : List Open) : Type 0 where
@@ -141,7 +141,7 @@ right_text p _ text h = refl
 pub element_closed : {D : Type 0} (p : Named) (holds : D → List Level → List ℕ → Type 0) (old : Path D) (shorter : List Frame) (f : Frame) (middle : D) (new : Path D) (place : List Open) (marks at : ℕ) (rest : List ℕ)
     (j : Judgement) (result : Bool) → HoldsAt p holds old place → IsEnd p place marks j → shorter ≡ take (length old.frames.open.items - 1) old.frames.open.items
     → slice_get old.frames.open.items (length old.frames.open.items - 1) ≡ Some f → IsNoSegment (read_as f.found) → ((x : ⊤) → ChecksText p holds old.draft f (Ok x)) → HasClosed p holds old.draft f (next_at p shorter) middle
-    → (after : At) → where_of after ≡ next_place f.found → GoesOn after shorter new.frames.open.items result → new.frames.profile ≡ old.frames.profile → new.draft ≡ middle → IsStep p holds new (Ok result) (moved j place at rest)
+    → (after : Place) → where_of after ≡ next_place f.found → GoesOn after shorter new.frames.open.items result → new.frames.profile ≡ old.frames.profile → new.draft ≡ middle → IsStep p holds new (Ok result) (moved j place at rest)
 element_closed p holds old shorter f middle new place marks at rest j result stands end frames last apart checks closed after there goes same draft =
     let o = end.innermost in
     let path = end.outer in

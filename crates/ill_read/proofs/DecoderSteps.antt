@@ -19,18 +19,18 @@ use Rattle.ill_schema.specs.Tagging.{untagged}
 use Rattle.ill_refusals.specs.Fault.{Fault, fault_of}
 use Rattle.ill_refusals.specs.code.Judge.{Judgement, closes, reads, judge, or_faulty}
 use Rattle.ill_read.specs.Answers.{IsRefusedIn}
-use Rattle.ill_elements.specs.Standing.{Level, whole_level, StandsBefore}
+use Rattle.ill_grammar.specs.Standing.{Level, whole_level, StandsBefore}
 use Rattle.ill_read.specs.Paths.{HoldsAt}
 use Rattle.ill_read.specs.code.Drafts.{HoldsApdu}
 use Rattle.ill_read.specs.code.Judged.{IsJudgement, IsStep}
 use Rattle.ill_refusals.specs.Place.{Open}
 use Rattle.ill_read.specs.code.Progress.{size_of, IsProgress}
-use Rattle.ill_elements.specs.Standing.{depth_of}
+use Rattle.ill_grammar.specs.Standing.{depth_of}
 use Rattle.ill_refusals.specs.code.Step.{Step, refused, goes, whole, stuck, with_tree, close, moved}
 use Rattle.ill_read.specs.declared.failure.Failure.{Failure}
 use Rattle.ill_read.specs.code.Progress.{Judgement as CodeJudgement}
 use Rattle.ill_read.specs.code.Progress as code
-use Rattle.ill_elements.specs.declared.frames.Frames.{Frames}
+use Rattle.ill_grammar.specs.declared.frames.Frames.{Frames}
 use Rattle.ill_read.specs.declared.path.Path.{Path}
 use Rattle.ill_read.proofs.MessageEnds.{refuses_alone}
 use Rattle.ill_refusals.proofs.OneOutcome.{message_encodes}

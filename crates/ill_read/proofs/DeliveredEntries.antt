@@ -15,27 +15,27 @@ use Rattle.ill_schema.specs.Content.{Content}
 use Rattle.ill_refusals.specs.Element.{segment}
 use Rattle.ill_refusals.specs.Place.{Open}
 use Rattle.ill_refusals.specs.code.Step.{with_tree}
-use Rattle.ill_elements.specs.Elements.{component_of, element_is}
-use Rattle.ill_cells.specs.declared.at.At.{At}
-use Rattle.ill_elements.specs.Due.{IsDueIn, behind, shape, read_as}
+use Rattle.ill_grammar.specs.Elements.{component_of, element_is}
+use Rattle.ill_grammar.specs.declared.place.Place.{Place}
+use Rattle.ill_grammar.specs.Due.{IsDueIn, behind, shape, read_as}
 use Rattle.ill_read.specs.code.Drafts.{IsDueAt, with_entry}
-use Rattle.ill_elements.specs.Due.{due_with}
+use Rattle.ill_grammar.specs.Due.{due_with}
 use Rattle.ill_read.specs.code.Judged.{IsStep}
 use Rattle.ill_read.specs.code.Stepping.{GoesOn}
-use Rattle.ill_elements.specs.Standing.{Level, level_of, pushed, top_level, top_part, next_at, top, IsFrame, AreFrames}
+use Rattle.ill_grammar.specs.Standing.{Level, level_of, pushed, top_level, top_part, next_at, top, IsFrame, AreFrames}
 use Rattle.ill_read.specs.Paths.{text_so_far}
-use Rattle.ill_elements.specs.Contents.{with_alternative, IsValueOf}
-use Rattle.ill_elements.specs.declared.due.Next.{Next}
-use Rattle.ill_elements.specs.declared.due.Slot.{Slot}
-use Rattle.ill_elements.specs.declared.element.Element.{Element as CodeElement}
-use Rattle.ill_elements.specs.declared.element.Element.TheVariants.{Segment, BitSegment}
-use Rattle.ill_elements.specs.Found.{Found}
-use Rattle.ill_elements.specs.declared.frame.Frame.{Frame}
+use Rattle.ill_grammar.specs.Contents.{with_alternative, IsValueOf}
+use Rattle.ill_grammar.specs.declared.due.Next.{Next}
+use Rattle.ill_grammar.specs.declared.due.Slot.{Slot}
+use Rattle.ill_grammar.specs.declared.element.Element.{Element as CodeElement}
+use Rattle.ill_grammar.specs.declared.element.Element.TheVariants.{Segment, BitSegment}
+use Rattle.ill_grammar.specs.Found.{Found}
+use Rattle.ill_grammar.specs.declared.frame.Frame.{Frame}
 use Rattle.ill_read.specs.declared.path.Path.{Path}
 use Rattle.ill_read.proofs.AddedEntries.{held_added}
-use Rattle.ill_elements.proofs.OpenFrames.{next_behind}
+use Rattle.ill_grammar.proofs.OpenFrames.{next_behind}
 use Rattle.ill_read.proofs.MoreTrees.{with_one, frame_added}
-use Rattle.ill_elements.proofs.Meanings.{begun_means}
+use Rattle.ill_grammar.proofs.Meanings.{begun_means}
 use Rattle.ill_refusals.proofs.OpenElements.{inner_proper}
 use Rattle.ill_read.proofs.Segments.{IsOutside, due_outside, no_segment_in, text_apart, text_with}
 
@@ -70,7 +70,7 @@ root_choice Module = refl
 -- an element's content in the element round it, or in the message
 pub entry_added : {D : Type 0} (p : Named) (holds : D → List Level → List ℕ → Type 0) (frames : List Frame) (levels : List Level) (new : Path D) (place : List Open) (slot : Slot) (alt : Option ℕ) (el : CodeElement)
     (c : Content) (T : Tree) (at : ℕ) (rest : List ℕ) (result : Bool) → new.frames.profile ≡ p → AreFrames p place frames levels → IsDueIn (tag_of T) (next_at p frames) (due_with slot alt el) → ((u : Tag) → element_is el ≡ segment u → ⊥)
-    → (after : At) → shape after ≡ behind (next_at p frames) slot → GoesOn after frames new.frames.open.items result
+    → (after : Place) → shape after ≡ behind (next_at p frames) slot → GoesOn after frames new.frames.open.items result
     → ((l : Level) (below : List Level) → levels ≡ l ∷ below → IsDueAt p l (next_at p frames) (tag_of T) slot alt el
     → IsValueOf p (element_is el) c T × holds new.draft (with_entry l slot (with_alternative alt c) ∷ below) [])
     → IsStep p holds new (Ok result) (with_tree place T at rest)

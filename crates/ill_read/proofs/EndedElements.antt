@@ -15,21 +15,21 @@ use Rattle.ill_schema.specs.declared.node.NodeId.{NodeId}
 use Rattle.ill_refusals.specs.Fault.{element_fault, string_fault}
 use Rattle.ill_refusals.specs.Next.{missing}
 use Rattle.ill_refusals.specs.Place.{Open, next_in}
-use Rattle.ill_elements.specs.Due.{next_is, shape, read_as}
-use Rattle.ill_elements.specs.Elements.{element_is}
-use Rattle.ill_elements.specs.LeafTypes.{leaf_is, module_leaf_is}
+use Rattle.ill_grammar.specs.Due.{next_is, shape, read_as}
+use Rattle.ill_grammar.specs.Elements.{element_is}
+use Rattle.ill_grammar.specs.LeafTypes.{leaf_is, module_leaf_is}
 use Rattle.ill_read.specs.code.Drafts.{IsContentOf, IsRightText, rows_left}
 use Rattle.ill_read.specs.Paths.{text_so_far}
-use Rattle.ill_elements.specs.Standing.{IsHeld, IsFrame}
-use Rattle.ill_elements.specs.Contents.{absent_content, IsValueOf}
-use Rattle.ill_elements.specs.declared.due.Next.{Next}
-use Rattle.ill_elements.specs.declared.due.Next.TheVariants.{BitSegments, Foreigns, Rows, Inner, Items, Either, Segments, Root, Nothing}
-use Rattle.ill_elements.specs.declared.element.Element.{Element as CodeElement}
-use Rattle.ill_elements.specs.declared.element.Element.TheVariants.{Leaf, Sequence, List as ListOf, Wrapper, LooseWrapper, Segment, ModuleLeaf, BitString, BitSegment, Foreign}
-use Rattle.ill_elements.specs.declared.element.Wrapped.{Wrapped}
-use Rattle.ill_elements.specs.declared.frame.Frame.{Frame}
-use Rattle.ill_elements.proofs.Entries.{rows_ended}
-use Rattle.ill_elements.proofs.ReadLeaves.{module_segments, read_segments}
+use Rattle.ill_grammar.specs.Standing.{IsHeld, IsFrame}
+use Rattle.ill_grammar.specs.Contents.{absent_content, IsValueOf}
+use Rattle.ill_grammar.specs.declared.due.Next.{Next}
+use Rattle.ill_grammar.specs.declared.due.Next.TheVariants.{BitSegments, Foreigns, Rows, Inner, Items, Either, Segments, Root, Nothing}
+use Rattle.ill_grammar.specs.declared.element.Element.{Element as CodeElement}
+use Rattle.ill_grammar.specs.declared.element.Element.TheVariants.{Leaf, Sequence, List as ListOf, Wrapper, LooseWrapper, Segment, ModuleLeaf, BitString, BitSegment, Foreign}
+use Rattle.ill_grammar.specs.declared.element.Wrapped.{Wrapped}
+use Rattle.ill_grammar.specs.declared.frame.Frame.{Frame}
+use Rattle.ill_grammar.proofs.Entries.{rows_ended}
+use Rattle.ill_grammar.proofs.ReadLeaves.{module_segments, read_segments}
 use Rattle.ill_read.proofs.Segments.{text_with}
 
 -- the rows of a node as the entries have them

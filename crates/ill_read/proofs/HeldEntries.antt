@@ -8,8 +8,8 @@ use Rattle.ill_schema.specs.Content.{Content}
 use Rattle.ill_schema.specs.Value.{content_of}
 use Rattle.ill_schema.specs.declared.part.Row.{Row}
 use Rattle.ill_schema.specs.declared.value.Value.{Value}
-use Rattle.ill_read.specs.code.Held.{HasPassed}
-use Rattle.ill_elements.specs.Contents.{absent_content}
+use Rattle.ill_read.specs.code.OpenValues.{HasPassed}
+use Rattle.ill_grammar.specs.Contents.{absent_content}
 
 abbrev pub somes : List (Option Value) → List Value
 somes [] = []
@@ -71,8 +71,8 @@ pub drained_all : (s : Drain (Option Value) Global) (es : List (Option Value)) (
 drained_all s es t y n = sym (append-nil es) ∙ ap (λ xs. es ++ xs) (sym n) ∙ sym (drained_front s es t y)
 
 -- what is split off after n entries
-pub split_held : (below held : List (Option Value)) (old : List (Option Value)) (base m : ℕ) → old ≡ below ++ held → length below ≡ base → m ≡ min base (length old) → (take m old ≡ below) × (drop m old ≡ held)
-split_held below held old base m e n is =
+pub split_held : (below held : List (Option Value)) (old : List (Option Value)) (contents_start m : ℕ) → old ≡ below ++ held → length below ≡ contents_start → m ≡ min contents_start (length old) → (take m old ≡ below) × (drop m old ≡ held)
+split_held below held old contents_start m e n is =
     let len : length old ≡ length below + length held = ap length e ∙ length-append below held in
     let q : length below ≡ m = omega (arith, n, is, len) in
     (ap (take m) e ∙ take_at below held m q, ap (drop m) e ∙ drop_at below held m q)

@@ -22,7 +22,7 @@ use Rattle.ill_refusals.proofs.Truncation.{truncated_at}
 use Rattle.ill_schema.specs.declared.refusal.Refusal.{Refusal}
 use Rattle.ill_read.specs.Answers.{IsRefusedIn}
 use Rattle.ill_read.specs.Paths.{HoldsAt}
-use Rattle.ill_elements.specs.Standing.{Level, StandsLast}
+use Rattle.ill_grammar.specs.Standing.{Level, StandsLast}
 use Rattle.ill_read.specs.code.ReaderCode.{HasRead, HasStopped, InState, IsFed, IsRunning}
 use Rattle.ill_read.specs.code.Filling.{HasLooked, NoneEndsWithin}
 use Rattle.ill_read.specs.declared.reader.Reader.{Reader}

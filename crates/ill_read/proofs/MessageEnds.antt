@@ -15,17 +15,17 @@ use Rattle.ill_schema.specs.Message.{apdu_of}
 use Rattle.ill_refusals.proofs.FirstFault.{has_fault, is_judged}
 use Rattle.ill_refusals.specs.Fault.{Fault, fault, Refuses, fault_of}
 use Rattle.ill_refusals.specs.code.Judge.{faulty, judge}
-use Rattle.ill_elements.proofs.PlaceNeeds.{bound_small}
+use Rattle.ill_grammar.proofs.PlaceNeeds.{bound_small}
 use Rattle.ill_read.specs.Answers.{IsRead, IsPartIn, IsRefused, IsRefusedIn, DecodeAnswers, NormalAnswersIn}
 use Rattle.ill_read.specs.Paths.{AreMessage, AreValues, HoldsAt}
-use Rattle.ill_elements.specs.Standing.{Level, StandsBefore, StandsLast}
+use Rattle.ill_grammar.specs.Standing.{Level, StandsBefore, StandsLast}
 use Rattle.ill_read.specs.code.ReaderCode.{EndsAs, HasClosed, HasRead, HasStopped, InState, IsFed, IsRunning, ended}
 use Rattle.ill_read.specs.Feeding.{IsOpenAt, StatesAreApart, ended as message_ended}
 use Rattle.ill_refusals.specs.Outcome.{OnlyAccepts, OnlyRefuses}
 use Rattle.ill_refusals.specs.Place.{Open}
 use Rattle.ill_read.specs.declared.failure.Failure.{Failure}
 use Rattle.ill_read.specs.declared.decoder.Decoder.{Decoder}
-use Rattle.ill_read.specs.declared.values.Values.{Values}
+use Rattle.ill_read.specs.declared.value_draft.ValueDraft.{ValueDraft}
 use Rattle.ill_read.specs.declared.reader.Reader.{Reader}
 use Rattle.ill_read.specs.declared.reader.State.{State}
 use Rattle.ill_read.specs.declared.reader.State.TheVariants as state
@@ -188,7 +188,7 @@ ended_failed [] f e = absurd cc
 ended_failed (octet ∷ fed) f e = let q : Failure.Refused (record { at = length (octet ∷ fed); cause = Cause.Truncated }) ≡ f = cc in ap Err (sym q)
 
 -- the message that a whole decoder has
-pub message_is : (r : Reader Values) (s : List ℕ) → HasRead Two (λ p values a n. AreMessage values a n) r s → (m : Message) × (r.path.draft.message ≡ Some m) × IsRead s m
+pub message_is : (r : Reader ValueDraft) (s : List ℕ) → HasRead Two (λ p values a n. AreMessage values a n) r s → (m : Message) × (r.path.draft.message ≡ Some m) × IsRead s m
 message_is r s h =
     let has = h.2 in
     (has.0, has.1, subst (λ k. OnlyAccepts profile_two s (apdu_of has.0) k) (sym has.3) (subst (λ a. OnlyAccepts profile_two s a r.at) (sym has.2) h.1))

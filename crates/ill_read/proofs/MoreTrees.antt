@@ -4,16 +4,16 @@ use Rattle.std.proofs.Common.{◌≡◌, List, Option, Some, sym, ap, subst, ◌
 use Rattle.ber_core.specs.Tree.{Tree, Trees, none, more, tag_of}
 use Rattle.ber_leaf.specs.Profile.{profile_two}
 use Rattle.ill_schema.specs.Content.{Content}
-use Rattle.ill_elements.specs.Due.{IsDueIn, behind, next_is, shape, read_as}
-use Rattle.ill_cells.specs.declared.at.At.{At}
+use Rattle.ill_grammar.specs.Due.{IsDueIn, behind, next_is, shape, read_as}
+use Rattle.ill_grammar.specs.declared.place.Place.{Place}
 use Rattle.ill_refusals.specs.Next.{due, next_of, next_after, opening}
 use Rattle.ill_refusals.specs.Next as following
 use Rattle.ill_refusals.specs.Place.{Open}
-use Rattle.ill_elements.specs.Standing.{AreDue, IsHeld, IsFrame}
+use Rattle.ill_grammar.specs.Standing.{AreDue, IsHeld, IsFrame}
 use Rattle.ill_refusals.specs.code.Step.{snoc}
-use Rattle.ill_elements.specs.Due.{Due}
-use Rattle.ill_elements.specs.declared.frame.Frame.{Frame}
-use Rattle.ill_elements.proofs.DueElements.{due_element_is}
+use Rattle.ill_grammar.specs.Due.{Due}
+use Rattle.ill_grammar.specs.declared.frame.Frame.{Frame}
+use Rattle.ill_grammar.proofs.DueElements.{due_element_is}
 use Rattle.ill_refusals.proofs.Rows.{next_after-more}
 
 pub next-added : (n : following.Next) (ts : Trees) (T : Tree) (d : following.Due) → AreDue n ts → due profile_two (tag_of T) (next_after profile_two n ts) ≡ Some d
@@ -29,7 +29,7 @@ with_one o T = record o { trees = snoc o.trees T }
 
 -- the frame of an open element, after a tree that was due
 pub frame_added : (p : Named) (f : Frame) (o : Open) (path : List Open) (outer : List Frame) (entries new : List (Option Content)) (T : Tree) (d : Due) → IsFrame p f o path outer entries
-    → IsDueIn (tag_of T) (shape f.place) d → (after : At) → shape after ≡ behind (shape f.place) d.slot → IsHeld p (read_as f.found) (behind (shape f.place) d.slot) new (snoc o.trees T)
+    → IsDueIn (tag_of T) (shape f.place) d → (after : Place) → shape after ≡ behind (shape f.place) d.slot → IsHeld p (read_as f.found) (behind (shape f.place) d.slot) new (snoc o.trees T)
     → IsFrame p (record f { place = after }) (with_one o T) path outer new
 frame_added p f o path outer entries new T d h is after goes held =
     let D = due_element_is (tag_of T) (shape f.place) d is in

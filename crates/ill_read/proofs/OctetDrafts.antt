@@ -19,36 +19,36 @@ use Rattle.ber_leaf.proofs.Leaves.{tested}
 use Rattle.ber_core.specs.Identifier.{HasIdentifier}
 use Rattle.ber_core.proofs.Foreign.{has_identified}
 use Rattle.ill_refusals.specs.Element.{leaf, foreign}
-use Rattle.ill_elements.specs.declared.due.Next.TheVariants.{BitSegments}
-use Rattle.ill_elements.specs.declared.leaf_type.ModuleLeaf.{ModuleLeaf as ModuleLeafType}
-use Rattle.ill_elements.specs.declared.leaf_type.ModuleLeaf.TheVariants as named
+use Rattle.ill_grammar.specs.declared.due.Next.TheVariants.{BitSegments}
+use Rattle.ill_grammar.specs.declared.leaf_type.ModuleLeaf.{ModuleLeaf as ModuleLeafType}
+use Rattle.ill_grammar.specs.declared.leaf_type.ModuleLeaf.TheVariants as named
 use Rattle.ill_read.proofs.PrimitiveElements.{module_whole, primitive_means}
 use Rattle.ill_read.proofs.Segments.{segments_alone}
 use Rattle.ill_schema.specs.Content.{Content, simple}
-use Rattle.ill_cells.specs.Places.{alternative_of}
-use Rattle.ill_elements.specs.Due.{IsDueIn, shape, first_of, read_as, slot_in}
-use Rattle.ill_elements.specs.Elements.{element_is}
-use Rattle.ill_elements.specs.LeafTypes.{leaf_is, module_leaf_is}
-use Rattle.ill_elements.specs.Standing.{Level, level_of, pushed, IsHeld}
-use Rattle.ill_elements.specs.Contents.{with_alternative, IsValueOf}
+use Rattle.ill_grammar.specs.Places.{alternative_of}
+use Rattle.ill_grammar.specs.Due.{IsDueIn, shape, first_of, read_as, slot_in}
+use Rattle.ill_grammar.specs.Elements.{element_is}
+use Rattle.ill_grammar.specs.LeafTypes.{leaf_is, module_leaf_is}
+use Rattle.ill_grammar.specs.Standing.{Level, level_of, pushed, IsHeld}
+use Rattle.ill_grammar.specs.Contents.{with_alternative, IsValueOf}
 use Rattle.ill_read.specs.code.Drafts.{HasBits, HasOpened, HasText, IsContentOf, IsDueAt, IsModuleElement, IsNoSegment, IsPrimitiveOf, IsRightContent, IsRightText, text_opened, with_entry}
-use Rattle.ill_elements.specs.Due.{due_with}
+use Rattle.ill_grammar.specs.Due.{due_with}
 use Rattle.ill_read.specs.code.OctetDrafts.{AreOctets, AreWritten, IsApartAs, IsBehind, IsModuleString, enclosed, form_of, unless_left, written}
-use Rattle.ill_elements.specs.Written.{normal_element}
-use Rattle.ill_elements.specs.code.Judging.{is_plain}
-use Rattle.ill_elements.specs.declared.due.Next.{Next}
-use Rattle.ill_elements.specs.declared.due.Next.TheVariants.{Segments}
-use Rattle.ill_elements.specs.declared.due.Slot.{Slot}
-use Rattle.ill_elements.specs.declared.element.Element.{Element as CodeElement}
-use Rattle.ill_elements.specs.declared.element.Element.TheVariants.{Leaf as LeafElement, Sequence, List as ListOf, Wrapper, LooseWrapper, Segment, ModuleLeaf, BitString, BitSegment, Foreign}
-use Rattle.ill_elements.specs.declared.frame.Frame.{Frame}
-use Rattle.ill_elements.specs.declared.judge.Opening.{Opening}
-use Rattle.ill_elements.specs.declared.judge.Reading.{Reading}
-use Rattle.ill_elements.specs.declared.leaf_type.LeafType.{LeafType}
-use Rattle.ill_read.specs.declared.octets.Octets.{Octets}
+use Rattle.ill_grammar.specs.Written.{normal_element}
+use Rattle.ill_grammar.specs.code.Judging.{is_usual}
+use Rattle.ill_grammar.specs.declared.due.Next.{Next}
+use Rattle.ill_grammar.specs.declared.due.Next.TheVariants.{Segments}
+use Rattle.ill_grammar.specs.declared.due.Slot.{Slot}
+use Rattle.ill_grammar.specs.declared.element.Element.{Element as CodeElement}
+use Rattle.ill_grammar.specs.declared.element.Element.TheVariants.{Leaf as LeafElement, Sequence, List as ListOf, Wrapper, LooseWrapper, Segment, ModuleLeaf, BitString, BitSegment, Foreign}
+use Rattle.ill_grammar.specs.declared.frame.Frame.{Frame}
+use Rattle.ill_grammar.specs.declared.judge.Opening.{Opening}
+use Rattle.ill_grammar.specs.declared.judge.Reading.{Reading}
+use Rattle.ill_grammar.specs.declared.leaf_type.LeafType.{LeafType}
+use Rattle.ill_read.specs.declared.normal_form_draft.NormalFormDraft.{NormalFormDraft}
 use Rattle.ill_read.proofs.DeliveredEntries.{pushed_apart, pushed_segment}
-use Rattle.ill_elements.proofs.DueTags.{IsNoNumber, due_apart, due_bit_segment, kept}
-use Rattle.ill_elements.proofs.NormalLeaves.{no_bits, normal_as_read}
+use Rattle.ill_grammar.proofs.DueTags.{IsNoNumber, due_apart, due_bit_segment, kept}
+use Rattle.ill_grammar.proofs.NormalLeaves.{no_bits, normal_as_read}
 use Rattle.ill_read.proofs.WrittenElements.{entry_written, ended_written}
 
 -- an element that opens has written nothing in it
@@ -57,22 +57,22 @@ written_first (LeafElement l) = refl
 written_first _ = refl
 
 -- where no text is open, the octets are all there is
-front_of : (d : Octets) (e : CodeElement) (front text : List ℕ) → text ≡ [] → IsBehind d e front text → d.octets ≡ front
+front_of : (d : NormalFormDraft) (e : CodeElement) (front text : List ℕ) → text ≡ [] → IsBehind d e front text → d.octets ≡ front
 front_of d BitString front text none h = h.0
 front_of d _ front text none h = h ∙ ap (λ t. front ++ t) none ∙ append-nil front
 
-stands_behind : (d : Octets) (e : CodeElement) (front text : List ℕ) → d.octets ≡ front → text ≡ [] → IsNoSegment e → (e ≡ BitString → d.bits ≡ 0 ∷ []) → IsBehind d e front (text_opened e text)
+stands_behind : (d : NormalFormDraft) (e : CodeElement) (front text : List ℕ) → d.octets ≡ front → text ≡ [] → IsNoSegment e → (e ≡ BitString → d.bits ≡ 0 ∷ []) → IsBehind d e front (text_opened e text)
 stands_behind d BitString front text o none whole bits = (o, bits refl)
 stands_behind d Segment front text o none whole bits = absurd (whole.0 refl)
 stands_behind d BitSegment front text o none whole bits = absurd (whole.1 refl)
 stands_behind d _ front text o none whole bits = o ∙ sym (append-nil front) ∙ ap (λ t. front ++ t) (sym none)
 
-pub octets_opened : (old new : Octets) (next : Next) (o : Opening) (base : ℕ) (id : List ℕ) → IsNoSegment (read_as o.found) → (IsApartAs o → id ≡ identifier (tag_of_id o.id) (form_of (read_as o.found)))
-    → (read_as o.found ≡ BitString → new.bits ≡ 0 ∷ []) → new.octets ≡ old.octets ++ (id ++ 0 ∷ []) → base ≡ length new.octets → HasOpened AreOctets old next o base new
-octets_opened old new next o base id whole is bits e b levels text h opening inside = subst (λ ls. AreOctets new ls (text_opened (read_as o.found) text)) (sym (pushed_apart l levels whole)) (go levels h)
+pub octets_opened : (old new : NormalFormDraft) (next : Next) (o : Opening) (contents_start : ℕ) (id : List ℕ) → IsNoSegment (read_as o.found) → (IsApartAs o → id ≡ identifier (tag_of_id o.id) (form_of (read_as o.found)))
+    → (read_as o.found ≡ BitString → new.bits ≡ 0 ∷ []) → new.octets ≡ old.octets ++ (id ++ 0 ∷ []) → contents_start ≡ length new.octets → HasOpened AreOctets old next o contents_start new
+octets_opened old new next o contents_start id whole is bits e b levels text h opening inside = subst (λ ls. AreOctets new ls (text_opened (read_as o.found) text)) (sym (pushed_apart l levels whole)) (go levels h)
   where
     l : Level
-    l = record { element = (read_as o.found); tag = tag_of_id o.id; next = first_of (read_as o.found); base = base; entries = [] }
+    l = record { element = (read_as o.found); tag = tag_of_id o.id; next = first_of (read_as o.found); contents_start = contents_start; entries = [] }
 
     none : text ≡ []
     none = (opening whole).none
@@ -91,54 +91,54 @@ octets_opened old new next o base id whole is bits e b levels text h opening ins
         }
 
 -- a segment opens
-pub segment_opened : (old new : Octets) (next : Next) (o : Opening) (base : ℕ) → read_as o.found ≡ Segment → new ≡ old → HasOpened AreOctets old next o base new
-segment_opened old new next o base is same levels text h opening inside =
+pub segment_opened : (old new : NormalFormDraft) (next : Next) (o : Opening) (contents_start : ℕ) → read_as o.found ≡ Segment → new ≡ old → HasOpened AreOctets old next o contents_start new
+segment_opened old new next o contents_start is same levels text h opening inside =
     subst (λ d. AreOctets d (pushed l levels) (text_opened (read_as o.found) text)) (sym same)
     (subst (λ ls. AreOctets old ls (text_opened (read_as o.found) text)) (sym (pushed_segment l levels (inl is))) (subst (λ e. AreOctets old levels (text_opened e text)) (sym is) h))
   where
     l : Level
-    l = record { element = (read_as o.found); tag = tag_of_id o.id; next = first_of (read_as o.found); base = base; entries = [] }
+    l = record { element = (read_as o.found); tag = tag_of_id o.id; next = first_of (read_as o.found); contents_start = contents_start; entries = [] }
 
-none_behind : (d : Octets) (e : CodeElement) (front : List ℕ) → (e ≡ BitString → ⊥) → d.octets ≡ front → IsBehind d e front []
+none_behind : (d : NormalFormDraft) (e : CodeElement) (front : List ℕ) → (e ≡ BitString → ⊥) → d.octets ≡ front → IsBehind d e front []
 none_behind d BitString front other h = absurd (other refl)
 none_behind d _ front other h = h ∙ sym (append-nil front)
 
-behind_front : (d : Octets) (e : CodeElement) (front text : List ℕ) → (e ≡ BitString → ⊥) → IsBehind d e front text → d.octets ≡ front ++ text
+behind_front : (d : NormalFormDraft) (e : CodeElement) (front text : List ℕ) → (e ≡ BitString → ⊥) → IsBehind d e front text → d.octets ≡ front ++ text
 behind_front d BitString front text other h = absurd (other refl)
 behind_front d _ front text other h = h
 
-bits_behind : (d : Octets) (e : CodeElement) (front text : List ℕ) → e ≡ BitString → IsBehind d e front text → (d.octets ≡ front) × (d.bits ≡ text)
+bits_behind : (d : NormalFormDraft) (e : CodeElement) (front text : List ℕ) → e ≡ BitString → IsBehind d e front text → (d.octets ≡ front) × (d.bits ≡ text)
 bits_behind d e front text is h = subst (λ x. IsBehind d x front text) is h
 
 -- the text of a string grows
-pub text_more : (old new : Octets) (octets : List ℕ) → new.octets ≡ old.octets ++ octets → HasText AreOctets old octets new
+pub text_more : (old new : NormalFormDraft) (octets : List ℕ) → new.octets ≡ old.octets ++ octets → HasText AreOctets old octets new
 text_more old new octets e l below text other h =
     record { front = h.front; joined = front_behind new l.element h.front (text ++ octets) other (e ∙ ap (λ x. x ++ octets) (behind_front old l.element h.front text other h.joined) ∙ append_assoc h.front text octets); are = h.are }
   where
-    front_behind : (d : Octets) (e : CodeElement) (front text : List ℕ) → (e ≡ BitString → ⊥) → d.octets ≡ front ++ text → IsBehind d e front text
+    front_behind : (d : NormalFormDraft) (e : CodeElement) (front text : List ℕ) → (e ≡ BitString → ⊥) → d.octets ≡ front ++ text → IsBehind d e front text
     front_behind d BitString front text other h = absurd (other refl)
     front_behind d _ front text other h = h
 
 -- the bits of a BIT STRING grow
-bits_joined : (old new : Octets) (l : Level) (below : List Level) (text octets : List ℕ) → l.element ≡ BitString → new.octets ≡ old.octets → new.bits ≡ join_bits old.bits octets → AreOctets old (l ∷ below) text
+bits_joined : (old new : NormalFormDraft) (l : Level) (below : List Level) (text octets : List ℕ) → l.element ≡ BitString → new.octets ≡ old.octets → new.bits ≡ join_bits old.bits octets → AreOctets old (l ∷ below) text
     → AreOctets new (l ∷ below) (join_bits text octets)
 bits_joined old new l below text octets is same e h =
     let was = bits_behind old l.element h.front text is h.joined in
     record { front = h.front; joined = subst (λ x. IsBehind new x h.front (join_bits text octets)) (sym is) (same ∙ was.0, e ∙ ap (λ x. join_bits x octets) was.1); are = h.are }
 
-pub bits_more : (old new : Octets) (octets : List ℕ) → new.octets ≡ old.octets → new.bits ≡ join_bits old.bits octets → HasBits AreOctets old octets new
+pub bits_more : (old new : NormalFormDraft) (octets : List ℕ) → new.octets ≡ old.octets → new.bits ≡ join_bits old.bits octets → HasBits AreOctets old octets new
 bits_more old new octets same e l below text is h = bits_joined old new l below text octets is same e h
 
 -- a segment of a BIT STRING opens, and has no bits yet
-pub bit_segment_opened : (old new : Octets) (next : Next) (o : Opening) (base : ℕ) → read_as o.found ≡ BitSegment → new.octets ≡ old.octets → new.bits ≡ join_bits old.bits (0 ∷ []) → HasOpened AreOctets old next o base new
-bit_segment_opened old new next o base is same e levels text h opening inside =
+pub bit_segment_opened : (old new : NormalFormDraft) (next : Next) (o : Opening) (contents_start : ℕ) → read_as o.found ≡ BitSegment → new.octets ≡ old.octets → new.bits ≡ join_bits old.bits (0 ∷ []) → HasOpened AreOctets old next o contents_start new
+bit_segment_opened old new next o contents_start is same e levels text h opening inside =
     let x = inside is in
     let joined = bits_joined old new x.0 x.1 text (0 ∷ []) x.3 same e (subst (λ ls. AreOctets old ls text) x.2 h) in
     subst (λ ls. AreOctets new ls (text_opened (read_as o.found) text)) (sym (pushed_segment l levels (inr is)))
     (subst (λ e. AreOctets new levels (text_opened e text)) (sym is) (subst (λ ls. AreOctets new ls (join_bits text (0 ∷ []))) (sym x.2) joined))
   where
     l : Level
-    l = record { element = (read_as o.found); tag = tag_of_id o.id; next = first_of (read_as o.found); base = base; entries = [] }
+    l = record { element = (read_as o.found); tag = tag_of_id o.id; next = first_of (read_as o.found); contents_start = contents_start; entries = [] }
 
 -- a string that only the module profile has is primitive in DER
 pub module_string_form : (e : CodeElement) → IsModuleString e → (e ≡ BitSegment → ⊥) → form_of e ≡ false
@@ -167,7 +167,7 @@ more_written l (k ∷ below) slot c octets added e h = (
   h.5,
 )
 
-added_octets : (new : Octets) (l : Level) (below : List Level) (slot : Slot) (c : Content) (front added : List ℕ) → (l.element ≡ BitString → ⊥)
+added_octets : (new : NormalFormDraft) (l : Level) (below : List Level) (slot : Slot) (c : Content) (front added : List ℕ) → (l.element ≡ BitString → ⊥)
     → written l.element (with_entry l slot c).next (with_entry l slot c).entries ≡ written l.element l.next l.entries ++ added → AreWritten (l ∷ below) front → new.octets ≡ front ++ added
     → AreOctets new (with_entry l slot c ∷ below) []
 added_octets new l below slot c front added other w h e =
@@ -184,7 +184,7 @@ no_bit_string p l next tag slot alt e due whole is =
     segments_alone e (segment_tag bit_string) whole (due_bit_segment tag l.next (due_with slot alt e) due.is_due here)
 
 -- a leaf is added, unless it is its row's default
-pub leaf_added : (p : Named) (old new : Octets) (l : Level) (below : List Level) (next : Next) (r : Reading) (leaf : LeafType) (octets : List ℕ) → AreOctets old (l ∷ below) []
+pub leaf_added : (p : Named) (old new : NormalFormDraft) (l : Level) (below : List Level) (next : Next) (r : Reading) (leaf : LeafType) (octets : List ℕ) → AreOctets old (l ∷ below) []
     → IsDueAt p l next (tag_of_id r.id) (slot_in r.found) (alternative_of r.found) (LeafElement leaf) → IsTrue (are_octets octets) → content_fault (profile_of p) (leaf_is leaf) octets ≡ None
     → new.octets ≡ old.octets ++ unless_left next (slot_in r.found) (with_alternative (alternative_of r.found) (simple (value (leaf_is leaf) octets))) (encoding (primitive (tag_of_id r.id) (normal_content (value (leaf_is leaf) octets))))
     → AreOctets new (with_entry l (slot_in r.found) (with_alternative (alternative_of r.found) (simple (value (leaf_is leaf) octets))) ∷ below) []
@@ -240,7 +240,7 @@ other_normal p BitString tag octets c right is = ap (λ x. encoding (normal_elem
 other_normal p (Foreign m) tag octets c right is = ap (λ x. encoding (normal_element (foreign m) tag x)) is
 other_normal p _ tag octets c right is = absurd is
 
-pub other_added : (p : Named) (old new : Octets) (l : Level) (below : List Level) (next : Next) (r : Reading) (octets : List ℕ) (c : Content) → IsModuleElement (read_as r.found) → IsRightContent p (read_as r.found) octets
+pub other_added : (p : Named) (old new : NormalFormDraft) (l : Level) (below : List Level) (next : Next) (r : Reading) (octets : List ℕ) (c : Content) → IsModuleElement (read_as r.found) → IsRightContent p (read_as r.found) octets
     → AreOctets old (l ∷ below) [] → IsDueAt p l next (tag_of_id r.id) (slot_in r.found) (alternative_of r.found) (read_as r.found) → IsPrimitiveOf (read_as r.found) (tag_of_id r.id) octets c
     → new.octets ≡ old.octets ++ encoding (primitive (tag_of_id r.id) (other_octets (read_as r.found) octets))
     → AreOctets new (with_entry l (slot_in r.found) (with_alternative (alternative_of r.found) c) ∷ below) []
@@ -258,17 +258,17 @@ other_added p old new l below next r octets c other right h due is e =
     (no_bit_string p l next tag (slot_in r.found) (alternative_of r.found) el due (module_whole el other)) (entry ∙ ap (λ x. written l.element l.next l.entries ++ x) added) h.are (e ∙ ap (λ x. x ++ encoding (primitive tag (other_octets el octets))) front)
 
 -- the text of the innermost string
-pub text_at : (draft : Octets) (l : Level) (below : List Level) (text : List ℕ) → AreOctets draft (l ∷ below) text → (l.element ≡ BitString → ⊥) → written l.element l.next l.entries ≡ [] → drop l.base draft.octets ≡ text
+pub text_at : (draft : NormalFormDraft) (l : Level) (below : List Level) (text : List ℕ) → AreOctets draft (l ∷ below) text → (l.element ≡ BitString → ⊥) → written l.element l.next l.entries ≡ [] → drop l.contents_start draft.octets ≡ text
 text_at draft l [] text h other none =
     let front : h.front ≡ [] = h.are.0 ∙ none in
     ap₂ drop h.are.1 (behind_front draft l.element h.front text other h.joined ∙ ap (λ x. x ++ text) front)
 text_at draft l (k ∷ below) text h other none =
     let a = h.are in
     let front : h.front ≡ a.0 ++ a.1 = a.2 ∙ ap (λ x. a.0 ++ (a.1 ++ x)) none ∙ ap (λ x. a.0 ++ x) (append-nil a.1) in
-    ap (drop l.base) (behind_front draft l.element h.front text other h.joined) ∙ drop_at h.front text l.base (ap length front ∙ sym a.3)
+    ap (drop l.contents_start) (behind_front draft l.element h.front text other h.joined) ∙ drop_at h.front text l.contents_start (ap length front ∙ sym a.3)
 
 -- the bits of the innermost string
-pub bits_at : (draft : Octets) (l : Level) (below : List Level) (text : List ℕ) → AreOctets draft (l ∷ below) text → l.element ≡ BitString → draft.bits ≡ text
+pub bits_at : (draft : NormalFormDraft) (l : Level) (below : List Level) (text : List ℕ) → AreOctets draft (l ∷ below) text → l.element ≡ BitString → draft.bits ≡ text
 bits_at draft l below text h is = (bits_behind draft l.element h.front text is h.joined).1
 
 -- the contents that an element has at its end
@@ -336,11 +336,11 @@ content_whole (LooseWrapper w) n entries text c h = (λ s. cc, λ s. cc)
 content_whole (Foreign m) n entries text c h = (λ s. cc, λ s. cc)
 
 -- an element ends: its contents are made, and then its length is set
-pub octets_closed : (p : Named) (old new : Octets) (middle : List ℕ) (f : Frame) (next : Next) (tag : Tag) (entries : List (Option Content)) (trees : Trees) (l : Level) (below : List Level) (text : List ℕ) (c : Content)
+pub octets_closed : (p : Named) (old new : NormalFormDraft) (middle : List ℕ) (f : Frame) (next : Next) (tag : Tag) (entries : List (Option Content)) (trees : Trees) (l : Level) (below : List Level) (text : List ℕ) (c : Content)
     → AreOctets old (level_of f tag entries ∷ l ∷ below) text → IsHeld p (read_as f.found) (shape f.place) entries trees → IsRightText p (read_as f.found) text → IsContentOf (read_as f.found) (shape f.place) entries text c
     → ((T : Tree) × (tag_of T ≡ tag) × IsValueOf p (element_is (read_as f.found)) c T) → IsDueAt p l next tag (slot_in f.found) (alternative_of f.found) (read_as f.found)
-    → ((before : List ℕ) → IsBehind old (read_as f.found) (before ++ written (read_as f.found) (shape f.place) entries) text → f.base ≡ length before → middle ≡ before ++ contents_of (read_as f.found) (shape f.place) (written (read_as f.found) (shape f.place) entries) text)
-    → ((before body : List ℕ) (t : Tag) (form : Bool) (x : ℕ) → middle ≡ before ++ (identifier t form ++ x ∷ body) → f.base ≡ length (before ++ (identifier t form ++ x ∷ []))
+    → ((before : List ℕ) → IsBehind old (read_as f.found) (before ++ written (read_as f.found) (shape f.place) entries) text → f.contents_start ≡ length before → middle ≡ before ++ contents_of (read_as f.found) (shape f.place) (written (read_as f.found) (shape f.place) entries) text)
+    → ((before body : List ℕ) (t : Tag) (form : Bool) (x : ℕ) → middle ≡ before ++ (identifier t form ++ x ∷ body) → f.contents_start ≡ length (before ++ (identifier t form ++ x ∷ []))
     → new.octets ≡ before ++ (identifier t form ++ (shortest_length (length body) ++ body)))
     → AreOctets new (with_entry l (slot_in f.found) (with_alternative (alternative_of f.found) c) ∷ below) []
 octets_closed p old new middle f next tag entries trees l below text c h held right is value due made closed =
@@ -354,8 +354,8 @@ octets_closed p old new middle f next tag entries trees l below text c h held ri
     let all : IsBehind old (read_as f.found) ((a.0 ++ a.1) ++ w) text = subst (λ x. IsBehind old (read_as f.found) x text) (a.2 ∙ sym (append_assoc a.0 a.1 w)) h.joined in
     let middle_is : middle ≡ a.0 ++ (id ++ 0 ∷ contents) =
     made (a.0 ++ a.1) all a.3 ∙ append_assoc a.0 a.1 contents ∙ ap (λ x. a.0 ++ x) (ap (λ x. x ++ contents) header ∙ append_assoc id (0 ∷ []) contents) in
-    let base : f.base ≡ length (a.0 ++ (id ++ 0 ∷ [])) = a.3 ∙ ap (λ x. length (a.0 ++ x)) header in
-    let done = closed a.0 contents tag (form_of (read_as f.found)) 0 middle_is base ∙ ap (λ x. a.0 ++ x) (sym (ended_octets p (read_as f.found) (shape f.place) entries trees text c tag held right is value)) in
+    let contents_start : f.contents_start ≡ length (a.0 ++ (id ++ 0 ∷ [])) = a.3 ∙ ap (λ x. length (a.0 ++ x)) header in
+    let done = closed a.0 contents tag (form_of (read_as f.found)) 0 middle_is contents_start ∙ ap (λ x. a.0 ++ x) (sym (ended_octets p (read_as f.found) (shape f.place) entries trees text c tag held right is value)) in
     let here = subst (λ t. IsDueIn t l.next (due_with (slot_in f.found) (alternative_of f.found) (read_as f.found))) (sym value.1) due.is_due in
     let entry = entry_written p l.element l.next l.entries due.trees value.0 (slot_in f.found) (alternative_of f.found) (read_as f.found) c due.held here value.2 in
     let stays = kept tag l.next (slot_in f.found) (alternative_of f.found) (read_as f.found) c due.is_due (open_number p (read_as f.found) (shape f.place) entries trees held) in
@@ -388,25 +388,25 @@ contents_other (Foreign x) n entries text c k h m b loose = ap (λ t. written (F
 contents_other Segment n entries text c k h m b loose = absurd k
 
 -- the contents of an element that ends are made of what stands behind the octets before it
-pub leaf_made : (d : Octets) (e : CodeElement) (l : LeafType) (n : Next) (entries : List (Option Content)) (text before : List ℕ) → e ≡ LeafElement l → IsBehind d e (before ++ written e n entries) text
+pub leaf_made : (d : NormalFormDraft) (e : CodeElement) (l : LeafType) (n : Next) (entries : List (Option Content)) (text before : List ℕ) → e ≡ LeafElement l → IsBehind d e (before ++ written e n entries) text
     → d.octets ≡ before ++ contents_of e n (written e n entries) text
 leaf_made d e l n entries text before is h =
     let there = subst (λ x. IsBehind d x (before ++ written x n entries) text) is h in
     subst (λ x. d.octets ≡ before ++ contents_of x n (written x n entries) text) (sym is) (there ∙ ap (λ x. x ++ text) (append-nil before))
 
-pub module_leaf_made : (d : Octets) (e : CodeElement) (l : ModuleLeafType) (n : Next) (entries : List (Option Content)) (text before : List ℕ) → e ≡ ModuleLeaf l → IsBehind d e (before ++ written e n entries) text
+pub module_leaf_made : (d : NormalFormDraft) (e : CodeElement) (l : ModuleLeafType) (n : Next) (entries : List (Option Content)) (text before : List ℕ) → e ≡ ModuleLeaf l → IsBehind d e (before ++ written e n entries) text
     → d.octets ≡ before ++ contents_of e n (written e n entries) text
 module_leaf_made d e l n entries text before is h =
     let there = subst (λ x. IsBehind d x (before ++ written x n entries) text) is h in
     subst (λ x. d.octets ≡ before ++ contents_of x n (written x n entries) text) (sym is) (there ∙ ap (λ x. x ++ text) (append-nil before))
 
-pub bit_string_made : (d : Octets) (e : CodeElement) (n : Next) (entries : List (Option Content)) (text before middle : List ℕ) → e ≡ BitString → IsBehind d e (before ++ written e n entries) text → middle ≡ d.octets ++ cleared_content d.bits
+pub bit_string_made : (d : NormalFormDraft) (e : CodeElement) (n : Next) (entries : List (Option Content)) (text before middle : List ℕ) → e ≡ BitString → IsBehind d e (before ++ written e n entries) text → middle ≡ d.octets ++ cleared_content d.bits
     → middle ≡ before ++ contents_of e n (written e n entries) text
 bit_string_made d e n entries text before middle is h m =
     let there = subst (λ x. IsBehind d x (before ++ written x n entries) text) is h in
     subst (λ x. middle ≡ before ++ contents_of x n (written x n entries) text) (sym is) (m ∙ ap₂ (λ x y. x ++ cleared_content y) (there.0 ∙ append-nil before) there.1)
 
-pub other_made : (d : Octets) (e : CodeElement) (n : Next) (entries : List (Option Content)) (text before : List ℕ) → (e ≡ BitString → ⊥) → IsBehind d e (before ++ written e n entries) text → d.octets ≡ before ++ (written e n entries ++ text)
+pub other_made : (d : NormalFormDraft) (e : CodeElement) (n : Next) (entries : List (Option Content)) (text before : List ℕ) → (e ≡ BitString → ⊥) → IsBehind d e (before ++ written e n entries) text → d.octets ≡ before ++ (written e n entries ++ text)
 other_made d e n entries text before other h = behind_front d e (before ++ written e n entries) text other h ∙ append_assoc before (written e n entries) text
 
 pub loose_text : (w : _) (n : Next) (entries : List (Option Content)) (text : List ℕ) (c : Content) → IsContentOf (LooseWrapper w) n entries text c → text ≡ []
@@ -416,22 +416,22 @@ loose_text w n entries text c k = go n k
     go Segments k = k.0
     go _ k = k.0
 
--- what is plain in the constructed form is no string
-pub plain_form : (e : CodeElement) → IsTrue (is_plain e true) → form_of e ≡ true
-plain_form (Sequence node) h = refl
-plain_form (ListOf node) h = refl
-plain_form (Wrapper w) h = refl
-plain_form (LooseWrapper w) h = refl
-plain_form _ h = absurd cc
+-- an element that is usual in the constructed form is no string
+pub usual_form : (e : CodeElement) → IsTrue (is_usual e true) → form_of e ≡ true
+usual_form (Sequence node) h = refl
+usual_form (ListOf node) h = refl
+usual_form (Wrapper w) h = refl
+usual_form (LooseWrapper w) h = refl
+usual_form _ h = absurd cc
 
-pub not_segment : (e : CodeElement) → IsTrue (is_plain e true) → e ≡ Segment → ⊥
+pub not_segment : (e : CodeElement) → IsTrue (is_usual e true) → e ≡ Segment → ⊥
 not_segment Segment h s = cc
 not_segment _ h s = cc
 
-pub not_bit_segment : (e : CodeElement) → IsTrue (is_plain e true) → e ≡ BitSegment → ⊥
+pub not_bit_segment : (e : CodeElement) → IsTrue (is_usual e true) → e ≡ BitSegment → ⊥
 not_bit_segment BitSegment h s = cc
 not_bit_segment _ h s = cc
 
-pub not_bit_string : (e : CodeElement) → IsTrue (is_plain e true) → e ≡ BitString → ⊥
+pub not_bit_string : (e : CodeElement) → IsTrue (is_usual e true) → e ≡ BitString → ⊥
 not_bit_string BitString h s = cc
 not_bit_string _ h s = cc

@@ -7,30 +7,30 @@ use Rattle.std.proofs.Common.{◌≡◌, ℕ, List, [], ◌∷◌, ◌++◌, app
 use Rattle.ber_core.specs.Id.{tag_of_id}
 use Rattle.ber_core.specs.Identifier.{Tag}
 use Rattle.ber_core.specs.Tree.{constructed, none, octet_string}
-use Rattle.ill_cells.specs.Places.{alternative_of, node_of, part_of, what_of}
-use Rattle.ill_elements.specs.Elements.{element_is, is_two_element}
-use Rattle.ill_elements.specs.Due.{IsDueIn, behind, first_of, next_is, shape, shape_at, read_as, slot_in, next_place}
+use Rattle.ill_grammar.specs.Places.{alternative_of, node_of, part_of, type_of}
+use Rattle.ill_grammar.specs.Elements.{element_is, is_two_element}
+use Rattle.ill_grammar.specs.Due.{IsDueIn, behind, first_of, next_is, shape, shape_at, read_as, slot_in, next_place}
 use Rattle.ill_refusals.specs.Next.{opening}
 use Rattle.ill_refusals.specs.Place.{Open, allows, bound}
-use Rattle.ill_elements.specs.Standing.{Level, level_of, pushed, next_at, IsHeld, IsFrame}
+use Rattle.ill_grammar.specs.Standing.{Level, level_of, pushed, next_at, IsHeld, IsFrame}
 use Rattle.ill_read.specs.Paths.{text_so_far, HoldsAt}
 use Rattle.ill_refusals.specs.code.Step.{opened}
 use Rattle.ill_read.specs.code.Drafts.{HasOpened, InBitString, IsNoSegment, IsOpeningIn, text_opened}
 use Rattle.ill_read.proofs.StringLevels.{bit_level}
-use Rattle.ill_elements.specs.Due.{due_with}
-use Rattle.ill_elements.specs.declared.due.Next.{Next}
-use Rattle.ill_elements.specs.declared.due.Next.TheVariants.{Inner, Root}
-use Rattle.ill_elements.specs.declared.element.Element.{Element as CodeElement}
-use Rattle.ill_elements.specs.declared.element.Element.TheVariants.{Leaf, Sequence, List as ListOf, Wrapper, LooseWrapper, Segment, ModuleLeaf, BitString, BitSegment, Foreign}
-use Rattle.ill_elements.specs.declared.frame.Frame.{Frame}
-use Rattle.ill_elements.specs.declared.judge.Opening.{Opening}
+use Rattle.ill_grammar.specs.Due.{due_with}
+use Rattle.ill_grammar.specs.declared.due.Next.{Next}
+use Rattle.ill_grammar.specs.declared.due.Next.TheVariants.{Inner, Root}
+use Rattle.ill_grammar.specs.declared.element.Element.{Element as CodeElement}
+use Rattle.ill_grammar.specs.declared.element.Element.TheVariants.{Leaf, Sequence, List as ListOf, Wrapper, LooseWrapper, Segment, ModuleLeaf, BitString, BitSegment, Foreign}
+use Rattle.ill_grammar.specs.declared.frame.Frame.{Frame}
+use Rattle.ill_grammar.specs.declared.judge.Opening.{Opening}
 use Rattle.ill_read.specs.declared.path.Path.{Path}
 use Rattle.ill_read.proofs.DeliveredEntries.{innermost_level}
 use Rattle.ber_core.specs.Identifier.{HasIdentifier}
 use Rattle.ber_core.proofs.Foreign.{has_identified}
-use Rattle.ill_elements.proofs.ReadLeaves.{module_content, read_content}
-use Rattle.ill_elements.proofs.DueCells.{opens-by}
-use Rattle.ill_elements.proofs.DueTags.{bit_segment_due}
+use Rattle.ill_grammar.proofs.ReadLeaves.{module_content, read_content}
+use Rattle.ill_grammar.proofs.DueCells.{opens-by}
+use Rattle.ill_grammar.proofs.DueTags.{bit_segment_due}
 use Rattle.ill_read.proofs.Segments.{IsOutside, due_outside, segments_alone, text_with, no_text}
 
 -- an element that opens holds nothing
@@ -72,7 +72,7 @@ bound_opened p None round e tag start place h = h
 
 pub opens_at : {D : Type 0} (p : Named) (holds : D → List Level → List ℕ → Type 0) (old new : Path D) (opening : Opening) (f : Frame) (place : List Open) (round : ℕ) → HoldsAt p holds old place
     → IsDueIn (tag_of_id opening.id) (next_at p old.frames.open.items) (due_with (slot_in f.found) (alternative_of f.found) (read_as f.found)) → shape_at (next_place f.found) ≡ behind (next_at p old.frames.open.items) (slot_in f.found) → allows (element_is (read_as f.found)) true ≡ true → (shape f.place) ≡ first_of (read_as f.found)
-    → round ≡ bound (profile_of p) place → f.bound ≡ unwrap_or f.end round → HasOpened holds old.draft (next_at p old.frames.open.items) opening f.base new.draft → new.frames.open.items ≡ old.frames.open.items ++ f ∷ [] → new.frames.profile ≡ old.frames.profile → f.found ≡ opening.found
+    → round ≡ bound (profile_of p) place → f.bound ≡ unwrap_or f.end round → HasOpened holds old.draft (next_at p old.frames.open.items) opening f.contents_start new.draft → new.frames.open.items ≡ old.frames.open.items ++ f ∷ [] → new.frames.profile ≡ old.frames.profile → f.found ≡ opening.found
     → HoldsAt p holds new (opened (element_is (read_as f.found)) (tag_of_id opening.id) f.start f.end ∷ place)
 opens_at p holds old new opening f place round h due after allowed first r b has frames same is =
     let tag = tag_of_id opening.id in
@@ -83,7 +83,7 @@ opens_at p holds old new opening f place round h due after allowed first r b has
       identified = has_identified tag true (subst (HasIdentifier tag) opening.form opening.id.valid);
       end = refl;
       bound = b ∙ bound_opened p f.end round (read_as f.found) tag f.start place r;
-      next = ap next_is first ∙ opens-by (what_of f.found) (part_of f.found) (node_of f.found);
+      next = ap next_is first ∙ opens-by (type_of f.found) (part_of f.found) (node_of f.found);
       is_due = due;
       after = after;
       held = holds_none p (read_as f.found) (shape f.place) first allowed;
@@ -108,9 +108,9 @@ opens_at p holds old new opening f place round h due after allowed first r b has
     let l = bit_level p place old.frames.open.items h.0 h.1 (bit_segment_due tag next due_here due (ap element_is (ap read_as is ∙ s))) in
     (l.level, l.below, l.are, l.is) in
     let kept = has h.0 (text_so_far place) h.2 opens_in in_bits in
-    let opened_as : CodeElement → Level = λ e. record { element = e; tag = tag; next = first_of e; base = f.base; entries = [] } in
+    let opened_as : CodeElement → Level = λ e. record { element = e; tag = tag; next = first_of e; contents_start = f.contents_start; entries = [] } in
     let level : opened_as (read_as opening.found) ≡ level_of f tag [] =
-    ap opened_as (ap read_as (sym is)) ∙ ap (λ n. let l : Level = record { element = (read_as f.found); tag = tag; next = n; base = f.base; entries = [] } in l) (sym first) in (
+    ap opened_as (ap read_as (sym is)) ∙ ap (λ n. let l : Level = record { element = (read_as f.found); tag = tag; next = n; contents_start = f.contents_start; entries = [] } in l) (sym first) in (
       pushed (level_of f tag []) h.0,
       (old.frames.open.items, f, h.0, [], frames, refl, framed, h.1),
       subst (holds new.draft (pushed (level_of f tag []) h.0)) (ap (λ x. text_opened (read_as x) (text_so_far place)) (sym is) ∙ opened_text (read_as f.found) (text_so_far place) none_before)

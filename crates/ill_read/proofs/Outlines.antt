@@ -1,6 +1,6 @@
 -- The marks that an outline has, as elements open, are read and end.
 use Rattle.std.proofs.lemmas.List.{map-append}
-use Rattle.ill_elements.specs.Elements.{element_is}
+use Rattle.ill_grammar.specs.Elements.{element_is}
 use Rattle.ill_schema.specs.declared.profile.Profile.TheVariants.{Module, Two}
 use Rattle.ill_schema.specs.declared.profile.Profile.{Profile as Named}
 use Rattle.ill_schema.specs.Profiles.{profile_of}
@@ -14,13 +14,13 @@ use Rattle.ber_leaf.specs.Segments.{join_bits}
 use Rattle.ber_leaf.specs.Leaf.{Leaf as LeafKind, bit_string}
 use Rattle.std.proofs.Common.{◌⊎◌, ap₂}
 use Rattle.std.proofs.Math.Seq.{drop-append_seam}
-use Rattle.ill_elements.specs.Contents.{IsValueOf}
-use Rattle.ill_elements.specs.Found.{Found}
-use Rattle.ill_elements.specs.LeafTypes.{IsContentIn, module_leaf_is}
-use Rattle.ill_elements.specs.Standing.{level_of, top_part}
-use Rattle.ill_elements.proofs.DueTags.{AwaitsForeign, IsForeign, awaited, foreign_due}
-use Rattle.ill_elements.proofs.Meanings.{closed}
-use Rattle.ill_read.specs.declared.octets.Octets.{Octets}
+use Rattle.ill_grammar.specs.Contents.{IsValueOf}
+use Rattle.ill_grammar.specs.Found.{Found}
+use Rattle.ill_grammar.specs.LeafTypes.{IsContentIn, module_leaf_is}
+use Rattle.ill_grammar.specs.Standing.{level_of, top_part}
+use Rattle.ill_grammar.proofs.DueTags.{AwaitsForeign, IsForeign, awaited, foreign_due}
+use Rattle.ill_grammar.proofs.Meanings.{closed}
+use Rattle.ill_read.specs.declared.normal_form_draft.NormalFormDraft.{NormalFormDraft}
 use Rattle.std.proofs.Common.{IsTrue, ◌≡◌, ℕ, List, [], ◌∷◌, ◌++◌, length, map, append_assoc, append-nil, Option, Some, None, refl, sym, ap, subst, ◌∙◌, inl, inr, true, false, Bool}
 use Rattle.std.proofs.lemmas.Option.{slice_get_cases}
 use Rattle.ber_core.specs.Id.{tag_of_id}
@@ -38,30 +38,30 @@ use Rattle.ill_schema.specs.declared.node.NodeId.{NodeId}
 use Rattle.ill_schema.specs.declared.part.PartId.{PartId}
 use Rattle.ill_schema.specs.declared.part.Presence.{Presence}
 use Rattle.ill_schema.specs.declared.part.Row.{Row}
-use Rattle.ill_cells.specs.Places.{alternative_of}
-use Rattle.ill_elements.specs.Due.{IsDueIn, behind, shape, first_of, read_as, slot_in}
-use Rattle.ill_elements.specs.LeafTypes.{leaf_is}
+use Rattle.ill_grammar.specs.Places.{alternative_of}
+use Rattle.ill_grammar.specs.Due.{IsDueIn, behind, shape, first_of, read_as, slot_in}
+use Rattle.ill_grammar.specs.LeafTypes.{leaf_is}
 use Rattle.ill_read.specs.Outline.{AreEntries, AreItems, IsMarked, leaf_marked, octets_marks}
-use Rattle.ill_elements.specs.Standing.{Level, IsHeld}
-use Rattle.ill_elements.specs.Contents.{with_alternative, absent_content}
+use Rattle.ill_grammar.specs.Standing.{Level, IsHeld}
+use Rattle.ill_grammar.specs.Contents.{with_alternative, absent_content}
 use Rattle.ill_read.specs.code.Drafts.{HasBits, HasModuleElement, IsModuleElement, IsPrimitiveOf, IsRightContent, text_opened, IsNoSegment, HasOpened, HasClosed, HasLeaf, HasText, HoldsApdu, HasEnded, IsContentOf, IsDueAt, IsOpeningIn, IsRightText, rows_before, rows_left, with_entry}
-use Rattle.ill_elements.specs.Due.{due_with}
+use Rattle.ill_grammar.specs.Due.{due_with}
 use Rattle.ill_read.specs.code.OctetDrafts.{AreNormal, AreOctets, AreWritten, IsBehind, innermost, written}
 use Rattle.ill_read.specs.code.Outlines.{AreFronts, AreLed, AreOutlined, AreOwn, AreOwnAs, ArePassed, HasLed, HasOutline, HasPassed, HasRear, IsLed, alternative_marks, first_marks, foreign_marks, held_marks, is_any, is_open_type, last_marks, late_marks, start_marks, text_marks}
-use Rattle.ill_elements.specs.declared.due.Next.{Next}
-use Rattle.ill_elements.specs.declared.due.Next.TheVariants.{Rows, Inner, Items, Either, Segments, BitSegments, Foreigns, Nothing, Root}
-use Rattle.ill_elements.specs.declared.due.Slot.{Slot}
-use Rattle.ill_elements.specs.declared.due.Slot.TheVariants.{Row as AtRow}
-use Rattle.ill_elements.specs.declared.element.Element.{Element as CodeElement}
-use Rattle.ill_elements.specs.declared.element.Element.TheVariants.{Leaf, Sequence, List as ListOf, Wrapper, LooseWrapper, Segment, ModuleLeaf, BitString, BitSegment, Foreign}
-use Rattle.ill_elements.specs.declared.element.Wrapped.{Wrapped}
-use Rattle.ill_elements.specs.declared.frame.Frame.{Frame}
-use Rattle.ill_elements.specs.declared.judge.Opening.{Opening}
-use Rattle.ill_elements.specs.declared.judge.Reading.{Reading}
-use Rattle.ill_elements.specs.declared.leaf_type.LeafType.{LeafType}
+use Rattle.ill_grammar.specs.declared.due.Next.{Next}
+use Rattle.ill_grammar.specs.declared.due.Next.TheVariants.{Rows, Inner, Items, Either, Segments, BitSegments, Foreigns, Nothing, Root}
+use Rattle.ill_grammar.specs.declared.due.Slot.{Slot}
+use Rattle.ill_grammar.specs.declared.due.Slot.TheVariants.{Row as AtRow}
+use Rattle.ill_grammar.specs.declared.element.Element.{Element as CodeElement}
+use Rattle.ill_grammar.specs.declared.element.Element.TheVariants.{Leaf, Sequence, List as ListOf, Wrapper, LooseWrapper, Segment, ModuleLeaf, BitString, BitSegment, Foreign}
+use Rattle.ill_grammar.specs.declared.element.Wrapped.{Wrapped}
+use Rattle.ill_grammar.specs.declared.frame.Frame.{Frame}
+use Rattle.ill_grammar.specs.declared.judge.Opening.{Opening}
+use Rattle.ill_grammar.specs.declared.judge.Reading.{Reading}
+use Rattle.ill_grammar.specs.declared.leaf_type.LeafType.{LeafType}
 use Rattle.ill_read.specs.declared.mark.Mark.{Mark}
 use Rattle.ill_read.specs.declared.mark.Mark.TheVariants as mark
-use Rattle.ill_read.specs.declared.outline.Outlining.{Outlining}
+use Rattle.ill_read.specs.declared.outline_draft.OutlineDraft.{OutlineDraft}
 use Rattle.ill_read.proofs.DeliveredEntries.{pushed_apart, pushed_segment}
 use Rattle.ill_read.proofs.HeldEntries.{drop-take-more}
 use Rattle.ill_read.proofs.AddedEntries.{one_due}
@@ -75,10 +75,10 @@ passed_join (x ∷ xs) ys a b h k = (h.0, h.1 ++ b, ap (λ ms. ms ++ b) h.2, h.3
 
 -- one more row is passed
 pub passed_more : (node : NodeId) (from n : ℕ) (old mid new : List Mark) → from ≤ n → n < length (rows_of node) → HasPassed [] (drop from (take n (rows_of node))) old mid
-    → new ≡ mid ++ mark.Passed (record { node = node; row = n }) ∷ [] → HasPassed [] (drop from (take (n + 1) (rows_of node))) old new
+    → new ≡ mid ++ mark.Absent (record { node = node; row = n }) ∷ [] → HasPassed [] (drop from (take (n + 1) (rows_of node))) old new
 passed_more node from n old mid new h within p a =
     let s : n + 1 ≡ suc n = omega arith in
-    let part = mark.Passed (record { node = node; row = n }) in
+    let part = mark.Absent (record { node = node; row = n }) in
     let r = row_there (rows_of node) n within in
     let more : drop from (take (n + 1) (rows_of node)) ≡ drop from (take n (rows_of node)) ++ r.0 ∷ [] = ap (λ i. drop from (take i (rows_of node))) s ∙ drop-take-more from n (rows_of node) r.0 h r.1 in
     record {
@@ -103,12 +103,12 @@ default_leaf : (p : Presence) (node : NodeId) (c : Content) → (elim p as (λ _
 default_leaf (Presence.Default d) node c e = let q : simple (default_value (kind_of node) d) ≡ c = cc in (default_value (kind_of node) d, sym q)
 default_leaf _ node c e = absurd cc
 
-passed_entry : (row : Row) (e : Option Content) (es : List (Option Content)) (part : PartId) (rest ms : List Mark) → ms ≡ mark.Passed part ∷ rest → slice_get (rows_of part.node) part.row ≡ Some row → absent_content row ≡ e
+passed_entry : (row : Row) (e : Option Content) (es : List (Option Content)) (part : PartId) (rest ms : List Mark) → ms ≡ mark.Absent part ∷ rest → slice_get (rows_of part.node) part.row ≡ Some row → absent_content row ≡ e
     → AreEntries (entries_of es) rest → AreEntries (entries_of (e ∷ es)) ms
 passed_entry row None es part rest ms is at q h = (part, rest, is, (row, at, q), h)
 passed_entry row (Some c) es part rest ms is at q h =
     let s = default_leaf row.presence row.node c q in
-    (mark.Passed part ∷ [], rest, is, subst (λ x. IsMarked x (mark.Passed part ∷ [])) (sym s.1) (inr (part, refl, (row, at, q ∙ ap (λ x. Some x) s.1))), h)
+    (mark.Absent part ∷ [], rest, is, subst (λ x. IsMarked x (mark.Absent part ∷ [])) (sym s.1) (inr (part, refl, (row, at, q ∙ ap (λ x. Some x) s.1))), h)
 
 pub passed_entries : (rows : List Row) (ms : List Mark) → ArePassed rows ms → AreEntries (entries_of (map absent_content rows)) ms
 passed_entries [] ms h = h
@@ -363,9 +363,9 @@ opened_none BitString text whole none = refl
 opened_none BitSegment text whole none = absurd (whole.1 refl)
 opened_none _ text whole none = ap (map mark.Octet) none
 
-pub outline_opened : (old new : Outlining) (next : Next) (o : Opening) (base : ℕ) (mid : List Mark) → IsNoSegment (read_as o.found) → HasOpened AreOctets old.octets next o base new.octets
-    → HasLed next (slot_in o.found) (alternative_of o.found) old.marks.items mid → new.marks.items ≡ mid ++ first_marks (first_of (read_as o.found)) (read_as o.found) → HasOpened AreOutlined old next o base new
-outline_opened old new next o base mid whole octets led e levels text h opening inside = record {
+pub outline_opened : (old new : OutlineDraft) (next : Next) (o : Opening) (contents_start : ℕ) (mid : List Mark) → IsNoSegment (read_as o.found) → HasOpened AreOctets old.octets next o contents_start new.octets
+    → HasLed next (slot_in o.found) (alternative_of o.found) old.marks.items mid → new.marks.items ≡ mid ++ first_marks (first_of (read_as o.found)) (read_as o.found) → HasOpened AreOutlined old next o contents_start new
+outline_opened old new next o contents_start mid whole octets led e levels text h opening inside = record {
   octets = octets levels text h.octets opening inside;
   front = new.marks.items;
   joined = sym (append-nil new.marks.items) ∙ ap (λ t. new.marks.items ++ t) (sym (ap (λ ls. text_marks (innermost ls) (text_opened (read_as o.found) text)) (pushed_apart l levels whole) ∙ opened_none (read_as o.found) text whole i.none));
@@ -374,7 +374,7 @@ outline_opened old new next o base mid whole octets led e levels text h opening 
 }
   where
     l : Level
-    l = record { element = (read_as o.found); tag = tag_of_id o.id; next = first_of (read_as o.found); base = base; entries = [] }
+    l = record { element = (read_as o.found); tag = tag_of_id o.id; next = first_of (read_as o.found); contents_start = contents_start; entries = [] }
 
     i : IsOpeningIn levels text next o
     i = opening whole
@@ -387,8 +387,8 @@ outline_opened old new next o base mid whole octets led e levels text h opening 
         (record { slot = slot_in o.found; alternative = alternative_of o.found; is_due = i.is_due; led = subst (λ ms. HasLed next (slot_in o.found) (alternative_of o.found) ms mid) front led })
 
 -- a segment of a string has no marks of its own
-pub outline_segment : (old new : Outlining) (next : Next) (o : Opening) (base : ℕ) → (read_as o.found ≡ Segment) ⊎ (read_as o.found ≡ BitSegment) → HasOpened AreOctets old.octets next o base new.octets → new.marks ≡ old.marks → HasOpened AreOutlined old next o base new
-outline_segment old new next o base is octets same levels text h opening inside =
+pub outline_segment : (old new : OutlineDraft) (next : Next) (o : Opening) (contents_start : ℕ) → (read_as o.found ≡ Segment) ⊎ (read_as o.found ≡ BitSegment) → HasOpened AreOctets old.octets next o contents_start new.octets → new.marks ≡ old.marks → HasOpened AreOutlined old next o contents_start new
+outline_segment old new next o contents_start is octets same levels text h opening inside =
     let joined : old.marks.items ≡ h.front ++ text_marks (innermost levels) (text_opened (read_as o.found) text) = h.joined ∙ ap (λ ms. h.front ++ ms) (stays is) in
     record {
       octets = octets levels text h.octets opening inside;
@@ -398,7 +398,7 @@ outline_segment old new next o base is octets same levels text h opening inside 
     }
   where
     l : Level
-    l = record { element = (read_as o.found); tag = tag_of_id o.id; next = first_of (read_as o.found); base = base; entries = [] }
+    l = record { element = (read_as o.found); tag = tag_of_id o.id; next = first_of (read_as o.found); contents_start = contents_start; entries = [] }
 
     stays : (read_as o.found ≡ Segment) ⊎ (read_as o.found ≡ BitSegment) → text_marks (innermost levels) text ≡ text_marks (innermost levels) (text_opened (read_as o.found) text)
     stays (inl s) = ap (λ e. text_marks (innermost levels) (text_opened e text)) (sym s)
@@ -408,7 +408,7 @@ outline_segment old new next o base is octets same levels text h opening inside 
         ap (λ e. text_marks e text) bits ∙ ap (λ e. text_marks e (text_opened (read_as o.found) text)) (sym bits)
 
 -- the text of a string grows
-pub outline_text : (old new : Outlining) (octets : List ℕ) → HasText AreOctets old.octets octets new.octets → new.marks.items ≡ old.marks.items ++ map mark.Octet octets → HasText AreOutlined old octets new
+pub outline_text : (old new : OutlineDraft) (octets : List ℕ) → HasText AreOctets old.octets octets new.octets → new.marks.items ≡ old.marks.items ++ map mark.Octet octets → HasText AreOutlined old octets new
 outline_text old new octets has e l below text other h = record {
   octets = has l below text other h.octets;
   front = h.front;
@@ -418,7 +418,7 @@ outline_text old new octets has e l below text other h = record {
 }
 
 -- a BIT STRING has its marks when it ends
-pub outline_bits : (old new : Outlining) (octets : List ℕ) → HasBits AreOctets old.octets octets new.octets → new.marks ≡ old.marks → HasBits AreOutlined old octets new
+pub outline_bits : (old new : OutlineDraft) (octets : List ℕ) → HasBits AreOctets old.octets octets new.octets → new.marks ≡ old.marks → HasBits AreOutlined old octets new
 outline_bits old new octets has same l below text is h = record {
   octets = has l below text is h.octets;
   front = h.front;
@@ -427,7 +427,7 @@ outline_bits old new octets has same l below text is h = record {
 }
 
 -- an entry more in the innermost element, where no text is open
-outline_entry : (p : Named) (old new : Outlining) (l : Level) (below : List Level) (next : Next) (r : Reading) (el : CodeElement) (c : Content) (mid y : List Mark) → AreOutlined old (l ∷ below) [] → IsDueAt p l next (tag_of_id r.id) (slot_in r.found) (alternative_of r.found) el
+outline_entry : (p : Named) (old new : OutlineDraft) (l : Level) (below : List Level) (next : Next) (r : Reading) (el : CodeElement) (c : Content) (mid y : List Mark) → AreOutlined old (l ∷ below) [] → IsDueAt p l next (tag_of_id r.id) (slot_in r.found) (alternative_of r.found) el
     → HasLed next (slot_in r.found) (alternative_of r.found) old.marks.items mid → new.marks.items ≡ mid ++ y → IsEntryMarked el c y → AreFronts (with_entry l (slot_in r.found) (with_alternative (alternative_of r.found) c) ∷ below) new.marks.items
 outline_entry p old new l below next r el c mid y h due led e m =
     let front : old.marks.items ≡ h.front = h.joined ∙ ap (λ ms. h.front ++ ms) (text_none l.element) ∙ append-nil h.front in
@@ -437,7 +437,7 @@ outline_entry p old new l below next r el c mid y h due led e m =
 closed_text : (ms : List Mark) (e : CodeElement) → ms ≡ ms ++ text_marks e []
 closed_text ms e = sym (append-nil ms) ∙ ap (λ t. ms ++ t) (sym (text_none e))
 
-pub outline_leaf : (p : Named) (old new : Outlining) (next : Next) (r : Reading) (leaf : LeafType) (octets : List ℕ) (mid : List Mark) → IsContentIn p (leaf_is leaf) octets → HasLeaf p AreOctets old.octets next r leaf octets new.octets
+pub outline_leaf : (p : Named) (old new : OutlineDraft) (next : Next) (r : Reading) (leaf : LeafType) (octets : List ℕ) (mid : List Mark) → IsContentIn p (leaf_is leaf) octets → HasLeaf p AreOctets old.octets next r leaf octets new.octets
     → HasLed next (slot_in r.found) (alternative_of r.found) old.marks.items mid → new.marks.items ≡ mid ++ octets_marks (mark.Leaf leaf) octets → HasLeaf p AreOutlined old next r leaf octets new
 outline_leaf p old new next r leaf octets mid right has led e after l below h due = record {
   octets = has after l below h.octets due;
@@ -460,7 +460,7 @@ module_marked p BitString tag octets c other right is =
 module_marked p (Foreign m) tag octets c other right is = refl
 module_marked p _ tag octets c other right is = absurd other
 
-pub outline_element : (p : Named) (old new : Outlining) (next : Next) (r : Reading) (octets : List ℕ) (mid : List Mark) → IsModuleElement (read_as r.found) → IsRightContent p (read_as r.found) octets → HasModuleElement p AreOctets old.octets next r octets new.octets
+pub outline_element : (p : Named) (old new : OutlineDraft) (next : Next) (r : Reading) (octets : List ℕ) (mid : List Mark) → IsModuleElement (read_as r.found) → IsRightContent p (read_as r.found) octets → HasModuleElement p AreOctets old.octets next r octets new.octets
     → HasLed next (slot_in r.found) (alternative_of r.found) old.marks.items mid → new.marks.items ≡ mid ++ module_marks (read_as r.found) octets → HasModuleElement p AreOutlined old next r octets new
 outline_element p old new next r octets mid other right has led e l below c h due is = record {
   octets = has l below c h.octets due is;
@@ -482,34 +482,34 @@ foreign_led p l next t slot alt m ms due =
     go _ o none = absurd o
 
 -- the octets of an element stand behind the offset at which it began
-behind_base : (l : Level) (k : Level) (below : List Level) (front : List ℕ) → AreWritten (l ∷ k ∷ below) front → drop l.base front ≡ written l.element l.next l.entries
+behind_base : (l : Level) (k : Level) (below : List Level) (front : List ℕ) → AreWritten (l ∷ k ∷ below) front → drop l.contents_start front ≡ written l.element l.next l.entries
 behind_base l k below front a =
     ap₂ drop a.3 (a.2 ∙ sym (append_assoc a.0 a.1 (written l.element l.next l.entries))) ∙ drop-append_seam (a.0 ++ a.1) (written l.element l.next l.entries)
 
-plain_behind : (d : Octets) (e : CodeElement) (front text : List ℕ) → (e ≡ BitString → ⊥) → IsBehind d e front text → text ≡ [] → d.octets ≡ front
+plain_behind : (d : NormalFormDraft) (e : CodeElement) (front text : List ℕ) → (e ≡ BitString → ⊥) → IsBehind d e front text → text ≡ [] → d.octets ≡ front
 plain_behind d BitString front text other h none = absurd (other refl)
 plain_behind d _ front text other h none = h ∙ ap (λ t. front ++ t) none ∙ append-nil front
 
 -- what is marked when an element ends
-inside_marked : (p : Named) (e : CodeElement) (n : Next) (entries : List (Option Content)) (d : Octets) (base : ℕ) (text : List ℕ) (c : Content) (T : Tree) → IsContentOf e n entries text c → IsValueOf p (element_is e) c T
-    → (e ≡ BitString → d.bits ≡ text) → ((e ≡ BitString → ⊥) → text ≡ [] → drop base d.octets ≡ written e n entries) → IsInside e c text (text_marks e text ++ held_marks e d base)
-inside_marked p BitString n entries d base text c T is v bits behind = ap (map mark.Octet) (bits refl)
-inside_marked p (Foreign m) n entries d base text c T is v bits behind = ap (λ t. map mark.Octet t ++ []) is.0
-inside_marked p (Wrapper w) n entries d base text c T is v bits behind = go (is_any (kind_of w.node)) refl
+inside_marked : (p : Named) (e : CodeElement) (n : Next) (entries : List (Option Content)) (d : NormalFormDraft) (contents_start : ℕ) (text : List ℕ) (c : Content) (T : Tree) → IsContentOf e n entries text c → IsValueOf p (element_is e) c T
+    → (e ≡ BitString → d.bits ≡ text) → ((e ≡ BitString → ⊥) → text ≡ [] → drop contents_start d.octets ≡ written e n entries) → IsInside e c text (text_marks e text ++ held_marks e d contents_start)
+inside_marked p BitString n entries d contents_start text c T is v bits behind = ap (map mark.Octet) (bits refl)
+inside_marked p (Foreign m) n entries d contents_start text c T is v bits behind = ap (λ t. map mark.Octet t ++ []) is.0
+inside_marked p (Wrapper w) n entries d contents_start text c T is v bits behind = go (is_any (kind_of w.node)) refl
   where
-    go : (b : Bool) → is_any (kind_of w.node) ≡ b → IsInsideAs b c text (map mark.Octet text ++ foreign_marks b (drop base d.octets))
+    go : (b : Bool) → is_any (kind_of w.node) ≡ b → IsInsideAs b c text (map mark.Octet text ++ foreign_marks b (drop contents_start d.octets))
     go false q = append-nil _
     go true q =
         let held = open_holds p c w.node v.1 (any_is (kind_of w.node) q) v.3 in
-        let octets : drop base d.octets ≡ encoding v.1 = behind (λ s. cc) is.0 ∙ ap (written (Wrapper w) n) (is.1 ∙ ap (λ x. Some x ∷ []) held.0) in
-        (v.1, held.0, held.1, ap (λ t. map mark.Octet t ++ foreign_marks true (drop base d.octets)) is.0 ∙ ap (octets_marks mark.Foreign) octets)
-inside_marked p _ n entries d base text c T is v bits behind = append-nil _
+        let octets : drop contents_start d.octets ≡ encoding v.1 = behind (λ s. cc) is.0 ∙ ap (written (Wrapper w) n) (is.1 ∙ ap (λ x. Some x ∷ []) held.0) in
+        (v.1, held.0, held.1, ap (λ t. map mark.Octet t ++ foreign_marks true (drop contents_start d.octets)) is.0 ∙ ap (octets_marks mark.Foreign) octets)
+inside_marked p _ n entries d contents_start text c T is v bits behind = append-nil _
 
-bits_behind : (d : Octets) (e : CodeElement) (front text : List ℕ) → IsBehind d e front text → e ≡ BitString → d.bits ≡ text
+bits_behind : (d : NormalFormDraft) (e : CodeElement) (front text : List ℕ) → IsBehind d e front text → e ≡ BitString → d.bits ≡ text
 bits_behind d e front text h is = (let k : IsBehind d BitString front text = subst (λ x. IsBehind d x front text) is h in k.1)
 
 -- an element ends: its last marks are put after its own
-pub outline_closed : (p : Named) (old new : Outlining) (f : Frame) (next : Next) (mid : List Mark) → HasClosed p AreOctets old.octets f next new.octets → mid ≡ old.marks.items ++ held_marks (read_as f.found) old.octets f.base → HasRear (shape f.place) mid new.marks.items
+pub outline_closed : (p : Named) (old new : OutlineDraft) (f : Frame) (next : Next) (mid : List Mark) → HasClosed p AreOctets old.octets f next new.octets → mid ≡ old.marks.items ++ held_marks (read_as f.found) old.octets f.contents_start → HasRear (shape f.place) mid new.marks.items
     → HasClosed p AreOutlined old f next new
 outline_closed p old new f next mid has held_as rear tag entries trees l below text c h held right is value due =
     let a = h.are in
@@ -517,16 +517,16 @@ outline_closed p old new f next mid has held_as rear tag entries trees l below t
     let n = shape f.place in
     let first = first_marks n e in
     let last = late_marks n ++ (rear.rows ++ last_marks n) in
-    let inside = text_marks e text ++ held_marks e old.octets f.base in
+    let inside = text_marks e text ++ held_marks e old.octets f.contents_start in
     let marks : new.marks.items ≡ a.1 ++ whole_marks n e a.2 inside rear.rows =
-    rear.added ∙ ap (λ ms. ms ++ last) (held_as ∙ ap (λ ms. ms ++ held_marks e old.octets f.base) (h.joined ∙ ap (λ ms. ms ++ text_marks e text) a.3) ∙ append_assoc (a.1 ++ (first ++ a.2)) (text_marks e text) (held_marks e old.octets f.base))
+    rear.added ∙ ap (λ ms. ms ++ last) (held_as ∙ ap (λ ms. ms ++ held_marks e old.octets f.contents_start) (h.joined ∙ ap (λ ms. ms ++ text_marks e text) a.3) ∙ append_assoc (a.1 ++ (first ++ a.2)) (text_marks e text) (held_marks e old.octets f.contents_start))
     ∙ append_assoc (a.1 ++ (first ++ a.2)) inside last ∙ append_assoc a.1 (first ++ a.2) (inside ++ last)
     ∙ ap (λ ms. a.1 ++ ms) (append_assoc first a.2 (inside ++ last) ∙ ap (λ ms. first ++ ms) (sym (append_assoc a.2 inside last))) in
     let due_as : (s : Slot) (alt : Option ℕ) → IsDueIn tag l.next (due_with s alt e) → IsDueIn (tag_of value.0) l.next (due_with s alt e) = λ s alt. subst (λ t. IsDueIn t l.next (due_with s alt e)) (sym value.1) in
     let one = one_due p value.0 l.next a.4.slot (slot_in f.found) a.4.alternative (alternative_of f.found) e c (due_as _ _ a.4.is_due) (due_as _ _ due.is_due) value.2 in
     let o = h.octets in
-    let inner = inside_marked p e n entries old.octets f.base text c value.0 is value.2 (bits_behind old.octets e o.front text o.joined)
-    (λ other none. ap (drop f.base) (plain_behind old.octets e o.front text other o.joined none) ∙ behind_base (level_of f tag entries) l below o.front o.are) in
+    let inner = inside_marked p e n entries old.octets f.contents_start text c value.0 is value.2 (bits_behind old.octets e o.front text o.joined)
+    (λ other none. ap (drop f.contents_start) (plain_behind old.octets e o.front text other o.joined none) ∙ behind_base (level_of f tag entries) l below o.front o.are) in
     let there = entry_marked p l below next tag a.4.slot a.4.alternative e c a.0 a.1 new.marks.items _ (record { trees = due.trees; held = due.held; next = due.next; is_due = a.4.is_due }) a.6 a.4.led marks
     (ended_marked p e n entries trees text c a.2 inside rear.rows held right is a.5 inner rear.are) in
     record {
@@ -541,7 +541,7 @@ top_closed : (p : Named) → is_open_type (Wrapper (top_part p)) ≡ false
 top_closed Two = refl
 top_closed Module = refl
 
-pub outline_ended : (p : Named) (old new : Outlining) (a : Apdu) (b : List ℕ) (n : ℕ) (within : Bool) → HoldsApdu p AreOutlined old a b → new.marks.items ≡ old.marks.items
+pub outline_ended : (p : Named) (old new : OutlineDraft) (a : Apdu) (b : List ℕ) (n : ℕ) (within : Bool) → HoldsApdu p AreOutlined old a b → new.marks.items ≡ old.marks.items
     → HasEnded p AreNormal new.octets a n within → HasEnded p (λ q draft x m. HasOutline draft x) new a n within
 outline_ended p old new a b n true h same has =
     let f = h.0.are in

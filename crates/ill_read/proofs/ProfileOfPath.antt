@@ -2,26 +2,26 @@
 use Rattle.std.proofs.Common.{◌≡◌, ◌++◌, ℕ, Bool, List, IsTrue, length, refl, sym, subst}
 use Rattle.ber_leaf.specs.Content.{IsContent}
 use Rattle.ber_leaf.specs.Leaf.{Leaf, value}
-use Rattle.ill_cells.specs.Places.{is_two}
-use Rattle.ill_elements.specs.LeafTypes.{IsContentIn}
-use Rattle.ill_elements.specs.Two.{is_found_of}
-use Rattle.ill_elements.specs.declared.element.Element.{Element as CodeElement}
-use Rattle.ill_elements.specs.declared.element.Element.TheVariants.{BitString, Foreign, ModuleLeaf}
+use Rattle.ill_grammar.specs.Places.{is_two}
+use Rattle.ill_grammar.specs.LeafTypes.{IsContentIn}
+use Rattle.ill_grammar.specs.Two.{is_found_of}
+use Rattle.ill_grammar.specs.declared.element.Element.{Element as CodeElement}
+use Rattle.ill_grammar.specs.declared.element.Element.TheVariants.{BitString, Foreign, ModuleLeaf}
 use Rattle.ill_read.specs.code.Drafts.{IsModuleElement}
 use Rattle.ill_schema.specs.declared.profile.Profile.TheVariants.{Two}
 use Rattle.ill_schema.specs.declared.profile.Profile.{Profile as Named}
 use Rattle.ber_core.specs.Identifier.{Tag}
-use Rattle.ill_cells.specs.declared.at.Found.{Found}
-use Rattle.ill_elements.specs.Due.{read_as}
-use Rattle.ill_elements.specs.Elements.{element_is, is_two_element}
-use Rattle.ill_elements.specs.code.Judging.{IsBegin}
-use Rattle.ill_elements.proofs.Judgements.{headed_judged}
+use Rattle.ill_grammar.specs.declared.place.Found.{Found}
+use Rattle.ill_grammar.specs.Due.{read_as}
+use Rattle.ill_grammar.specs.Elements.{element_is, is_two_element}
+use Rattle.ill_grammar.specs.code.Judging.{IsBegin}
+use Rattle.ill_grammar.proofs.Judgements.{headed_judged}
 use Rattle.ill_refusals.specs.Fault.{Fault}
 use Rattle.ill_refusals.specs.Reading.{identified, read_identifier}
 use Rattle.ill_refusals.specs.code.Judge.{judge_element, judge_length}
 use Rattle.ill_schema.specs.Profiles.{profile_of}
 use Rattle.ill_refusals.specs.Place.{Open}
-use Rattle.ill_elements.specs.Standing.{AreFrames, Level, StandsAt}
+use Rattle.ill_grammar.specs.Standing.{AreFrames, Level, StandsAt}
 use Rattle.ill_read.specs.Paths.{HoldsAt}
 use Rattle.ill_read.specs.declared.path.Path.{Path}
 

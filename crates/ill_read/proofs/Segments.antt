@@ -4,27 +4,27 @@ use Rattle.ber_core.specs.Identifier.{Tag}
 use Rattle.ber_core.specs.Tree.{octet_string}
 use Rattle.ber_leaf.specs.Leaf.{bit_string}
 use Rattle.ber_leaf.specs.Segments.{segment_tag}
-use Rattle.ill_elements.specs.Elements.{found_is}
-use Rattle.ill_elements.specs.Due.{Due, IsDueIn}
-use Rattle.ill_elements.specs.declared.due.Next.TheVariants.{BitSegments}
-use Rattle.ill_elements.proofs.DueTags.{due_bit_segment, due_segment}
+use Rattle.ill_grammar.specs.Elements.{found_is}
+use Rattle.ill_grammar.specs.Due.{Due, IsDueIn}
+use Rattle.ill_grammar.specs.declared.due.Next.TheVariants.{BitSegments}
+use Rattle.ill_grammar.proofs.DueTags.{due_bit_segment, due_segment}
 use Rattle.ill_read.specs.code.Drafts.{IsNoSegment}
 use Rattle.std.proofs.Common.{◌≡◌, ℕ, List, [], ◌∷◌, Option, refl, sym, ap, subst, ◌∙◌}
 use Rattle.ber_core.specs.Tree.{Trees}
 use Rattle.ill_schema.specs.Content.{Content}
 use Rattle.ber_leaf.specs.Segments.{segments_content}
-use Rattle.ill_elements.specs.Elements.{element_is}
-use Rattle.ill_elements.specs.Due.{shape, read_as}
+use Rattle.ill_grammar.specs.Elements.{element_is}
+use Rattle.ill_grammar.specs.Due.{shape, read_as}
 use Rattle.ill_refusals.specs.Element.{Element, leaf, segment}
 use Rattle.ill_refusals.specs.Place.{Open}
-use Rattle.ill_elements.specs.Standing.{Level, next_at, IsHeld, IsFrame, AreFrames}
+use Rattle.ill_grammar.specs.Standing.{Level, next_at, IsHeld, IsFrame, AreFrames}
 use Rattle.ill_read.specs.Paths.{segments_after, text_so_far}
-use Rattle.ill_elements.specs.declared.due.Next.{Next}
-use Rattle.ill_elements.specs.declared.due.Next.TheVariants.{Segments}
-use Rattle.ill_elements.specs.declared.element.Element.{Element as CodeElement}
-use Rattle.ill_elements.specs.declared.element.Element.TheVariants.{Leaf, Segment, ModuleLeaf, BitString, BitSegment}
-use Rattle.ill_elements.specs.declared.frame.Frame.{Frame}
-use Rattle.ill_elements.proofs.OpenFrames.{next_behind}
+use Rattle.ill_grammar.specs.declared.due.Next.{Next}
+use Rattle.ill_grammar.specs.declared.due.Next.TheVariants.{Segments}
+use Rattle.ill_grammar.specs.declared.element.Element.{Element as CodeElement}
+use Rattle.ill_grammar.specs.declared.element.Element.TheVariants.{Leaf, Segment, ModuleLeaf, BitString, BitSegment}
+use Rattle.ill_grammar.specs.declared.frame.Frame.{Frame}
+use Rattle.ill_grammar.proofs.OpenFrames.{next_behind}
 
 -- the text that an open element adds
 abbrev pub text_with : Element → List ℕ → Trees → List ℕ

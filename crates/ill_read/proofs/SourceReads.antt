@@ -1,6 +1,6 @@
 -- A decoder that is fed from a source has what the source gave up, and no octet after a message.
 use Rattle.ill_read.proofs.NextRead.{reads_as}
-use Rattle.ill_read.specs.declared.values.Values.{Values}
+use Rattle.ill_read.specs.declared.value_draft.ValueDraft.{ValueDraft}
 use Rattle.ill_read.specs.Paths.{AreMessage}
 use Rattle.ill_read.specs.Answers.{IsSpelled, ReadsNext}
 use Rattle.ill_schema.specs.declared.message.Message.{Message}
@@ -18,7 +18,7 @@ use Rattle.ill_schema.specs.Apdu.{Apdu, Accepts, SpellsApdu}
 use Rattle.ill_read.specs.Answers.{IsUnfinishedIn, IfReadFault, IfReadRefused, ReadsNextIn, TakesFront, TakesNoMessageIn}
 use Rattle.ill_read.specs.Feeding.{IsOpenAt}
 use Rattle.ill_read.specs.Paths.{HoldsAt}
-use Rattle.ill_elements.specs.Standing.{Level, StandsLast}
+use Rattle.ill_grammar.specs.Standing.{Level, StandsLast}
 use Rattle.ill_read.specs.code.ReaderCode.{EndsAs, HasRead, IsFed, IsReadOf, ended, read_result}
 use Rattle.ill_read.specs.code.Filling.{NoneEndsWithin, HasFilled, HasKept}
 use Rattle.ill_refusals.specs.Outcome.{OnlyRefuses}
@@ -153,7 +153,7 @@ reads_filled p holds has left after broken broken' d end old new h f taken stays
     says_fault _ = tt
 
 -- a draft of values that was read is a message
-pub reads_message : (draft : Values) (kept : List ℕ → Type 0) (left left' : Option (List ℕ)) (broken broken' : Bool) (n : ℕ) (message : Option Message) → message ≡ draft.message
+pub reads_message : (draft : ValueDraft) (kept : List ℕ → Type 0) (left left' : Option (List ℕ)) (broken broken' : Bool) (n : ℕ) (message : Option Message) → message ≡ draft.message
     → ReadsNext {T = ℕ} left left' broken broken' (λ n octets. (n ≡ length octets) × IsReadOf Two (λ p values a n. AreMessage values a n) draft octets × kept octets) (Ok (Some n))
     → ReadsNext {T = Message} left left' broken broken' (λ m octets. IsSpelled m octets × kept octets) (Ok message)
 reads_message draft kept left left' broken broken' n message is h =

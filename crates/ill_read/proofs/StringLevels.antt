@@ -1,17 +1,17 @@
 -- The innermost level where a segment may come next is that of the string.
 use Rattle.std.proofs.Common.{◌≡◌, List, [], ◌∷◌, inl, inr, sym, ap, subst, refl, ◌∙◌}
-use Rattle.ill_cells.specs.Places.{alternative_of}
+use Rattle.ill_grammar.specs.Places.{alternative_of}
 use Rattle.ill_schema.specs.declared.profile.Profile.{Profile as Named}
 use Rattle.ill_refusals.specs.Place.{Open}
-use Rattle.ill_elements.specs.Due.{due_with, read_as, shape, slot_in}
-use Rattle.ill_elements.specs.Elements.{element_is}
-use Rattle.ill_elements.specs.Standing.{AreFrames, IsFrame, IsHeld, Level, level_of, next_at, top}
-use Rattle.ill_elements.specs.declared.due.Next.TheVariants.{BitSegments, Segments}
-use Rattle.ill_elements.specs.declared.element.Element.{Element as CodeElement}
-use Rattle.ill_elements.specs.declared.element.Element.TheVariants.{BitSegment, BitString, Foreign, Leaf, List as ListOf, LooseWrapper, ModuleLeaf, Segment, Sequence, Wrapper}
-use Rattle.ill_elements.specs.declared.frame.Frame.{Frame}
-use Rattle.ill_elements.proofs.DueTags.{bit_segment_due, segment_due}
-use Rattle.ill_elements.proofs.OpenFrames.{next_behind}
+use Rattle.ill_grammar.specs.Due.{due_with, read_as, shape, slot_in}
+use Rattle.ill_grammar.specs.Elements.{element_is}
+use Rattle.ill_grammar.specs.Standing.{AreFrames, IsFrame, IsHeld, Level, level_of, next_at, top}
+use Rattle.ill_grammar.specs.declared.due.Next.TheVariants.{BitSegments, Segments}
+use Rattle.ill_grammar.specs.declared.element.Element.{Element as CodeElement}
+use Rattle.ill_grammar.specs.declared.element.Element.TheVariants.{BitSegment, BitString, Foreign, Leaf, List as ListOf, LooseWrapper, ModuleLeaf, Segment, Sequence, Wrapper}
+use Rattle.ill_grammar.specs.declared.frame.Frame.{Frame}
+use Rattle.ill_grammar.proofs.DueTags.{bit_segment_due, segment_due}
+use Rattle.ill_grammar.proofs.OpenFrames.{next_behind}
 use Rattle.ill_read.proofs.DeliveredEntries.{pushed_apart, pushed_segment}
 
 -- the innermost level is of an element that is so

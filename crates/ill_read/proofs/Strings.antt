@@ -4,32 +4,32 @@ use Rattle.ber_core.specs.Identifier.{Tag}
 use Rattle.ber_core.specs.Tree.{Tree, Trees, constructed, none, more, tag_of, octet_string, IsString, text, text_all, AreSegments}
 use Rattle.ber_leaf.specs.Profile.{profile_two}
 use Rattle.ill_schema.specs.Content.{Content}
-use Rattle.ill_elements.specs.Elements.{element_is}
-use Rattle.ill_elements.specs.Due.{IsDueIn, next_is, behind, shape, read_as}
+use Rattle.ill_grammar.specs.Elements.{element_is}
+use Rattle.ill_grammar.specs.Due.{IsDueIn, next_is, behind, shape, read_as}
 use Rattle.ill_read.specs.code.Judged.{IsStep}
 use Rattle.ill_refusals.specs.Next.{due, next_after, opening}
 use Rattle.ill_refusals.specs.Place.{Open}
-use Rattle.ill_elements.specs.Standing.{Level, next_at, IsHeld, IsFrame, AreFrames}
+use Rattle.ill_grammar.specs.Standing.{Level, next_at, IsHeld, IsFrame, AreFrames}
 use Rattle.ill_read.specs.Paths.{text_so_far}
 use Rattle.ill_refusals.specs.code.Step.{snoc, with_tree}
-use Rattle.ill_elements.specs.Due.{Due}
-use Rattle.ill_elements.specs.declared.due.Next.{Next}
-use Rattle.ill_elements.specs.declared.due.Next.TheVariants.{Segments}
-use Rattle.ill_elements.specs.declared.element.Element.{Element as CodeElement}
-use Rattle.ill_elements.specs.declared.element.Element.TheVariants.{Leaf, Segment, ModuleLeaf}
-use Rattle.ill_elements.specs.declared.frame.Frame.{Frame}
+use Rattle.ill_grammar.specs.Due.{Due}
+use Rattle.ill_grammar.specs.declared.due.Next.{Next}
+use Rattle.ill_grammar.specs.declared.due.Next.TheVariants.{Segments}
+use Rattle.ill_grammar.specs.declared.element.Element.{Element as CodeElement}
+use Rattle.ill_grammar.specs.declared.element.Element.TheVariants.{Leaf, Segment, ModuleLeaf}
+use Rattle.ill_grammar.specs.declared.frame.Frame.{Frame}
 use Rattle.ill_read.specs.declared.path.Path.{Path}
-use Rattle.ill_elements.proofs.DueElements.{due_element_is}
+use Rattle.ill_grammar.proofs.DueElements.{due_element_is}
 use Rattle.ill_schema.specs.declared.profile.Profile.{Profile as Named}
 use Rattle.ber_leaf.specs.Leaf.{bit_string}
 use Rattle.ber_leaf.specs.Segments.{join_bits, segment_tag, tree_bits}
-use Rattle.ill_elements.specs.declared.due.Next.TheVariants.{BitSegments}
-use Rattle.ill_elements.specs.declared.due.Slot.{Slot}
-use Rattle.ill_elements.specs.declared.element.Element.TheVariants.{BitString, BitSegment}
-use Rattle.ill_elements.proofs.BitSegments.{bits_more}
-use Rattle.ill_elements.proofs.OpenFrames.{next_behind}
+use Rattle.ill_grammar.specs.declared.due.Next.TheVariants.{BitSegments}
+use Rattle.ill_grammar.specs.declared.due.Slot.{Slot}
+use Rattle.ill_grammar.specs.declared.element.Element.TheVariants.{BitString, BitSegment}
+use Rattle.ill_grammar.proofs.BitSegments.{bits_more}
+use Rattle.ill_grammar.proofs.OpenFrames.{next_behind}
 use Rattle.ill_read.proofs.MoreTrees.{next-added, with_one}
-use Rattle.ill_elements.proofs.ReadLeaves.{module_content, read_content}
+use Rattle.ill_grammar.proofs.ReadLeaves.{module_content, read_content}
 use Rattle.ill_read.proofs.Segments.{text_with}
 use Rattle.ill_refusals.proofs.Rows.{same_tag-is}
 

@@ -13,33 +13,33 @@ use Rattle.ill_schema.specs.Content as content
 use Rattle.ill_schema.specs.Value.{content_of, items_of}
 use Rattle.ill_schema.specs.declared.node.NodeId.{NodeId}
 use Rattle.ill_schema.specs.declared.value.Value.{Value}
-use Rattle.ill_elements.specs.Elements.{is_two_element}
-use Rattle.ill_elements.specs.LeafTypes.{leaf_is}
+use Rattle.ill_grammar.specs.Elements.{is_two_element}
+use Rattle.ill_grammar.specs.LeafTypes.{leaf_is}
 use Rattle.ill_read.proofs.OpenedElements.{opened_same}
 use Rattle.ill_read.specs.code.Drafts.{HasOpened, IsContentOf, IsRightText, rows_before, with_entry}
-use Rattle.ill_read.specs.code.Held.{EndsExactly, HasAdded, IsFound, IsLast, IsList}
-use Rattle.ill_elements.specs.Standing.{Level, level_of, whole_level, IsHeld}
+use Rattle.ill_read.specs.code.OpenValues.{EndsExactly, HasAdded, IsFound, IsLast, IsList}
+use Rattle.ill_grammar.specs.Standing.{Level, level_of, whole_level, IsHeld}
 use Rattle.ill_read.specs.Paths.{AreHeld, AreValues}
-use Rattle.ill_elements.specs.Contents.{absent_content}
-use Rattle.ill_elements.specs.declared.due.Next.{Next}
-use Rattle.ill_elements.specs.declared.due.Next.TheVariants.{Segments, Nothing}
-use Rattle.ill_elements.specs.declared.due.Slot.{Slot}
-use Rattle.ill_elements.specs.declared.element.Element.{Element as CodeElement}
-use Rattle.ill_elements.specs.declared.element.Element.TheVariants.{Leaf, List as ListOf, Wrapper, LooseWrapper, Segment, BitSegment}
-use Rattle.ill_elements.specs.declared.element.Wrapped.{Wrapped}
-use Rattle.ill_elements.specs.declared.frame.Frame.{Frame}
-use Rattle.ill_elements.specs.declared.judge.Opening.{Opening}
-use Rattle.ill_elements.specs.declared.leaf_type.LeafType.{LeafType}
-use Rattle.ill_read.specs.declared.values.Values.{Values}
-use Rattle.ill_elements.specs.Due.{shape, first_of, read_as}
+use Rattle.ill_grammar.specs.Contents.{absent_content}
+use Rattle.ill_grammar.specs.declared.due.Next.{Next}
+use Rattle.ill_grammar.specs.declared.due.Next.TheVariants.{Segments, Nothing}
+use Rattle.ill_grammar.specs.declared.due.Slot.{Slot}
+use Rattle.ill_grammar.specs.declared.element.Element.{Element as CodeElement}
+use Rattle.ill_grammar.specs.declared.element.Element.TheVariants.{Leaf, List as ListOf, Wrapper, LooseWrapper, Segment, BitSegment}
+use Rattle.ill_grammar.specs.declared.element.Wrapped.{Wrapped}
+use Rattle.ill_grammar.specs.declared.frame.Frame.{Frame}
+use Rattle.ill_grammar.specs.declared.judge.Opening.{Opening}
+use Rattle.ill_grammar.specs.declared.leaf_type.LeafType.{LeafType}
+use Rattle.ill_read.specs.declared.value_draft.ValueDraft.{ValueDraft}
+use Rattle.ill_grammar.specs.Due.{shape, first_of, read_as}
 
 -- an element that opens has no entries
-pub values_opened : (v : Values) (next : Next) (opening : Opening) (base : ℕ) → IsTrue (is_two_element (read_as opening.found)) → base ≡ length v.held.entries.items → HasOpened AreValues v next opening base v
-values_opened v next opening base two e levels text h is inside =
+pub values_opened : (v : ValueDraft) (next : Next) (opening : Opening) (contents_start : ℕ) → IsTrue (is_two_element (read_as opening.found)) → contents_start ≡ length v.held.entries.items → HasOpened AreValues v next opening contents_start v
+values_opened v next opening contents_start two e levels text h is inside =
     subst (λ t. AreValues v (elim (read_as opening.found) as (λ _. List Level) [ Segment ↦ levels | BitSegment ↦ levels | _ ↦ l ∷ levels ]) t) (sym (opened_same (read_as opening.found) text two)) (go (read_as opening.found))
   where
     l : Level
-    l = record { element = (read_as opening.found); tag = tag_of_id opening.id; next = first_of (read_as opening.found); base = base; entries = [] }
+    l = record { element = (read_as opening.found); tag = tag_of_id opening.id; next = first_of (read_as opening.found); contents_start = contents_start; entries = [] }
 
     more : AreValues v (l ∷ levels) text
     more = record { held = (v.held.entries.items, [], sym (append-nil v.held.entries.items), e, refl, h.held); text = h.text }
@@ -50,7 +50,7 @@ values_opened v next opening base two e levels text h is inside =
     go _ = more
 
 -- an element's value is one entry more
-pub values_added : (old new : Values) (l : Level) (below : List Level) (next : Next) (slot : Slot) (v : Value) (c : Content) → AreHeld (l ∷ below) old.held.entries.items → l.next ≡ next
+pub values_added : (old new : ValueDraft) (l : Level) (below : List Level) (next : Next) (slot : Slot) (v : Value) (c : Content) → AreHeld (l ∷ below) old.held.entries.items → l.next ≡ next
     → content_of v ≡ c → HasAdded (rows_before next slot) v old.held.entries.items new.held.entries.items → new.text.items ≡ [] → AreValues new (with_entry l slot c ∷ below) []
 values_added old new l below next slot v c h e is added text =
     let f : Option Value → Option Content = option_map content_of in
@@ -70,7 +70,7 @@ values_added old new l below next slot v c h e is added text =
     }
 
 -- the entries that were taken leave those below
-left : (new : Values) (below : List Level) (under : List (Option Value)) → AreHeld below under → new.held.entries.items ≡ under → new.text.items ≡ [] → AreValues new below []
+left : (new : ValueDraft) (below : List Level) (under : List (Option Value)) → AreHeld below under → new.held.entries.items ≡ under → new.text.items ≡ [] → AreValues new below []
 left new below under h e text = record { held = subst (AreHeld below) (sym e) h; text = text }
 
 -- entries that are all there are values
@@ -84,7 +84,7 @@ all_there (Some v ∷ es) (c ∷ cs) e =
     let is : content_of v ≡ c = cc in
     (v ∷ r.0, ap (λ xs. Some v ∷ xs) r.1, ap₂ (λ (x : Content) (xs : List Content). x ∷ xs) is r.2)
 
-pub list_ends : (old new : Values) (f : Frame) (v : Value) (node : NodeId) → read_as f.found ≡ ListOf node → IsList f.base v old.held.entries.items new.held.entries.items → new.text.items ≡ old.text.items
+pub list_ends : (old new : ValueDraft) (f : Frame) (v : Value) (node : NodeId) → read_as f.found ≡ ListOf node → IsList f.contents_start v old.held.entries.items new.held.entries.items → new.text.items ≡ old.text.items
     → EndsExactly old f new (Ok (Some v))
 list_ends old new f v node is s same tag entries below text h =
     subst (λ x. IsRightText Two x text × ((trees : Trees) (c : Content) → IsHeld Two x (shape f.place) entries trees → IsContentOf x (shape f.place) entries text c → IsFound (Some v) c × AreValues new below [])) (sym is) (
@@ -102,7 +102,7 @@ one_there (Some v ∷ []) c e = (v, refl, let q : content_of v ≡ c = cc in q)
 one_there (Some v ∷ x ∷ es) c e = absurd cc
 one_there _ c e = absurd cc
 
-last_left : (old new : Values) (f : Frame) (tag : Tag) (entries : List (Option Content)) (below : List Level) (text : List ℕ) (found : Option Value) (c : Content)
+last_left : (old new : ValueDraft) (f : Frame) (tag : Tag) (entries : List (Option Content)) (below : List Level) (text : List ℕ) (found : Option Value) (c : Content)
     → AreValues old (level_of f tag entries ∷ below) text → IsLast found old.held.entries.items new.held.entries.items → new.text.items ≡ old.text.items → text ≡ [] → entries ≡ Some c ∷ []
     → IsFound found c × AreValues new below []
 last_left old new f tag entries below text found c h s same empty is =
@@ -111,13 +111,13 @@ last_left old new f tag entries below text found c h s same empty is =
     let taken = s x.0 (Some there.0) (x.2 ∙ ap (λ xs. x.0 ++ xs) there.1) in
     (subst (λ y. IsFound y c) (sym taken.0) there.2, left new below x.0 x.5 taken.1 (same ∙ h.text ∙ empty))
 
-pub wrapper_ends : (old new : Values) (f : Frame) (found : Option Value) (w : Wrapped) → read_as f.found ≡ Wrapper w → IsLast found old.held.entries.items new.held.entries.items
+pub wrapper_ends : (old new : ValueDraft) (f : Frame) (found : Option Value) (w : Wrapped) → read_as f.found ≡ Wrapper w → IsLast found old.held.entries.items new.held.entries.items
     → new.text.items ≡ old.text.items → EndsExactly old f new (Ok found)
 wrapper_ends old new f found w is s same tag entries below text h =
     subst (λ x. IsRightText Two x text × ((trees : Trees) (c : Content) → IsHeld Two x (shape f.place) entries trees → IsContentOf x (shape f.place) entries text c → IsFound found c × AreValues new below [])) (sym is)
     (tt, λ trees c held k. last_left old new f tag entries below text found c h s same k.0 k.1)
 
-pub loose_wrapper_ends : (old new : Values) (f : Frame) (found : Option Value) (w : Wrapped) → read_as f.found ≡ LooseWrapper w → (shape f.place) ≡ Nothing
+pub loose_wrapper_ends : (old new : ValueDraft) (f : Frame) (found : Option Value) (w : Wrapped) → read_as f.found ≡ LooseWrapper w → (shape f.place) ≡ Nothing
     → IsLast found old.held.entries.items new.held.entries.items → new.text.items ≡ old.text.items → EndsExactly old f new (Ok found)
 loose_wrapper_ends old new f found w is nothing s same tag entries below text h =
     subst (λ x. IsRightText Two x text × ((trees : Trees) (c : Content) → IsHeld Two x (shape f.place) entries trees → IsContentOf x (shape f.place) entries text c → IsFound found c × AreValues new below [])) (sym is) (
@@ -136,7 +136,7 @@ no_entries : (es : List (Option Value)) (entries : List (Option Content)) → ma
 no_entries [] entries e n = refl
 no_entries (x ∷ es) entries e n = absurd (let q : map (option_map content_of) (x ∷ es) ≡ [] = e ∙ n in cc)
 
-pub string_ends : (old new : Values) (f : Frame) (v : Value) (l : LeafType) (octets : List ℕ) → read_as f.found ≡ Leaf l → octets ≡ old.text.items → IsTrue (are_octets octets)
+pub string_ends : (old new : ValueDraft) (f : Frame) (v : Value) (l : LeafType) (octets : List ℕ) → read_as f.found ≡ Leaf l → octets ≡ old.text.items → IsTrue (are_octets octets)
     → content_fault profile_two (leaf_is l) octets ≡ None → content_of v ≡ simple (value (leaf_is l) octets) → new.held.entries.items ≡ old.held.entries.items → new.text.items ≡ []
     → EndsExactly old f new (Ok (Some v))
 string_ends old new f v l octets is same ok right value_is kept empty tag entries below text h =
@@ -150,7 +150,7 @@ string_ends old new f v l octets is same ok right value_is kept empty tag entrie
     )
 
 -- the value of a message
-pub body_there : (old new : Values) (found : Option Value) (c : Content) → AreValues old (whole_level Two c ∷ []) [] → IsLast found old.held.entries.items new.held.entries.items
+pub body_there : (old new : ValueDraft) (found : Option Value) (c : Content) → AreValues old (whole_level Two c ∷ []) [] → IsLast found old.held.entries.items new.held.entries.items
     → (v : Value) × (found ≡ Some v) × (content_of v ≡ c)
 body_there old new found c h s =
     let x = h.held in

@@ -19,25 +19,25 @@ use Rattle.ill_schema.specs.Tagging.{untagged, tagging, sequence_tag}
 use Rattle.ill_schema.specs.Value.{entries_of, items_of}
 use Rattle.ill_schema.specs.declared.node.NodeId.{NodeId}
 use Rattle.ill_schema.specs.declared.part.Row.{Row}
-use Rattle.ill_elements.specs.Elements.{element_is}
-use Rattle.ill_elements.specs.Due.{IsDueIn, IsRowDue, IsInnerDue, IsItemDue, behind}
-use Rattle.ill_elements.specs.Standing.{IsHeld, foreign_entries}
-use Rattle.ill_elements.specs.Contents.{with_alternative, absent_content, IsValueOf}
+use Rattle.ill_grammar.specs.Elements.{element_is}
+use Rattle.ill_grammar.specs.Due.{IsDueIn, IsRowDue, IsInnerDue, IsItemDue, behind}
+use Rattle.ill_grammar.specs.Standing.{IsHeld, foreign_entries}
+use Rattle.ill_grammar.specs.Contents.{with_alternative, absent_content, IsValueOf}
 use Rattle.ill_read.specs.code.Drafts.{IsContentOf, rows_before, rows_left}
-use Rattle.ill_elements.specs.Due.{due_with}
+use Rattle.ill_grammar.specs.Due.{due_with}
 use Rattle.ill_read.specs.code.OctetDrafts.{foreign_octets, tree_octets, enclosed, items_in, part_octets, unless_left, written}
-use Rattle.ill_elements.specs.Written.{entry_octets, normal_element}
-use Rattle.ill_elements.specs.declared.due.Next.{Next}
-use Rattle.ill_elements.specs.declared.due.Next.TheVariants.{Rows, Inner, Items, Either, Segments, BitSegments, Root, Foreigns, Nothing}
-use Rattle.ill_elements.specs.declared.due.Slot.{Slot}
-use Rattle.ill_elements.specs.declared.due.Slot.TheVariants.{Row as AtRow, Item, Inner as Inside, Segment as InString, Foreign as InForeign}
-use Rattle.ill_elements.specs.declared.element.Element.{Element as CodeElement}
-use Rattle.ill_elements.specs.declared.element.Element.TheVariants.{Leaf as LeafElement, Sequence, List as ListOf, Wrapper, LooseWrapper, Segment, ModuleLeaf, BitString, BitSegment, Foreign}
-use Rattle.ill_elements.specs.Found.{Found}
-use Rattle.ill_elements.specs.declared.element.Wrapped.{Wrapped}
+use Rattle.ill_grammar.specs.Written.{entry_octets, normal_element}
+use Rattle.ill_grammar.specs.declared.due.Next.{Next}
+use Rattle.ill_grammar.specs.declared.due.Next.TheVariants.{Rows, Inner, Items, Either, Segments, BitSegments, Root, Foreigns, Nothing}
+use Rattle.ill_grammar.specs.declared.due.Slot.{Slot}
+use Rattle.ill_grammar.specs.declared.due.Slot.TheVariants.{Row as AtRow, Item, Inner as Inside, Segment as InString, Foreign as InForeign}
+use Rattle.ill_grammar.specs.declared.element.Element.{Element as CodeElement}
+use Rattle.ill_grammar.specs.declared.element.Element.TheVariants.{Leaf as LeafElement, Sequence, List as ListOf, Wrapper, LooseWrapper, Segment, ModuleLeaf, BitString, BitSegment, Foreign}
+use Rattle.ill_grammar.specs.Found.{Found}
+use Rattle.ill_grammar.specs.declared.element.Wrapped.{Wrapped}
 use Rattle.std.proofs.lemmas.Option.{slice_get_within}
-use Rattle.ill_elements.proofs.NormalElements.{row_normal, item_normal, inner_normal}
-use Rattle.ill_elements.proofs.NormalEntries.{normal_added, normal_ended, normal_item_added}
+use Rattle.ill_grammar.proofs.NormalElements.{row_normal, item_normal, inner_normal}
+use Rattle.ill_grammar.proofs.NormalEntries.{normal_added, normal_ended, normal_item_added}
 
 matches_length : (p : Named) (es : List (Option Content)) (rs : List Row) (ts : Trees) → Matches (profile_of p) (entries_of es) rs ts → length es ≡ length rs
 matches_length p [] [] ts h = refl

@@ -10,7 +10,7 @@ use Rattle.ill_refusals.specs.Fault.{Fault, fault, fault_of}
 use Rattle.ill_refusals.specs.Outcome.{OnlyAccepts, OnlyRefuses}
 use Rattle.ill_read.specs.declared.failure.Failure.{Failure}
 use Rattle.ill_read.specs.declared.failure.ReadFailure.{ReadFailure}
-use Rattle.ill_read.specs.declared.normal.Normal.{Normal}
+use Rattle.ill_read.specs.declared.normal.NormalForm.{NormalForm}
 
 -- the octets begin with the message and no other, and aren't refused
 abbrev pub IsRead : List ℕ → Message → Type 0
@@ -37,10 +37,10 @@ pub record IsSpelled (m : Message) (b : List ℕ) : Type 0 where
   pub octets : octets_of m ≡ length b
 
 -- the octets spell an APDU, and this is its normal form, and how many they are
-abbrev pub IsNormalIn : Profile → Normal → List ℕ → Type 0
-IsNormalIn p n b = (a : Apdu) × SpellsApdu p a b × (n.octets.items ≡ normal_form_in p a) × (n.read ≡ length b)
+abbrev pub IsNormalIn : Profile → NormalForm → List ℕ → Type 0
+IsNormalIn p n b = (a : Apdu) × SpellsApdu p a b × (n.octets.items ≡ normal_form_in p a) × (n.input_len ≡ length b)
 
-abbrev pub IsNormalOf : Normal → List ℕ → Type 0
+abbrev pub IsNormalOf : NormalForm → List ℕ → Type 0
 IsNormalOf n b = IsNormalIn profile_two n b
 
 -- no message is at the front of the octets
@@ -106,12 +106,12 @@ DecodeAnswers s (Ok m) = IsSpelled m s
 DecodeAnswers s (Err (Failure.Refused refusal)) = RefusesWhole s (fault_of refusal)
 DecodeAnswers s (Err Failure.OutOfMemory) = Unit {0}
 
-abbrev pub NormalAnswersIn : Profile → List ℕ → Result Normal Failure → Type 0
+abbrev pub NormalAnswersIn : Profile → List ℕ → Result NormalForm Failure → Type 0
 NormalAnswersIn p s (Ok n) = IsNormalIn p n s
 NormalAnswersIn p s (Err (Failure.Refused refusal)) = RefusesWholeIn p s (fault_of refusal)
 NormalAnswersIn p s (Err Failure.OutOfMemory) = Unit {0}
 
-abbrev pub NormalAnswers : List ℕ → Result Normal Failure → Type 0
+abbrev pub NormalAnswers : List ℕ → Result NormalForm Failure → Type 0
 NormalAnswers s result = NormalAnswersIn profile_two s result
 
 -- memory or the source failed

@@ -5,9 +5,9 @@ use Rattle.std.specs.Prelude.{◌≡◌, ◌≤◌, ℕ, List, [], ◌∷◌, le
 use Rattle.ill_schema.specs.declared.message.Message.{Message}
 use Rattle.ill_schema.specs.declared.refusal.Cause.{Cause}
 use Rattle.ill_read.specs.Answers.{IsPart, IsRefused, IsSpelled}
-use Rattle.ill_elements.specs.Need.{NeedsAfter}
+use Rattle.ill_grammar.specs.Need.{NeedsAfter}
 use Rattle.ill_read.specs.Paths.{AreValues, HoldsAt}
-use Rattle.ill_elements.specs.Standing.{Level, StandsLast}
+use Rattle.ill_grammar.specs.Standing.{Level, StandsLast}
 use Rattle.ill_read.specs.declared.decoder.Decoder.{Decoder}
 use Rattle.ill_read.specs.declared.decoder.Progress.{Progress}
 use Rattle.ill_read.specs.declared.reader.Reader.{Reader}

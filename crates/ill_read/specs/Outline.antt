@@ -9,12 +9,12 @@ use Rattle.ill_schema.specs.declared.part.Row.{Row}
 use Rattle.ill_schema.specs.Apdu.{Apdu, choice_of}
 use Rattle.ill_schema.specs.Content.{Content, simple, sequence, list, alternative, foreign, Entries, no_entries, absent, present, Items, no_items, item}
 use Rattle.ill_schema.specs.Table.{rows_of}
-use Rattle.ill_elements.specs.LeafTypes.{IsContentIn, leaf_is, module_leaf_is}
+use Rattle.ill_grammar.specs.LeafTypes.{IsContentIn, leaf_is, module_leaf_is}
 use Rattle.ill_schema.specs.declared.profile.Profile.{Profile as Named}
-use Rattle.ill_elements.specs.Contents.{absent_content}
+use Rattle.ill_grammar.specs.Contents.{absent_content}
 use Rattle.ill_read.specs.declared.mark.Mark.{Mark}
 use Rattle.ill_read.specs.declared.mark.Mark.TheVariants as mark
-use Rattle.ill_read.specs.declared.outline.Outline.{Outline}
+use Rattle.ill_read.specs.declared.outline_draft.Outline.{Outline}
 
 -- the row of the part has this entry where it has no element
 abbrev pub IsPassed : PartId → Option Content → Type 0
@@ -44,7 +44,7 @@ pub record IsLeafRead (v : Simple) (ms : List Mark) : Type 0 where
 
 -- a leaf that was read, or the default of a row that was passed
 abbrev pub IsLeafMarked : Simple → List Mark → Type 0
-IsLeafMarked v ms = IsLeafRead v ms ⊎ ((part : PartId) × (ms ≡ mark.Passed part ∷ []) × IsPassed part (Some (simple v)))
+IsLeafMarked v ms = IsLeafRead v ms ⊎ ((part : PartId) × (ms ≡ mark.Absent part ∷ []) × IsPassed part (Some (simple v)))
 
 abbrev mutual
   -- the marks say this value
@@ -58,7 +58,7 @@ abbrev mutual
   -- the entries of a sequence, row by row
   pub AreEntries : Entries → List Mark → Type 0
   AreEntries no_entries ms = ms ≡ []
-  AreEntries (absent es) ms = (part : PartId) × (rest : List Mark) × (ms ≡ mark.Passed part ∷ rest) × IsPassed part None × AreEntries es rest
+  AreEntries (absent es) ms = (part : PartId) × (rest : List Mark) × (ms ≡ mark.Absent part ∷ rest) × IsPassed part None × AreEntries es rest
   AreEntries (present c es) ms = (first : List Mark) × (rest : List Mark) × (ms ≡ first ++ rest) × IsMarked c first × AreEntries es rest
 
   -- the items of a list

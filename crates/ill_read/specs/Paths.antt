@@ -12,9 +12,9 @@ use Rattle.ill_schema.specs.declared.value.Value.{Value}
 use Rattle.ill_schema.specs.Value.{content_of}
 use Rattle.ill_refusals.specs.Element.{leaf, segment}
 use Rattle.ill_refusals.specs.Place.{Open}
-use Rattle.ill_elements.specs.Standing.{Level, AreFrames}
+use Rattle.ill_grammar.specs.Standing.{Level, AreFrames}
 use Rattle.ill_read.specs.declared.path.Path.{Path}
-use Rattle.ill_read.specs.declared.values.Values.{Values}
+use Rattle.ill_read.specs.declared.value_draft.ValueDraft.{ValueDraft}
 
 -- the text of the string that is open, after the text before a segment that is open in it
 abbrev pub segments_after : Tag → List ℕ → Trees → List ℕ
@@ -38,12 +38,12 @@ HoldsAt p holds path opens = (levels : List Level) × AreFrames p opens path.fra
 abbrev pub AreHeld : List Level → List (Option Value) → Type 0
 AreHeld [] held = held ≡ []
 AreHeld (l ∷ levels) held = (below : List (Option Value)) × (entries : List (Option Value))
-    × (held ≡ below ++ entries) × (l.base ≡ length below) × (map (option_map content_of) entries ≡ l.entries) × AreHeld levels below
+    × (held ≡ below ++ entries) × (l.contents_start ≡ length below) × (map (option_map content_of) entries ≡ l.entries) × AreHeld levels below
 
-pub record AreValues (values : Values) (levels : List Level) (joined : List ℕ) : Type 0 where
+pub record AreValues (values : ValueDraft) (levels : List Level) (joined : List ℕ) : Type 0 where
   pub held : AreHeld levels values.held.entries.items
   pub text : values.text.items ≡ joined
 
 -- a draft that is a message has this APDU, read of as many octets
-abbrev pub AreMessage : Values → Apdu → ℕ → Type 0
+abbrev pub AreMessage : ValueDraft → Apdu → ℕ → Type 0
 AreMessage values a n = (m : Message) × (values.message ≡ Some m) × (apdu_of m ≡ a) × (octets_of m ≡ n)

@@ -1,6 +1,6 @@
 pub mod Progress
 pub mod Drafts
-pub mod Held
+pub mod OpenValues
 pub mod Judged
 pub mod Stepping
 pub mod ReaderCode

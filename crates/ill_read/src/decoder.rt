@@ -4,12 +4,12 @@ ghost use Rattle.ill_schema.specs.declared.profile.Profile.{Profile};
 
 use crate::failure::Failure;
 use crate::reader::{Reader, State};
-use crate::values::Values;
+use crate::value_draft::ValueDraft;
 use ill_schema::{Message, Profile};
 use std::alloc::Global;
 use std::fmt;
 
-/// Whether a message is whole.
+/// The progress of a message.
 #[derive(Clone, Copy, Debug, PartialEq, Eq)]
 pub enum Progress {
     More,
@@ -19,7 +19,7 @@ pub enum Progress {
 /// A decoder that is fed a message in pieces.
 #[derive(Drop)]
 pub struct Decoder {
-    reader: Reader<Values>,
+    reader: Reader<ValueDraft>,
     ghost two: { reader.path.frames.profile ≡ Profile.Two },
 }
 
@@ -28,7 +28,7 @@ impl fmt::Debug for Decoder {
     fn fmt<W: fmt::Write>(&self, f: &mut fmt::Formatter<W>) -> fmt::Result {
         f.debug_struct("Decoder")
             .field("at", &self.reader.at())
-            .field("pending", &self.reader.waiting())
+            .field("pending", &self.reader.pending_len())
             .finish_non_exhaustive()
     }
 }
@@ -49,11 +49,11 @@ impl Decoder {
         ensures few { open_in result ≤ 32 }
     {
         Decoder {
-            reader: Reader::new(alloc, Profile::Two, Values::new(alloc)),
+            reader: Reader::new(alloc, Profile::Two, ValueDraft::new(alloc)),
         }
     }
 
-    /// How many octets at least still belong to the message: 1 or more while the decoder is open, and 0 once a message is whole or a
+    /// The least number of octets that still belong to the message: 1 or more while the decoder is open, and 0 once a message is whole or a
     /// failure was returned.
     #[inline(always)]
     pub fn need(&self) -> u32

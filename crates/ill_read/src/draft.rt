@@ -2,21 +2,20 @@
 ghost use Rattle.std.specs.Prelude.{◌≡◌, ℕ, List, true, IfOk, IsTrue, OnOk};
 ghost use Rattle.ill_schema.specs.Apdu.{Apdu};
 ghost use Rattle.ill_schema.specs.declared.profile.Profile.{Profile as Named};
-ghost use Rattle.ill_elements.specs.Due.{read_as, shape};
-ghost use Rattle.ill_elements.specs.code.Judging.{is_plain};
-ghost use Rattle.ill_elements.specs.LeafTypes.{IsContentIn, leaf_is};
-ghost use Rattle.ill_elements.specs.Standing.{Level};
-ghost use Rattle.ill_elements.specs.Two.{is_found_of};
-ghost use Rattle.ill_elements.specs.declared.element.Element.{Element as CodeElement};
+ghost use Rattle.ill_grammar.specs.Due.{read_as, shape};
+ghost use Rattle.ill_grammar.specs.code.Judging.{is_usual};
+ghost use Rattle.ill_grammar.specs.LeafTypes.{IsContentIn, leaf_is};
+ghost use Rattle.ill_grammar.specs.Standing.{Level};
+ghost use Rattle.ill_grammar.specs.Two.{is_found_of};
+ghost use Rattle.ill_grammar.specs.declared.element.Element.{Element as CodeElement};
 ghost use Rattle.ill_read.specs.code.Drafts.{ChecksText, HasBits, HasClosed, HasEnded, HasLeaf, HasModuleElement, HasOpened, HasText, HoldsApdu, IsModuleElement, IsRightContent};
 
 use crate::failure::Failure;
-use ill_cells::At;
-use ill_elements::{Frame, LeafType, Opening, Reading};
+use ill_grammar::{Frame, LeafType, Opening, Place, Reading};
 use ill_schema::Profile;
 use std::alloc::AllocError;
 
-/// What is made of a message while its elements are read.
+/// A draft: the result that is built of a message while its elements are read.
 pub trait Draft: Drop {
     // It can be made of messages of the profile.
     ghost takes: { Named → Type 0 };
@@ -28,22 +27,27 @@ pub trait Draft: Drop {
     ghost has: { Named → Self → Apdu → ℕ → Type 0 };
 
     /// An element opens, at this place. Returns where its contents begin.
-    fn open(&mut self, profile: Profile, place: At, opening: Opening) -> Result<usize, AllocError>
-        requires takes { takes profile }
-        requires is_of { IsTrue (is_found_of profile opening.found) }
-        ensures { IfOk result (λ base. HasOpened holds self.old (shape place) opening base self.new) };
-
-    /// A plain element opens, at this place: a SEQUENCE, a SEQUENCE OF or an explicit tag.
-    fn open_plain(
+    fn open(
         &mut self,
         profile: Profile,
-        place: At,
+        place: Place,
         opening: Opening,
     ) -> Result<usize, AllocError>
         requires takes { takes profile }
         requires is_of { IsTrue (is_found_of profile opening.found) }
-        requires plain { IsTrue (is_plain (read_as opening.found) true) }
-        ensures { IfOk result (λ base. HasOpened holds self.old (shape place) opening base self.new) };
+        ensures { IfOk result (λ contents_start. HasOpened holds self.old (shape place) opening contents_start self.new) };
+
+    /// A usual element opens, at this place: a SEQUENCE, a SEQUENCE OF or an explicit tag.
+    fn open_usual(
+        &mut self,
+        profile: Profile,
+        place: Place,
+        opening: Opening,
+    ) -> Result<usize, AllocError>
+        requires takes { takes profile }
+        requires is_of { IsTrue (is_found_of profile opening.found) }
+        requires usual { IsTrue (is_usual (read_as opening.found) true) }
+        ensures { IfOk result (λ contents_start. HasOpened holds self.old (shape place) opening contents_start self.new) };
 
     /// More octets of the string that is open.
     fn text(&mut self, octets: &[u8]) -> Result<(), AllocError>
@@ -60,7 +64,7 @@ pub trait Draft: Drop {
     fn leaf(
         &mut self,
         profile: Profile,
-        place: At,
+        place: Place,
         reading: Reading,
         leaf: LeafType,
         content: &[u8],
@@ -73,7 +77,7 @@ pub trait Draft: Drop {
     fn module_element(
         &mut self,
         profile: Profile,
-        place: At,
+        place: Place,
         reading: Reading,
         content: &[u8],
     ) -> Result<(), AllocError>
@@ -88,7 +92,7 @@ pub trait Draft: Drop {
     /// # Errors
     ///
     /// The fault of its text, at its start; or out of memory.
-    fn close(&mut self, profile: Profile, frame: Frame, place: At) -> Result<(), Failure>
+    fn close(&mut self, profile: Profile, frame: Frame, place: Place) -> Result<(), Failure>
         requires takes { takes profile }
         requires is_of { IsTrue (is_found_of profile frame.found) }
         ensures text { ChecksText profile holds self.old frame result }

@@ -6,7 +6,7 @@ ghost use Rattle.ill_read.specs.Failures.{read_failure};
 use ill_schema::{Cause, Refusal};
 use std::alloc::{AllocError, AllocFailed};
 
-/// Why octets come to no message.
+/// The reason why octets come to no message.
 #[derive(Clone, Copy, Debug, PartialEq, Eq)]
 pub enum Failure {
     Refused(Refusal),
@@ -37,7 +37,7 @@ impl<T: Drop> From<AllocFailed<T>> for Failure {
     }
 }
 
-/// Why no message is read from a source.
+/// The reason why no message is read from a source.
 #[derive(Clone, Copy, Debug, PartialEq, Eq)]
 pub enum ReadFailure {
     Refused(Refusal),

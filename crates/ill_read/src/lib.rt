@@ -1,4 +1,5 @@
-//! Reads ILL messages: the decoder, and the exact refusal of every other input.
+//! The decoder of ILL messages, and the exact refusal of every other input. Use it to read a message as a value, as an outline, or
+//! straight to its normal form.
 //!
 //! ```
 //! match decode(alloc, octets) {
@@ -12,33 +13,35 @@
 mod decoder;
 mod draft;
 mod failure;
-mod held;
-mod keep;
 mod laws;
 mod mark;
 mod normal;
-mod octets;
-mod outline;
+mod normal_form_draft;
+mod open_values;
+mod outline_draft;
 mod outlined;
 mod path;
 mod read;
 mod reader;
+mod recorder;
 mod steps;
-mod values;
+mod value_draft;
 mod whole;
 
 pub use decoder::{Decoder, Progress};
 pub use failure::{Failure, ReadFailure};
-pub use ill_elements::{LeafType, ModuleLeaf};
+pub use ill_grammar::{LeafType, ModuleLeaf};
 pub use ill_refusals::{
     one_outcome, one_place, refusals_stay, truncated_at_the_end, values_are_small,
 };
 pub use laws::decoders_are_apart;
 pub use mark::Mark;
 pub use normal::{
-    Normal, NormalReader, decode_normal, decode_normal_as, read_kept_normal_by, read_normal_as,
-    read_normal_by, read_normal_in,
+    NormalForm, NormalReader, decode_normal, decode_normal_as, read_normal_as, read_normal_in,
+    read_normal_peeking, read_normal_recording_peeking,
 };
-pub use outline::Outline;
-pub use outlined::{OutlineReader, Outlined, read_outline_as, read_outline_in};
-pub use read::{decode, read_kept, read_kept_by, read_message, read_message_by};
+pub use outline_draft::Outline;
+pub use outlined::{OutlineReader, OutlinedMessage, read_outline_as, read_outline_in};
+pub use read::{
+    decode, read_message, read_message_peeking, read_recording, read_recording_peeking,
+};

@@ -1,13 +1,13 @@
 //! The marks that the outline of a message is made of.
-use ill_elements::{LeafType, ModuleLeaf};
+use ill_grammar::{LeafType, ModuleLeaf};
 use ill_schema::PartId;
 
 /// A mark in the outline of a value. Together they say what the value is, in reading order.
 #[derive(Clone, Copy)]
 pub enum Mark {
     /// A row without an element: nothing, or its default.
-    Passed(PartId),
-    /// What follows is this alternative of a choice.
+    Absent(PartId),
+    /// The alternative of a choice that follows.
     Alternative(u8),
     /// A leaf: the octets of its content follow, and then [`Mark::End`].
     Leaf(LeafType),

@@ -6,21 +6,21 @@ ghost use Rattle.ill_read.specs.OpenElements.{HasFewOpen, HasFewOpenIn};
 ghost use Rattle.ill_read.specs.Answers.{IsNormalIn, IsNormalOf, NormalAnswers, NormalAnswersIn, ReadsNext, ReadsNextIn};
 
 use crate::failure::{Failure, ReadFailure};
-use crate::keep::{Forget, Keep};
-use crate::octets::Octets;
+use crate::normal_form_draft::NormalFormDraft;
 use crate::read::read_draft;
 use crate::reader::Reader;
-use ber_core::{Look, Source};
+use crate::recorder::{NoRecorder, Recorder};
+use ber_core::{Lookahead, Source};
 use ill_schema::{Cause, Profile};
 use std::alloc::Global;
 
 /// The normal form of a message, in DER (X.690, 8 to 11). Two messages are of one APDU if and only if their normal forms are equal.
 #[derive(Drop)]
-pub struct Normal {
+pub struct NormalForm {
     /// Its octets.
     pub octets: Vec<u8>,
-    /// How many octets the message had in the input.
-    pub read: u32,
+    /// The number of octets that the message had in the input.
+    pub input_len: u32,
 }
 
 /// A reader of normal forms, one message after another. The elements that are open stand in it, so a stream of messages is best read by one
@@ -28,15 +28,15 @@ pub struct Normal {
 ///
 /// ```text
 /// let mut reader = NormalReader::new(alloc);
-/// while let Some(normal) = reader.read::<R, L>(source, room)? {
+/// while let Some(normal) = reader.read::<R, L>(source, buffer)? {
 ///     archive.put(&normal.octets)?;
-///     room = normal.octets;
+///     buffer = normal.octets;
 /// }
 /// ```
 #[derive(Drop)]
 pub struct NormalReader {
     alloc: Global,
-    reader: Reader<Octets>,
+    reader: Reader<NormalFormDraft>,
 }
 
 impl NormalReader {
@@ -47,26 +47,30 @@ impl NormalReader {
     pub fn new(alloc: Global) -> NormalReader {
         NormalReader {
             alloc,
-            reader: Reader::new(alloc, Profile::Two, Octets::new(alloc, Vec::new(alloc))),
+            reader: Reader::new(
+                alloc,
+                Profile::Two,
+                NormalFormDraft::new(alloc, Vec::new(alloc)),
+            ),
         }
     }
 
-    /// Reads the normal form of the message at the front of what is left, as [`read_normal_by`] does, and writes it in the memory of `room`,
+    /// Reads the normal form of the message at the front of what is left, as [`read_normal_peeking`] does, and writes it in the memory of `buffer`,
     /// whose octets are forgotten. What was read before makes no difference.
     ///
     /// # Errors
     ///
     /// Those of [`read_message`](crate::read_message).
     #[inline(always)]
-    pub fn read<R: Source, L: Look<R>>(
+    pub fn read<R: Source, L: Lookahead<R>>(
         &mut self,
         source: &mut R,
-        room: Vec<u8>,
-    ) -> Result<Option<Normal>, ReadFailure>
+        buffer: Vec<u8>,
+    ) -> Result<Option<NormalForm>, ReadFailure>
         ensures next { ReadsNext (R.left source.old) (R.left source.new) (R.is_broken source.old) (R.is_broken source.new) IsNormalOf result }
         ensures few { open_count self.new.reader ≤ 32 }
     {
-        self.read_as::<R, L>(Profile::Two, source, room)
+        self.read_as::<R, L>(Profile::Two, source, buffer)
     }
 
     /// Reads a normal form as [`NormalReader::read`] does, of a message in the profile.
@@ -75,17 +79,17 @@ impl NormalReader {
     ///
     /// Those of [`read_message`](crate::read_message), in the profile.
     #[inline(always)]
-    pub fn read_as<R: Source, L: Look<R>>(
+    pub fn read_as<R: Source, L: Lookahead<R>>(
         &mut self,
         profile: Profile,
         source: &mut R,
-        room: Vec<u8>,
-    ) -> Result<Option<Normal>, ReadFailure>
+        buffer: Vec<u8>,
+    ) -> Result<Option<NormalForm>, ReadFailure>
         ensures next { ReadsNextIn (profile_of profile) (R.left source.old) (R.left source.new) (R.is_broken source.old) (R.is_broken source.new)
             (IsNormalIn (profile_of profile)) result }
         ensures few { open_count self.new.reader ≤ 32 }
     {
-        self.read_into::<R, L, Forget>(profile, source, room, &mut Forget)
+        self.read_into::<R, L, NoRecorder>(profile, source, buffer, &mut NoRecorder)
     }
 
     /// Reads a normal form as [`NormalReader::read`] does, and keeps the octets that the message had at the end of `kept`.
@@ -94,71 +98,72 @@ impl NormalReader {
     ///
     /// Those of [`read_message`](crate::read_message); some octets may have been kept then.
     #[inline(always)]
-    pub fn read_kept<R: Source, L: Look<R>>(
+    pub fn read_recording<R: Source, L: Lookahead<R>>(
         &mut self,
         source: &mut R,
-        room: Vec<u8>,
+        buffer: Vec<u8>,
         kept: &mut Vec<u8>,
-    ) -> Result<Option<Normal>, ReadFailure>
+    ) -> Result<Option<NormalForm>, ReadFailure>
         ensures next { ReadsNext (R.left source.old) (R.left source.new) (R.is_broken source.old) (R.is_broken source.new)
             (λ n octets. IsNormalOf n octets × (kept.new.items ≡ kept.old.items ++ octets)) result }
         ensures few { open_count self.new.reader ≤ 32 }
     {
-        self.read_kept_as::<R, L>(Profile::Two, source, room, kept)
+        self.read_recording_as::<R, L>(Profile::Two, source, buffer, kept)
     }
 
-    /// Reads a normal form as [`NormalReader::read_kept`] does, of a message in the profile.
+    /// Reads a normal form as [`NormalReader::read_recording`] does, of a message in the profile.
     ///
     /// # Errors
     ///
     /// Those of [`read_message`](crate::read_message), in the profile; some octets may have been kept then.
     #[inline(always)]
-    pub fn read_kept_as<R: Source, L: Look<R>>(
+    pub fn read_recording_as<R: Source, L: Lookahead<R>>(
         &mut self,
         profile: Profile,
         source: &mut R,
-        room: Vec<u8>,
+        buffer: Vec<u8>,
         kept: &mut Vec<u8>,
-    ) -> Result<Option<Normal>, ReadFailure>
+    ) -> Result<Option<NormalForm>, ReadFailure>
         ensures next { ReadsNextIn (profile_of profile) (R.left source.old) (R.left source.new) (R.is_broken source.old) (R.is_broken source.new)
             (λ n octets. IsNormalIn (profile_of profile) n octets × (kept.new.items ≡ kept.old.items ++ octets)) result }
         ensures few { open_count self.new.reader ≤ 32 }
     {
-        self.read_into::<R, L, Vec<u8>>(profile, source, room, kept)
+        self.read_into::<R, L, Vec<u8>>(profile, source, buffer, kept)
     }
 
-    /// Reads a normal form in the memory of `room`, and hands the octets that the message had to what keeps them.
+    /// Reads a normal form in the memory of `buffer`, and hands the octets that the message had to what keeps them.
     #[inline(always)]
-    fn read_into<R: Source, L: Look<R>, K: Keep>(
+    fn read_into<R: Source, L: Lookahead<R>, K: Recorder>(
         &mut self,
         profile: Profile,
         source: &mut R,
-        room: Vec<u8>,
-        keep: &mut K,
-    ) -> Result<Option<Normal>, ReadFailure>
+        buffer: Vec<u8>,
+        recorder: &mut K,
+    ) -> Result<Option<NormalForm>, ReadFailure>
         ensures next { ReadsNextIn (profile_of profile) (R.left source.old) (R.left source.new) (R.is_broken source.old) (R.is_broken source.new)
-            (λ n octets. IsNormalIn (profile_of profile) n octets × Appends (K.kept keep.old) (K.kept keep.new) octets) result }
+            (λ n octets. IsNormalIn (profile_of profile) n octets × Appends (K.kept recorder.old) (K.kept recorder.new) octets) result }
         ensures few { open_count self.new.reader ≤ 32 }
     {
-        self.reader.restart(profile, Octets::new(self.alloc, room));
-        match read_draft::<Octets, R, L, K>(&mut self.reader, source, keep) {
+        self.reader
+            .restart(profile, NormalFormDraft::new(self.alloc, buffer));
+        match read_draft::<NormalFormDraft, R, L, K>(&mut self.reader, source, recorder) {
             Ok(Some(read)) => Ok(Some(self.normal(read))),
             Ok(None) => Ok(None),
             Err(failure) => Err(failure),
         }
     }
 
-    /// Reads the normal form of the message that the whole slice is, as [`decode_normal`] does, in the memory of `room`.
+    /// Reads the normal form of the message that the whole slice is, as [`decode_normal`] does, in the memory of `buffer`.
     ///
     /// # Errors
     ///
     /// Those of [`decode`](crate::decode).
     #[inline(always)]
-    pub fn decode(&mut self, octets: &[u8], room: Vec<u8>) -> Result<Normal, Failure>
+    pub fn decode(&mut self, octets: &[u8], buffer: Vec<u8>) -> Result<NormalForm, Failure>
         ensures answers { NormalAnswers octets.now result }
         ensures few { open_count self.new.reader ≤ 32 }
     {
-        self.decode_as(Profile::Two, octets, room)
+        self.decode_as(Profile::Two, octets, buffer)
     }
 
     /// Reads the normal form of the message in the profile that the whole slice is, as [`NormalReader::decode`] does.
@@ -171,67 +176,68 @@ impl NormalReader {
         &mut self,
         profile: Profile,
         octets: &[u8],
-        room: Vec<u8>,
-    ) -> Result<Normal, Failure>
+        buffer: Vec<u8>,
+    ) -> Result<NormalForm, Failure>
         ensures answers { NormalAnswersIn (profile_of profile) octets.now result }
         ensures few { open_count self.new.reader ≤ 32 }
     {
-        self.reader.restart(profile, Octets::new(self.alloc, room));
+        self.reader
+            .restart(profile, NormalFormDraft::new(self.alloc, buffer));
         let _ = self.reader.run(octets);
         if !self.reader.outcome()? {
             return Err(Failure::refused(octets.len() as u32, Cause::Truncated));
         }
-        let read = self.reader.at();
-        if read as usize != octets.len() {
-            return Err(Failure::refused(read, Cause::TrailingBytes));
+        let input_len = self.reader.at();
+        if input_len as usize != octets.len() {
+            return Err(Failure::refused(input_len, Cause::TrailingBytes));
         }
-        Ok(self.normal(read))
+        Ok(self.normal(input_len))
     }
 
     /// The normal form that was written, of a message that had this number of octets.
     #[inline(always)]
-    fn normal(&mut self, read: u32) -> Normal
+    fn normal(&mut self, input_len: u32) -> NormalForm
         ensures octets { result.octets.items ≡ self.old.reader.path.draft.octets }
-        ensures read { result.read ≡ read }
+        ensures input_len { result.input_len ≡ input_len }
     {
-        let blank = Octets::new(self.alloc, Vec::new(self.alloc));
-        Normal {
+        let blank = NormalFormDraft::new(self.alloc, Vec::new(self.alloc));
+        NormalForm {
             octets: self.reader.exchange_draft(blank).into_octets(),
-            read,
+            input_len,
         }
     }
 }
 
-/// Reads the normal form of the message at the front of what is left, as [`read_message_by`](crate::read_message_by) reads the message.
+/// Reads the normal form of the message at the front of what is left, as [`read_message_peeking`](crate::read_message_peeking) reads the message.
 /// The normal form is written while the message is read; of the message no value is made, but of a leaf whose row has a default.
 ///
 /// # Errors
 ///
 /// Those of [`read_message`](crate::read_message).
-pub fn read_normal_by<R: Source, L: Look<R>>(
+pub fn read_normal_peeking<R: Source, L: Lookahead<R>>(
     alloc: Global,
     source: &mut R,
-) -> Result<Option<Normal>, ReadFailure>
+) -> Result<Option<NormalForm>, ReadFailure>
     ensures next { ReadsNext (R.left source.old) (R.left source.new) (R.is_broken source.old) (R.is_broken source.new) IsNormalOf result }
     ensures few { IfSome (R.left source.old) HasFewOpen }
 {
     read_normal_in::<R, L>(alloc, source, Vec::new(alloc))
 }
 
-/// Reads a normal form as [`read_normal_by`] does, of a message in the profile.
+/// Reads a normal form as [`read_normal_peeking`] does, of a message in the profile.
 ///
 /// ```text
-/// let normal = read_normal_as::<_, Unseen>(alloc, Profile::Module, source)?;
+/// let normal = read_normal_as::<_, Unbuffered>(alloc, Profile::Module, source)?;
 /// ```
 ///
 /// # Errors
 ///
 /// Those of [`read_message`](crate::read_message), in the profile.
-pub fn read_normal_as<R: Source, L: Look<R>>(
+pub fn read_normal_as<R: Source, L: Lookahead<R>>(
     alloc: Global,
     profile: Profile,
     source: &mut R,
-) -> Result<Option<Normal>, ReadFailure>
+) -> Result<Option<NormalForm>, ReadFailure>
     ensures next { ReadsNextIn (profile_of profile) (R.left source.old) (R.left source.new) (R.is_broken source.old) (R.is_broken source.new)
         (IsNormalIn (profile_of profile)) result }
     ensures few { IfSome (R.left source.old) (HasFewOpenIn (profile_of profile)) }
@@ -239,37 +245,37 @@ pub fn read_normal_as<R: Source, L: Look<R>>(
     NormalReader::new(alloc).read_as::<R, L>(profile, source, Vec::new(alloc))
 }
 
-/// Reads a normal form as [`read_normal_by`] does, and writes it in the memory of `room`, whose octets are forgotten.
+/// Reads a normal form as [`read_normal_peeking`] does, and writes it in the memory of `buffer`, whose octets are forgotten.
 ///
 /// # Errors
 ///
 /// Those of [`read_message`](crate::read_message).
-pub fn read_normal_in<R: Source, L: Look<R>>(
+pub fn read_normal_in<R: Source, L: Lookahead<R>>(
     alloc: Global,
     source: &mut R,
-    room: Vec<u8>,
-) -> Result<Option<Normal>, ReadFailure>
+    buffer: Vec<u8>,
+) -> Result<Option<NormalForm>, ReadFailure>
     ensures next { ReadsNext (R.left source.old) (R.left source.new) (R.is_broken source.old) (R.is_broken source.new) IsNormalOf result }
     ensures few { IfSome (R.left source.old) HasFewOpen }
 {
-    NormalReader::new(alloc).read::<R, L>(source, room)
+    NormalReader::new(alloc).read::<R, L>(source, buffer)
 }
 
-/// Reads a normal form as [`read_normal_by`] does, and keeps the octets that the message had at the end of `kept`.
+/// Reads a normal form as [`read_normal_peeking`] does, and keeps the octets that the message had at the end of `kept`.
 ///
 /// # Errors
 ///
 /// Those of [`read_message`](crate::read_message); some octets may have been kept then.
-pub fn read_kept_normal_by<R: Source, L: Look<R>>(
+pub fn read_normal_recording_peeking<R: Source, L: Lookahead<R>>(
     alloc: Global,
     source: &mut R,
     kept: &mut Vec<u8>,
-) -> Result<Option<Normal>, ReadFailure>
+) -> Result<Option<NormalForm>, ReadFailure>
     ensures next { ReadsNext (R.left source.old) (R.left source.new) (R.is_broken source.old) (R.is_broken source.new)
         (λ n octets. IsNormalOf n octets × (kept.new.items ≡ kept.old.items ++ octets)) result }
     ensures few { IfSome (R.left source.old) HasFewOpen }
 {
-    NormalReader::new(alloc).read_kept::<R, L>(source, Vec::new(alloc), kept)
+    NormalReader::new(alloc).read_recording::<R, L>(source, Vec::new(alloc), kept)
 }
 
 /// The normal form of the message that the whole slice is.
@@ -282,7 +288,7 @@ pub fn read_kept_normal_by<R: Source, L: Look<R>>(
 /// # Errors
 ///
 /// Those of [`decode`](crate::decode).
-pub fn decode_normal(alloc: Global, octets: &[u8]) -> Result<Normal, Failure>
+pub fn decode_normal(alloc: Global, octets: &[u8]) -> Result<NormalForm, Failure>
     ensures answers { NormalAnswers octets.now result }
     ensures few { HasFewOpen octets.now }
 {
@@ -298,7 +304,11 @@ pub fn decode_normal(alloc: Global, octets: &[u8]) -> Result<Normal, Failure>
 /// # Errors
 ///
 /// Those of [`decode`](crate::decode), in the profile.
-pub fn decode_normal_as(alloc: Global, profile: Profile, octets: &[u8]) -> Result<Normal, Failure>
+pub fn decode_normal_as(
+    alloc: Global,
+    profile: Profile,
+    octets: &[u8],
+) -> Result<NormalForm, Failure>
     ensures answers { NormalAnswersIn (profile_of profile) octets.now result }
     ensures few { HasFewOpenIn (profile_of profile) octets.now }
 {

@@ -6,21 +6,21 @@ ghost use Rattle.ill_read.specs.Answers.{ReadsNext, ReadsNextIn};
 ghost use Rattle.ill_read.specs.Outlined.{IsOutlined, IsOutlinedIn};
 
 use crate::failure::ReadFailure;
-use crate::keep::Forget;
-use crate::outline::{Outline, Outlining};
+use crate::outline_draft::{Outline, OutlineDraft};
 use crate::read::read_draft;
 use crate::reader::Reader;
-use ber_core::{Look, Source};
+use crate::recorder::NoRecorder;
+use ber_core::{Lookahead, Source};
 use ill_schema::Profile;
 use std::alloc::Global;
 
 /// The outline of a message that was read.
 #[derive(Drop)]
-pub struct Outlined {
-    /// What its value is.
+pub struct OutlinedMessage {
+    /// Its value, as marks.
     pub outline: Outline,
-    /// How many octets the message had in the input.
-    pub read: u32,
+    /// The number of octets that the message had in the input.
+    pub input_len: u32,
 }
 
 /// A reader of outlines, one message after another. The elements that are open stand in it, so a stream of messages is best read by one
@@ -28,15 +28,15 @@ pub struct Outlined {
 ///
 /// ```text
 /// let mut reader = OutlineReader::new(alloc);
-/// while let Some(read) = reader.read::<R, L>(source, room)? {
+/// while let Some(read) = reader.read::<R, L>(source, buffer)? {
 ///     show(read.outline.marks())?;
-///     room = read.outline;
+///     buffer = read.outline;
 /// }
 /// ```
 #[derive(Drop)]
 pub struct OutlineReader {
     alloc: Global,
-    reader: Reader<Outlining>,
+    reader: Reader<OutlineDraft>,
 }
 
 impl OutlineReader {
@@ -50,7 +50,7 @@ impl OutlineReader {
             reader: Reader::new(
                 alloc,
                 Profile::Two,
-                Outlining::new(alloc, Outline::new(alloc)),
+                OutlineDraft::new(alloc, Outline::new(alloc)),
             ),
         }
     }
@@ -61,15 +61,15 @@ impl OutlineReader {
     ///
     /// Those of [`read_message`](crate::read_message).
     #[inline(always)]
-    pub fn read<R: Source, L: Look<R>>(
+    pub fn read<R: Source, L: Lookahead<R>>(
         &mut self,
         source: &mut R,
-        room: Outline,
-    ) -> Result<Option<Outlined>, ReadFailure>
+        buffer: Outline,
+    ) -> Result<Option<OutlinedMessage>, ReadFailure>
         ensures next { ReadsNext (R.left source.old) (R.left source.new) (R.is_broken source.old) (R.is_broken source.new) IsOutlined result }
         ensures few { open_count self.new.reader ≤ 32 }
     {
-        self.read_as::<R, L>(Profile::Two, source, room)
+        self.read_as::<R, L>(Profile::Two, source, buffer)
     }
 
     /// Reads an outline as [`OutlineReader::read`] does, of a message in the profile.
@@ -78,19 +78,23 @@ impl OutlineReader {
     ///
     /// Those of [`read_message`](crate::read_message), in the profile.
     #[inline(always)]
-    pub fn read_as<R: Source, L: Look<R>>(
+    pub fn read_as<R: Source, L: Lookahead<R>>(
         &mut self,
         profile: Profile,
         source: &mut R,
-        room: Outline,
-    ) -> Result<Option<Outlined>, ReadFailure>
+        buffer: Outline,
+    ) -> Result<Option<OutlinedMessage>, ReadFailure>
         ensures next { ReadsNextIn (profile_of profile) (R.left source.old) (R.left source.new) (R.is_broken source.old) (R.is_broken source.new)
             (IsOutlinedIn (profile_of profile)) result }
         ensures few { open_count self.new.reader ≤ 32 }
     {
         self.reader
-            .restart(profile, Outlining::new(self.alloc, room));
-        match read_draft::<Outlining, R, L, Forget>(&mut self.reader, source, &mut Forget) {
+            .restart(profile, OutlineDraft::new(self.alloc, buffer));
+        match read_draft::<OutlineDraft, R, L, NoRecorder>(
+            &mut self.reader,
+            source,
+            &mut NoRecorder,
+        ) {
             Ok(Some(read)) => Ok(Some(self.outlined(read))),
             Ok(None) => Ok(None),
             Err(failure) => Err(failure),
@@ -99,53 +103,53 @@ impl OutlineReader {
 
     /// The outline that was made, of a message that had this number of octets.
     #[inline(always)]
-    fn outlined(&mut self, read: u32) -> Outlined
+    fn outlined(&mut self, input_len: u32) -> OutlinedMessage
         ensures outline { result.outline.marks.items ≡ self.old.reader.path.draft.marks.items }
-        ensures read { result.read ≡ read }
+        ensures input_len { result.input_len ≡ input_len }
     {
-        let blank = Outlining::new(self.alloc, Outline::new(self.alloc));
-        Outlined {
+        let blank = OutlineDraft::new(self.alloc, Outline::new(self.alloc));
+        OutlinedMessage {
             outline: self.reader.exchange_draft(blank).into_outline(),
-            read,
+            input_len,
         }
     }
 }
 
-/// Reads the outline of the message at the front of what is left, as [`read_message_by`](crate::read_message_by) reads the message, in
-/// the memory of `room`, whose marks are forgotten. An outline takes two to four octets of memory for each octet of most messages.
+/// Reads the outline of the message at the front of what is left, as [`read_message_peeking`](crate::read_message_peeking) reads the message, in
+/// the memory of `buffer`, whose marks are forgotten. An outline takes two to four octets of memory for each octet of most messages.
 ///
 /// # Errors
 ///
 /// Those of [`read_message`](crate::read_message).
-pub fn read_outline_in<R: Source, L: Look<R>>(
+pub fn read_outline_in<R: Source, L: Lookahead<R>>(
     alloc: Global,
     source: &mut R,
-    room: Outline,
-) -> Result<Option<Outlined>, ReadFailure>
+    buffer: Outline,
+) -> Result<Option<OutlinedMessage>, ReadFailure>
     ensures next { ReadsNext (R.left source.old) (R.left source.new) (R.is_broken source.old) (R.is_broken source.new) IsOutlined result }
     ensures few { IfSome (R.left source.old) HasFewOpen }
 {
-    OutlineReader::new(alloc).read::<R, L>(source, room)
+    OutlineReader::new(alloc).read::<R, L>(source, buffer)
 }
 
 /// Reads an outline as [`read_outline_in`] does, of a message in the profile.
 ///
 /// ```text
-/// let outlined = read_outline_as::<_, Unseen>(alloc, Profile::Module, source, room)?;
+/// let outlined = read_outline_as::<_, Unbuffered>(alloc, Profile::Module, source, buffer)?;
 /// ```
 ///
 /// # Errors
 ///
 /// Those of [`read_message`](crate::read_message), in the profile.
-pub fn read_outline_as<R: Source, L: Look<R>>(
+pub fn read_outline_as<R: Source, L: Lookahead<R>>(
     alloc: Global,
     profile: Profile,
     source: &mut R,
-    room: Outline,
-) -> Result<Option<Outlined>, ReadFailure>
+    buffer: Outline,
+) -> Result<Option<OutlinedMessage>, ReadFailure>
     ensures next { ReadsNextIn (profile_of profile) (R.left source.old) (R.left source.new) (R.is_broken source.old) (R.is_broken source.new)
         (IsOutlinedIn (profile_of profile)) result }
     ensures few { IfSome (R.left source.old) (HasFewOpenIn (profile_of profile)) }
 {
-    OutlineReader::new(alloc).read_as::<R, L>(profile, source, room)
+    OutlineReader::new(alloc).read_as::<R, L>(profile, source, buffer)
 }

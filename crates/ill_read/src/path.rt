@@ -2,7 +2,7 @@
 ghost use Rattle.std.specs.Prelude.{◌≡◌};
 
 use crate::draft::Draft;
-use ill_elements::Frames;
+use ill_grammar::Frames;
 
 /// The open elements, innermost last, with the draft of what has been read in them.
 #[derive(Drop)]
@@ -12,7 +12,7 @@ pub struct Path<D: Drop> {
 }
 
 impl<D: Draft> Path<D> {
-    /// What has been read.
+    /// The draft of what has been read.
     pub fn into_draft(self) -> D
         ensures { result ≡ self.draft }
     {

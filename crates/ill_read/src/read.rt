@@ -11,15 +11,15 @@ ghost use Rattle.ill_read.specs.code.ReaderCode.{HasBegun, IsFed, IsReadOf};
 
 use crate::draft::Draft;
 use crate::failure::{Failure, ReadFailure};
-use crate::keep::{Forget, Keep};
 use crate::reader::Reader;
-use crate::values::Values;
-use ber_core::{Broken, Look, Source, Unseen};
+use crate::recorder::{NoRecorder, Recorder};
+use crate::value_draft::ValueDraft;
+use ber_core::{Broken, Lookahead, Source, Unbuffered};
 use ill_schema::{Cause, LIMIT, Message, Profile};
 use std::alloc::Global;
 
 /// The number of octets that are asked of a source at once, where it shows none. They are cleared for each message, so they are few.
-const CHUNK: usize = 128;
+const READ_LEN: usize = 128;
 
 /// Reads the message at the front of what is left, and takes its octets and no more; None where the input ends before any octet.
 ///
@@ -33,7 +33,7 @@ pub fn read_message<R: Source>(
     ensures next { ReadsNext (R.left source.old) (R.left source.new) (R.is_broken source.old) (R.is_broken source.new) IsSpelled result }
     ensures few { IfSome (R.left source.old) HasFewOpen }
 {
-    read_message_by::<R, Unseen>(alloc, source)
+    read_message_peeking::<R, Unbuffered>(alloc, source)
 }
 
 /// Reads a message as [`read_message`] does, by a way to look at the source: octets that are at hand are read where they are, as far as the
@@ -42,14 +42,14 @@ pub fn read_message<R: Source>(
 /// # Errors
 ///
 /// Those of [`read_message`].
-pub fn read_message_by<R: Source, L: Look<R>>(
+pub fn read_message_peeking<R: Source, L: Lookahead<R>>(
     alloc: Global,
     source: &mut R,
 ) -> Result<Option<Message>, ReadFailure>
     ensures next { ReadsNext (R.left source.old) (R.left source.new) (R.is_broken source.old) (R.is_broken source.new) IsSpelled result }
     ensures few { IfSome (R.left source.old) HasFewOpen }
 {
-    read_into::<R, L, Forget>(alloc, source, &mut Forget)
+    read_into::<R, L, NoRecorder>(alloc, source, &mut NoRecorder)
 }
 
 /// Reads a message as [`read_message`] does, and keeps its octets at the end of `kept`.
@@ -57,7 +57,7 @@ pub fn read_message_by<R: Source, L: Look<R>>(
 /// # Errors
 ///
 /// Those of [`read_message`]; some octets may have been kept then.
-pub fn read_kept<R: Source>(
+pub fn read_recording<R: Source>(
     alloc: Global,
     source: &mut R,
     kept: &mut Vec<u8>,
@@ -66,15 +66,15 @@ pub fn read_kept<R: Source>(
         (λ m octets. IsSpelled m octets × (kept.new.items ≡ kept.old.items ++ octets)) result }
     ensures few { IfSome (R.left source.old) HasFewOpen }
 {
-    read_kept_by::<R, Unseen>(alloc, source, kept)
+    read_recording_peeking::<R, Unbuffered>(alloc, source, kept)
 }
 
-/// Reads a message as [`read_kept`] does, by a way to look at the source.
+/// Reads a message as [`read_recording`] does, by a way to look at the source.
 ///
 /// # Errors
 ///
 /// Those of [`read_message`]; some octets may have been kept then.
-pub fn read_kept_by<R: Source, L: Look<R>>(
+pub fn read_recording_peeking<R: Source, L: Lookahead<R>>(
     alloc: Global,
     source: &mut R,
     kept: &mut Vec<u8>,
@@ -88,16 +88,16 @@ pub fn read_kept_by<R: Source, L: Look<R>>(
 
 /// Reads a message, and hands its octets to what keeps them.
 #[inline(always)]
-fn read_into<R: Source, L: Look<R>, K: Keep>(
+fn read_into<R: Source, L: Lookahead<R>, K: Recorder>(
     alloc: Global,
     source: &mut R,
-    keep: &mut K,
+    recorder: &mut K,
 ) -> Result<Option<Message>, ReadFailure>
     ensures { ReadsNext (R.left source.old) (R.left source.new) (R.is_broken source.old) (R.is_broken source.new)
-        (λ m octets. IsSpelled m octets × Appends (K.kept keep.old) (K.kept keep.new) octets) result }
+        (λ m octets. IsSpelled m octets × Appends (K.kept recorder.old) (K.kept recorder.new) octets) result }
 {
-    let mut reader = Reader::new(alloc, Profile::Two, Values::new(alloc));
-    match read_draft::<Values, R, L, K>(&mut reader, source, keep) {
+    let mut reader = Reader::new(alloc, Profile::Two, ValueDraft::new(alloc));
+    match read_draft::<ValueDraft, R, L, K>(&mut reader, source, recorder) {
         Ok(Some(_)) => Ok(reader.into_draft().into_message()),
         Ok(None) => Ok(None),
         Err(failure) => Err(failure),
@@ -106,52 +106,52 @@ fn read_into<R: Source, L: Look<R>, K: Keep>(
 
 /// Reads a message with a reader that nothing was fed, in its profile. Where its draft has it, returns how many octets it had.
 #[inline(always)]
-pub(crate) fn read_draft<D: Draft, R: Source, L: Look<R>, K: Keep>(
+pub(crate) fn read_draft<D: Draft, R: Source, L: Lookahead<R>, K: Recorder>(
     reader: &mut Reader<D>,
     source: &mut R,
-    keep: &mut K,
+    recorder: &mut K,
 ) -> Result<Option<u32>, ReadFailure>
     requires takes { D.takes reader.old.path.frames.profile }
     ensures { (p : Named) → IsOpenAt p D.holds reader.old [] → ReadsNextIn (profile_of p) (R.left source.old) (R.left source.new) (R.is_broken source.old) (R.is_broken source.new)
-        (λ n octets. (n ≡ length octets) × IsReadOf p D.has reader.new.path.draft octets × Appends (K.kept keep.old) (K.kept keep.new) octets) result }
+        (λ n octets. (n ≡ length octets) × IsReadOf p D.has reader.new.path.draft octets × Appends (K.kept recorder.old) (K.kept recorder.new) octets) result }
 {
-    match fill::<D, R, L, K>(reader, source, keep) {
+    match fill::<D, R, L, K>(reader, source, recorder) {
         Ok(()) => match reader.ended() {
             Ok(true) => Ok(Some(reader.at())),
             Ok(false) => Ok(None),
             Err(failure) => Err(ReadFailure::from(failure)),
         },
-        Err(Unfilled::Broken) => Err(ReadFailure::ReadFault),
-        Err(Unfilled::OutOfMemory) => Err(ReadFailure::OutOfMemory),
+        Err(FillError::Broken) => Err(ReadFailure::ReadFault),
+        Err(FillError::OutOfMemory) => Err(ReadFailure::OutOfMemory),
     }
 }
 
-/// Why a reader isn't filled.
-enum Unfilled {
+/// The reason why a reader isn't filled.
+enum FillError {
     Broken,
     OutOfMemory,
 }
 
 /// Feeds a reader until nothing is needed any more or the source ends, and hands on what it is fed to what keeps it.
 #[inline(always)]
-fn fill<D: Draft, R: Source, L: Look<R>, K: Keep>(
+fn fill<D: Draft, R: Source, L: Lookahead<R>, K: Recorder>(
     reader: &mut Reader<D>,
     source: &mut R,
-    keep: &mut K,
-) -> Result<(), Unfilled>
+    recorder: &mut K,
+) -> Result<(), FillError>
     requires takes { D.takes reader.old.path.frames.profile }
     ensures filled { (p : Named) → IsOpenAt p D.holds reader.old []
-        → IfOk result (λ _. HasKept p D.holds D.has (R.left source.old) (R.left source.new) reader.new (K.kept keep.old) (K.kept keep.new)) }
+        → IfOk result (λ _. HasKept p D.holds D.has (R.left source.old) (R.left source.new) reader.new (K.kept recorder.old) (K.kept recorder.new)) }
     ensures taken { TakesFront (R.left source.old) (R.left source.new) }
-    ensures broken { IsErrOf result Unfilled.Broken → IsTrue (R.is_broken source.new) }
-    ensures unfinished { (p : Named) → IsOpenAt p D.holds reader.old [] → IsErrOf result Unfilled.Broken → TakesNoMessageIn (profile_of p) (R.left source.old) (R.left source.new) }
+    ensures broken { IsErrOf result FillError.Broken → IsTrue (R.is_broken source.new) }
+    ensures unfinished { (p : Named) → IsOpenAt p D.holds reader.old [] → IsErrOf result FillError.Broken → TakesNoMessageIn (profile_of p) (R.left source.old) (R.left source.new) }
     ensures stays { IsTrue (R.is_broken source.old) → IsTrue (R.is_broken source.new) }
     ensures profile { reader.new.path.frames.profile ≡ reader.old.path.frames.profile }
 {
-    let mut buffer = [0; CHUNK];
+    let mut buffer = [0; READ_LEN];
     let mut room = LIMIT;
     while room > 0 {
-        let count = match more::<D, R, L, K>(reader, source, keep, &mut buffer, room) {
+        let count = match more::<D, R, L, K>(reader, source, recorder, &mut buffer, room) {
             Ok(0) => return Ok(()),
             Ok(count) => count,
             Err(failure) => return Err(failure),
@@ -164,49 +164,49 @@ fn fill<D: Draft, R: Source, L: Look<R>, K: Keep>(
 /// Feeds the reader with octets that the source has at hand, or else with some that it needs, at most `room`, and returns how many they
 /// are; 0 where nothing is needed or the source is at its end.
 #[inline(always)]
-fn more<D: Draft, R: Source, L: Look<R>, K: Keep>(
+fn more<D: Draft, R: Source, L: Lookahead<R>, K: Recorder>(
     reader: &mut Reader<D>,
     source: &mut R,
-    keep: &mut K,
+    recorder: &mut K,
     buffer: &mut [u8],
     room: u32,
-) -> Result<usize, Unfilled>
+) -> Result<usize, FillError>
     requires takes { D.takes reader.old.path.frames.profile }
     requires space { 0 < length buffer.old }
     requires room { 0 < room }
     ensures taken { IfOk result (λ n. (n ≤ room)
-        × HasTaken D.holds D.has (R.left source.old) (R.left source.new) (K.kept keep.old) (K.kept keep.new) reader.old reader.new n) }
+        × HasTaken D.holds D.has (R.left source.old) (R.left source.new) (K.kept recorder.old) (K.kept recorder.new) reader.old reader.new n) }
     ensures front { IfErr result (λ _. (octets : List ℕ) × Consumes (R.left source.old) (R.left source.new) octets × (length octets ≤ room)) }
-    ensures broken { IsErrOf result Unfilled.Broken → IsTrue (R.is_broken source.new) }
-    ensures kept { IsErrOf result Unfilled.Broken → Keeps (R.left source.old) (R.left source.new) }
-    ensures unfinished { IsErrOf result Unfilled.Broken → (p : Named) (b : List ℕ) → IsFed p D.holds D.has reader.old b → NoneEndsWithin p b → IsUnfinishedIn (profile_of p) b }
+    ensures broken { IsErrOf result FillError.Broken → IsTrue (R.is_broken source.new) }
+    ensures kept { IsErrOf result FillError.Broken → Keeps (R.left source.old) (R.left source.new) }
+    ensures unfinished { IsErrOf result FillError.Broken → (p : Named) (b : List ℕ) → IsFed p D.holds D.has reader.old b → NoneEndsWithin p b → IsUnfinishedIn (profile_of p) b }
     ensures stays { IsTrue (R.is_broken source.old) → IsTrue (R.is_broken source.new) }
     ensures space { length buffer.new ≡ length buffer.old }
     ensures profile { reader.new.path.frames.profile ≡ reader.old.path.frames.profile }
 {
-    let hand = L::at_hand(source);
+    let hand = L::buffered(source);
     let most = hand.len().min(room as usize);
-    let seen = reader.look(&hand[..most]);
+    let seen = reader.read_buffered(&hand[..most]);
     if seen > 0 {
-        if let Err(_) = keep.keep(&hand[..seen]) {
-            return Err(Unfilled::OutOfMemory);
+        if let Err(_) = recorder.append(&hand[..seen]) {
+            return Err(FillError::OutOfMemory);
         }
-        L::pass(source, seen);
+        L::consume(source, seen);
         return Ok(seen);
     }
-    match pull(reader, source, buffer, room) {
-        Ok(count) => match keep.keep(&buffer[..count]) {
+    match take_octets(reader, source, buffer, room) {
+        Ok(count) => match recorder.append(&buffer[..count]) {
             Ok(()) => Ok(count),
-            Err(_) => Err(Unfilled::OutOfMemory),
+            Err(_) => Err(FillError::OutOfMemory),
         },
-        Err(Broken) => Err(Unfilled::Broken),
+        Err(Broken) => Err(FillError::Broken),
     }
 }
 
 /// Feeds the reader with some octets that it needs, at most `room`, and returns how many they are at the front of the buffer; 0 where
 /// nothing is needed or the source is at its end.
 #[inline(always)]
-fn pull<D: Draft, R: Source>(
+fn take_octets<D: Draft, R: Source>(
     reader: &mut Reader<D>,
     source: &mut R,
     buffer: &mut [u8],
@@ -224,7 +224,7 @@ fn pull<D: Draft, R: Source>(
     ensures stays { IsTrue (R.is_broken source.old) → IsTrue (R.is_broken source.new) }
     ensures profile { reader.new.path.frames.profile ≡ reader.old.path.frames.profile }
 {
-    let wanted = (reader.ask().min(room) as usize).min(buffer.len());
+    let wanted = (reader.request_len().min(room) as usize).min(buffer.len());
     if wanted == 0 {
         return Ok(0);
     }
@@ -253,7 +253,7 @@ pub fn decode(alloc: Global, octets: &[u8]) -> Result<Message, Failure>
 fn begun(alloc: Global, octets: &[u8]) -> Result<Option<Message>, Failure>
     ensures { HasBegun octets.now result }
 {
-    let mut reader = Reader::new(alloc, Profile::Two, Values::new(alloc));
+    let mut reader = Reader::new(alloc, Profile::Two, ValueDraft::new(alloc));
     let _ = reader.run(octets);
     match reader.outcome() {
         Ok(true) => Ok(reader.into_draft().into_message()),

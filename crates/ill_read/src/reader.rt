@@ -5,10 +5,9 @@ use crate::draft::Draft;
 use crate::failure::Failure;
 use crate::path::Path;
 use ber_core::Id;
-use ill_cells::Found;
-use ill_elements::{
-    Extent, HeaderRead, LengthRead, Opening, Reading, first_identifier, length_after, need_at,
-    read_header,
+use ill_grammar::{
+    Extent, Found, HeaderRead, LengthRead, Opening, Reading, first_identifier, length_after,
+    need_at, read_header,
 };
 use ill_schema::{Cause, LIMIT, Profile, Refusal};
 use std::alloc::Global;
@@ -27,7 +26,7 @@ pub struct Reader<D: Drop> {
     ghost within: { at ≤ 1_048_576 },
 }
 
-/// Whether a message is whole.
+/// The state of a message.
 #[derive(Clone, Copy)]
 pub enum State {
     Open,
@@ -39,29 +38,29 @@ pub enum State {
 impl<D: Draft> Reader<D> {
     ghost use Rattle.ill_schema.specs.Profiles.{profile_of};
     ghost use Rattle.ill_schema.specs.declared.profile.Profile.{Profile as Named};
-    ghost use Rattle.ill_elements.specs.Two.{is_found_of};
+    ghost use Rattle.ill_grammar.specs.Two.{is_found_of};
     ghost use Rattle.std.specs.Prelude.{◌≡◌, ◌≢◌, ℕ, ◌+◌, ◌-◌, ◌<◌, List, [], ◌∷◌, ◌++◌, length, drop, take, false, true, IsTrue, Ok, Err, Some, None};
     ghost use Rattle.ber_core.specs.Octets.{are_octets};
     ghost use Rattle.ill_schema.specs.Apdu.{Apdu, Accepts};
-    ghost use Rattle.ill_elements.specs.Need.{NeedsAfterIn};
+    ghost use Rattle.ill_grammar.specs.Need.{NeedsAfterIn};
     ghost use Rattle.ill_read.specs.Feeding.{IsOpenAt};
     ghost use Rattle.ill_read.specs.Paths.{HoldsAt};
-    ghost use Rattle.ill_elements.specs.Standing.{StandsBefore, top_level};
+    ghost use Rattle.ill_grammar.specs.Standing.{StandsBefore, top_level};
     ghost use Rattle.ill_read.specs.Answers.{IsRefusedIn};
-    ghost use Rattle.ill_elements.specs.HeaderCode.{IsHeaderRead};
+    ghost use Rattle.ill_grammar.specs.HeaderCode.{IsHeaderRead};
     ghost use Rattle.ill_refusals.specs.code.Judge.{faulty, judge, judge_element, judge_end, judge_mark, judge_octets};
     ghost use Rattle.ill_refusals.specs.code.Step.{moved};
     ghost use Rattle.ill_read.specs.code.Drafts.{HoldsApdu};
     ghost use Rattle.ill_read.specs.code.Filling.{HasLooked, NoneEndsWithin};
     ghost use Rattle.ill_read.specs.code.Judged.{IsJudgement, IsStep};
-    ghost use Rattle.ill_elements.specs.code.Judging.{Fits, IsBegin, IsExtent, IsRoom, WhereItStands, is_plain, lacks_part};
-    ghost use Rattle.ill_elements.specs.Due.{read_as};
+    ghost use Rattle.ill_grammar.specs.code.Judging.{Fits, IsBegin, IsExtent, IsRoom, WhereItStands, is_usual, lacks_part};
+    ghost use Rattle.ill_grammar.specs.Due.{read_as};
     ghost use Rattle.ber_core.specs.Id.{form_of_id, tag_of_id};
     ghost use Rattle.ber_leaf.specs.Profile.{profile_two};
     ghost use Rattle.ill_refusals.specs.Fault.{ends_at};
     ghost use Rattle.ill_refusals.specs.Place.{bound};
     ghost use Rattle.ill_read.specs.code.Progress.{Judgement, Closes, Opens, Reads, size_of, IsProgress};
-    ghost use Rattle.ill_elements.specs.Standing.{depth_of};
+    ghost use Rattle.ill_grammar.specs.Standing.{depth_of};
     ghost use Rattle.ill_read.specs.code.ReaderCode.{CanRefuse, CanStep, HasAdvanced, HasClosed, HasOutcome, HasStopped, IsFed, IsRunning, LeadsOn, Progresses, Steps, ended};
 
     /// Begins with nothing, to read a message in the profile.
@@ -91,7 +90,7 @@ impl<D: Draft> Reader<D> {
         self.state = State::Open;
     }
 
-    /// What was made, in exchange for another draft. The reader has to be restarted before it reads again.
+    /// The draft, in exchange for another one. The reader has to be restarted before it reads again.
     #[inline(always)]
     pub fn exchange_draft(&mut self, draft: D) -> D
         ensures draft { result ≡ self.old.path.draft }
@@ -101,7 +100,7 @@ impl<D: Draft> Reader<D> {
         mem::replace(&mut path.draft, draft)
     }
 
-    /// What was made.
+    /// The result of the draft.
     pub fn into_draft(self) -> D
         ensures { result ≡ self.path.draft }
     {
@@ -115,28 +114,28 @@ impl<D: Draft> Reader<D> {
         path.into_draft()
     }
 
-    /// How far it is.
+    /// The offset that it has reached.
     pub fn at(&self) -> u32
         ensures { result ≡ self.now.at }
     {
         self.at
     }
 
-    /// How many octets wait after that place.
-    pub fn waiting(&self) -> usize
+    /// The number of octets that wait after that place.
+    pub fn pending_len(&self) -> usize
         ensures { result ≡ length self.now.pending.items }
     {
         self.pending.len()
     }
 
-    /// Whether a message is whole.
+    /// Tells whether a message is whole.
     pub fn state(&self) -> State
         ensures { result ≡ self.now.state }
     {
         self.state
     }
 
-    /// How many octets at least still belong to the message: 0 once it is whole, or has failed.
+    /// The least number of octets that still belong to the message: 0 once it is whole, or has failed.
     #[inline(always)]
     pub fn need(&self) -> u32
         ensures exact { (p : Named) (fed : List ℕ) → IsOpenAt p D.holds self.now fed → NeedsAfterIn p fed result }
@@ -152,9 +151,9 @@ impl<D: Draft> Reader<D> {
         need_at(&self.path.frames, self.at, &self.pending[..room])
     }
 
-    /// How many octets a source is asked for: as many as are needed, and two where a header or an end mark begins, since neither has fewer.
+    /// The number of octets that a source is asked for: as many as are needed, and two where a header or an end mark begins, since neither has fewer.
     #[inline(always)]
-    pub fn ask(&self) -> u32
+    pub fn request_len(&self) -> u32
         ensures closed { self.now.state ≢ State.Open → result ≡ 0 }
         ensures some { (p : Named) (fed : List ℕ) → IsFed p D.holds D.has self.now fed → self.now.state ≡ State.Open → 0 < result }
         ensures at_least { (p : Named) (fed more : List ℕ) (a : Apdu) (n : ℕ) → IsFed p D.holds D.has self.now fed → IsTrue (are_octets (fed ++ more)) → self.now.state ≡ State.Open
@@ -196,7 +195,7 @@ impl<D: Draft> Reader<D> {
     /// Goes as far as octets reach that a source has at hand, where none is kept, and returns how many of them were taken: those of
     /// elements that are passed; of a message, no octet after it; all, where they are refused.
     #[inline(always)]
-    pub fn look(&mut self, octets: &[u8]) -> usize
+    pub fn read_buffered(&mut self, octets: &[u8]) -> usize
         requires takes { D.takes self.old.path.frames.profile }
         ensures count { result ≤ length octets.now }
         ensures looked { (p : Named) (b : List ℕ) → IsFed p D.holds D.has self.old b → NoneEndsWithin p b → HasLooked p D.holds D.has self.new (b ++ take result octets.now) }
@@ -300,68 +299,68 @@ impl<D: Draft> Reader<D> {
 
     /// An end mark or an element, in the octets before the bound: at most `room`, of the `came` octets that follow.
     #[inline(always)]
-    fn advance_within(&mut self, window: &[u8], room: u32, came: usize) -> Option<usize>
+    fn advance_within(&mut self, window: &[u8], room: u32, available_len: usize) -> Option<usize>
         requires takes { D.takes self.old.path.frames.profile }
         requires open { self.old.state ≡ State.Open }
         requires fits { IsRoom self.old.at room window.now }
         ensures pending { self.new.pending ≡ self.old.pending }
         ensures progress { Progresses (length window.now) self.old.path.frames self.new.path.frames result }
-        ensures goes { (p : Named) → LeadsOn p D.holds D.has self.old window.now room came self.new result (λ place cut. judge_octets (profile_of p) place self.old.at cut window.now) }
+        ensures goes { (p : Named) → LeadsOn p D.holds D.has self.old window.now room available_len self.new result (λ place cut. judge_octets (profile_of p) place self.old.at cut window.now) }
         ensures profile { self.new.path.frames.profile ≡ self.old.path.frames.profile }
     {
         let Some(id) = first_identifier(window) else {
-            return self.advance_rarely(window, room, came);
+            return self.advance_unusual(window, room, available_len);
         };
         let Some(length_read) = length_after(window, id.constructed()) else {
-            return self.advance_rarely(window, room, came);
+            return self.advance_unusual(window, room, available_len);
         };
         let frames = &self.path.frames;
-        let Some(found) = frames.find_plain(id) else {
-            return self.advance_rarely(window, room, came);
+        let Some(found) = frames.find_usual(id) else {
+            return self.advance_unusual(window, room, available_len);
         };
         let Some(extent) = frames.reach(self.at, id, length_read, window, room) else {
-            return self.advance_rarely(window, room, came);
+            return self.advance_unusual(window, room, available_len);
         };
         self.open_or_read(found, id, extent, window, true)
     }
 
-    /// The same where the identifier is of more octets, the length isn't whole, or anything is at fault.
-    // Apart, so that what most elements have is not put together with what few have. It begins again at the identifier: so
-    // nothing has to be kept for it.
+    /// Takes an end mark or an element that `advance_within` leaves: one that is not usual, whose identifier is of more octets, whose
+    /// length isn't whole, or that is at fault.
+    // Out of line, so that usual elements do without its registers. It begins again at the identifier: so nothing has to be kept for it.
     #[inline(never)]
-    fn advance_rarely(&mut self, window: &[u8], room: u32, came: usize) -> Option<usize>
+    fn advance_unusual(&mut self, window: &[u8], room: u32, available_len: usize) -> Option<usize>
         requires takes { D.takes self.old.path.frames.profile }
         requires open { self.old.state ≡ State.Open }
         requires fits { IsRoom self.old.at room window.now }
         ensures pending { self.new.pending ≡ self.old.pending }
         ensures progress { Progresses (length window.now) self.old.path.frames self.new.path.frames result }
-        ensures goes { (p : Named) → LeadsOn p D.holds D.has self.old window.now room came self.new result (λ place cut. judge_octets (profile_of p) place self.old.at cut window.now) }
+        ensures goes { (p : Named) → LeadsOn p D.holds D.has self.old window.now room available_len self.new result (λ place cut. judge_octets (profile_of p) place self.old.at cut window.now) }
         ensures profile { self.new.path.frames.profile ≡ self.old.path.frames.profile }
     {
         let Some(first) = window.first() else {
-            return self.cut(came);
+            return self.cut(available_len);
         };
         if *first == 0 && self.path.frames.awaits_end_mark() {
-            return self.end_mark(window, came);
+            return self.end_mark(window, available_len);
         }
-        self.rare_element(window, room, came)
+        self.element_with_any_header(window, room, available_len)
     }
 
     /// An end mark, whose first octet is there.
     #[inline(always)]
-    fn end_mark(&mut self, window: &[u8], came: usize) -> Option<usize>
+    fn end_mark(&mut self, window: &[u8], available_len: usize) -> Option<usize>
         requires takes { D.takes self.old.path.frames.profile }
         requires open { self.old.state ≡ State.Open }
         requires fits { self.old.at + length window.now ≤ 1_048_576 }
         requires depth { 0 < depth_of self.old.path.frames }
         ensures pending { self.new.pending ≡ self.old.pending }
         ensures progress { Progresses (length window.now) self.old.path.frames self.new.path.frames result }
-        ensures goes { (p : Named) (room : ℕ) → LeadsOn p D.holds D.has self.old window.now room came self.new result
+        ensures goes { (p : Named) (room : ℕ) → LeadsOn p D.holds D.has self.old window.now room available_len self.new result
             (λ place cut. judge_mark (profile_of p) place self.old.at cut (drop 1 window.now)) }
         ensures profile { self.new.path.frames.profile ≡ self.old.path.frames.profile }
     {
         let Some(second) = window.get(1) else {
-            return self.cut(came);
+            return self.cut(available_len);
         };
         if *second == 0 {
             return self.end_element(2);
@@ -381,8 +380,8 @@ impl<D: Draft> Reader<D> {
         requires fits { self.old.at + marks ≤ 1_048_576 }
         ensures pending { self.new.pending ≡ self.old.pending }
         ensures progress { Progresses marks self.old.path.frames self.new.path.frames result }
-        ensures goes { (p : Named) (window : List ℕ) (room came : ℕ) → marks ≤ length window
-            → LeadsOn p D.holds D.has self.old window room came self.new result (λ place cut. judge_end (profile_of p) place self.old.at marks) }
+        ensures goes { (p : Named) (window : List ℕ) (room available_len : ℕ) → marks ≤ length window
+            → LeadsOn p D.holds D.has self.old window room available_len self.new result (λ place cut. judge_end (profile_of p) place self.old.at marks) }
         ensures profile { self.new.path.frames.profile ≡ self.old.path.frames.profile }
     {
         if self.path.frames.lacks_part() {
@@ -399,8 +398,8 @@ impl<D: Draft> Reader<D> {
         requires missing { IsTrue (lacks_part self.old.path.frames) }
         ensures none { result ≡ None }
         ensures pending { self.new.pending ≡ self.old.pending }
-        ensures goes { (p : Named) (window : List ℕ) (room came marks : ℕ)
-            → LeadsOn p D.holds D.has self.old window room came self.new result (λ place cut. judge_end (profile_of p) place self.old.at marks) }
+        ensures goes { (p : Named) (window : List ℕ) (room available_len marks : ℕ)
+            → LeadsOn p D.holds D.has self.old window room available_len self.new result (λ place cut. judge_end (profile_of p) place self.old.at marks) }
         ensures profile { self.new.path.frames.profile ≡ self.old.path.frames.profile }
     {
         let refusal = self.path.frames.missing_fault(self.at);
@@ -408,35 +407,46 @@ impl<D: Draft> Reader<D> {
     }
 
     /// An element whose identifier isn't of one octet, or whose length isn't whole.
-    #[inline(never)]
-    fn rare_element(&mut self, window: &[u8], room: u32, came: usize) -> Option<usize>
+    #[inline(always)]
+    fn element_with_any_header(
+        &mut self,
+        window: &[u8],
+        room: u32,
+        available_len: usize,
+    ) -> Option<usize>
         requires takes { D.takes self.old.path.frames.profile }
         requires open { self.old.state ≡ State.Open }
         requires fits { IsRoom self.old.at room window.now }
         ensures pending { self.new.pending ≡ self.old.pending }
         ensures progress { Progresses (length window.now) self.old.path.frames self.new.path.frames result }
-        ensures goes { (p : Named) → LeadsOn p D.holds D.has self.old window.now room came self.new result (λ place cut. judge_element (profile_of p) place self.old.at cut window.now) }
+        ensures goes { (p : Named) → LeadsOn p D.holds D.has self.old window.now room available_len self.new result (λ place cut. judge_element (profile_of p) place self.old.at cut window.now) }
         ensures profile { self.new.path.frames.profile ≡ self.old.path.frames.profile }
     {
         match read_header(window) {
-            HeaderRead::PartIdentifier => self.cut(came),
+            HeaderRead::PartIdentifier => self.cut(available_len),
             HeaderRead::NoIdentifier => self.refuse(Refusal {
                 at: self.at,
                 cause: Cause::BadTag,
             }),
-            HeaderRead::Identified(id, length) => self.judge(id, length, window, room, came),
+            HeaderRead::Identified(id, length) => self.judge(
+                id,
+                length,
+                window,
+                room,
+                available_len,
+            ),
         }
     }
 
     /// An element whose identifier was read.
-    #[inline(never)]
+    #[inline(always)]
     fn judge(
         &mut self,
         id: Id,
         length_read: LengthRead,
         window: &[u8],
         room: u32,
-        came: usize,
+        available_len: usize,
     ) -> Option<usize>
         requires takes { D.takes self.old.path.frames.profile }
         requires open { self.old.state ≡ State.Open }
@@ -444,7 +454,7 @@ impl<D: Draft> Reader<D> {
         requires header { IsHeaderRead (HeaderRead.Identified id length_read) window.now }
         ensures pending { self.new.pending ≡ self.old.pending }
         ensures progress { Progresses (length window.now) self.old.path.frames self.new.path.frames result }
-        ensures goes { (p : Named) → LeadsOn p D.holds D.has self.old window.now room came self.new result (λ place cut. judge_element (profile_of p) place self.old.at cut window.now) }
+        ensures goes { (p : Named) → LeadsOn p D.holds D.has self.old window.now room available_len self.new result (λ place cut. judge_element (profile_of p) place self.old.at cut window.now) }
         ensures profile { self.new.path.frames.profile ≡ self.old.path.frames.profile }
     {
         let at = self.at;
@@ -453,14 +463,14 @@ impl<D: Draft> Reader<D> {
             Err(refusal) => return self.refuse(refusal),
         };
         let frames = &self.path.frames;
-        let extent = match frames.judge_length(at, id, length_read, window, room, came) {
+        let extent = match frames.judge_length(at, id, length_read, window, room, available_len) {
             Ok(extent) => extent,
             Err(refusal) => return self.refuse(refusal),
         };
         self.open_or_read(found, id, extent, window, false)
     }
 
-    /// Opens the element that was found if it is constructed, and takes it if it is primitive; `plain` says that it is known to be plain.
+    /// Opens the element that was found if it is constructed, and takes it if it is primitive; `usual` says that it is known to be usual.
     #[inline(always)]
     fn open_or_read(
         &mut self,
@@ -468,13 +478,13 @@ impl<D: Draft> Reader<D> {
         id: Id,
         extent: Extent,
         window: &[u8],
-        plain: bool,
+        usual: bool,
     ) -> Option<usize>
         requires takes { D.takes self.old.path.frames.profile }
         requires open { self.old.state ≡ State.Open }
         requires room { depth_of self.old.path.frames < 32 }
         requires is_of { IsTrue (is_found_of self.old.path.frames.profile found) }
-        requires plain { IsTrue plain → IsTrue (is_plain (read_as found) (form_of_id id)) }
+        requires usual { IsTrue usual → IsTrue (is_usual (read_as found) (form_of_id id)) }
         requires extent { Fits id (length window.now) extent }
         requires fits { self.old.at + length window.now ≤ 1_048_576 }
         ensures pending { self.new.pending ≡ self.old.pending }
@@ -492,7 +502,7 @@ impl<D: Draft> Reader<D> {
                     header,
                     end,
                 };
-                self.open(opening, plain)
+                self.open(opening, usual)
             }
             Extent::Reads(header, size) => {
                 let reading = Reading {
@@ -501,18 +511,18 @@ impl<D: Draft> Reader<D> {
                     header,
                     size,
                 };
-                self.read(reading, window, plain)
+                self.read(reading, window, usual)
             }
         }
     }
 
     /// Opens an element.
     #[inline(always)]
-    fn open(&mut self, opening: Opening, plain: bool) -> Option<usize>
+    fn open(&mut self, opening: Opening, usual: bool) -> Option<usize>
         requires takes { D.takes self.old.path.frames.profile }
         requires open { self.old.state ≡ State.Open }
         requires room { depth_of self.old.path.frames < 32 }
-        requires plain { IsTrue plain → IsTrue (is_plain (read_as opening.found) true) }
+        requires usual { IsTrue usual → IsTrue (is_usual (read_as opening.found) true) }
         requires header { 0 < opening.header }
         requires is_of { IsTrue (is_found_of self.old.path.frames.profile opening.found) }
         requires fits { self.old.at + opening.header ≤ 1_048_576 }
@@ -521,18 +531,18 @@ impl<D: Draft> Reader<D> {
         ensures goes { (p : Named) → Steps p D.holds D.has self.old (Opens opening) self.new result }
         ensures profile { self.new.path.frames.profile ≡ self.old.path.frames.profile }
     {
-        match self.path.open(opening, self.at, plain) {
-            Ok(()) => self.go_on(opening.header, false),
+        match self.path.open(opening, self.at, usual) {
+            Ok(()) => self.move_on(opening.header, false),
             Err(error) => self.fail(Failure::from(error)),
         }
     }
 
     /// Takes a primitive element, which begins the octets.
     #[inline(always)]
-    fn read(&mut self, reading: Reading, octets: &[u8], plain: bool) -> Option<usize>
+    fn read(&mut self, reading: Reading, octets: &[u8], usual: bool) -> Option<usize>
         requires takes { D.takes self.old.path.frames.profile }
         requires open { self.old.state ≡ State.Open }
-        requires plain { IsTrue plain → IsTrue (is_plain (read_as reading.found) false) }
+        requires usual { IsTrue usual → IsTrue (is_usual (read_as reading.found) false) }
         requires header { (0 < reading.header) × (reading.header + reading.size ≤ length octets.now) }
         requires is_of { IsTrue (is_found_of self.old.path.frames.profile reading.found) }
         requires fits { self.old.at + length octets.now ≤ 1_048_576 }
@@ -545,8 +555,8 @@ impl<D: Draft> Reader<D> {
     {
         let size = reading.header + reading.size;
         let content = &octets[reading.header as usize..size as usize];
-        match self.path.take(reading, self.at, content, plain) {
-            Ok(whole) => self.go_on(size, whole),
+        match self.path.take(reading, self.at, content, usual) {
+            Ok(whole) => self.move_on(size, whole),
             Err(failure) => self.fail(failure),
         }
     }
@@ -564,14 +574,14 @@ impl<D: Draft> Reader<D> {
         ensures profile { self.new.path.frames.profile ≡ self.old.path.frames.profile }
     {
         match self.path.close() {
-            Ok(whole) => self.go_on(marks, whole),
+            Ok(whole) => self.move_on(marks, whole),
             Err(failure) => self.fail(failure),
         }
     }
 
     /// Moves on by the `size` octets of what was done, and ends the message where it is whole. Returns that size.
     #[inline(always)]
-    fn go_on(&mut self, size: u32, whole: bool) -> Option<usize>
+    fn move_on(&mut self, size: u32, whole: bool) -> Option<usize>
         requires open { self.old.state ≡ State.Open }
         requires fits { self.old.at + size ≤ 1_048_576 }
         ensures pending { self.new.pending ≡ self.old.pending }
@@ -604,14 +614,14 @@ impl<D: Draft> Reader<D> {
 
     /// Fails where an octet is missing before the bound, unless it is only that the octets end.
     #[cold]
-    fn cut(&mut self, came: usize) -> Option<usize>
+    fn cut(&mut self, available_len: usize) -> Option<usize>
         requires open { self.old.state ≡ State.Open }
         ensures none { result ≡ None }
         ensures pending { self.new.pending ≡ self.old.pending }
-        ensures goes { (p : Named) (window : List ℕ) (room : ℕ) → LeadsOn p D.holds D.has self.old window room came self.new result (λ place cut. faulty cut) }
+        ensures goes { (p : Named) (window : List ℕ) (room : ℕ) → LeadsOn p D.holds D.has self.old window room available_len self.new result (λ place cut. faulty cut) }
         ensures profile { self.new.path.frames.profile ≡ self.old.path.frames.profile }
     {
-        let refusal = self.path.frames.cut_fault(self.at, came);
+        let refusal = self.path.frames.cut_fault(self.at, available_len);
         self.refuse(refusal)
     }
 
@@ -646,7 +656,7 @@ impl<D: Draft> Reader<D> {
         };
     }
 
-    /// Whether the message is whole.
+    /// Tells whether the message is whole.
     ///
     /// # Errors
     ///
@@ -661,7 +671,7 @@ impl<D: Draft> Reader<D> {
         }
     }
 
-    /// Whether the message is whole, after the last octet; if not, nothing was fed.
+    /// Tells whether the message is whole, after the last octet; if not, nothing was fed.
     ///
     /// # Errors
     ///

@@ -1,45 +1,44 @@
 //! What the path does when an element opens, is read or ends.
 ghost use Rattle.std.specs.Prelude.{◌≡◌, ◌+◌, ◌<◌, ◌≤◌, [], ◌∷◌, false, true, IfOk, IsTrue};
 ghost use Rattle.ill_read.specs.Paths.{HoldsAt};
-ghost use Rattle.ill_elements.specs.Standing.{top_level};
-ghost use Rattle.ill_elements.specs.Due.{read_as, shape};
-ghost use Rattle.ill_elements.specs.Two.{is_found_of};
-ghost use Rattle.ill_elements.specs.code.Judging.{is_plain};
+ghost use Rattle.ill_grammar.specs.Standing.{top_level};
+ghost use Rattle.ill_grammar.specs.Due.{read_as, shape};
+ghost use Rattle.ill_grammar.specs.Two.{is_found_of};
+ghost use Rattle.ill_grammar.specs.code.Judging.{is_usual};
 ghost use Rattle.ill_read.specs.code.Drafts.{HasOpened};
 
 use crate::draft::Draft;
 use crate::failure::Failure;
 use crate::path::Path;
-use ill_cells::At;
-use ill_elements::{Element, Frame, Frames, LeafType, Opening, Reading};
+use ill_grammar::{Element, Frame, Frames, LeafType, Opening, Place, Reading};
 use ill_schema::{Cause, Profile};
 use std::alloc::AllocError;
 
-/// Opens an element in the draft; `plain` says that it is known to be plain. Returns where its contents begin.
+/// Opens an element in the draft; `usual` says that it is known to be usual. Returns where its contents begin.
 #[inline(always)]
 fn open_in<D: Draft>(
     draft: &mut D,
     profile: Profile,
-    place: At,
+    place: Place,
     opening: Opening,
-    plain: bool,
+    usual: bool,
 ) -> Result<usize, AllocError>
     requires takes { D.takes profile }
     requires is_of { IsTrue (is_found_of profile opening.found) }
-    requires plain { IsTrue plain → IsTrue (is_plain (read_as opening.found) true) }
-    ensures { IfOk result (λ base. HasOpened D.holds draft.old (shape place) opening base draft.new) }
+    requires usual { IsTrue usual → IsTrue (is_usual (read_as opening.found) true) }
+    ensures { IfOk result (λ contents_start. HasOpened D.holds draft.old (shape place) opening contents_start draft.new) }
 {
-    if plain {
-        return draft.open_plain(profile, place, opening);
+    if usual {
+        return draft.open_usual(profile, place, opening);
     }
     draft.open(profile, place, opening)
 }
 
 impl<D: Draft> Path<D> {
     ghost use Rattle.ill_read.specs.code.Drafts.{IsModuleElement, IsNoLeaf};
-    ghost use Rattle.ill_elements.specs.Two.{is_place_of};
-    ghost use Rattle.ill_elements.specs.declared.element.Element.{Element as CodeElement};
-    ghost use Rattle.ill_elements.specs.Standing.{depth_of};
+    ghost use Rattle.ill_grammar.specs.Two.{is_place_of};
+    ghost use Rattle.ill_grammar.specs.declared.element.Element.{Element as CodeElement};
+    ghost use Rattle.ill_grammar.specs.Standing.{depth_of};
     ghost use Rattle.ill_read.specs.code.Stepping.{ClosesExactly, OpensExactly, ReadsExactly, GoesOn};
 
     /// No open element, and a draft of nothing, of a message that is read in the profile.
@@ -64,24 +63,24 @@ impl<D: Draft> Path<D> {
         self.draft = draft;
     }
 
-    /// Opens the element that is due and begins at `start`; `plain` says that it is known to be plain.
+    /// Opens the element that is due and begins at `start`; `usual` says that it is known to be usual.
     #[inline(always)]
-    pub fn open(&mut self, opening: Opening, start: u32, plain: bool) -> Result<(), AllocError>
+    pub fn open(&mut self, opening: Opening, start: u32, usual: bool) -> Result<(), AllocError>
         requires room { depth_of self.old.frames < 32 }
         requires takes { D.takes self.old.frames.profile }
         requires is_of { IsTrue (is_found_of self.old.frames.profile opening.found) }
-        requires plain { IsTrue plain → IsTrue (is_plain (read_as opening.found) true) }
+        requires usual { IsTrue usual → IsTrue (is_usual (read_as opening.found) true) }
         ensures exact { IfOk result (λ _. OpensExactly D.holds self.old opening start self.new) }
         ensures depth { depth_of self.new.frames ≤ depth_of self.old.frames + 1 }
         ensures profile { self.new.frames.profile ≡ self.old.frames.profile }
     {
         let profile = self.frames.profile;
-        let base = open_in(
+        let contents_start = open_in(
             &mut self.draft,
             profile,
             self.frames.place(),
             opening,
-            plain,
+            usual,
         )?;
         let frame = Frame {
             found: opening.found,
@@ -89,30 +88,30 @@ impl<D: Draft> Path<D> {
             start,
             end: opening.end,
             bound: opening.end.unwrap_or(self.frames.bound()),
-            base,
+            contents_start,
         };
         self.frames.push(frame);
         Ok(())
     }
 
-    /// Takes the content of a primitive element that is due and begins at `start`; `plain` says that it is known to be plain. Returns whether the message is whole.
+    /// Takes the content of a primitive element that is due and begins at `start`; `usual` says that it is known to be usual. Returns whether the message is whole.
     #[inline(always)]
     pub fn take(
         &mut self,
         reading: Reading,
         start: u32,
         content: &[u8],
-        plain: bool,
+        usual: bool,
     ) -> Result<bool, Failure>
         requires takes { D.takes self.old.frames.profile }
         requires is_of { IsTrue (is_found_of self.old.frames.profile reading.found) }
-        requires plain { IsTrue plain → IsTrue (is_plain (read_as reading.found) false) }
+        requires usual { IsTrue usual → IsTrue (is_usual (read_as reading.found) false) }
         ensures exact { ReadsExactly D.holds self.old reading start content.now self.new result }
         ensures depth { depth_of self.new.frames ≡ depth_of self.old.frames }
         ensures profile { self.new.frames.profile ≡ self.old.frames.profile }
     {
         let element = Element::of(reading.found);
-        if plain {
+        if usual {
             let Element::Leaf(leaf) = element else {
                 unreachable!()
             };
@@ -120,14 +119,19 @@ impl<D: Draft> Path<D> {
         }
         match element {
             Element::Leaf(leaf) => self.take_leaf(reading, leaf, start, content),
-            _ => self.take_rest(reading, start, content),
+            _ => self.take_other_element(reading, start, content),
         }
     }
 
     /// Takes the content of an element that is no leaf of profile 2.
     // What is read is copied for the call here, so that a leaf does without the copy.
     #[inline(always)]
-    fn take_rest(&mut self, reading: Reading, start: u32, content: &[u8]) -> Result<bool, Failure>
+    fn take_other_element(
+        &mut self,
+        reading: Reading,
+        start: u32,
+        content: &[u8],
+    ) -> Result<bool, Failure>
         requires takes { D.takes self.old.frames.profile }
         requires is_of { IsTrue (is_found_of self.old.frames.profile reading.found) }
         requires rest { IsNoLeaf (read_as reading.found) }
@@ -135,12 +139,17 @@ impl<D: Draft> Path<D> {
         ensures depth { depth_of self.new.frames ≡ depth_of self.old.frames }
         ensures profile { self.new.frames.profile ≡ self.old.frames.profile }
     {
-        self.take_apart(reading, start, content)
+        self.take_other_out_of_line(reading, start, content)
     }
 
-    /// Does the same, apart from what most elements need.
+    /// Does the same out of line, so that most elements do without its memory.
     #[inline(never)]
-    fn take_apart(&mut self, reading: Reading, start: u32, content: &[u8]) -> Result<bool, Failure>
+    fn take_other_out_of_line(
+        &mut self,
+        reading: Reading,
+        start: u32,
+        content: &[u8],
+    ) -> Result<bool, Failure>
         requires takes { D.takes self.old.frames.profile }
         requires is_of { IsTrue (is_found_of self.old.frames.profile reading.found) }
         requires rest { IsNoLeaf (read_as reading.found) }
@@ -150,7 +159,7 @@ impl<D: Draft> Path<D> {
     {
         match Element::of(reading.found) {
             Element::ModuleLeaf(_) | Element::BitString | Element::Foreign(_) => {
-                self.take_other(reading, start, content)
+                self.take_module_element(reading, start, content)
             }
             Element::BitSegment => {
                 let profile = self.frames.profile;
@@ -190,7 +199,12 @@ impl<D: Draft> Path<D> {
     }
 
     /// Takes the content of an element that only the module profile has.
-    fn take_other(&mut self, reading: Reading, start: u32, content: &[u8]) -> Result<bool, Failure>
+    fn take_module_element(
+        &mut self,
+        reading: Reading,
+        start: u32,
+        content: &[u8],
+    ) -> Result<bool, Failure>
         requires takes { D.takes self.old.frames.profile }
         requires is_of { IsTrue (is_found_of self.old.frames.profile reading.found) }
         requires other { IsModuleElement (read_as reading.found) }
@@ -227,7 +241,7 @@ impl<D: Draft> Path<D> {
 
     /// Goes on at the place after an element. Returns whether the message is whole.
     #[inline(always)]
-    fn pass(&mut self, after: At) -> bool
+    fn pass(&mut self, after: Place) -> bool
         requires is_of { IsTrue (is_place_of self.old.frames.profile after) }
         ensures passed { GoesOn after self.old.frames.open.items self.new.frames.open.items result }
         ensures draft { self.new.draft ≡ self.old.draft }

@@ -1,5 +1,5 @@
-//! Which inputs are refused, with which fault at which offset: elements, what is due at a place, faults, and the one outcome of each input.
-//! Definitions and laws alone; no code here reads an input.
+//! Definitions and laws: what is due at a place, which input is refused with which fault at which offset, and the one outcome of each
+//! input. No code here reads an input. Use it in contracts that speak of refusals.
 #![tactic(auto)]
 
 mod laws;

@@ -5,7 +5,7 @@ use Rattle.ber_leaf.specs.Content.{IsContent}
 use Rattle.ber_leaf.specs.declared.text.ill_string.IllString.{IllString}
 use Rattle.ber_leaf.specs.declared.text.ill_string.IllString.TheVariants.{General, Visible}
 use Rattle.ber_leaf.specs.Leaf.{Leaf, boolean, integer, enumerated, general_string, visible_string, printable_string, iso_date, iso_time, Holds, normal_content}
-use Rattle.ber_leaf.specs.code.Sign.{reach}
+use Rattle.ber_leaf.specs.code.Sign.{magnitude}
 use Rattle.ber_leaf.specs.Profile.{profile_two}
 use Rattle.ber_leaf.specs.Simple.{flag, whole, date, time, printable, general, visible}
 use Rattle.ber_leaf.proofs.Integers.{whole_held}
@@ -67,7 +67,7 @@ string_fits node (Visible text) h =
 whole_holds : (n : ℤ) → FitsSigned w64 n → Holds profile_two integer (whole n) (normal_content (whole n))
 whole_holds n h = whole_held profile_two n (within n h)
   where
-    within : (n : ℤ) → FitsSigned w64 n → reach n < 9_223_372_036_854_775_808
+    within : (n : ℤ) → FitsSigned w64 n → magnitude n < 9_223_372_036_854_775_808
     within (pos n) h = omega (arith, ints, h)
     within (negsuc n) h = omega (arith, ints, h)
 

@@ -8,21 +8,21 @@ use crate::node::{Kind, LeafKind};
 use crate::part::{Presence, Row};
 use crate::value::Value;
 
-/// Whether a row may hold an entry.
+/// Tells whether a row may hold an entry.
 pub fn is_carried(presence: Presence) -> bool
     ensures { IsTrue result ↔ IsCarried presence }
 {
     !matches!(presence, Presence::LeftOut)
 }
 
-/// Whether a row's entry may be missing.
+/// Tells whether a row's entry may be missing.
 pub fn may_lack(presence: Presence) -> bool
     ensures { IsTrue result ↔ MayLack presence }
 {
     matches!(presence, Presence::May | Presence::LeftOut)
 }
 
-/// Whether an entry is its row's default.
+/// Tells whether an entry is its row's default.
 pub fn is_default(row: Row, value: &Value) -> bool
     ensures { result ≡ is_default row (content_of value.now) }
 {

@@ -4,7 +4,7 @@ ghost use Rattle.ill_schema.specs.Value.{content_of, entries_content, items_cont
 
 use crate::value::Value;
 
-/// Whether two values have the same content; the capacity of their memory doesn't count.
+/// Tells whether two values have the same content; the capacity of their memory doesn't count.
 #[cycle(equal)]
 pub fn equal(a: &Value, b: &Value) -> bool
     ensures { IsTrue result ↔ (content_of a.now ≡ content_of b.now) }

@@ -33,7 +33,7 @@ pub fn one_value()
     ensures apdu { (p : Profile) (a b : Apdu) (t : Tree) → MeansApdu p a t → MeansApdu p b t → a ≡ b }
 {}
 
-/// What means a value fits the node, and what means an APDU fits it.
+/// A value that octets mean at a node fits the node, and so does an APDU.
 pub fn what_is_meant_fits()
     ensures value { (p : Profile) (v : Content) (node : NodeId) (g : Tagging) (t : Tree) → Means p v node g t → Fits p v node }
     ensures apdu { (p : Profile) (a : Apdu) (t : Tree) → MeansApdu p a t → FitsApdu p a }
@@ -68,14 +68,14 @@ pub fn normal_form_is_no_longer()
     ensures { (limit : ℕ) (a : Apdu) (octets : List ℕ) → Encodes (profile_one limit) a octets → length octets ≤ 65_535 → length (normal_form a) ≤ length octets }
 {}
 
-/// What spells an APDU in profile 1, with either of its limits, spells the same APDU in profile 2; its normal form doesn't depend on
+/// Octets that spell an APDU in profile 1, with either of its limits, spell the same APDU in profile 2; its normal form doesn't depend on
 /// the profile. (Within 65,535 octets the size of the normal form is no condition of its own.)
 pub fn profile_two_extends_profile_one()
     ensures small { (a : Apdu) (octets : List ℕ) → Encodes (profile_one 65_535) a octets → SpellsApdu profile_two a octets }
     ensures large { (a : Apdu) (octets : List ℕ) → SpellsApdu (profile_one 1_048_576) a octets → SpellsApdu profile_two a octets }
 {}
 
-/// What spells an APDU in profile 2 spells it in the module profile, too, and has the same normal form there, where the APDU has
+/// Octets that spell an APDU in profile 2 spell it in the module profile, too, and have the same normal form there, where the APDU has
 /// no Units-Per-Medium and no Will-Supply, the tags of which are explicit in the module alone. As a value of the module profile
 /// each APDU fits, and is of one APDU alone.
 pub fn the_module_reads_profile_two()
@@ -85,7 +85,7 @@ pub fn the_module_reads_profile_two()
     ensures one { (a b : Apdu) → FitsApdu profile_two a → FitsApdu profile_two b → lift_apdu a ≡ lift_apdu b → a ≡ b }
 {}
 
-/// What octets spell in both profiles is one APDU, and none with a Units-Per-Medium or a Will-Supply. Where some of the first
+/// Octets spell one APDU in both profiles, and none with a Units-Per-Medium or a Will-Supply. Where some of the first
 /// octets spell an APDU in profile 2 and some in the module profile, they are the same octets.
 pub fn no_octets_change_their_meaning()
     ensures apdu { (a b : Apdu) (octets : List ℕ) → SpellsApdu profile_two a octets → SpellsApdu profile_three b octets → b ≡ lift_apdu a }

@@ -1,4 +1,5 @@
-//! The tables of ILL messages, their values, what octets mean by them, and the normal form.
+//! The tables of ILL messages, their values, what octets mean by them, the normal form, and the causes of refusals. Use it to look up
+//! names and rows, and for messages as values.
 //!
 //! A part of a message has the names of the tables:
 //!

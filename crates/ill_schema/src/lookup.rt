@@ -58,14 +58,14 @@ pub fn kind(node: NodeId) -> Kind
     }
 }
 
-/// How many rows a node has.
+/// The number of rows that a node has.
 pub fn rows(node: NodeId) -> u8
     ensures { result ≡ length (rows_of node) }
 {
     rows_of(node).len() as u8
 }
 
-/// What the tables say of a part, None where the node has no such row.
+/// The row of a part in the tables, None where the node has no such row.
 pub fn row(part: PartId) -> Option<Row>
     ensures { result ≡ slice_get (rows_of part.node) part.row }
 {
@@ -79,7 +79,7 @@ pub fn kind_as(profile: Profile, node: NodeId) -> Kind
     kind(profile.node(node))
 }
 
-/// How many rows a node has in the profile.
+/// The number of rows that a node has in the profile.
 ///
 /// ```
 /// // Conditional has three rows in profile 2, and four in the module profile.
@@ -91,7 +91,7 @@ pub fn rows_as(profile: Profile, node: NodeId) -> u8
     rows(profile.node(node))
 }
 
-/// What the tables of the profile say of a part, None where the node has no such row.
+/// The row of a part in the tables of the profile, None where the node has no such row.
 pub fn row_as(profile: Profile, part: PartId) -> Option<Row>
     ensures { result ≡ slice_get (rows_of (node_in (profile_of profile) part.node)) part.row }
 {

@@ -81,7 +81,7 @@ impl Message {
         &self.body
     }
 
-    /// How many octets the message was read from, or, of a message that was made, those of its
+    /// The number of octets that the message was read from, or, of a message that was made, those of its
     /// normal form.
     pub fn octets(&self) -> u32
         ensures { result ≡ octets_of self.now }
@@ -96,7 +96,7 @@ impl Message {
         self.body
     }
 
-    /// Whether two messages are of one APDU, however many octets they were read from.
+    /// Tells whether two messages are of one APDU, however many octets they were read from.
     pub fn same_apdu(&self, other: &Message) -> bool
         ensures { IsTrue result ↔ (apdu_of self.now ≡ apdu_of other.now) }
     {

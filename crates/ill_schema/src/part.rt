@@ -1,7 +1,7 @@
 use crate::node::NodeId;
 use ber_core::Class;
 
-/// Whether a row needs an entry.
+/// The presence that the tables demand of a row.
 #[derive(Clone, Copy, Debug, PartialEq, Eq)]
 pub enum Presence {
     /// The entry is mandatory.
@@ -14,7 +14,7 @@ pub enum Presence {
     LeftOut,
 }
 
-/// How a row's tag relates to the tag of its type.
+/// The relation of a row's tag to the tag of its type.
 #[derive(Clone, Copy, Debug, PartialEq, Eq)]
 pub enum Mode {
     /// In place of the type's tag (X.690, 8.14.3).
@@ -34,7 +34,7 @@ pub struct PartId {
     pub row: u8,
 }
 
-/// What the tables say of a part.
+/// The row of a part in the tables.
 #[derive(Clone, Copy, Debug, PartialEq, Eq)]
 pub struct Row {
     /// The class and number, None where the row is untagged.

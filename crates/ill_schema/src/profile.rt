@@ -7,7 +7,7 @@ ghost use Rattle.ill_schema.specs.Table.{twin};
 
 use crate::node::NodeId;
 
-/// Which rows of the tables a message may have, and which octets a GeneralString.
+/// The rows of the tables that a message may have, and the octets that a GeneralString may have.
 #[derive(Clone, Copy, Debug, PartialEq, Eq)]
 pub enum Profile {
     /// Profile 2: the rows that aren't left out, and any octet but SO, SI and ESC.

@@ -1,7 +1,7 @@
 use crate::part::PartId;
 use ber_leaf::LeafFault;
 
-/// Why a message is refused.
+/// The reason why a message is refused.
 #[derive(Clone, Copy, Debug, PartialEq, Eq)]
 pub enum Cause {
     /// The input ends inside the message.
@@ -48,6 +48,113 @@ pub enum Cause {
     BadOid,
     /// A BIT STRING's content is no number of unused bits and octets that have these (X.690, 8.6.2).
     BadBits,
+}
+
+impl Cause {
+    ghost use Rattle.std.specs.Prelude.{◌≡◌};
+    ghost use Rattle.ill_schema.specs.Causes.{cause_name, cause_number, cause_text};
+
+    /// The name of the cause.
+    ///
+    /// ```text
+    /// Cause::BadEnd.name() // "BadEnd"
+    /// ```
+    pub fn name(self) -> &'static str
+        ensures { result.now ≡ cause_name self }
+    {
+        match self {
+            Cause::Truncated => "Truncated",
+            Cause::BadTag => "BadTag",
+            Cause::BadLength => "BadLength",
+            Cause::TooLong => "TooLong",
+            Cause::Overrun => "Overrun",
+            Cause::TooDeep => "TooDeep",
+            Cause::UnexpectedTag => "UnexpectedTag",
+            Cause::LeftOut(_) => "LeftOut",
+            Cause::WrongForm => "WrongForm",
+            Cause::Missing(_) => "Missing",
+            Cause::BadEnd => "BadEnd",
+            Cause::BadBoolean => "BadBoolean",
+            Cause::BadInteger => "BadInteger",
+            Cause::IntegerTooLong => "IntegerTooLong",
+            Cause::BadText => "BadText",
+            Cause::BadDate => "BadDate",
+            Cause::BadTime => "BadTime",
+            Cause::TrailingBytes => "TrailingBytes",
+            Cause::NormalTooLong => "NormalTooLong",
+            Cause::BadNull => "BadNull",
+            Cause::BadOid => "BadOid",
+            Cause::BadBits => "BadBits",
+        }
+    }
+
+    /// The number of the cause, from 1 to 22, as callers in C get it.
+    ///
+    /// ```text
+    /// Cause::BadEnd.number() // 11
+    /// ```
+    pub fn number(self) -> u32
+        ensures { result ≡ cause_number self }
+    {
+        match self {
+            Cause::Truncated => 1,
+            Cause::BadTag => 2,
+            Cause::BadLength => 3,
+            Cause::TooLong => 4,
+            Cause::Overrun => 5,
+            Cause::TooDeep => 6,
+            Cause::UnexpectedTag => 7,
+            Cause::LeftOut(_) => 8,
+            Cause::WrongForm => 9,
+            Cause::Missing(_) => 10,
+            Cause::BadEnd => 11,
+            Cause::BadBoolean => 12,
+            Cause::BadInteger => 13,
+            Cause::IntegerTooLong => 14,
+            Cause::BadText => 15,
+            Cause::BadDate => 16,
+            Cause::BadTime => 17,
+            Cause::TrailingBytes => 18,
+            Cause::NormalTooLong => 19,
+            Cause::BadNull => 20,
+            Cause::BadOid => 21,
+            Cause::BadBits => 22,
+        }
+    }
+
+    /// The text of the cause: what is wrong, as a clause without a full stop.
+    ///
+    /// ```text
+    /// Cause::BadEnd.text() // "the second octet of an end mark is not 00"
+    /// ```
+    pub fn text(self) -> &'static str
+        ensures { result.now ≡ cause_text self }
+    {
+        match self {
+            Cause::Truncated => "the input ends inside the message",
+            Cause::BadTag => "no identifier begins so, or the tag number has more than four octets",
+            Cause::BadLength => "the first length octet is FF, or 80 in a primitive element",
+            Cause::TooLong => "the message would have more than 1,048,576 octets",
+            Cause::Overrun => "the element would go past the end of an element round it",
+            Cause::TooDeep => "more than 32 elements would be open",
+            Cause::UnexpectedTag => "the tag is not due there",
+            Cause::LeftOut(_) => "this part is not read",
+            Cause::WrongForm => "it is primitive where it has to be constructed, or the reverse",
+            Cause::Missing(_) => "the element ends before a mandatory part",
+            Cause::BadEnd => "the second octet of an end mark is not 00",
+            Cause::BadBoolean => "a BOOLEAN has one octet",
+            Cause::BadInteger => "the number has no octet, or one more than it needs",
+            Cause::IntegerTooLong => "the number has more than eight octets",
+            Cause::BadText => "an octet is not in the alphabet of the string",
+            Cause::BadDate => "it is not eight digits of a day that exists",
+            Cause::BadTime => "it is not six digits of a time of day",
+            Cause::TrailingBytes => "octets follow the message",
+            Cause::NormalTooLong => "the normal form would have more than 1,048,576 octets",
+            Cause::BadNull => "a NULL has no octets",
+            Cause::BadOid => "the identifier has no octet, one more than it needs, or no end",
+            Cause::BadBits => "the first octet is not the number of unused bits",
+        }
+    }
 }
 
 impl From<LeafFault> for Cause {

@@ -88,7 +88,7 @@ fn string_fits(string: &IllString, node: NodeId) -> bool
     has_kind(node, Kind::IllString)
 }
 
-/// Whether a value has the shape of a node: one entry for each row of a sequence, where mandatory
+/// Tells whether a value has the shape of a node: one entry for each row of a sequence, where mandatory
 /// rows and those with a default hold one and left out rows hold none, an alternative that is
 /// carried, and leaves of the node's kind.
 #[cycle(fits)]
@@ -143,7 +143,7 @@ fn fit_items(items: &Vec<Value>, rows: &[Row]) -> bool
     true
 }
 
-/// Whether an item fits the row of a list.
+/// Tells whether an item fits the row of a list.
 #[cycle(fits)]
 fn fits_first(item: &Value, rows: &[Row]) -> bool
     ensures { IsTrue result ↔ ItemFits item.now rows.now }

@@ -27,7 +27,7 @@ use ber_leaf::{
     DateText, Flag, GeneralText, IllString, Leaf, PrintableText, TimeText, VisibleText, Whole,
 };
 
-/// How many octets a message may have, and its normal form.
+/// The number of octets that a message may have, and its normal form.
 pub const LIMIT: u32 = 1_048_576;
 
 fn within_limit(size: usize) -> Option<usize>
@@ -40,7 +40,7 @@ fn within_limit(size: usize) -> Option<usize>
     }
 }
 
-/// How many octets the identifier of an element takes, where this tag replaces its own:
+/// The number of octets that the identifier of an element takes, where this tag replaces its own:
 /// that is universal, of a number below 31.
 fn identifier_size(replaced: Option<(Class, u32)>) -> usize
     ensures value { (kind : Kind) (c : Content) (form : Bool) → length (identifier (element_tag replaced kind c) form) ≡ result }
@@ -52,7 +52,7 @@ fn identifier_size(replaced: Option<(Class, u32)>) -> usize
     }
 }
 
-/// How many octets the identifier of a tag of this number takes.
+/// The number of octets that the identifier of a tag of this number takes.
 fn number_size(number: u32) -> usize
     ensures value { (tag : Tag) (form : Bool) → tag.number ≡ number → length (identifier tag form) ≡ result }
     ensures small { result ≤ 5 }
@@ -70,7 +70,7 @@ fn number_size(number: u32) -> usize
     }
 }
 
-/// How many octets a length takes.
+/// The number of octets that a length takes.
 fn length_size(contents: usize) -> usize
     requires { contents ≤ profile_two.limit }
     ensures value { result ≡ length (short_length contents) }
@@ -87,7 +87,7 @@ fn length_size(contents: usize) -> usize
     }
 }
 
-/// How many octets an element takes, from its contents.
+/// The number of octets that an element takes, from its contents.
 fn element_size(replaced: Option<(Class, u32)>, contents: usize) -> Option<usize>
     ensures { IsElementSize replaced contents result }
 {

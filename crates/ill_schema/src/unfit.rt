@@ -1,4 +1,4 @@
-/// Why a number and a value make no message.
+/// The reason why a number and a value make no message.
 #[derive(Clone, Copy, Debug, PartialEq, Eq)]
 pub enum Unfit {
     /// No APDU of the number is carried.

@@ -5,7 +5,7 @@ use Rattle.std.proofs.lemmas.List.Concat.{flat_map-append}
 use Rattle.ber_leaf.specs.Leaf.{bit_count, bit_octets, bit_string, cleared, cleared_last, is_bits, value}
 use Rattle.ber_leaf.proofs.Bits.{length-cleared}
 use Rattle.ber_leaf.specs.declared.fault.LeafFault.{LeafFault}
-use Rattle.ill_elements.specs.LeafTypes.{IsContentIn}
+use Rattle.ill_grammar.specs.LeafTypes.{IsContentIn}
 use Rattle.ill_schema.specs.declared.profile.Profile.{Profile as Named}
 use Rattle.ill_read.specs.declared.mark.Mark.{Mark}
 use Rattle.ill_read.specs.declared.mark.Mark.TheVariants as mark

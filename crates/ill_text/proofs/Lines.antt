@@ -22,16 +22,16 @@ use Rattle.ill_schema.specs.declared.part.Row.{Row as TableRow}
 use Rattle.ill_schema.specs.Presence.{default_value}
 use Rattle.ill_schema.specs.Table.{kind_of}
 use Rattle.ill_schema.specs.Content.{Content, simple, sequence, list, alternative, foreign, Entries, no_entries, absent, present, Items, no_items, item}
-use Rattle.ill_elements.specs.LeafTypes.{IsContentIn, leaf_is, module_leaf_is}
+use Rattle.ill_grammar.specs.LeafTypes.{IsContentIn, leaf_is, module_leaf_is}
 use Rattle.ill_read.specs.Outline.{AreEntries, AreItems, IsMarked, IsPassed, leaf_marked}
 use Rattle.ill_read.specs.declared.mark.Mark.{Mark}
 use Rattle.ill_read.specs.declared.mark.Mark.TheVariants as mark
 use Rattle.ill_text.specs.Shown.{Place, entry_lines, is_empty, item_lines, item_of, line, lines_of, part, within}
 use Rattle.ill_text.specs.code.MarkedOctets.{SaysOctets, is_of_module}
-use Rattle.ill_text.specs.Marks.{IsEntry, entry_text, front_octets, is_at_end, is_there, octets_in, passed_in}
+use Rattle.ill_text.specs.Marks.{IsEntry, entry_text, leading_octets, is_at_end, is_there, octets_in, passed_in}
 use Rattle.ill_schema.specs.declared.part.PartId.{PartId}
-use Rattle.ill_elements.specs.declared.leaf_type.LeafType.{LeafType}
-use Rattle.ill_elements.specs.declared.leaf_type.ModuleLeaf.{ModuleLeaf}
+use Rattle.ill_grammar.specs.declared.leaf_type.LeafType.{LeafType}
+use Rattle.ill_grammar.specs.declared.leaf_type.ModuleLeaf.{ModuleLeaf}
 use Rattle.ill_text.specs.Shown.{row_name, row_node}
 use Rattle.ill_text.specs.code.Trails.{head_line, place_at}
 use Rattle.ill_text.specs.Shown.{shown_text_in}
@@ -40,7 +40,7 @@ use Rattle.ill_schema.specs.Apdu.{Apdu, root}
 use Rattle.std.proofs.Common.{slice_get}
 use Rattle.ill_text.specs.code.Sending.{Adds, Sending}
 use Rattle.ill_text.specs.code.Trails.{is_nothing, path_of}
-use Rattle.ill_text.specs.declared.trail.Trail.{Trail, Start, Row, Item, the_lemmas}
+use Rattle.ill_text.specs.declared.field_path.FieldPath.{FieldPath, Start, Row, Item, the_lemmas}
 use Rattle.ill_text.proofs.Sent.{adds_then, adds_as}
 
 -- ---- paths
@@ -48,10 +48,10 @@ use Rattle.ill_text.proofs.Sent.{adds_then, adds_as}
 pub path_of-Start : path_of Start ≡ []
 path_of-Start = search (rules, the_lemmas)
 
-pub path_of-Row : (outer : Bor Trail) (name : Bor (List ℕ)) → path_of (Row outer name) ≡ within (path_of outer.now) name.now
+pub path_of-Row : (outer : Bor FieldPath) (name : Bor (List ℕ)) → path_of (Row outer name) ≡ within (path_of outer.now) name.now
 path_of-Row outer name = search (rules, the_lemmas)
 
-pub path_of-Item : (outer : Bor Trail) (i : ℕ) → path_of (Item outer i) ≡ path_of outer.now ++ codes "[" ++ decimal i ++ codes "]"
+pub path_of-Item : (outer : Bor FieldPath) (i : ℕ) → path_of (Item outer i) ≡ path_of outer.now ++ codes "[" ++ decimal i ++ codes "]"
 path_of-Item outer i = search (rules, the_lemmas)
 
 pub within_some : (path name : List ℕ) → is_nothing path ≡ false → is_nothing name ≡ false → within path name ≡ path ++ (codes "." ++ name)
@@ -82,14 +82,14 @@ pub marks_length : (o : List ℕ) → length (map mark.Octet o) ≡ length o
 marks_length [] = refl
 marks_length (a ∷ o) = ap (λ (n : ℕ). suc n) (marks_length o)
 
-pub front_of : (o : List ℕ) (rest : List Mark) → front_octets (map mark.Octet o ++ (mark.End ∷ rest)) ≡ length o
+pub front_of : (o : List ℕ) (rest : List Mark) → leading_octets (map mark.Octet o ++ (mark.End ∷ rest)) ≡ length o
 front_of [] rest = refl
 front_of (a ∷ o) rest = ap (λ (n : ℕ). suc n) (front_of o rest)
 
 -- the octets of a leaf, and the marks after its end
-pub leaf_parts : (o : List ℕ) (rest ms : List Mark) (n : ℕ) → ms ≡ map mark.Octet o ++ (mark.End ∷ rest) → n ≡ front_octets ms → (octets_in (take n ms) ≡ o) × (drop (n + 1) ms ≡ rest) × (n + 1 ≤ length ms)
+pub leaf_parts : (o : List ℕ) (rest ms : List Mark) (n : ℕ) → ms ≡ map mark.Octet o ++ (mark.End ∷ rest) → n ≡ leading_octets ms → (octets_in (take n ms) ≡ o) × (drop (n + 1) ms ≡ rest) × (n + 1 ≤ length ms)
 leaf_parts o rest ms n e f =
-    let size : length (map mark.Octet o) ≡ n = marks_length o ∙ sym (front_of o rest) ∙ ap front_octets (sym e) ∙ sym f in
+    let size : length (map mark.Octet o) ≡ n = marks_length o ∙ sym (front_of o rest) ∙ ap leading_octets (sym e) ∙ sym f in
     let more : length (map mark.Octet o ++ mark.End ∷ []) ≡ n + 1 = omega (arith, length-append (map mark.Octet o) (mark.End ∷ []), size) in (
       ap octets_in (ap (take n) e ∙ take_at (map mark.Octet o) (mark.End ∷ rest) n size) ∙ octets_back o,
       ap (drop (n + 1)) (e ∙ sym (append_assoc (map mark.Octet o) (mark.End ∷ []) rest)) ∙ drop_at (map mark.Octet o ++ mark.End ∷ []) rest (n + 1) more,
@@ -98,7 +98,7 @@ leaf_parts o rest ms n e f =
 
 -- what the marks of a value say, by the first of them
 abbrev pub Says : Mark → Content → List Mark → Type 0
-Says (mark.Passed part) c inside = IsPassed part (Some c) × (inside ≡ [])
+Says (mark.Absent part) c inside = IsPassed part (Some c) × (inside ≡ [])
 Says (mark.Alternative n) c inside = (d : Content) × (c ≡ alternative n d) × IsMarked d inside
 Says mark.Sequence c inside = (es : Entries) × (own : List Mark) × (c ≡ sequence es) × AreEntries es own × (inside ≡ own ++ mark.End ∷ [])
 Says mark.List c inside = (is : Items) × (own : List Mark) × (c ≡ list is) × AreItems is own × (inside ≡ own ++ mark.End ∷ [])
@@ -115,7 +115,7 @@ leaf_says _ l o p v is content holds = absurd cc
 
 value_says : (c : Content) (ms : List Mark) → IsMarked c ms → (m : Mark) × (inside : List Mark) × (ms ≡ m ∷ inside) × Says m c inside
 value_says (simple v) ms (inl h) = (h.first, map mark.Octet h.octets ++ mark.End ∷ [], h.are, leaf_says h.first h.leaf h.octets h.profile v h.begins h.content h.holds)
-value_says (simple v) ms (inr h) = (mark.Passed h.0, [], h.1, (h.2, refl))
+value_says (simple v) ms (inr h) = (mark.Absent h.0, [], h.1, (h.2, refl))
 value_says (sequence es) ms h = (mark.Sequence, h.0 ++ mark.End ∷ [], h.1, (es, h.0, refl, h.2, refl))
 value_says (list is) ms h = (mark.List, h.0 ++ mark.End ∷ [], h.1, (is, h.0, refl, h.2, refl))
 value_says (alternative n c) ms h = (mark.Alternative n, h.0, h.1, (c, refl, h.2))
@@ -159,7 +159,7 @@ next_entry no_entries ms rest h e = absurd (let q : true ≡ false = ap (λ x. i
 next_entry (absent es) ms rest h e = record {
   entry = None;
   later = es;
-  first = mark.Passed h.0 ∷ [];
+  first = mark.Absent h.0 ∷ [];
   second = h.1;
   is = (h.0, refl, h.3);
   joined = h.2;
@@ -350,7 +350,7 @@ items_line p is rest left i a b c r end none k = go r.begun
 octets_join : (xs ys : List Mark) → octets_in (xs ++ ys) ≡ octets_in xs ++ octets_in ys
 octets_join [] ys = refl
 octets_join (mark.Octet octet ∷ xs) ys = ap (λ o. octet ∷ o) (octets_join xs ys)
-octets_join (mark.Passed part ∷ xs) ys = octets_join xs ys
+octets_join (mark.Absent part ∷ xs) ys = octets_join xs ys
 octets_join (mark.Alternative n ∷ xs) ys = octets_join xs ys
 octets_join (mark.Leaf l ∷ xs) ys = octets_join xs ys
 octets_join (mark.ModuleLeaf l ∷ xs) ys = octets_join xs ys
@@ -368,7 +368,7 @@ escaped_step xs i d h = ap (flat_map escaped) (mark_step xs i d h) ∙ flat_map-
 
 pub other_mark : (m : Mark) → ((octet : ℕ) → m ≡ mark.Octet octet → ⊥) → octets_in (m ∷ []) ≡ []
 other_mark (mark.Octet octet) h = absurd (h octet refl)
-other_mark (mark.Passed part) h = refl
+other_mark (mark.Absent part) h = refl
 other_mark (mark.Alternative n) h = refl
 other_mark (mark.Leaf l) h = refl
 other_mark (mark.ModuleLeaf l) h = refl
@@ -482,8 +482,8 @@ says_nothing mark.BitString c octets f b t is = b refl
 says_nothing mark.Foreign c octets f b t is = t refl
 says_nothing _ c octets f b t is = is
 
-pub passed_first : (c : Content) (ms rest tail : List Mark) (p : PartId) → IsMarked c ms → mark.Passed p ∷ tail ≡ ms ++ rest → IsPassed p (Some c) × (tail ≡ rest)
-passed_first c ms rest tail p h e = let b = begun c ms rest tail (mark.Passed p) h e in (b.1.0, b.2 ∙ ap (λ ms. ms ++ rest) b.1.1)
+pub passed_first : (c : Content) (ms rest tail : List Mark) (p : PartId) → IsMarked c ms → mark.Absent p ∷ tail ≡ ms ++ rest → IsPassed p (Some c) × (tail ≡ rest)
+passed_first c ms rest tail p h e = let b = begun c ms rest tail (mark.Absent p) h e in (b.1.0, b.2 ∙ ap (λ ms. ms ++ rest) b.1.1)
 
 pub alternative_first : (c : Content) (ms rest tail : List Mark) (n : ℕ) → IsMarked c ms → mark.Alternative n ∷ tail ≡ ms ++ rest → (d : Content) × (inside : List Mark) × (c ≡ alternative n d) × IsMarked d inside × (tail ≡ inside ++ rest)
 alternative_first c ms rest tail n h e = let b = begun c ms rest tail (mark.Alternative n) h e in (b.1.0, b.0, b.1.1, b.1.2, b.2)
@@ -502,15 +502,15 @@ nothing_begins c ms rest marks none h e =
     let v = value_says c ms h in
     absurd (let q : None ≡ Some v.0 = sym none ∙ ap (λ x. slice_get x 0) (front ms rest v.1 marks v.0 v.2 e) in cc)
 
-passed_at : (marks : List Mark) (p : PartId) → passed_in marks ≡ Some p → marks ≡ mark.Passed p ∷ drop 1 marks
+passed_at : (marks : List Mark) (p : PartId) → passed_in marks ≡ Some p → marks ≡ mark.Absent p ∷ drop 1 marks
 passed_at [] p is = absurd cc
-passed_at (mark.Passed q ∷ ms) p is = (let same : q ≡ p = cc in ap (λ x. mark.Passed x ∷ ms) same)
+passed_at (mark.Absent q ∷ ms) p is = (let same : q ≡ p = cc in ap (λ x. mark.Absent x ∷ ms) same)
 passed_at (_ ∷ ms) p is = absurd cc
 
 -- an entry whose row was passed, and one that has an element
-passed_alone : (q : PartId) (p : PartId) (ms rest marks : List Mark) → ms ≡ mark.Passed q ∷ [] → marks ≡ ms ++ rest → passed_in marks ≡ Some p → (q ≡ p) × (drop 1 marks ≡ rest)
+passed_alone : (q : PartId) (p : PartId) (ms rest marks : List Mark) → ms ≡ mark.Absent q ∷ [] → marks ≡ ms ++ rest → passed_in marks ≡ Some p → (q ≡ p) × (drop 1 marks ≡ rest)
 passed_alone q p ms rest marks e at is =
-    let all : marks ≡ mark.Passed q ∷ rest = front ms rest [] marks (mark.Passed q) e at in
+    let all : marks ≡ mark.Absent q ∷ rest = front ms rest [] marks (mark.Absent q) e at in
     (let x : Some q ≡ Some p = sym (ap passed_in all) ∙ is in cc, ap (drop 1) all)
 
 pub entry_passed : (e : Option Content) (ms rest marks : List Mark) (p : PartId) → IsEntry e ms → marks ≡ ms ++ rest → passed_in marks ≡ Some p → IsPassed p e × (drop 1 marks ≡ rest)
@@ -518,7 +518,7 @@ entry_passed None ms rest marks p h e is = let a = passed_alone h.0 p ms rest ma
 entry_passed (Some c) ms rest marks p h e is = passed_first c ms rest (drop 1 marks) p h (sym (passed_at marks p is) ∙ e)
 
 pub entry_value : (e : Option Content) (ms rest marks : List Mark) → IsEntry e ms → marks ≡ ms ++ rest → passed_in marks ≡ None → (c : Content) × (e ≡ Some c) × IsMarked c ms
-entry_value None ms rest marks h e is = absurd (let x : Some h.0 ≡ None = sym (ap passed_in (front ms rest [] marks (mark.Passed h.0) h.1 e)) ∙ is in cc)
+entry_value None ms rest marks h e is = absurd (let x : Some h.0 ≡ None = sym (ap passed_in (front ms rest [] marks (mark.Absent h.0) h.1 e)) ∙ is in cc)
 entry_value (Some c) ms rest marks h e is = (c, refl, h)
 
 pub entry_absent : (e : Option Content) (ms rest marks : List Mark) → IsEntry e ms → marks ≡ ms ++ rest → is_there e ≡ false → (e ≡ None) × (drop 1 marks ≡ rest)
@@ -531,12 +531,12 @@ entry_there (Some c) ms h on = (c, refl, h)
 
 -- ---- where a part and an item are
 
-pub part_place : (trail : Bor Trail) (name : Bor (List ℕ)) (node inner : NodeId) (i : ℕ) → name.now ≡ row_name node i → inner ≡ row_node node i → place_at (Row trail name) name.now inner ≡ part (place_at trail.now [] node) i
+pub part_place : (trail : Bor FieldPath) (name : Bor (List ℕ)) (node inner : NodeId) (i : ℕ) → name.now ≡ row_name node i → inner ≡ row_node node i → place_at (Row trail name) name.now inner ≡ part (place_at trail.now [] node) i
 part_place trail name node inner i n k =
     ap (λ x. let p : Place = record { path = x; name = name.now; node = inner } in p) (path_of-Row trail name)
     ∙ ap₂ (λ (x : List ℕ) (y : NodeId). let p : Place = record { path = within (path_of trail.now) x; name = x; node = y } in p) n k
 
-pub item_place : (trail : Bor Trail) (name : List ℕ) (node inner : NodeId) (i : ℕ) → inner ≡ row_node node 0 → place_at (Item trail i) name inner ≡ item_of (place_at trail.now name node) i
+pub item_place : (trail : Bor FieldPath) (name : List ℕ) (node inner : NodeId) (i : ℕ) → inner ≡ row_node node 0 → place_at (Item trail i) name inner ≡ item_of (place_at trail.now name node) i
 item_place trail name node inner i k = ap₂ (λ (x : List ℕ) (y : NodeId). let p : Place = record { path = x; name = name; node = y } in p) (path_of-Item trail i) k
 
 pub not_some : (x : Option Mark) → ((m : Mark) → x ≡ Some m → ⊥) → x ≡ None

@@ -9,14 +9,14 @@ use Rattle.ill_schema.proofs.OneMeaning.{one_message}
 use Rattle.ill_schema.proofs.Streams.{parts_accept, spells_some}
 use Rattle.ill_read.specs.Outline.{IsOutlineOf}
 use Rattle.ill_read.specs.Outlined.{IsOutlinedIn}
-use Rattle.ill_read.specs.declared.outlined.Outlined.{Outlined}
+use Rattle.ill_read.specs.declared.outlined.OutlinedMessage.{OutlinedMessage}
 use Rattle.ill_text.specs.TextOf.{IsSpellingIn}
 
 front_of : (s b : List ℕ) (left : Option (List ℕ)) → Consumes (Some s) left b → (rest : List ℕ) × (s ≡ b ++ rest)
 front_of s b (Some rest) h = (rest, h)
 front_of s b None h = absurd h
 
-pub one_outline : (p : Profile) (s : List ℕ) (left : Option (List ℕ)) (a : Apdu) (read : Outlined) → SpellsApdu p a s
+pub one_outline : (p : Profile) (s : List ℕ) (left : Option (List ℕ)) (a : Apdu) (read : OutlinedMessage) → SpellsApdu p a s
     → (b : List ℕ) → Consumes (Some s) left b → IsOutlinedIn p read b → IsOutlineOf read.outline a
 one_outline p s left a read h b taken is =
     let front = front_of s b left taken in

@@ -7,7 +7,7 @@ use Rattle.ber_leaf.specs.Profile.{is_graphic}
 use Rattle.ill_read.specs.declared.mark.Mark.{Mark}
 use Rattle.ill_read.specs.declared.mark.Mark.TheVariants as mark
 use Rattle.ill_text.specs.Shown.{content_text, hexadecimal, line, quoted}
-use Rattle.ill_text.specs.Marks.{front_octets, octets_in}
+use Rattle.ill_text.specs.Marks.{leading_octets, octets_in}
 use Rattle.ill_text.proofs.Lines.{mark_step}
 
 -- what is put of each octet, one octet further
@@ -16,16 +16,16 @@ pub octets_step : (f : ℕ → List ℕ) (xs : List Mark) (i : ℕ) (d : Mark) �
 octets_step f xs i d h = ap (flat_map f) (mark_step xs i d h) ∙ flat_map-append f (octets_in (take i xs)) (octets_in (get_or xs i d ∷ []))
 
 -- the marks that come first are those of their octets
-pub front_marks : (ms : List Mark) → take (front_octets ms) ms ≡ map mark.Octet (octets_in (take (front_octets ms) ms))
+pub front_marks : (ms : List Mark) → take (leading_octets ms) ms ≡ map mark.Octet (octets_in (take (leading_octets ms) ms))
 front_marks [] = refl
 front_marks (mark.Octet a ∷ ms) = ap (λ x. mark.Octet a ∷ x) (front_marks ms)
 front_marks (_ ∷ ms) = refl
 
-pub front_all : (o : List ℕ) → octets_in (take (front_octets (map mark.Octet o)) (map mark.Octet o)) ≡ o
+pub front_all : (o : List ℕ) → octets_in (take (leading_octets (map mark.Octet o)) (map mark.Octet o)) ≡ o
 front_all [] = refl
 front_all (a ∷ o) = ap (λ x. a ∷ x) (front_all o)
 
-pub front_are : (ms : List Mark) (n : ℕ) → n ≡ front_octets ms → take n ms ≡ map mark.Octet (octets_in (take n ms))
+pub front_are : (ms : List Mark) (n : ℕ) → n ≡ leading_octets ms → take n ms ≡ map mark.Octet (octets_in (take n ms))
 front_are ms n e = ap (λ k. take k ms) e ∙ front_marks ms ∙ ap (λ k. map mark.Octet (octets_in (take k ms))) (sym e)
 
 pub no_octets : (octets : List ℕ) (ms : List Mark) → ms ≡ map mark.Octet octets → length ms ≡ 0 → octets ≡ []

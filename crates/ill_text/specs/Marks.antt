@@ -18,14 +18,14 @@ is_octet (mark.Octet octet) = true
 is_octet _ = false
 
 -- how many marks of octets come first
-abbrev pub front_octets : List Mark → ℕ
-front_octets [] = 0
-front_octets (mark.Octet octet ∷ ms) = suc (front_octets ms)
-front_octets (_ ∷ ms) = 0
+abbrev pub leading_octets : List Mark → ℕ
+leading_octets [] = 0
+leading_octets (mark.Octet octet ∷ ms) = suc (leading_octets ms)
+leading_octets (_ ∷ ms) = 0
 
 -- the marks of a row's entry
 abbrev pub IsEntry : Option Content → List Mark → Type 0
-IsEntry None ms = (part : PartId) × (ms ≡ mark.Passed part ∷ []) × IsPassed part None
+IsEntry None ms = (part : PartId) × (ms ≡ mark.Absent part ∷ []) × IsPassed part None
 IsEntry (Some c) ms = IsMarked c ms
 
 -- the lines of an entry
@@ -45,7 +45,7 @@ is_at_end (_ ∷ ms) = false
 
 -- the row that was passed, where its mark comes first
 abbrev pub passed_in : List Mark → Option PartId
-passed_in (mark.Passed part ∷ ms) = Some part
+passed_in (mark.Absent part ∷ ms) = Some part
 passed_in _ = None
 
 -- the alternative, where its mark comes first

@@ -8,15 +8,15 @@ ghost use Rattle.ber_core.specs.Length.{shortest_length};
 ghost use Rattle.ber_core.specs.Tree.{Tree, Trees};
 ghost use Rattle.ill_read.specs.declared.mark.Mark.{Mark};
 ghost use Rattle.ill_text.specs.Shown.{line, tree_text, trees_text};
-ghost use Rattle.ill_text.specs.Marks.{front_octets, octets_in};
+ghost use Rattle.ill_text.specs.Marks.{leading_octets, octets_in};
 ghost use Rattle.ill_text.specs.code.Elements.{blank, is_last, up_to_last};
 ghost use Rattle.ill_text.specs.code.Sending.{Adds, counted, sending};
 ghost use Rattle.ill_text.specs.code.Trails.{path_of};
 
-use crate::leaf::front_octets;
+use crate::field_path::{FieldPath, put_path};
+use crate::leaf::leading_octets;
 use crate::module_leaf::{put_content, put_hexadecimal};
-use crate::outgoing::Out;
-use crate::trail::{Trail, put_path};
+use crate::text_sink::TextSink;
 use ber_core::Sink;
 use ill_read::Mark;
 
@@ -24,8 +24,13 @@ use ill_read::Mark;
 const LEVELS: u8 = 20;
 
 /// Puts the line of a foreign tree whose octets the marks begin with, and returns how many octets it has.
-pub fn put_foreign<W: Sink>(marks: &[Mark], trail: &Trail<'_>, out: &mut Out, sink: &mut W) -> usize
-    ensures exact { result ≡ front_octets marks.now }
+pub fn put_foreign<W: Sink>(
+    marks: &[Mark],
+    trail: &FieldPath<'_>,
+    out: &mut TextSink,
+    sink: &mut W,
+) -> usize
+    ensures exact { result ≡ leading_octets marks.now }
     ensures within { result ≤ length marks.now }
     ensures adds { (T : Tree) → IsTrue (is_foreign foreign_levels T)
         → octets_in (take result marks.now) ≡ encoding T
@@ -34,7 +39,7 @@ pub fn put_foreign<W: Sink>(marks: &[Mark], trail: &Trail<'_>, out: &mut Out, si
         (sending (W.contents sink.new) (W.is_broken sink.new) out.new) }
     ensures stays { IsTrue (W.is_broken sink.old) → IsTrue (W.is_broken sink.new) }
 {
-    let count = front_octets(marks);
+    let count = leading_octets(marks);
     let _ = put_path(trail, out, sink);
     out.put(sink, b" = foreign ");
     put_trees(LEVELS, &marks[..count], out, sink);
@@ -44,7 +49,7 @@ pub fn put_foreign<W: Sink>(marks: &[Mark], trail: &Trail<'_>, out: &mut Out, si
 
 /// Puts the trees whose octets the marks are, with a blank between two, where they have at most so many levels.
 #[cycle(trees)]
-fn put_trees<W: Sink>(levels: u8, marks: &[Mark], out: &mut Out, sink: &mut W)
+fn put_trees<W: Sink>(levels: u8, marks: &[Mark], out: &mut TextSink, sink: &mut W)
     ensures adds { (ts : Trees) → IsTrue (are_foreign levels ts)
         → marks.now ≡ map Mark.Octet (encodings ts) → Adds (trees_text ts)
         (sending (W.contents sink.old) (W.is_broken sink.old) out.old)
@@ -63,7 +68,12 @@ fn put_trees<W: Sink>(levels: u8, marks: &[Mark], out: &mut Out, sink: &mut W)
 
 /// Puts the tree that comes first, where so many levels may be inside it, and returns the marks after it.
 #[cycle(trees)]
-fn put_tree<'m, W: Sink>(inside: u8, marks: &'m [Mark], out: &mut Out, sink: &mut W) -> &'m [Mark]
+fn put_tree<'m, W: Sink>(
+    inside: u8,
+    marks: &'m [Mark],
+    out: &mut TextSink,
+    sink: &mut W,
+) -> &'m [Mark]
     ensures adds { (T : Tree) (rest : List ℕ) → IsTrue (is_foreign (suc inside) T)
         → marks.now ≡ map Mark.Octet (encoding T ++ rest)
         → (result.now ≡ map Mark.Octet rest) × Adds (tree_text T)
@@ -87,7 +97,7 @@ fn put_tree<'m, W: Sink>(inside: u8, marks: &'m [Mark], out: &mut Out, sink: &mu
 }
 
 /// Puts a blank, where a tree follows.
-fn put_blank<W: Sink>(marks: &[Mark], out: &mut Out, sink: &mut W)
+fn put_blank<W: Sink>(marks: &[Mark], out: &mut TextSink, sink: &mut W)
     ensures adds { Adds (blank marks.now)
         (sending (W.contents sink.old) (W.is_broken sink.old) out.old)
         (sending (W.contents sink.new) (W.is_broken sink.new) out.new) }

@@ -9,17 +9,17 @@ ghost use Rattle.ill_schema.specs.Content.{Content};
 ghost use Rattle.ill_schema.specs.Presence.{default_value};
 ghost use Rattle.ill_schema.specs.Table.{kind_of};
 ghost use Rattle.ill_schema.specs.declared.node.NodeId.{NodeId};
-ghost use Rattle.ill_elements.specs.LeafTypes.{IsContentIn, leaf_is};
+ghost use Rattle.ill_grammar.specs.LeafTypes.{IsContentIn, leaf_is};
 ghost use Rattle.ill_read.specs.Outline.{IsPassed};
 ghost use Rattle.ill_text.specs.Numbers.{number_name};
 ghost use Rattle.ill_text.specs.Shown.{escaped, in_brackets, leaf_text, line};
-ghost use Rattle.ill_text.specs.Marks.{entry_text, front_octets, is_octet, is_there, octets_in};
+ghost use Rattle.ill_text.specs.Marks.{entry_text, leading_octets, is_octet, is_there, octets_in};
 ghost use Rattle.ill_text.specs.code.Sending.{Adds, sending};
 ghost use Rattle.ill_text.specs.code.Trails.{path_of, place_at};
 
+use crate::field_path::{FieldPath, put_line, put_path};
 use crate::number::number_name;
-use crate::outgoing::Out;
-use crate::trail::{Trail, put_line, put_path};
+use crate::text_sink::TextSink;
 use arrayvec::ArrayVec;
 use ber_core::Sink;
 use ber_leaf::Whole;
@@ -34,12 +34,12 @@ pub const DIGITS: &[u8; 16] = b"0123456789abcdef";
 pub fn put_leaf<W: Sink>(
     leaf: LeafType,
     marks: &[Mark],
-    trail: &Trail<'_>,
+    trail: &FieldPath<'_>,
     name: &str,
-    out: &mut Out,
+    out: &mut TextSink,
     sink: &mut W,
 ) -> usize
-    ensures exact { result ≡ front_octets marks.now }
+    ensures exact { result ≡ leading_octets marks.now }
     ensures within { result ≤ length marks.now }
     ensures adds { (p : Named) → IsContentIn p (leaf_is leaf) (octets_in (take result marks.now)) → Adds (line (path_of trail.now) (leaf_text name.now (value (leaf_is leaf) (octets_in (take result marks.now)))))
         (sending (W.contents sink.old) (W.is_broken sink.old) out.old) (sending (W.contents sink.new) (W.is_broken sink.new) out.new) }
@@ -47,7 +47,7 @@ pub fn put_leaf<W: Sink>(
 {
     match leaf {
         LeafType::Boolean => {
-            let count = front_octets(marks);
+            let count = leading_octets(marks);
             put_line(trail, flag_text(is_set(&marks[..count])), out, sink);
             count
         }
@@ -61,9 +61,9 @@ pub fn put_leaf<W: Sink>(
     }
 }
 
-/// How many marks of octets come first.
-pub fn front_octets(marks: &[Mark]) -> usize
-    ensures exact { result ≡ front_octets marks.now }
+/// The number of marks of octets that come first.
+pub fn leading_octets(marks: &[Mark]) -> usize
+    ensures exact { result ≡ leading_octets marks.now }
     ensures within { result ≤ length marks.now }
 {
     let mut count = 0;
@@ -82,7 +82,7 @@ fn is_octet(mark: Mark) -> bool
     matches!(&mark, Mark::Octet(_))
 }
 
-/// Whether a row that was passed has a default.
+/// Tells whether a row that was passed has a default.
 pub fn has_default(part: PartId) -> bool
     ensures { (e : Option Content) → IsPassed part e → result ≡ is_there e }
 {
@@ -95,9 +95,9 @@ pub fn has_default(part: PartId) -> bool
 /// Puts the line of the default of a row that was passed, if it has one.
 pub fn put_default<W: Sink>(
     part: PartId,
-    trail: &Trail<'_>,
+    trail: &FieldPath<'_>,
     name: &str,
-    out: &mut Out,
+    out: &mut TextSink,
     sink: &mut W,
 )
     ensures adds { (e : Option Content) (node : NodeId) → IsPassed part e → Adds (entry_text (place_at trail.now name.now node) e)
@@ -117,9 +117,9 @@ pub fn put_default<W: Sink>(
 fn put_value_of<W: Sink>(
     node: NodeId,
     number: i64,
-    trail: &Trail<'_>,
+    trail: &FieldPath<'_>,
     name: &str,
-    out: &mut Out,
+    out: &mut TextSink,
     sink: &mut W,
 )
     ensures adds { Adds (line (path_of trail.now) (leaf_text name.now (default_value (kind_of node) number)))
@@ -138,7 +138,7 @@ fn flag_text(is_true: bool) -> &'static [u8]
     if is_true { b"TRUE" } else { b"FALSE" }
 }
 
-/// Whether any octet isn't 0.
+/// Tells whether any octet isn't 0.
 pub fn is_set(octets: &[Mark]) -> bool
     ensures { result ≡ not (list_all (nat_eq 0) (octets_in octets.now)) }
 {
@@ -150,7 +150,7 @@ pub fn is_set(octets: &[Mark]) -> bool
     false
 }
 
-/// Whether it is an octet that isn't 0.
+/// Tells whether it is an octet that isn't 0.
 fn has_set(mark: Mark) -> bool
     ensures { result ≡ not (list_all (nat_eq 0) (octets_in (mark ∷ []))) }
 {
@@ -162,25 +162,31 @@ fn has_set(mark: Mark) -> bool
 
 /// Puts a line with the number that the marks begin with, and returns how many octets it has.
 fn put_whole<W: Sink>(
-    trail: &Trail<'_>,
+    trail: &FieldPath<'_>,
     name: &str,
     marks: &[Mark],
-    out: &mut Out,
+    out: &mut TextSink,
     sink: &mut W,
 ) -> usize
-    ensures exact { result ≡ front_octets marks.now }
+    ensures exact { result ≡ leading_octets marks.now }
     ensures within { result ≤ length marks.now }
     ensures adds { 0 < length (octets_in (take result marks.now)) → length (octets_in (take result marks.now)) ≤ 8
         → Adds (line (path_of trail.now) (leaf_text name.now (whole (integer_of (octets_in (take result marks.now)))))) (sending (W.contents sink.old) (W.is_broken sink.old) out.old) (sending (W.contents sink.new) (W.is_broken sink.new) out.new) }
     ensures stays { IsTrue (W.is_broken sink.old) → IsTrue (W.is_broken sink.new) }
 {
-    let count = front_octets(marks);
+    let count = leading_octets(marks);
     put_number(trail, name, number_in(&marks[..count]), out, sink);
     count
 }
 
 /// Puts a line with a number, and its name in the row, if it has one.
-fn put_number<W: Sink>(trail: &Trail<'_>, name: &str, number: i64, out: &mut Out, sink: &mut W)
+fn put_number<W: Sink>(
+    trail: &FieldPath<'_>,
+    name: &str,
+    number: i64,
+    out: &mut TextSink,
+    sink: &mut W,
+)
     ensures adds { Adds (line (path_of trail.now) (signed_decimal number ++ in_brackets (number_name name.now number)))
         (sending (W.contents sink.old) (W.is_broken sink.old) out.old) (sending (W.contents sink.new) (W.is_broken sink.new) out.new) }
     ensures stays { IsTrue (W.is_broken sink.old) → IsTrue (W.is_broken sink.new) }
@@ -194,7 +200,7 @@ fn put_number<W: Sink>(trail: &Trail<'_>, name: &str, number: i64, out: &mut Out
 }
 
 /// Puts the name of a number in brackets, if it has one in the row.
-fn put_name<W: Sink>(row: &str, number: i64, out: &mut Out, sink: &mut W)
+fn put_name<W: Sink>(row: &str, number: i64, out: &mut TextSink, sink: &mut W)
     ensures adds { Adds (in_brackets (number_name row.now number)) (sending (W.contents sink.old) (W.is_broken sink.old) out.old) (sending (W.contents sink.new) (W.is_broken sink.new) out.new) }
     ensures stays { IsTrue (W.is_broken sink.old) → IsTrue (W.is_broken sink.new) }
 {
@@ -211,13 +217,13 @@ fn put_name<W: Sink>(row: &str, number: i64, out: &mut Out, sink: &mut W)
 /// Puts a line with the string that the marks begin with in quotation marks, after what it opens with, and returns how many octets it has.
 #[inline(always)]
 pub fn put_quoted<W: Sink>(
-    trail: &Trail<'_>,
+    trail: &FieldPath<'_>,
     opening: &str,
     marks: &[Mark],
-    out: &mut Out,
+    out: &mut TextSink,
     sink: &mut W,
 ) -> usize
-    ensures exact { result ≡ front_octets marks.now }
+    ensures exact { result ≡ leading_octets marks.now }
     ensures within { result ≤ length marks.now }
     ensures adds { Adds (line (path_of trail.now) (opening.now ++ (flat_map escaped (octets_in (take result marks.now)) ++ codes "\"")))
         (sending (W.contents sink.old) (W.is_broken sink.old) out.old) (sending (W.contents sink.new) (W.is_broken sink.new) out.new) }
@@ -232,8 +238,8 @@ pub fn put_quoted<W: Sink>(
 }
 
 /// Puts the octets that come first, escaped, and returns how many there are.
-pub fn put_escaped<W: Sink>(marks: &[Mark], out: &mut Out, sink: &mut W) -> usize
-    ensures exact { result ≡ front_octets marks.now }
+pub fn put_escaped<W: Sink>(marks: &[Mark], out: &mut TextSink, sink: &mut W) -> usize
+    ensures exact { result ≡ leading_octets marks.now }
     ensures within { result ≤ length marks.now }
     ensures adds { Adds (flat_map escaped (octets_in (take result marks.now))) (sending (W.contents sink.old) (W.is_broken sink.old) out.old) (sending (W.contents sink.new) (W.is_broken sink.new) out.new) }
     ensures stays { IsTrue (W.is_broken sink.old) → IsTrue (W.is_broken sink.new) }
@@ -249,7 +255,7 @@ pub fn put_escaped<W: Sink>(marks: &[Mark], out: &mut Out, sink: &mut W) -> usiz
     count
 }
 
-fn put_escaped_mark<W: Sink>(mark: Mark, out: &mut Out, sink: &mut W)
+fn put_escaped_mark<W: Sink>(mark: Mark, out: &mut TextSink, sink: &mut W)
     ensures adds { Adds (flat_map escaped (octets_in (mark ∷ []))) (sending (W.contents sink.old) (W.is_broken sink.old) out.old) (sending (W.contents sink.new) (W.is_broken sink.new) out.new) }
     ensures stays { IsTrue (W.is_broken sink.old) → IsTrue (W.is_broken sink.new) }
 {
@@ -259,7 +265,7 @@ fn put_escaped_mark<W: Sink>(mark: Mark, out: &mut Out, sink: &mut W)
     }
 }
 
-fn put_octet<W: Sink>(octet: u8, out: &mut Out, sink: &mut W)
+fn put_octet<W: Sink>(octet: u8, out: &mut TextSink, sink: &mut W)
     ensures adds { Adds (escaped octet) (sending (W.contents sink.old) (W.is_broken sink.old) out.old) (sending (W.contents sink.new) (W.is_broken sink.new) out.new) }
     ensures stays { IsTrue (W.is_broken sink.old) → IsTrue (W.is_broken sink.new) }
 {
@@ -271,7 +277,7 @@ fn put_octet<W: Sink>(octet: u8, out: &mut Out, sink: &mut W)
 
 /// Puts an octet, escaped where it has to be.
 #[inline(never)]
-fn put_escape<W: Sink>(octet: u8, out: &mut Out, sink: &mut W)
+fn put_escape<W: Sink>(octet: u8, out: &mut TextSink, sink: &mut W)
     ensures adds { Adds (escaped octet) (sending (W.contents sink.old) (W.is_broken sink.old) out.old) (sending (W.contents sink.new) (W.is_broken sink.new) out.new) }
     ensures stays { IsTrue (W.is_broken sink.old) → IsTrue (W.is_broken sink.new) }
 {
@@ -287,8 +293,13 @@ fn put_escape<W: Sink>(octet: u8, out: &mut Out, sink: &mut W)
 }
 
 /// Puts a line with the octets that come first as they are, and returns how many there are.
-fn put_plain<W: Sink>(trail: &Trail<'_>, marks: &[Mark], out: &mut Out, sink: &mut W) -> usize
-    ensures exact { result ≡ front_octets marks.now }
+fn put_plain<W: Sink>(
+    trail: &FieldPath<'_>,
+    marks: &[Mark],
+    out: &mut TextSink,
+    sink: &mut W,
+) -> usize
+    ensures exact { result ≡ leading_octets marks.now }
     ensures within { result ≤ length marks.now }
     ensures adds { Adds (line (path_of trail.now) (octets_in (take result marks.now))) (sending (W.contents sink.old) (W.is_broken sink.old) out.old) (sending (W.contents sink.new) (W.is_broken sink.new) out.new) }
     ensures stays { IsTrue (W.is_broken sink.old) → IsTrue (W.is_broken sink.new) }
@@ -301,8 +312,8 @@ fn put_plain<W: Sink>(trail: &Trail<'_>, marks: &[Mark], out: &mut Out, sink: &m
 }
 
 /// Puts the octets that come first as they are, and returns how many there are.
-fn put_octets<W: Sink>(marks: &[Mark], out: &mut Out, sink: &mut W) -> usize
-    ensures exact { result ≡ front_octets marks.now }
+fn put_octets<W: Sink>(marks: &[Mark], out: &mut TextSink, sink: &mut W) -> usize
+    ensures exact { result ≡ leading_octets marks.now }
     ensures within { result ≤ length marks.now }
     ensures adds { Adds (octets_in (take result marks.now)) (sending (W.contents sink.old) (W.is_broken sink.old) out.old) (sending (W.contents sink.new) (W.is_broken sink.new) out.new) }
     ensures stays { IsTrue (W.is_broken sink.old) → IsTrue (W.is_broken sink.new) }
@@ -318,7 +329,7 @@ fn put_octets<W: Sink>(marks: &[Mark], out: &mut Out, sink: &mut W) -> usize
     count
 }
 
-fn put_mark<W: Sink>(mark: Mark, out: &mut Out, sink: &mut W)
+fn put_mark<W: Sink>(mark: Mark, out: &mut TextSink, sink: &mut W)
     ensures adds { Adds (octets_in (mark ∷ [])) (sending (W.contents sink.old) (W.is_broken sink.old) out.old) (sending (W.contents sink.new) (W.is_broken sink.new) out.new) }
     ensures stays { IsTrue (W.is_broken sink.old) → IsTrue (W.is_broken sink.new) }
 {

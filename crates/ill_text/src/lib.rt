@@ -1,4 +1,4 @@
-//! Messages as text that people read: a line for each leaf.
+//! Messages as text that people read: a line for each leaf. Use it to show a message.
 //!
 //! ```
 //! // message 1 Expired
@@ -7,6 +7,7 @@
 //! ```
 #![tactic(auto)]
 
+mod field_path;
 mod foreign;
 mod laws;
 mod leaf;
@@ -14,14 +15,13 @@ mod message;
 mod module_leaf;
 mod number;
 mod octets;
-mod outgoing;
 mod part;
 mod show;
 mod text;
-mod trail;
+mod text_sink;
 
 pub use laws::lifted_texts_are_the_same;
-pub use leaf::{front_octets, is_set, number_in};
+pub use leaf::{is_set, leading_octets, number_in};
 pub use message::{outline_as, outline_of, show_text};
 pub use number::number_name;
 pub use part::{row_name, row_node};

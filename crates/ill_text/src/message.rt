@@ -9,7 +9,7 @@ ghost use Rattle.ill_text.specs.Shown.{shown_text};
 ghost use Rattle.ill_text.specs.TextOf.{IsSpelling, IsSpellingIn};
 
 use crate::text::Text;
-use ber_core::{AtHand, FromSlice};
+use ber_core::{Buffered, FromSlice};
 use ill_read::{Outline, OutlineReader, ReadFailure};
 use ill_schema::{Message, Profile};
 use ill_write::normal_bytes;
@@ -39,7 +39,7 @@ pub fn show_text(alloc: Global, number: u32, message: &Message) -> Result<Vec<u8
     Text::new(number, outline).octets(alloc)
 }
 
-/// The outline of the message that the octets are, in the memory of `room`, whose marks are forgotten. What the reader read before makes
+/// The outline of the message that the octets are, in the memory of `buffer`, whose marks are forgotten. What the reader read before makes
 /// no difference.
 ///
 /// # Errors
@@ -56,12 +56,12 @@ pub fn show_text(alloc: Global, number: u32, message: &Message) -> Result<Vec<u8
 pub fn outline_of(
     reader: &mut OutlineReader,
     octets: &[u8],
-    room: Outline,
+    buffer: Outline,
 ) -> Result<Outline, AllocError>
     requires { IsSpelling octets.now }
     ensures { (a : Apdu) → SpellsApdu profile_two a octets.now → IfOk result (λ outline. IsOutlineOf outline a) }
 {
-    outline_as(reader, Profile::Two, octets, room)
+    outline_as(reader, Profile::Two, octets, buffer)
 }
 
 /// The outline of the message in the profile that the octets are, as [`outline_of`] makes it.
@@ -81,14 +81,14 @@ pub fn outline_as(
     reader: &mut OutlineReader,
     profile: Profile,
     octets: &[u8],
-    room: Outline,
+    buffer: Outline,
 ) -> Result<Outline, AllocError>
     requires { IsSpellingIn (profile_of profile) octets.now }
     ensures { (a : Apdu) → SpellsApdu (profile_of profile) a octets.now
         → IfOk result (λ outline. IsOutlineOf outline a) }
 {
     let mut source = FromSlice::new(octets);
-    match reader.read_as::<FromSlice<'_>, AtHand>(profile, &mut source, room) {
+    match reader.read_as::<FromSlice<'_>, Buffered>(profile, &mut source, buffer) {
         Ok(Some(read)) => Ok(read.outline),
         Ok(None) => unreachable!(),
         Err(ReadFailure::Refused(_)) => unreachable!(),

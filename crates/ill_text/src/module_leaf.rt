@@ -4,20 +4,20 @@ ghost use Rattle.std.specs.List.{list_all};
 ghost use Rattle.ber_leaf.specs.Leaf.{bit_count, bit_octets, bit_string, cleared, cleared_last, is_bits, value};
 ghost use Rattle.ber_leaf.specs.Profile.{is_graphic};
 ghost use Rattle.ill_schema.specs.declared.profile.Profile.{Profile as Named};
-ghost use Rattle.ill_elements.specs.LeafTypes.{IsContentIn, module_leaf_is};
+ghost use Rattle.ill_grammar.specs.LeafTypes.{IsContentIn, module_leaf_is};
 ghost use Rattle.ill_read.specs.declared.mark.Mark.{Mark};
 ghost use Rattle.ill_text.specs.Shown.{components, content_text, hexadecimal, leaf_text, line, oid_text, with_dots};
-ghost use Rattle.ill_text.specs.Marks.{front_octets, octets_in};
+ghost use Rattle.ill_text.specs.Marks.{leading_octets, octets_in};
 ghost use Rattle.ill_text.specs.code.Bits.{filled_text};
 ghost use Rattle.ill_text.specs.code.ObjectIdentifiers.{IsFirst, are_small, dotted, numbers_in};
 ghost use Rattle.ill_text.specs.code.Sending.{Adds, sending};
 ghost use Rattle.ill_text.specs.code.Trails.{path_of};
 
-use crate::leaf::{DIGITS, front_octets, put_escaped, put_quoted};
-use crate::outgoing::Out;
-use crate::trail::{Trail, put_line, put_path};
+use crate::field_path::{FieldPath, put_line, put_path};
+use crate::leaf::{DIGITS, leading_octets, put_escaped, put_quoted};
+use crate::text_sink::TextSink;
 use ber_core::Sink;
-use ill_elements::ModuleLeaf;
+use ill_grammar::ModuleLeaf;
 use ill_read::Mark;
 use itoa::Buffer;
 
@@ -25,11 +25,11 @@ use itoa::Buffer;
 pub fn put_module_leaf<W: Sink>(
     leaf: ModuleLeaf,
     marks: &[Mark],
-    trail: &Trail<'_>,
-    out: &mut Out,
+    trail: &FieldPath<'_>,
+    out: &mut TextSink,
     sink: &mut W,
 ) -> usize
-    ensures exact { result ≡ front_octets marks.now }
+    ensures exact { result ≡ leading_octets marks.now }
     ensures within { result ≤ length marks.now }
     ensures adds { (p : Named) (name : List ℕ)
         → IsContentIn p (module_leaf_is leaf) (octets_in (take result marks.now))
@@ -41,7 +41,7 @@ pub fn put_module_leaf<W: Sink>(
     match leaf {
         ModuleLeaf::Null => {
             put_line(trail, b"NULL", out, sink);
-            front_octets(marks)
+            leading_octets(marks)
         }
         ModuleLeaf::ObjectIdentifier => put_object_identifier(trail, marks, out, sink),
         ModuleLeaf::OctetString => put_octet_string(trail, marks, out, sink),
@@ -50,8 +50,13 @@ pub fn put_module_leaf<W: Sink>(
 }
 
 /// Puts the line of a BIT STRING whose octets the marks begin with, and returns how many octets it has.
-pub fn put_bits<W: Sink>(marks: &[Mark], trail: &Trail<'_>, out: &mut Out, sink: &mut W) -> usize
-    ensures exact { result ≡ front_octets marks.now }
+pub fn put_bits<W: Sink>(
+    marks: &[Mark],
+    trail: &FieldPath<'_>,
+    out: &mut TextSink,
+    sink: &mut W,
+) -> usize
+    ensures exact { result ≡ leading_octets marks.now }
     ensures within { result ≤ length marks.now }
     ensures adds { (p : Named) (name : List ℕ)
         → IsContentIn p bit_string (octets_in (take result marks.now))
@@ -60,7 +65,7 @@ pub fn put_bits<W: Sink>(marks: &[Mark], trail: &Trail<'_>, out: &mut Out, sink:
         (sending (W.contents sink.new) (W.is_broken sink.new) out.new) }
     ensures stays { IsTrue (W.is_broken sink.old) → IsTrue (W.is_broken sink.new) }
 {
-    let count = front_octets(marks);
+    let count = leading_octets(marks);
     let _ = put_path(trail, out, sink);
     out.put(sink, b" = bits ");
     put_bit_content(&marks[..count], out, sink);
@@ -69,7 +74,7 @@ pub fn put_bits<W: Sink>(marks: &[Mark], trail: &Trail<'_>, out: &mut Out, sink:
 }
 
 /// Puts how many bits there are, and the octets that they fill.
-fn put_bit_content<W: Sink>(marks: &[Mark], out: &mut Out, sink: &mut W)
+fn put_bit_content<W: Sink>(marks: &[Mark], out: &mut TextSink, sink: &mut W)
     ensures adds { (octets : List ℕ) → IsTrue (is_bits octets) → marks.now ≡ map Mark.Octet octets
         → Adds (decimal (bit_count octets) ++ filled_text (bit_octets octets))
         (sending (W.contents sink.old) (W.is_broken sink.old) out.old)
@@ -89,7 +94,7 @@ fn put_bit_content<W: Sink>(marks: &[Mark], out: &mut Out, sink: &mut W)
 }
 
 /// Puts the octets that bits fill, if there are any, with the unused bits 0.
-fn put_filled<W: Sink>(unused: u8, marks: &[Mark], out: &mut Out, sink: &mut W)
+fn put_filled<W: Sink>(unused: u8, marks: &[Mark], out: &mut TextSink, sink: &mut W)
     ensures adds { (octets : List ℕ) → unused ≤ 7 → marks.now ≡ map Mark.Octet octets
         → Adds (filled_text (cleared_last unused octets))
         (sending (W.contents sink.old) (W.is_broken sink.old) out.old)
@@ -105,7 +110,7 @@ fn put_filled<W: Sink>(unused: u8, marks: &[Mark], out: &mut Out, sink: &mut W)
 }
 
 /// Puts the last octet that bits fill.
-fn put_last<W: Sink>(unused: u8, mark: Mark, out: &mut Out, sink: &mut W)
+fn put_last<W: Sink>(unused: u8, mark: Mark, out: &mut TextSink, sink: &mut W)
     ensures adds { (octet : ℕ) → unused ≤ 7 → mark ≡ Mark.Octet octet
         → Adds (hexadecimal (cleared unused octet ∷ []))
         (sending (W.contents sink.old) (W.is_broken sink.old) out.old)
@@ -128,19 +133,19 @@ fn cleared(unused: u8, octet: u8) -> u8
 
 /// Puts the line of an OBJECT IDENTIFIER whose octets the marks begin with, and returns how many octets it has.
 fn put_object_identifier<W: Sink>(
-    trail: &Trail<'_>,
+    trail: &FieldPath<'_>,
     marks: &[Mark],
-    out: &mut Out,
+    out: &mut TextSink,
     sink: &mut W,
 ) -> usize
-    ensures exact { result ≡ front_octets marks.now }
+    ensures exact { result ≡ leading_octets marks.now }
     ensures within { result ≤ length marks.now }
     ensures adds { Adds (line (path_of trail.now) (oid_text (octets_in (take result marks.now))))
         (sending (W.contents sink.old) (W.is_broken sink.old) out.old)
         (sending (W.contents sink.new) (W.is_broken sink.new) out.new) }
     ensures stays { IsTrue (W.is_broken sink.old) → IsTrue (W.is_broken sink.new) }
 {
-    let count = front_octets(marks);
+    let count = leading_octets(marks);
     let _ = put_path(trail, out, sink);
     out.put(sink, b" = ");
     put_oid(&marks[..count], out, sink);
@@ -150,19 +155,19 @@ fn put_object_identifier<W: Sink>(
 
 /// Puts the line of an OCTET STRING whose octets the marks begin with, and returns how many octets it has.
 fn put_octet_string<W: Sink>(
-    trail: &Trail<'_>,
+    trail: &FieldPath<'_>,
     marks: &[Mark],
-    out: &mut Out,
+    out: &mut TextSink,
     sink: &mut W,
 ) -> usize
-    ensures exact { result ≡ front_octets marks.now }
+    ensures exact { result ≡ leading_octets marks.now }
     ensures within { result ≤ length marks.now }
     ensures adds { Adds (line (path_of trail.now) (codes "octets " ++ content_text (octets_in (take result marks.now))))
         (sending (W.contents sink.old) (W.is_broken sink.old) out.old)
         (sending (W.contents sink.new) (W.is_broken sink.new) out.new) }
     ensures stays { IsTrue (W.is_broken sink.old) → IsTrue (W.is_broken sink.new) }
 {
-    let count = front_octets(marks);
+    let count = leading_octets(marks);
     let _ = put_path(trail, out, sink);
     out.put(sink, b" = octets ");
     put_content(&marks[..count], out, sink);
@@ -171,7 +176,7 @@ fn put_octet_string<W: Sink>(
 }
 
 /// Puts octets of no known meaning: in quotation marks where all are printable ASCII, else in hexadecimal.
-pub fn put_content<W: Sink>(marks: &[Mark], out: &mut Out, sink: &mut W)
+pub fn put_content<W: Sink>(marks: &[Mark], out: &mut TextSink, sink: &mut W)
     ensures adds { (octets : List ℕ) → marks.now ≡ map Mark.Octet octets
         → Adds (content_text octets)
         (sending (W.contents sink.old) (W.is_broken sink.old) out.old)
@@ -209,7 +214,7 @@ fn is_graphic(mark: Mark) -> bool
 }
 
 /// Puts each octet as two hexadecimal digits.
-pub fn put_hexadecimal<W: Sink>(marks: &[Mark], out: &mut Out, sink: &mut W)
+pub fn put_hexadecimal<W: Sink>(marks: &[Mark], out: &mut TextSink, sink: &mut W)
     ensures adds { Adds (hexadecimal (octets_in marks.now))
         (sending (W.contents sink.old) (W.is_broken sink.old) out.old)
         (sending (W.contents sink.new) (W.is_broken sink.new) out.new) }
@@ -220,7 +225,7 @@ pub fn put_hexadecimal<W: Sink>(marks: &[Mark], out: &mut Out, sink: &mut W)
     }
 }
 
-fn put_mark_digits<W: Sink>(mark: Mark, out: &mut Out, sink: &mut W)
+fn put_mark_digits<W: Sink>(mark: Mark, out: &mut TextSink, sink: &mut W)
     ensures adds { Adds (hexadecimal (octets_in (mark ∷ [])))
         (sending (W.contents sink.old) (W.is_broken sink.old) out.old)
         (sending (W.contents sink.new) (W.is_broken sink.new) out.new) }
@@ -233,7 +238,7 @@ fn put_mark_digits<W: Sink>(mark: Mark, out: &mut Out, sink: &mut W)
 }
 
 /// Puts an octet as two hexadecimal digits.
-fn put_digits<W: Sink>(octet: u8, out: &mut Out, sink: &mut W)
+fn put_digits<W: Sink>(octet: u8, out: &mut TextSink, sink: &mut W)
     ensures adds { Adds (hexadecimal (octet ∷ []))
         (sending (W.contents sink.old) (W.is_broken sink.old) out.old)
         (sending (W.contents sink.new) (W.is_broken sink.new) out.new) }
@@ -245,7 +250,7 @@ fn put_digits<W: Sink>(octet: u8, out: &mut Out, sink: &mut W)
 }
 
 /// Puts an OBJECT IDENTIFIER: in decimals, or in hexadecimal where a number takes more than 63 bits.
-fn put_oid<W: Sink>(marks: &[Mark], out: &mut Out, sink: &mut W)
+fn put_oid<W: Sink>(marks: &[Mark], out: &mut TextSink, sink: &mut W)
     ensures adds { Adds (oid_text (octets_in marks.now))
         (sending (W.contents sink.old) (W.is_broken sink.old) out.old)
         (sending (W.contents sink.new) (W.is_broken sink.new) out.new) }
@@ -274,7 +279,7 @@ fn are_small(marks: &[Mark]) -> bool
 }
 
 /// Puts the components, of which the first number stands for two.
-fn put_components<W: Sink>(marks: &[Mark], out: &mut Out, sink: &mut W)
+fn put_components<W: Sink>(marks: &[Mark], out: &mut TextSink, sink: &mut W)
     ensures adds { are_small (numbers_in marks.now) ≡ true
         → Adds (with_dots (components (numbers_in marks.now)))
         (sending (W.contents sink.old) (W.is_broken sink.old) out.old)
@@ -289,7 +294,7 @@ fn put_components<W: Sink>(marks: &[Mark], out: &mut Out, sink: &mut W)
 }
 
 /// Puts the two components for which the first number stands.
-fn put_first_two<W: Sink>(number: u64, out: &mut Out, sink: &mut W)
+fn put_first_two<W: Sink>(number: u64, out: &mut TextSink, sink: &mut W)
     ensures adds { Adds (decimal (min 2 (number / 40)) ++ (codes "." ++ decimal (number - 40 * min 2 (number / 40))))
         (sending (W.contents sink.old) (W.is_broken sink.old) out.old)
         (sending (W.contents sink.new) (W.is_broken sink.new) out.new) }
@@ -302,7 +307,7 @@ fn put_first_two<W: Sink>(number: u64, out: &mut Out, sink: &mut W)
 }
 
 /// Puts each number after a dot.
-fn put_numbers<W: Sink>(marks: &[Mark], out: &mut Out, sink: &mut W)
+fn put_numbers<W: Sink>(marks: &[Mark], out: &mut TextSink, sink: &mut W)
     ensures adds { are_small (numbers_in marks.now) ≡ true
         → Adds (flat_map dotted (numbers_in marks.now))
         (sending (W.contents sink.old) (W.is_broken sink.old) out.old)
@@ -316,7 +321,7 @@ fn put_numbers<W: Sink>(marks: &[Mark], out: &mut Out, sink: &mut W)
     }
 }
 
-fn put_dotted<W: Sink>(number: u64, out: &mut Out, sink: &mut W)
+fn put_dotted<W: Sink>(number: u64, out: &mut TextSink, sink: &mut W)
     ensures adds { Adds (dotted number)
         (sending (W.contents sink.old) (W.is_broken sink.old) out.old)
         (sending (W.contents sink.new) (W.is_broken sink.new) out.new) }

@@ -3,12 +3,12 @@ use ber_core::{Broken, Sink};
 
 /// A list of octets as a sink. It breaks where memory to grow is refused.
 #[derive(Drop)]
-pub struct Octets {
+pub struct VecSink {
     pub octets: Vec<u8>,
     pub broken: bool,
 }
 
-impl Sink for Octets {
+impl Sink for VecSink {
     ghost use Rattle.std.specs.Prelude.{Some};
 
     ghost contents = { λ s. Some s.octets.items };

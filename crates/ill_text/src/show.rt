@@ -10,14 +10,14 @@ ghost use Rattle.ill_text.specs.Shown.{Place, item_of, leaf_text, line, lines_of
 ghost use Rattle.ill_schema.specs.declared.profile.Profile.{Profile as Named};
 ghost use Rattle.ill_text.specs.code.MarkedOctets.{SaysOctets};
 ghost use Rattle.ber_leaf.specs.Leaf.{value};
-ghost use Rattle.ill_elements.specs.LeafTypes.{IsContentIn, leaf_is};
+ghost use Rattle.ill_grammar.specs.LeafTypes.{IsContentIn, leaf_is};
 
+use crate::field_path::{FieldPath, put_line};
 use crate::foreign::put_foreign;
 use crate::leaf::{has_default, put_default, put_leaf};
 use crate::module_leaf::{put_bits, put_module_leaf};
-use crate::outgoing::Out;
 use crate::part::{row_name, row_node};
-use crate::trail::{Trail, put_line};
+use crate::text_sink::TextSink;
 use ber_core::Sink;
 use ill_read::{LeafType, Mark};
 use ill_schema::{NodeId, PartId};
@@ -27,10 +27,10 @@ use ill_schema::{NodeId, PartId};
 #[inline(always)]
 pub fn put_value<'m, W: Sink>(
     marks: &'m [Mark],
-    trail: &Trail<'_>,
+    trail: &FieldPath<'_>,
     name: &str,
     node: NodeId,
-    out: &mut Out,
+    out: &mut TextSink,
     sink: &mut W,
 ) -> &'m [Mark]
     ensures adds { (c : Content) (ms rest : List Mark) → IsMarked c ms → marks.now ≡ ms ++ rest → (result.now ≡ rest)
@@ -48,7 +48,7 @@ pub fn put_value<'m, W: Sink>(
         Mark::ModuleLeaf(_) | Mark::BitString | Mark::Foreign => {
             put_module_line(first, rest, trail, out, sink)
         }
-        Mark::Passed(part) => {
+        Mark::Absent(part) => {
             put_default(part, trail, name, out, sink);
             rest
         }
@@ -65,9 +65,9 @@ pub fn put_value<'m, W: Sink>(
 fn put_marked_leaf<'m, W: Sink>(
     leaf: LeafType,
     marks: &'m [Mark],
-    trail: &Trail<'_>,
+    trail: &FieldPath<'_>,
     name: &str,
-    out: &mut Out,
+    out: &mut TextSink,
     sink: &mut W,
 ) -> &'m [Mark]
     ensures adds { (p : Named) (octets : List ℕ) (rest : List Mark) → IsContentIn p (leaf_is leaf) octets → marks.now ≡ map Mark.Octet octets ++ (Mark.End ∷ rest) → (result.now ≡ rest)
@@ -85,8 +85,8 @@ fn put_marked_leaf<'m, W: Sink>(
 fn put_module_line<'m, W: Sink>(
     first: Mark,
     marks: &'m [Mark],
-    trail: &Trail<'_>,
-    out: &mut Out,
+    trail: &FieldPath<'_>,
+    out: &mut TextSink,
     sink: &mut W,
 ) -> &'m [Mark]
     ensures adds { (c : Content) (octets : List ℕ) (rest : List Mark) (p : Place) → p.path ≡ path_of trail.now → SaysOctets first c octets
@@ -109,10 +109,10 @@ fn put_module_line<'m, W: Sink>(
 #[inline(never)]
 fn put_alternative<'m, W: Sink>(
     marks: &'m [Mark],
-    trail: &Trail<'_>,
+    trail: &FieldPath<'_>,
     node: NodeId,
     row: u8,
-    out: &mut Out,
+    out: &mut TextSink,
     sink: &mut W,
 ) -> &'m [Mark]
     ensures adds { (c : Content) (ms rest : List Mark) → IsMarked c ms → marks.now ≡ ms ++ rest → (result.now ≡ rest)
@@ -129,10 +129,10 @@ fn put_alternative<'m, W: Sink>(
 #[inline(always)]
 fn put_part<'m, W: Sink>(
     marks: &'m [Mark],
-    trail: &Trail<'_>,
+    trail: &FieldPath<'_>,
     node: NodeId,
     i: usize,
-    out: &mut Out,
+    out: &mut TextSink,
     sink: &mut W,
 ) -> &'m [Mark]
     ensures adds { (c : Content) (ms rest : List Mark) → IsMarked c ms → marks.now ≡ ms ++ rest → (result.now ≡ rest)
@@ -142,7 +142,7 @@ fn put_part<'m, W: Sink>(
     ensures stays { IsTrue (W.is_broken sink.old) → IsTrue (W.is_broken sink.new) }
 {
     let name = row_name(node, i);
-    let inside = Trail::Row(&*trail, name);
+    let inside = FieldPath::Row(&*trail, name);
     put_value(marks, &inside, name, row_node(node, i), out, sink)
 }
 
@@ -150,10 +150,10 @@ fn put_part<'m, W: Sink>(
 #[cycle(show)]
 fn put_entry<'m, W: Sink>(
     marks: &'m [Mark],
-    trail: &Trail<'_>,
+    trail: &FieldPath<'_>,
     node: NodeId,
     i: usize,
-    out: &mut Out,
+    out: &mut TextSink,
     sink: &mut W,
 ) -> (&'m [Mark], bool)
     ensures adds { (e : Option Content) (ms rest : List Mark) → IsEntry e ms → marks.now ≡ ms ++ rest → (result.0.now ≡ rest) × (result.1 ≡ is_there e)
@@ -167,7 +167,7 @@ fn put_entry<'m, W: Sink>(
     (put_part(marks, trail, node, i, out, sink), true)
 }
 
-/// Whether a row that has no default was passed.
+/// Tells whether a row that has no default was passed.
 fn is_absent(marks: &[Mark]) -> bool
     ensures { (e : Option Content) (ms rest : List Mark) → IsEntry e ms → marks.now ≡ ms ++ rest → result ≡ not (is_there e) }
 {
@@ -182,10 +182,10 @@ fn is_absent(marks: &[Mark]) -> bool
 #[inline(never)]
 fn put_entries<'m, W: Sink>(
     marks: &'m [Mark],
-    trail: &Trail<'_>,
+    trail: &FieldPath<'_>,
     name: &str,
     node: NodeId,
-    out: &mut Out,
+    out: &mut TextSink,
     sink: &mut W,
 ) -> &'m [Mark]
     ensures adds { (es : Entries) (ms rest : List Mark) → AreEntries es ms → marks.now ≡ ms ++ (Mark.End ∷ rest) → (result.now ≡ rest)
@@ -214,10 +214,10 @@ fn put_entries<'m, W: Sink>(
 #[inline(never)]
 fn put_items<'m, W: Sink>(
     marks: &'m [Mark],
-    trail: &Trail<'_>,
+    trail: &FieldPath<'_>,
     name: &str,
     node: NodeId,
-    out: &mut Out,
+    out: &mut TextSink,
     sink: &mut W,
 ) -> &'m [Mark]
     ensures adds { (is : Items) (ms rest : List Mark) → AreItems is ms → marks.now ≡ ms ++ (Mark.End ∷ rest) → (result.now ≡ rest)
@@ -243,10 +243,10 @@ fn put_items<'m, W: Sink>(
 fn put_item<'m, W: Sink>(
     marks: &'m [Mark],
     i: usize,
-    trail: &Trail<'_>,
+    trail: &FieldPath<'_>,
     name: &str,
     node: NodeId,
-    out: &mut Out,
+    out: &mut TextSink,
     sink: &mut W,
 ) -> &'m [Mark]
     ensures adds { (c : Content) (ms rest : List Mark) → IsMarked c ms → marks.now ≡ ms ++ rest → (result.now ≡ rest)
@@ -255,11 +255,11 @@ fn put_item<'m, W: Sink>(
     ensures no_longer { length result.now ≤ length marks.now }
     ensures stays { IsTrue (W.is_broken sink.old) → IsTrue (W.is_broken sink.new) }
 {
-    let inside = Trail::Item(&*trail, i);
+    let inside = FieldPath::Item(&*trail, i);
     put_value(marks, &inside, name, row_node(node, 0), out, sink)
 }
 
-/// Whether no mark is left, or the end comes first.
+/// Tells whether no mark is left, or the end comes first.
 pub fn at_end(marks: &[Mark]) -> bool
     ensures { result ≡ is_at_end marks.now }
 {
@@ -274,7 +274,7 @@ pub fn passed(marks: &[Mark]) -> Option<PartId>
     ensures { result ≡ passed_in marks.now }
 {
     match marks {
-        [Mark::Passed(part), ..] => Some(*part),
+        [Mark::Absent(part), ..] => Some(*part),
         _ => None,
     }
 }

@@ -10,11 +10,11 @@ ghost use Rattle.ill_text.specs.TextOf.{IsTextOf};
 ghost use Rattle.ill_text.specs.code.Sending.{Adds, sending};
 ghost use Rattle.ill_text.specs.code.Trails.{head_line};
 
-use crate::octets::Octets;
-use crate::outgoing::Out;
+use crate::field_path::FieldPath;
+use crate::octets::VecSink;
 use crate::part::{row_name, row_node};
 use crate::show::{after_first, alternative, put_value};
-use crate::trail::Trail;
+use crate::text_sink::TextSink;
 use ber_core::Sink;
 use ill_read::{Mark, Outline};
 use ill_schema::Profile;
@@ -74,7 +74,7 @@ impl Text {
     pub fn octets(&self, alloc: Global) -> Result<Vec<u8>, AllocError>
         ensures { (octets : List ℕ) → IsTextOf self.now octets → IfOk result (λ v. v.items ≡ octets) }
     {
-        let mut sink = Octets {
+        let mut sink = VecSink {
             octets: Vec::new(alloc),
             broken: false,
         };
@@ -97,7 +97,7 @@ impl Text {
         ensures breaks { (octets : List ℕ) → IsTextOf self.now octets → IsErr result → IsTrue (W.is_broken sink.new) }
         ensures stays { IsTrue (W.is_broken sink.old) → IsTrue (W.is_broken sink.new) }
     {
-        let mut out = Out::new();
+        let mut out = TextSink::new();
         put_text(self.profile, self.number, &self.outline, &mut out, sink);
         if out.is_broken() {
             return Err(out.written());
@@ -107,7 +107,13 @@ impl Text {
 }
 
 /// Puts the text of the message that the outline is of.
-fn put_text<W: Sink>(profile: Profile, number: u32, outline: &Outline, out: &mut Out, sink: &mut W)
+fn put_text<W: Sink>(
+    profile: Profile,
+    number: u32,
+    outline: &Outline,
+    out: &mut TextSink,
+    sink: &mut W,
+)
     ensures adds { (a : Apdu) → IsOutlineOf outline.now a
         → Adds (shown_text_in (profile_of profile) number a)
         (sending (W.contents sink.old) (W.is_broken sink.old) out.old)
@@ -120,7 +126,13 @@ fn put_text<W: Sink>(profile: Profile, number: u32, outline: &Outline, out: &mut
 }
 
 /// Puts the text of the message that the marks are of.
-fn put_marks<W: Sink>(profile: Profile, number: u32, marks: &[Mark], out: &mut Out, sink: &mut W)
+fn put_marks<W: Sink>(
+    profile: Profile,
+    number: u32,
+    marks: &[Mark],
+    out: &mut TextSink,
+    sink: &mut W,
+)
     ensures adds { (a : Apdu) → IsMarked (choice_of a) marks.now
         → Adds (shown_text_in (profile_of profile) number a)
         (sending (W.contents sink.old) (W.is_broken sink.old) out.old)
@@ -132,14 +144,14 @@ fn put_marks<W: Sink>(profile: Profile, number: u32, marks: &[Mark], out: &mut O
             let root = profile.root();
             put_head(number, row_name(root, row as usize), out, sink);
             let node = row_node(root, row as usize);
-            let _ = put_value(after_first(marks), &Trail::Start, "", node, out, sink);
+            let _ = put_value(after_first(marks), &FieldPath::Start, "", node, out, sink);
         }
         None => {}
     }
 }
 
 /// Puts the first line.
-fn put_head<W: Sink>(number: u32, name: &str, out: &mut Out, sink: &mut W)
+fn put_head<W: Sink>(number: u32, name: &str, out: &mut TextSink, sink: &mut W)
     ensures adds { Adds (head_line number name.now) (sending (W.contents sink.old) (W.is_broken sink.old) out.old) (sending (W.contents sink.new) (W.is_broken sink.new) out.new) }
     ensures stays { IsTrue (W.is_broken sink.old) → IsTrue (W.is_broken sink.new) }
 {

@@ -21,7 +21,7 @@ pub trait Node {
     const NODE: NodeId;
 }
 
-/// What is written as a value and read from one: the types of nodes, of leaves and of lists.
+/// A part that is written as a value and read from one: the types of nodes, of leaves and of lists.
 pub trait Part: Drop {
     // the view: the content that the part stands for
     ghost content: { Self → Content };
@@ -137,7 +137,7 @@ pub fn entries<T: Node>(value: &Value) -> &[Option<Value>]
     }
 }
 
-/// What the entry of a row that is always there holds.
+/// The part in the entry of a row that is always there.
 #[tactic(auto, unfolding(crate::specs::Shape::Must, crate::specs::Shape::entry_at))]
 pub fn required<P: Part>(
     alloc: Global,
@@ -153,7 +153,7 @@ pub fn required<P: Part>(
     }
 }
 
-/// What the entry of a row that may be absent holds.
+/// The part in the entry of a row that may be absent.
 #[tactic(auto, unfolding(crate::specs::Shape::May, crate::specs::Shape::entry_at))]
 pub fn optional<P: Part>(
     alloc: Global,
@@ -190,7 +190,7 @@ pub fn optional_value<P: Part>(alloc: Global, part: &Option<P>) -> Result<Option
     }
 }
 
-/// What the entries of four rows that may be absent hold.
+/// The parts in the entries of four rows that may be absent.
 #[tactic(auto, unfolding(crate::specs::Shape::May))]
 pub fn four_optional<A: Part, B: Part, C: Part, D: Part>(
     alloc: Global,

@@ -7,7 +7,7 @@ use Rattle.std.specs.Prelude.{IsErr}
 use Rattle.std.specs.Prelude.{MatchResult}
 use Rattle.std.specs.Io.KnownBytes.{Appends}
 use Rattle.ber_core.specs.declared.source.Broken.{Broken}
-use Rattle.ill_write.specs.declared.progress.Progress.{Progress}
+use Rattle.ill_write.specs.declared.buffered_sink.BufferedSink.{BufferedSink}
 
 pub appends_nothing : (a : Option (List ℕ)) → Appends a a []
 appends_nothing None = tt
@@ -23,14 +23,14 @@ counted_then : (m n k : ℕ) → k ≡ counted m → counted (k + n) ≡ counted
 counted_then m n k e = omega arith
 
 -- a first part, and then a second
-pub puts_then : (x : Unit {0}) (r : Result (Unit {0}) Broken) (xs ys : List ℕ) (a b c : Option (List ℕ)) (p q s : Progress)
+pub puts_then : (x : Unit {0}) (r : Result (Unit {0}) Broken) (xs ys : List ℕ) (a b c : Option (List ℕ)) (p q s : BufferedSink)
     → Puts (Ok x) xs a p b q → Puts r ys b q c s → Puts r (xs ++ ys) a p c s
 unfolding Puts
 puts_then x r xs ys a b c p q s f g = λ start given h.
     subst (λ z. MatchResult r (λ _. Stands start z c s) (λ _. Stopped start z c s)) (append_assoc given xs ys) (g start (given ++ xs) (f start given h))
 
 -- a first part that failed
-pub puts_failed : (x y : Broken) (xs ys : List ℕ) (a b : Option (List ℕ)) (p q : Progress)
+pub puts_failed : (x y : Broken) (xs ys : List ℕ) (a b : Option (List ℕ)) (p q : BufferedSink)
     → Puts (Err x) xs a p b q → Puts (Err y) (xs ++ ys) a p b q
 unfolding Puts
 puts_failed x y xs ys a b p q f = λ start given h.
@@ -45,12 +45,12 @@ puts_failed x y xs ys a b p q f = λ start given h.
     }
 
 -- nothing more
-pub puts_nothing : (x : Unit {0}) (a : Option (List ℕ)) (p : Progress) → Puts (Ok x) [] a p a p
+pub puts_nothing : (x : Unit {0}) (a : Option (List ℕ)) (p : BufferedSink) → Puts (Ok x) [] a p a p
 unfolding Puts
 puts_nothing x a p = λ start given h. subst (λ z. Stands start z a p) (sym (append-nil given)) h
 
 -- what waits and then the octets are sent
-pub sent_all : (start a b : Option (List ℕ)) (given xs : List ℕ) (p q : Progress) → Stands start given a p → p.len ≡ 0 → Appends a b xs → q.written ≡ counted (p.written + length xs) → q.len ≡ 0
+pub sent_all : (start a b : Option (List ℕ)) (given xs : List ℕ) (p q : BufferedSink) → Stands start given a p → p.len ≡ 0 → Appends a b xs → q.written ≡ counted (p.written + length xs) → q.len ≡ 0
     → Stands start (given ++ xs) b q
 sent_all start a b given xs p q h e k w f = record {
   sent = h.sent ++ xs;
@@ -63,7 +63,7 @@ longer : (given more front part all : List ℕ) → given ≡ front ++ all → l
 longer given more front part all e lt = omega (arith, lt, ap length e, length-append front all, length-append front part, length-append given more)
 
 -- what waited was sent, or the first of it
-pub flushed : (r : Result (Unit {0}) Broken) (a b : Option (List ℕ)) (p q : Progress) → Sends r (take p.len p.waiting) a p.written b q.written → (IsOk r → q.len ≡ 0) → Puts r [] a p b q
+pub flushed : (r : Result (Unit {0}) Broken) (a b : Option (List ℕ)) (p q : BufferedSink) → Sends r (take p.len p.waiting) a p.written b q.written → (IsOk r → q.len ≡ 0) → Puts r [] a p b q
 unfolding Puts
 flushed (Ok x) a b p q s e = λ start given h. record {
   sent = given;
@@ -81,7 +81,7 @@ flushed (Err x) a b p q s e = λ start given h. record {
 }
 
 -- with nothing that waits the octets were sent, or the first of them
-pub sent_on : (r : Result (Unit {0}) Broken) (xs : List ℕ) (a b : Option (List ℕ)) (p q : Progress) → p.len ≡ 0 → Sends r xs a p.written b q.written → q.len ≡ 0 → Puts r xs a p b q
+pub sent_on : (r : Result (Unit {0}) Broken) (xs : List ℕ) (a b : Option (List ℕ)) (p q : BufferedSink) → p.len ≡ 0 → Sends r xs a p.written b q.written → q.len ≡ 0 → Puts r xs a p b q
 unfolding Puts
 sent_on (Ok x) xs a b p q e s f = λ start given h. sent_all start a b given xs p q h e s.0 s.1 f
 sent_on (Err x) xs a b p q e s f = λ start given h.
@@ -96,7 +96,7 @@ sent_on (Err x) xs a b p q e s f = λ start given h.
     }
 
 -- the octets wait after those that did
-pub kept : (x : Unit {0}) (xs : List ℕ) (a : Option (List ℕ)) (p q : Progress) → take q.len q.waiting ≡ take p.len p.waiting ++ xs → q.written ≡ p.written → Puts (Ok x) xs a p a q
+pub kept : (x : Unit {0}) (xs : List ℕ) (a : Option (List ℕ)) (p q : BufferedSink) → take q.len q.waiting ≡ take p.len p.waiting ++ xs → q.written ≡ p.written → Puts (Ok x) xs a p a q
 unfolding Puts
 kept x xs a p q w e = λ start given h. record {
   sent = h.sent;
@@ -104,17 +104,6 @@ kept x xs a p q w e = λ start given h. record {
   all = ap (λ z. z ++ xs) h.all ∙ append_assoc h.sent _ xs ∙ ap (λ z. h.sent ++ z) (sym w);
   count = e ∙ h.count;
 }
-
--- the next octets of a list are sent
-pub sends_more : (reported now after : Option (List ℕ)) (xs : List ℕ) (at n : ℕ) → Appends reported now (take at xs) → Appends now after (take n (drop at xs)) → Appends reported after (take (at + n) xs)
-sends_more reported now after xs at n h k = subst (λ z. Appends reported after z) (sym (take-add at n xs)) (appends_then reported now after (take at xs) (take n (drop at xs)) h k)
-
--- at most n octets are taken from those that are left
-pub left_over : (xs : List ℕ) (at n : ℕ) → at ≤ length xs → n ≤ length (take (length xs - at) (drop at xs)) → at + n ≤ length xs
-left_over xs at n le h = omega (arith, length-take (length xs - at) (drop at xs))
-
-pub sends_step : (reported now after : Option (List ℕ)) (xs : List ℕ) (at n : ℕ) → n ≤ length (take (length xs - at) (drop at xs)) → Appends reported now (take at xs) → Appends now after (take n (take (length xs - at) (drop at xs))) → Appends reported after (take (at + n) xs)
-sends_step reported now after xs at n le h k = sends_more reported now after xs at n h (subst (λ z. Appends now after z) (take-take n (length xs - at) (drop at xs) (omega (arith, le, length-take (length xs - at) (drop at xs)))) k)
 
 -- where the sink broke after n octets
 pub takes_part : (before after : Option (List ℕ)) (xs : List ℕ) (at old new : ℕ) → at < length xs → Appends before after (take at xs) → new ≡ counted (old + at)
@@ -131,26 +120,26 @@ takes_part before after xs at old new le h e =
     }
 
 -- which failure it was
-pub as_failed : (r : Result (Unit {0}) Broken) (x : Broken) (xs : List ℕ) (a b : Option (List ℕ)) (p q : Progress) → IsErr r → Puts (Err x) xs a p b q → Puts r xs a p b q
+pub as_failed : (r : Result (Unit {0}) Broken) (x : Broken) (xs : List ℕ) (a b : Option (List ℕ)) (p q : BufferedSink) → IsErr r → Puts (Err x) xs a p b q → Puts r xs a p b q
 unfolding Puts
 as_failed (Ok y) x xs a b p q f h = absurd cc
 as_failed (Err y) x xs a b p q f h = h
 
 -- a step that puts nothing comes before
-pub puts_after : (r : Result (Unit {0}) Broken) (xs : List ℕ) (a b : Option (List ℕ)) (p o q : Progress) → ((reported start : Option (List ℕ)) (given : List ℕ) → Stands start given reported p → Stands start given reported o)
+pub puts_after : (r : Result (Unit {0}) Broken) (xs : List ℕ) (a b : Option (List ℕ)) (p o q : BufferedSink) → ((reported start : Option (List ℕ)) (given : List ℕ) → Stands start given reported p → Stands start given reported o)
     → Puts r xs a o b q → Puts r xs a p b q
 unfolding Puts
 puts_after r xs a b p o q f h = λ start given k. h start given (f a start given k)
 
 -- what is in the sink where nothing waits
-pub all_in : (E : List ℕ) (a b : Option (List ℕ)) (p q : Progress) → Stands a [] a p → Puts (Ok tt) E a p b q → q.len ≡ 0 → Appends a b E
+pub all_in : (E : List ℕ) (a b : Option (List ℕ)) (p q : BufferedSink) → Stands a [] a p → Puts (Ok tt) E a p b q → q.len ≡ 0 → Appends a b E
 unfolding Puts
 all_in E a b p q h f e =
     let s = f a [] h in
     subst (λ z. Appends a b z) (sym (s.all ∙ ap (λ (n : ℕ). s.sent ++ take n q.waiting) e ∙ append-nil s.sent)) s.in_sink
 
 -- what is in the sink where it broke
-pub first_in : (x : Broken) (E : List ℕ) (a b : Option (List ℕ)) (p q : Progress) → Stands a [] a p → Puts (Err x) E a p b q → length E < 2 ^ 32
+pub first_in : (x : Broken) (E : List ℕ) (a b : Option (List ℕ)) (p q : BufferedSink) → Stands a [] a p → Puts (Err x) E a p b q → length E < 2 ^ 32
     → Appends a b (take q.written E) × (q.written < length E)
 unfolding Puts
 first_in x E a b p q h f le =

@@ -17,7 +17,7 @@ use Rattle.ill_write.proofs.Joined.{encodings-joined, content_sizes-joined}
 use Rattle.ber_leaf.specs.Profile.{profile_two}
 use Rattle.std.specs.Prelude.{IsErr}
 use Rattle.ber_core.specs.declared.source.Broken.{Broken}
-use Rattle.ill_write.specs.declared.progress.Progress.{Progress}
+use Rattle.ill_write.specs.declared.buffered_sink.BufferedSink.{BufferedSink}
 use Rattle.ill_schema.specs.declared.part.Row.{Row}
 use Rattle.ill_schema.specs.declared.value.Value.{Value}
 
@@ -47,21 +47,21 @@ opened T tag ts n e f =
     ∙ ap (λ (k : ℕ). identifier tag true ++ (shortest_length k ++ encodings ts)) (f ∙ sym (length-encodings ts)) ∙ ap encoding (sym e)
 
 -- a constructed element is its header and the elements in it
-pub composed : (r : Result (Unit {0}) Broken) (a b c : Option (List ℕ)) (p q s : Progress) (T : Tree) (tag : Tag) (ts : Trees) (n : ℕ) → T ≡ constructed tag ts → n ≡ sizes ts
+pub composed : (r : Result (Unit {0}) Broken) (a b c : Option (List ℕ)) (p q s : BufferedSink) (T : Tree) (tag : Tag) (ts : Trees) (n : ℕ) → T ≡ constructed tag ts → n ≡ sizes ts
     → Puts (Ok tt) (identifier tag true ++ shortest_length n) a p b q → Puts r (encodings ts) b q c s → Puts r (encoding T) a p c s
 composed r a b c p q s T tag ts n e f h k =
     subst (λ z. Puts r z a p c s) (opened T tag ts n e f) (puts_then tt r (identifier tag true ++ shortest_length n) (encodings ts) a b c p q s h k)
 
-pub not_opened : (r : Result (Unit {0}) Broken) (x : Broken) (a b : Option (List ℕ)) (p q : Progress) (T : Tree) (tag : Tag) (ts : Trees) (n : ℕ) → T ≡ constructed tag ts → n ≡ sizes ts
+pub not_opened : (r : Result (Unit {0}) Broken) (x : Broken) (a b : Option (List ℕ)) (p q : BufferedSink) (T : Tree) (tag : Tag) (ts : Trees) (n : ℕ) → T ≡ constructed tag ts → n ≡ sizes ts
     → IsErr r → Puts (Err x) (identifier tag true ++ shortest_length n) a p b q → Puts r (encoding T) a p b q
 not_opened r x a b p q T tag ts n e f fails h =
     subst (λ z. Puts r z a p b q) (opened T tag ts n e f) (as_failed r x _ a b p q fails (puts_failed x x (identifier tag true ++ shortest_length n) (encodings ts) a b p q h))
 
-pub only_one : (r : Result (Unit {0}) Broken) (a c : Option (List ℕ)) (p s : Progress) (E : Tree) → Puts r (encoding E) a p c s → Puts r (encodings (more E none)) a p c s
+pub only_one : (r : Result (Unit {0}) Broken) (a c : Option (List ℕ)) (p s : BufferedSink) (E : Tree) → Puts r (encoding E) a p c s → Puts r (encodings (more E none)) a p c s
 only_one r a c p s E h = subst (λ z. Puts r z a p c s) (sym (append-nil (encoding E))) h
 
 -- how far a loop over the elements in another has come: what is written and what is left make up all
-pub record Reached (all left : Trees) (contents : List ℕ) (start : Option (List ℕ)) (old : Progress) (now : Option (List ℕ)) (new : Progress) : Type 0 where
+pub record Reached (all left : Trees) (contents : List ℕ) (start : Option (List ℕ)) (old : BufferedSink) (now : Option (List ℕ)) (new : BufferedSink) : Type 0 where
   pub done : List ℕ
   pub make_up : done ++ encodings left ≡ encodings all
   pub puts : Puts (Ok tt) done start old now new
@@ -69,23 +69,23 @@ pub record Reached (all left : Trees) (contents : List ℕ) (start : Option (Lis
   pub ahead : Ahead contents new.next (all_content_sizes left)
   pub small : sizes left ≤ profile_two.limit
 
-pub reached_none : (all : Trees) (contents : List ℕ) (start : Option (List ℕ)) (p : Progress) → Ahead contents p.next (all_content_sizes all) → sizes all ≤ profile_two.limit
+pub reached_none : (all : Trees) (contents : List ℕ) (start : Option (List ℕ)) (p : BufferedSink) → Ahead contents p.next (all_content_sizes all) → sizes all ≤ profile_two.limit
     → Reached all all contents start p start p
 reached_none all contents start p a le = record { done = []; make_up = refl; puts = puts_nothing tt start p; next = refl; ahead = a; small = le }
 
 -- another spelling of what is left
-pub reached_same : (all us ws : Trees) (contents : List ℕ) (a b : Option (List ℕ)) (p q : Progress) → ws ≡ us → Reached all ws contents a p b q → Reached all us contents a p b q
+pub reached_same : (all us ws : Trees) (contents : List ℕ) (a b : Option (List ℕ)) (p q : BufferedSink) → ws ≡ us → Reached all ws contents a p b q → Reached all us contents a p b q
 reached_same all us ws contents a b p q e h = subst (λ z. Reached all z contents a p b q) e h
 
 sizes_ahead : (contents : List ℕ) (at : ℕ) (ts us ws : Trees) → ws ≡ joined ts us → Ahead contents at (all_content_sizes ws) → Ahead contents at (all_content_sizes ts ++ all_content_sizes us)
 sizes_ahead contents at ts us ws e a = subst (λ z. Ahead contents at z) (ap all_content_sizes e ∙ content_sizes-joined ts us) a
 
 -- what the next elements ask
-pub reached_ahead : (all ts us ws : Trees) (contents : List ℕ) (a b : Option (List ℕ)) (p q : Progress) → ws ≡ joined ts us → Reached all ws contents a p b q
+pub reached_ahead : (all ts us ws : Trees) (contents : List ℕ) (a b : Option (List ℕ)) (p q : BufferedSink) → ws ≡ joined ts us → Reached all ws contents a p b q
     → Ahead contents q.next (all_content_sizes ts)
 reached_ahead all ts us ws contents a b p q e h = ahead_left _ _ _ _ (sizes_ahead contents q.next ts us ws e h.ahead)
 
-pub reached_small : (all ts us ws : Trees) (contents : List ℕ) (a b : Option (List ℕ)) (p q : Progress) → ws ≡ joined ts us → Reached all ws contents a p b q
+pub reached_small : (all ts us ws : Trees) (contents : List ℕ) (a b : Option (List ℕ)) (p q : BufferedSink) → ws ≡ joined ts us → Reached all ws contents a p b q
     → sizes ts ≤ profile_two.limit
 reached_small all ts us ws contents a b p q e h = omega (arith, ap sizes e, sizes-joined ts us, h.small)
 
@@ -94,7 +94,7 @@ made_up done all ts us ws e f =
     append_assoc done (encodings ts) (encodings us) ∙ ap (λ z. done ++ z) (sym (encodings-joined ts us)) ∙ ap (λ z. done ++ encodings z) (sym e) ∙ f
 
 -- the next elements are written
-pub reached_more : (all ts us ws : Trees) (contents : List ℕ) (a b c : Option (List ℕ)) (p q s : Progress) → ws ≡ joined ts us → Reached all ws contents a p b q
+pub reached_more : (all ts us ws : Trees) (contents : List ℕ) (a b c : Option (List ℕ)) (p q s : BufferedSink) → ws ≡ joined ts us → Reached all ws contents a p b q
     → Puts (Ok tt) (encodings ts) b q c s → s.next ≡ q.next + length (all_content_sizes ts) → Reached all us contents a p c s
 reached_more all ts us ws contents a b c p q s e h k n = record {
   done = h.done ++ encodings ts;
@@ -109,13 +109,13 @@ reached_more all ts us ws contents a b c p q s e h k n = record {
 }
 
 -- the sink broke in the next elements
-pub reached_failed : (r : Result (Unit {0}) Broken) (x : Broken) (all ts us ws : Trees) (contents : List ℕ) (a b c : Option (List ℕ)) (p q s : Progress) → ws ≡ joined ts us
+pub reached_failed : (r : Result (Unit {0}) Broken) (x : Broken) (all ts us ws : Trees) (contents : List ℕ) (a b c : Option (List ℕ)) (p q s : BufferedSink) → ws ≡ joined ts us
     → IsErr r → Reached all ws contents a p b q → Puts (Err x) (encodings ts) b q c s → Puts r (encodings all) a p c s
 reached_failed r x all ts us ws contents a b c p q s e fails h k =
     subst (λ z. Puts r z a p c s) (made_up h.done all ts us ws e h.make_up)
     (as_failed r x _ a c p s fails (puts_failed x x (h.done ++ encodings ts) (encodings us) a c p s (puts_then tt (Err x) h.done (encodings ts) a b c p q s h.puts k)))
 
-pub empty_element : (r : Result (Unit {0}) Broken) (a b : Option (List ℕ)) (p q : Progress) (T : Tree) (tag : Tag) (n : ℕ) → T ≡ constructed tag none → n ≡ 0 → Puts r (identifier tag true ++ shortest_length n) a p b q → Puts r (encoding T) a p b q
+pub empty_element : (r : Result (Unit {0}) Broken) (a b : Option (List ℕ)) (p q : BufferedSink) (T : Tree) (tag : Tag) (n : ℕ) → T ≡ constructed tag none → n ≡ 0 → Puts r (identifier tag true ++ shortest_length n) a p b q → Puts r (encoding T) a p b q
 empty_element r a b p q T tag n e f h = subst (λ z. Puts r z a p b q) (sym (append-nil (identifier tag true ++ shortest_length n)) ∙ opened T tag none n e f) h
 
 pub default_trees : (o : Option Row) (row : Row) (v : Value) → o ≡ Some row → is_default row (content_of v) ≡ true → place_trees o (Some v) ≡ none

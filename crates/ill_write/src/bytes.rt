@@ -4,12 +4,12 @@ use ber_core::{Broken, Sink};
 
 /// A list of octets as a sink. It breaks where memory to grow is refused.
 #[derive(Drop)]
-pub struct Bytes {
+pub struct VecSink {
     pub(crate) octets: Vec<u8>,
     pub(crate) broken: bool,
 }
 
-impl Sink for Bytes {
+impl Sink for VecSink {
     ghost contents = { λ s. Some s.octets.items };
 
     ghost is_broken = { λ s. s.broken };

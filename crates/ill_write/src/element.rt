@@ -65,7 +65,7 @@ pub fn identifier_of(tag: (Class, u32), constructed: bool) -> Id
     Id::new(tag.0, constructed, tag.1).unwrap()
 }
 
-/// How many octets an element takes, from its contents.
+/// The number of octets that an element takes, from its contents.
 pub fn element_size(tag: (Class, u32), constructed: bool, contents: u32) -> u32
     requires id { HasIdentifier (tag_at tag) constructed }
     requires small { contents ≤ profile_two.limit }

@@ -1,4 +1,4 @@
-/// Why a normal form wasn't written whole.
+/// The reason why a normal form wasn't written whole.
 #[derive(Clone, Copy, Debug, PartialEq, Eq)]
 pub enum WriteFailure {
     /// There was no memory to measure it, and nothing was written.

@@ -1,10 +1,12 @@
-//! Writes the normal form of messages: measured first, and then forward in one pass to any sink.
+//! The normal forms of messages that are built in code: measured first, and then written forward in one pass to any sink. Use it to send
+//! a message.
 //!
 //! ```
 //! let octets = normal_bytes(alloc, &message)?;
 //! ```
 #![tactic(auto)]
 
+mod buffered_sink;
 mod bytes;
 mod element;
 mod failure;
@@ -12,7 +14,6 @@ mod laws;
 mod measure;
 mod normal;
 mod pieces;
-mod progress;
 mod put;
 mod sizes;
 mod write;
@@ -20,5 +21,4 @@ mod write;
 pub use failure::WriteFailure;
 pub use laws::normal_size_counts_normal_forms;
 pub use normal::{normal_bytes, write_normal};
-pub use put::put_all;
 pub use sizes::Sizes;

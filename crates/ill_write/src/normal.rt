@@ -9,10 +9,10 @@ ghost use Rattle.ill_write.specs.Sizes.{contents_of, total_of};
 ghost use Rattle.ill_write.specs.code.Puts.{Puts};
 ghost use Rattle.ill_write.specs.Written.{IfPartWritten};
 
-use crate::bytes::Bytes;
+use crate::buffered_sink::BufferedSink;
+use crate::bytes::VecSink;
 use crate::element::apdu_row;
 use crate::failure::WriteFailure;
-use crate::progress::Progress;
 use crate::sizes::Sizes;
 use crate::write::write_row;
 use ber_core::{Broken, Sink};
@@ -57,7 +57,7 @@ pub fn normal_bytes(alloc: Global, message: &Message) -> Result<Vec<u8>, AllocEr
     ensures { IfOk result (λ octets. octets.items ≡ normal_form (apdu_of message.now)) }
 {
     let sizes = Sizes::measure(alloc, message)?;
-    let mut bytes = Bytes {
+    let mut bytes = VecSink {
         octets: Vec::with_capacity(alloc, sizes.total as usize)?,
         broken: false,
     };
@@ -79,7 +79,7 @@ fn write_measured<W: Sink>(sizes: &Sizes, message: &Message, sink: &mut W) -> Re
     ensures stays { IsTrue (W.is_broken sink.old) → IsTrue (W.is_broken sink.new) }
 {
     let total = sizes.total;
-    let mut progress = Progress::new();
+    let mut progress = BufferedSink::new();
     match write_message(message, &sizes.contents, &mut progress, sink) {
         Ok(()) => Ok(total),
         Err(Broken) => Err(progress.written()),
@@ -90,7 +90,7 @@ fn write_measured<W: Sink>(sizes: &Sizes, message: &Message, sink: &mut W) -> Re
 fn write_message<W: Sink>(
     message: &Message,
     contents: &[u32],
-    progress: &mut Progress,
+    progress: &mut BufferedSink,
     sink: &mut W,
 ) -> Result<(), Broken>
     requires { Ahead contents.now progress.old.next (content_sizes (tree_of message.now)) }

@@ -9,8 +9,8 @@ ghost use Rattle.ber_leaf.specs.Profile.{profile_two};
 ghost use Rattle.ill_schema.specs.Elements.{tag_at};
 ghost use Rattle.ill_write.specs.code.Puts.{Puts};
 
+use crate::buffered_sink::BufferedSink;
 use crate::element::identifier_of;
-use crate::progress::Progress;
 use ber_core::{Broken, Class, Sink, put_header};
 use ber_leaf::Leaf;
 
@@ -18,7 +18,7 @@ use ber_leaf::Leaf;
 pub fn open_element<W: Sink>(
     tag: (Class, u32),
     contents: &[u32],
-    progress: &mut Progress,
+    progress: &mut BufferedSink,
     sink: &mut W,
 ) -> Result<(), Broken>
     requires id { HasIdentifier (tag_at tag) true }
@@ -35,10 +35,10 @@ pub fn open_element<W: Sink>(
 }
 
 /// Writes the element of a leaf whose normal content has eight octets at most.
-pub fn write_short<L: Leaf, W: Sink>(
+pub fn write_short_contents<L: Leaf, W: Sink>(
     tag: (Class, u32),
     value: &L::Out,
-    progress: &mut Progress,
+    progress: &mut BufferedSink,
     sink: &mut W,
 ) -> Result<(), Broken>
     requires id { HasIdentifier (tag_at tag) false }
@@ -59,7 +59,7 @@ pub fn write_short<L: Leaf, W: Sink>(
 pub fn write_primitive<W: Sink>(
     tag: (Class, u32),
     octets: &[u8],
-    progress: &mut Progress,
+    progress: &mut BufferedSink,
     sink: &mut W,
 ) -> Result<(), Broken>
     requires id { HasIdentifier (tag_at tag) false }
@@ -79,7 +79,7 @@ fn write_header<W: Sink>(
     tag: (Class, u32),
     constructed: bool,
     contents: u32,
-    progress: &mut Progress,
+    progress: &mut BufferedSink,
     sink: &mut W,
 ) -> Result<(), Broken>
     requires { HasIdentifier (tag_at tag) constructed }

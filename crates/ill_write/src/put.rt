@@ -1,31 +1,9 @@
-//! The loop over `put`.
+//! Counts of what was put into a sink.
 ghost use Rattle.std.specs.Prelude.{◌≡◌, ◌+◌, ◌<◌, length, take, IfErr, OnOk, IsErr, IsTrue};
 ghost use Rattle.std.specs.Io.KnownBytes.{Appends};
 ghost use Rattle.ill_write.specs.code.Puts.{Sends, counted};
 
-use ber_core::{Broken, Sink};
-
-/// Puts all the octets into the sink.
-///
-/// # Errors
-///
-/// Where the sink breaks: the number of octets that it took, the first ones. They are not all.
-pub fn put_all<W: Sink>(sink: &mut W, octets: &[u8]) -> Result<(), usize>
-    ensures all { OnOk result (Appends (W.contents sink.old) (W.contents sink.new) octets.now) }
-    ensures some { IfErr result (λ n. Appends (W.contents sink.old) (W.contents sink.new) (take n octets.now)) }
-    ensures fewer { IfErr result (λ n. n < length octets.now) }
-    ensures breaks { IsErr result → IsTrue (W.is_broken sink.new) }
-    ensures stays { IsTrue (W.is_broken sink.old) → IsTrue (W.is_broken sink.new) }
-{
-    let mut at = 0;
-    while at < octets.len() {
-        match sink.put(&octets[at..]) {
-            Ok(count) => at += count,
-            Err(Broken) => return Err(at),
-        }
-    }
-    Ok(())
-}
+use ber_core::{Broken, Sink, put_all};
 
 /// Puts all the octets, and counts those that were put.
 pub(crate) fn send<W: Sink>(sink: &mut W, octets: &[u8], written: &mut u32) -> Result<(), Broken>

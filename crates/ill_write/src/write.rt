@@ -11,9 +11,9 @@ ghost use Rattle.ill_write.specs.ContentSizes.{content_sizes, all_content_sizes}
 ghost use Rattle.ill_write.specs.code.Puts.{Puts};
 ghost use Rattle.ill_write.specs.code.Valid.{is_valid, is_valid_tag, is_valid_place};
 
+use crate::buffered_sink::BufferedSink;
 use crate::element::{element_tag, row_at};
-use crate::pieces::{open_element, write_primitive, write_short};
-use crate::progress::Progress;
+use crate::pieces::{open_element, write_primitive, write_short_contents};
 use ber_core::{Broken, Class, Sink};
 use ber_leaf::{Flag, Whole};
 use ill_schema::{NodeId, PartId, Row, Value, is_default, replacement, row, wrapper};
@@ -24,7 +24,7 @@ pub fn write_row<W: Sink>(
     row: Row,
     value: &Value,
     contents: &[u32],
-    progress: &mut Progress,
+    progress: &mut BufferedSink,
     sink: &mut W,
 ) -> Result<(), Broken>
     requires valid { IsTrue (is_valid row) }
@@ -54,7 +54,7 @@ fn write_value<W: Sink>(
     node: NodeId,
     replaced: Option<(Class, u32)>,
     contents: &[u32],
-    progress: &mut Progress,
+    progress: &mut BufferedSink,
     sink: &mut W,
 ) -> Result<(), Broken>
     requires valid { IsTrue (is_valid_tag replaced) }
@@ -70,8 +70,8 @@ fn write_value<W: Sink>(
 {
     let tag = element_tag(value, node, replaced);
     match value {
-        Value::Flag(flag) => write_short::<Flag, W>(tag, flag, progress, sink),
-        Value::Whole(number) => write_short::<Whole, W>(tag, number, progress, sink),
+        Value::Flag(flag) => write_short_contents::<Flag, W>(tag, flag, progress, sink),
+        Value::Whole(number) => write_short_contents::<Whole, W>(tag, number, progress, sink),
         Value::Date(text) => write_primitive(tag, text.octets(), progress, sink),
         Value::Time(text) => write_primitive(tag, text.octets(), progress, sink),
         Value::Print(text) => write_primitive(tag, text.octets(), progress, sink),
@@ -97,7 +97,7 @@ fn write_entries<W: Sink>(
     entries: &Vec<Option<Value>>,
     node: NodeId,
     contents: &[u32],
-    progress: &mut Progress,
+    progress: &mut BufferedSink,
     sink: &mut W,
 ) -> Result<(), Broken>
     requires small { sizes (normal_trees (entries_content entries.now.items) (rows_of node)) ≤ profile_two.limit }
@@ -124,7 +124,7 @@ fn write_present<W: Sink>(
     row: Option<Row>,
     value: &Value,
     contents: &[u32],
-    progress: &mut Progress,
+    progress: &mut BufferedSink,
     sink: &mut W,
 ) -> Result<(), Broken>
     requires valid { IsTrue (is_valid_place row) }
@@ -156,7 +156,7 @@ fn write_items<W: Sink>(
     items: &Vec<Value>,
     node: NodeId,
     contents: &[u32],
-    progress: &mut Progress,
+    progress: &mut BufferedSink,
     sink: &mut W,
 ) -> Result<(), Broken>
     requires small { sizes (normal_items (items_content items.now.items) (rows_of node)) ≤ profile_two.limit }
@@ -182,7 +182,7 @@ fn write_item<W: Sink>(
     row: Option<Row>,
     item: &Value,
     contents: &[u32],
-    progress: &mut Progress,
+    progress: &mut BufferedSink,
     sink: &mut W,
 ) -> Result<(), Broken>
     requires valid { IsTrue (is_valid_place row) }

@@ -1,14 +1,14 @@
 -- What was found is one command, with one list of rows; so are its files, its flags and whether they are the same word.
 use Rattle.std.proofs.Common.{◌≡◌, ℕ, IfOk, List, [], ◌∷◌, Option, Some, None, Result, Ok, Err, IfErr, unwrap_or, option_map, codes, length, slice_index, slice_index_or, ◌≢◌, arith, refl, sym, ap, ap₂, subst, ◌∙◌}
 use Rattle.clap.specs.Walk.{Row, Text, first_of}
-use Rattle.ill_orders.specs.Orders.{files_in, is_set, profile_name, HasFiles, HasSameWord, IsOrderOf, NamesProfile, verb, verb_name}
-use Rattle.ill_orders.specs.Refused.{IsFaultOf}
+use Rattle.ill_args.specs.Orders.{files_in, is_set, profile_name, HasFiles, HasSameWord, IsOrderOf, NamesProfile, verb, verb_name}
+use Rattle.ill_args.specs.Refused.{IsFaultOf}
 use Rattle.ill_schema.specs.declared.profile.Profile.{Profile}
-use Rattle.ill_orders.specs.declared.fault.LineFault.{LineFault}
-use Rattle.ill_orders.specs.declared.orders.EachJob.{EachJob}
-use Rattle.ill_orders.specs.declared.orders.Order.{Order}
-use Rattle.ill_orders.specs.declared.orders.Task.{Task}
-use Rattle.ill_orders.specs.declared.orders.Verb.{Verb}
+use Rattle.ill_args.specs.declared.fault.LineFault.{LineFault}
+use Rattle.ill_args.specs.declared.orders.FileJob.{FileJob}
+use Rattle.ill_args.specs.declared.orders.Order.{Order}
+use Rattle.ill_args.specs.declared.orders.Task.{Task}
+use Rattle.ill_args.specs.declared.orders.Verb.{Verb}
 use Rattle.test_cli.specs.Tasks.{HasSameFlags, IsSameTask, named}
 
 verb_is : (v w : Verb) → verb_name v ≡ verb_name w → v ≡ w
@@ -85,10 +85,10 @@ three : (a b : List Text) (c d e f : Option Text) → a ≡ b → c ≡ d → e 
 three a b c d e f p q r = rw (p, q, r) refl
 
 named_is : (rows : List Row) (t : Task) → HasFiles rows t → named_by (verb t) rows ≡ named t
-named_is rows (Task.Each EachJob.Show inputs) h = three _ _ _ _ _ _ h.0 h.1 refl
-named_is rows (Task.Each EachJob.Check inputs) h = three _ _ _ _ _ _ h.0 h.1 refl
-named_is rows (Task.Each EachJob.Digest inputs) h = three _ _ _ _ _ _ h.0 h.1 refl
-named_is rows (Task.Each EachJob.Dump inputs) h = three _ _ _ _ _ _ h.0 h.1 refl
+named_is rows (Task.Each FileJob.Show inputs) h = three _ _ _ _ _ _ h.0 h.1 refl
+named_is rows (Task.Each FileJob.Check inputs) h = three _ _ _ _ _ _ h.0 h.1 refl
+named_is rows (Task.Each FileJob.Digest inputs) h = three _ _ _ _ _ _ h.0 h.1 refl
+named_is rows (Task.Each FileJob.Dump inputs) h = three _ _ _ _ _ _ h.0 h.1 refl
 named_is rows (Task.Canonicalise input output) h = three _ _ _ _ _ _ h.0 h.1 h.2
 named_is rows (Task.Collect inputs output) h = three _ _ _ _ _ _ h.0.0 h.0.1 h.1
 named_is rows (Task.Compare first second) h = three _ _ _ _ _ _ (two rows first.now second.now h.0 h.1) refl refl
@@ -136,10 +136,10 @@ SameWordIn task = elim task as (λ _. Type 0) [
 same_word : (one other : Task) → IsSameTask one other → SameWordIn other → SameWordIn one
 same_word one (Task.Each job inputs) s h = absurd h
 same_word one (Task.Collect inputs output) s h = absurd h
-same_word (Task.Each EachJob.Show inputs) (Task.Canonicalise input output) s h = absurd cc
-same_word (Task.Each EachJob.Check inputs) (Task.Canonicalise input output) s h = absurd cc
-same_word (Task.Each EachJob.Digest inputs) (Task.Canonicalise input output) s h = absurd cc
-same_word (Task.Each EachJob.Dump inputs) (Task.Canonicalise input output) s h = absurd cc
+same_word (Task.Each FileJob.Show inputs) (Task.Canonicalise input output) s h = absurd cc
+same_word (Task.Each FileJob.Check inputs) (Task.Canonicalise input output) s h = absurd cc
+same_word (Task.Each FileJob.Digest inputs) (Task.Canonicalise input output) s h = absurd cc
+same_word (Task.Each FileJob.Dump inputs) (Task.Canonicalise input output) s h = absurd cc
 same_word (Task.Canonicalise i o) (Task.Canonicalise input output) s h =
     let e = first_of_two _ _ _ _ _ _ s.1 in
     ((λ dash. h.0 (sym e.0 ∙ dash)), e.1 ∙ h.1 ∙ sym e.0)
@@ -147,10 +147,10 @@ same_word (Task.Collect inputs out) (Task.Canonicalise input output) s h =
     let none : Some out.now ≡ None = ap (λ (t : Named). t.1.1) s.1 in
     absurd cc
 same_word (Task.Compare a b) (Task.Canonicalise input output) s h = absurd cc
-same_word (Task.Each EachJob.Show inputs) (Task.Compare first second) s h = absurd cc
-same_word (Task.Each EachJob.Check inputs) (Task.Compare first second) s h = absurd cc
-same_word (Task.Each EachJob.Digest inputs) (Task.Compare first second) s h = absurd cc
-same_word (Task.Each EachJob.Dump inputs) (Task.Compare first second) s h = absurd cc
+same_word (Task.Each FileJob.Show inputs) (Task.Compare first second) s h = absurd cc
+same_word (Task.Each FileJob.Check inputs) (Task.Compare first second) s h = absurd cc
+same_word (Task.Each FileJob.Digest inputs) (Task.Compare first second) s h = absurd cc
+same_word (Task.Each FileJob.Dump inputs) (Task.Compare first second) s h = absurd cc
 same_word (Task.Canonicalise i o) (Task.Compare first second) s h = absurd cc
 same_word (Task.Collect inputs out) (Task.Compare first second) s h = absurd cc
 same_word (Task.Compare a b) (Task.Compare first second) s h =

@@ -4,9 +4,9 @@ use Rattle.clap.specs.Words.{Row, Text, fault_of, first_of, subcommand_of}
 use Rattle.clap.specs.declared.error.kind.ErrorKind.TheVariants.{ArgumentConflict, InvalidValue}
 use Rattle.clap.proofs.OnLiterals.{clap_on_literals}
 use Rattle.ill_schema.specs.declared.profile.Profile.{Profile}
-use Rattle.ill_orders.specs.CommandLine.{program}
-use Rattle.ill_orders.specs.Orders.{profile_name, IsOrderOf}
-use Rattle.ill_orders.specs.declared.orders.Order.{Order}
+use Rattle.ill_args.specs.CommandLine.{program}
+use Rattle.ill_args.specs.Orders.{profile_name, IsOrderOf}
+use Rattle.ill_args.specs.declared.orders.Order.{Order}
 use Rattle.test_cli.proofs.Orders.{one_profile}
 
 -- the value of `--profile` for the command that was found

@@ -1,9 +1,9 @@
 -- Orders that are one.
 use Rattle.std.specs.Prelude.{◌≡◌, List, [], ◌∷◌, map, Option, Some, None, option_map}
 use Rattle.clap.specs.Walk.{Text}
-use Rattle.ill_orders.specs.Orders.{verb}
-use Rattle.ill_orders.specs.declared.orders.Order.{Order}
-use Rattle.ill_orders.specs.declared.orders.Task.{Task}
+use Rattle.ill_args.specs.Orders.{verb}
+use Rattle.ill_args.specs.declared.orders.Order.{Order}
+use Rattle.ill_args.specs.declared.orders.Task.{Task}
 
 -- the files that a task names, the list of more, and an output that has an option of its own
 abbrev pub named : Task → List Text × (Option Text × Option Text)

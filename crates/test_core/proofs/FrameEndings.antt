@@ -1,11 +1,11 @@
 -- One end is found in octets.
 use Rattle.std.proofs.Common.{◌≡◌, ℕ, ◌<◌, ◌≤◌, List, length, take, sym, subst, arith, inl, inr}
 use Rattle.std.proofs.lemmas.Bool.{cases_lt}
-use Rattle.ber_frame.specs.declared.framer.Frame.{Frame}
-use Rattle.ber_frame.specs.declared.framer.Framer.{Framer}
-use Rattle.ber_frame.specs.Framed.{IsPart}
-use Rattle.ber_frame.specs.Framer.{IsFed, Judged}
-use Rattle.ber_frame.proofs.Frames.{one_judgment}
+use Rattle.ber_framing.specs.declared.framer.Framing.{Framing}
+use Rattle.ber_framing.specs.declared.framer.Framer.{Framer}
+use Rattle.ber_framing.specs.Framed.{IsPart}
+use Rattle.ber_framing.specs.Framer.{IsFed, Judged}
+use Rattle.ber_framing.proofs.Frames.{one_judgment}
 
 no_later : (xs : List ℕ) (m n : ℕ) (f : Framer) → n ≤ length xs → IsFed f (take m xs) → ((k : ℕ) → k < n → IsPart (take k xs))
     → ((b : List ℕ) → IsFed f b → IsPart b → m ≡ length xs) → m < n → ⊥
@@ -22,5 +22,5 @@ ends_once xs m n f g le le' fed fed' within within' all all' = elim (cases_lt m 
   ]
 ]
 
-pub judged_once : (xs : List ℕ) (m n : ℕ) (r s : Frame) → m ≡ n → Judged (take m xs) r → Judged (take n xs) s → r ≡ s
+pub judged_once : (xs : List ℕ) (m n : ℕ) (r s : Framing) → m ≡ n → Judged (take m xs) r → Judged (take n xs) s → r ≡ s
 judged_once xs m n r s e h k = one_judgment (take m xs) r s h (subst (λ (i : ℕ). Judged (take i xs) s) (sym e) k)

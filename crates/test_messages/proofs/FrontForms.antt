@@ -5,7 +5,7 @@ use Rattle.ill_schema.specs.Apdu.{Apdu, Accepts, SpellsApdu, normal_form, normal
 use Rattle.ill_schema.proofs.Streams.{accepts_some, drop_front}
 use Rattle.ill_read.specs.Answers.{IsNormalOf, ReadsNext, ReadsNextIn}
 use Rattle.ill_read.specs.declared.failure.ReadFailure.{ReadFailure}
-use Rattle.ill_read.specs.declared.normal.Normal.{Normal}
+use Rattle.ill_read.specs.declared.normal.NormalForm.{NormalForm}
 use Rattle.ill_normal.specs.Checking.{DescribesIn}
 use Rattle.ill_normal.specs.declared.check.Checked.{Checked}
 use Rattle.ill_normal.proofs.Canonical.{spells_once}
@@ -27,16 +27,16 @@ front p Is P s t broken broken' a n (Ok (Some x)) spells holds h next =
 front p Is P s t broken broken' a n (Ok None) spells holds h next = absurd (accepts_some p s a n (next.none.0 ∙ next.none.1) h)
 front p Is P s t broken broken' a n (Err e) spells holds h next = tt
 
-pub normal_front : (s t : List ℕ) (broken broken' : Bool) (a : Apdu) (n : ℕ) (r : Result (Option Normal) ReadFailure) → Accepts profile_two s a n
-    → ReadsNext (Some s) (Some t) broken broken' IsNormalOf r → IfOk r (IsFound (λ x. (x.octets.items ≡ normal_form a) × (x.read ≡ n) × (t ≡ drop n s)))
+pub normal_front : (s t : List ℕ) (broken broken' : Bool) (a : Apdu) (n : ℕ) (r : Result (Option NormalForm) ReadFailure) → Accepts profile_two s a n
+    → ReadsNext (Some s) (Some t) broken broken' IsNormalOf r → IfOk r (IsFound (λ x. (x.octets.items ≡ normal_form a) × (x.input_len ≡ n) × (t ≡ drop n s)))
 normal_front s t broken broken' a n r h next = front profile_two IsNormalOf _ s t broken broken' a n r
     (λ x b is. (is.0, is.1))
     (λ x is size rest. (is.2 ∙ ap normal_form (spells_once is.0 a (take n s) is.1 h.1), is.3 ∙ size, rest)) h next
 
 -- the octets of the message are kept besides
-pub kept_front : (s t old new : List ℕ) (broken broken' : Bool) (a : Apdu) (n : ℕ) (r : Result (Option Normal) ReadFailure) → Accepts profile_two s a n
+pub kept_front : (s t old new : List ℕ) (broken broken' : Bool) (a : Apdu) (n : ℕ) (r : Result (Option NormalForm) ReadFailure) → Accepts profile_two s a n
     → ReadsNext (Some s) (Some t) broken broken' (λ x b. IsNormalOf x b × (new ≡ old ++ b)) r
-    → IfOk r (IsFound (λ x. (x.octets.items ≡ normal_form a) × (x.read ≡ n) × (t ≡ drop n s) × (new ≡ old ++ take n s)))
+    → IfOk r (IsFound (λ x. (x.octets.items ≡ normal_form a) × (x.input_len ≡ n) × (t ≡ drop n s) × (new ≡ old ++ take n s)))
 kept_front s t old new broken broken' a n r h next = front profile_two (λ x b. IsNormalOf x b × (new ≡ old ++ b)) _ s t broken broken' a n r
     (λ x b is. (is.0.0, is.0.1))
     (λ x is size rest. (is.0.2 ∙ ap normal_form (spells_once is.0.0 a (take n s) is.0.1 h.1), is.0.3 ∙ size, rest, is.1)) h next

@@ -17,10 +17,10 @@ const LONG_FORM: &[u8] =
 const EXPIRED: &[u8] =
     b"\x74\x1f\x30\x1d\x80\x01\x02\xa1\x0a\xa1\x03\x1b\x01\x47\xa2\x03\x1b\x01\x51\xa2\x0c\xa0\x0a\x80\x0820240229";
 
-/// The same in hexadecimal.
+/// EXPIRED in hexadecimal.
 const EXPIRED_HEX: &str = "741f301d800102a10aa1031b0147a2031b0151a20ca00a80083230323430323239";
 
-/// The same with indefinite lengths, in 47 octets.
+/// EXPIRED with indefinite lengths, in 47 octets.
 const INDEFINITE_HEX: &str =
     "74803080800102a180a1801b01470000a2801b015100000000a280a080800832303234303232390000000000000000";
 

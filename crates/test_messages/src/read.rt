@@ -98,7 +98,7 @@ fn octets_of_row(alloc: Global, row: &str) -> Result<(Vec<u8>, &str), Fail> {
     }
 }
 
-/// Whether a row has its outcome whole, and in pieces of up to 7 octets and of as many as are needed.
+/// Tells whether a row has its outcome whole, and in pieces of up to 7 octets and of as many as are needed.
 fn comes_true(alloc: Global, row: &str) -> Result<bool, Fail> {
     let (octets, want) = octets_of_row(alloc, row)?;
     Ok(
@@ -129,7 +129,7 @@ fn each_row_has_its_outcome_octet_by_octet(rt: HostRuntime) -> Result<(), Fail> 
     Ok(())
 }
 
-/// What the decoder needs before each piece of this size, and at the end.
+/// The needs of the decoder before each piece of this size, and at the end.
 fn needs(alloc: Global, octets: &[u8]) -> Result<Vec<u32>, Fail> {
     let mut decoder = Decoder::new(alloc);
     let mut needs = Vec::new(alloc);

@@ -70,7 +70,7 @@ fn refused(apdu: u8, body: Value) -> Result<Value, Fail> {
     }
 }
 
-/// Whether the body of a row is a message of its size, or none for its reason.
+/// Tells whether the body of a row is a message of its size, or none for its reason.
 fn comes_true(alloc: Global, row: &str) -> Result<bool, Fail> {
     let (_, rest) = row.split_once(' ').ok_or("a name")?;
     let (apdu, rest) = rest.split_once(' ').ok_or("a number")?;
@@ -154,7 +154,7 @@ fn nodes_have_a_kind_and_rows(rt: HostRuntime) {
     assert!(rt; row(past_end).is_none() && part_name(past_end).is_none());
 }
 
-/// Whether this is the row of the flag `renewable`.
+/// Tells whether this is the row of the flag `renewable`.
 fn is_renewable(row: Row) -> bool {
     row.tag == Some((Class::Context, 1))
         && row.mode == Mode::Implicit
@@ -162,7 +162,7 @@ fn is_renewable(row: Row) -> bool {
         && row.node == NodeId::BOOLEAN
 }
 
-/// Whether its flag may be left out where it is TRUE, and its tag stands for that of the flag.
+/// Tells whether its flag may be left out where it is TRUE, and its tag stands for that of the flag.
 fn holds_true_by_default(row: Row) -> bool {
     is_default(row, &Value::Flag(true))
         && !is_default(row, &Value::Flag(false))

@@ -101,7 +101,7 @@ impl Sink for Counter {
     }
 }
 
-/// Whether a message has this normal form, as octets and in a sink.
+/// Tells whether a message has this normal form, as octets and in a sink.
 fn has_normal_form(alloc: Global, message: &Message, normal: &[u8]) -> Result<bool, AllocError> {
     let found = normal_bytes(alloc, message)?;
     let mut counter = Counter {
@@ -157,7 +157,7 @@ fn sizes_are_in_the_order_of_their_headers(rt: HostRuntime) -> Result<(), Fail> 
     Ok(())
 }
 
-/// What comes of a message in a sink that takes a number of octets in a call and breaks after a number: the result, whether the sink is
+/// The result for a message in a sink that takes a number of octets in a call and breaks after a number, whether the sink is
 /// broken, and how many octets it has, None where they are not the first of the normal form.
 fn written(
     alloc: Global,
@@ -172,7 +172,7 @@ fn written(
     (result, sink.broken(), count)
 }
 
-/// Whether a sink has the first octets wherever it breaks, and all where it doesn't.
+/// Tells whether a sink has the first octets wherever it breaks, and all where it doesn't.
 fn has_the_first(alloc: Global, message: &Message, normal: &[u8], per_call: usize) -> bool {
     for n in 0..33u32 {
         let breaks_after = n as usize;

@@ -6,10 +6,10 @@ use std::alloc::{AllocError, Global};
 use std::boxed::Box;
 use std::test::Fail;
 
-/// What each APDU begins with: version 2, group "G", qualifier "Q", 29 February 2024.
+/// The head of each APDU: version 2, group "G", qualifier "Q", 29 February 2024.
 const HEAD: &str = "2 - general:G general:Q - seq:4 date:20240229 - seq:2 - seq:2 - -";
 
-/// The same with every part.
+/// An APDU with every part.
 const WHOLE: &str =
     "1 general:g2 alt:0 visible:v3 alt:0 seq:2 general:g4 general:g5 visible:v6 seq:4 date:20240808 time:080856 seq:2 date:20241010 time:101010 seq:2 seq:2 general:g11 alt:0 visible:v12 alt:0 seq:2 general:g13 alt:0 general:g14 alt:0 seq:2";
 

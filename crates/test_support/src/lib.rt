@@ -2,11 +2,11 @@
 #![tactic(auto)]
 
 mod build;
-mod hoard;
+mod memory_hog;
 mod octets;
 mod outcome;
 
 pub use build::{date_text, general_string, general_text, message, value};
-pub use hoard::Hoard;
+pub use memory_hog::MemoryHog;
 pub use octets::octets_of;
 pub use outcome::Outcome;

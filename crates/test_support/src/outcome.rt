@@ -3,12 +3,12 @@ ghost use Rattle.std.specs.Prelude.{◌≡◌, if◌then◌else◌};
 
 use std::alloc::AllocError;
 
-/// Whether a call returned what its test vector says, or out of memory with the state that is promised then.
+/// The outcome of a call: what its test vector says, or out of memory with the state that is promised then, or neither.
 #[derive(Clone, Copy, Debug, PartialEq, Eq)]
 pub enum Outcome {
     Right,
     OutOfMemory,
-    /// What the call needs couldn't be built.
+    /// The arguments of the call couldn't be built.
     NotBegun,
     Wrong,
 }
@@ -22,7 +22,7 @@ impl Outcome {
         }
     }
 
-    /// What the script reads.
+    /// The word that the script reads.
     pub fn words(self) -> &'static str {
         match self {
             Outcome::Right => "right",

@@ -1,16 +1,16 @@
 ghost use Rattle.std.specs.Prelude.{◌≡◌, [], false, IfOk};
 ghost use Rattle.std.specs.Io.Buffered.{reader_buffer, reader_inner, reader_remaining};
 
-use super::{Ahead, Broken, Source};
+use super::{Broken, BufferedSource, Source};
 use std::alloc::{AllocError, Global};
 use std::io::{BufRead, BufReader, Read};
 
-/// How many octets are read at once.
-const CAPACITY: usize = 65_536;
+/// The number of octets that are read at once.
+const BUFFER_LEN: usize = 65_536;
 
 /// A reader as a source that reads up to 65,536 octets at once, and has at hand those of them that were not yet taken.
 ///
-/// The contract says: the octets at hand, and after them what the reader has left, are what `take` and `pass` give, each octet once and
+/// The contract says: the octets at hand, and after them what the reader has left, are what `take` and `consume` give, each octet once and
 /// in order; `take` returns [`Broken`] exactly where the source is broken after the call, and then nothing was taken; a broken source
 /// stays broken. As for [`FromRead`](super::FromRead), it doesn't say when the source breaks. The tests in the crate `test_core` show
 /// the rest: the source breaks where a read returned an error, also that of an interrupted read, and nowhere else, and then no further
@@ -38,7 +38,7 @@ impl<R: Read> FromBuffer<R> {
         ensures hand { IfOk result (λ source. reader_buffer (buffer_of source) ≡ []) }
         ensures whole { IfOk result (λ source. is_buffer_broken source ≡ false) }
     {
-        match BufReader::with_capacity(alloc, CAPACITY, inner) {
+        match BufReader::with_capacity(alloc, BUFFER_LEN, inner) {
             Ok(inner) => Ok(FromBuffer {
                 inner,
                 broken: false,
@@ -73,16 +73,16 @@ impl<R: Read> Source for FromBuffer<R> {
     }
 }
 
-impl<R: Read> Ahead for FromBuffer<R> {
+impl<R: Read> BufferedSource for FromBuffer<R> {
     ghost use Rattle.ber_core.specs.Supply.{buffer_of};
 
     ghost hand = { λ s. reader_buffer (buffer_of s) };
 
-    fn at_hand(&self) -> &[u8] {
+    fn buffered(&self) -> &[u8] {
         self.inner.buffer()
     }
 
-    fn pass(&mut self, count: usize) {
+    fn consume(&mut self, count: usize) {
         self.inner.consume(count);
     }
 }

@@ -1,7 +1,7 @@
 ghost use Rattle.std.specs.Prelude.{◌≡◌, ◌≤◌, ◌↔◌, min, false, Ok, Some, IfOk, IsErr, IsTrue, length, take, drop};
 ghost use Rattle.std.specs.Io.KnownBytes.{ReadConsumes};
 
-use super::{Ahead, Broken, Source};
+use super::{Broken, BufferedSource, Source};
 use std::marker::Model;
 
 /// A slice as a source, which never breaks, and has all that is left at hand. In contracts it is the octets that are left.
@@ -10,8 +10,8 @@ use std::marker::Model;
 ///
 /// ```
 /// let mut source = FromSlice::new(&[1, 2, 3]);
-/// source.pass(1);
-/// // Now `source.at_hand()` is `[2, 3]`.
+/// source.consume(1);
+/// // Now `source.buffered()` is `[2, 3]`.
 /// ```
 #[derive(Debug, Drop)]
 pub struct FromSlice<'a> {
@@ -63,14 +63,14 @@ impl Source for FromSlice<'_> {
     }
 }
 
-impl Ahead for FromSlice<'_> {
+impl BufferedSource for FromSlice<'_> {
     ghost hand = { λ s. s };
 
-    fn at_hand(&self) -> &[u8] {
+    fn buffered(&self) -> &[u8] {
         self.octets
     }
 
-    fn pass(&mut self, count: usize) {
+    fn consume(&mut self, count: usize) {
         let all: &[u8] = self.octets;
         self.octets = &all[count..];
     }

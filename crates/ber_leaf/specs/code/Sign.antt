@@ -7,6 +7,6 @@ sign_octet [] = 0
 sign_octet (a ∷ _) = if nat_lt a 128 then 0 else 0xFF
 
 -- the least n such that the number is from -(n + 1) to n
-abbrev pub reach : ℤ → ℕ
-reach (pos n) = n
-reach (negsuc n) = n
+abbrev pub magnitude : ℤ → ℕ
+magnitude (pos n) = n
+magnitude (negsuc n) = n

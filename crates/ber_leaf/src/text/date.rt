@@ -52,7 +52,7 @@ impl DateText {
         &self.octets
     }
 
-    /// The same text in new memory.
+    /// A copy of the text in new memory.
     pub fn copy(&self, alloc: Global) -> Result<Self, AllocError>
         ensures { IfOk result (λ text. text ≡ self.now) }
     {
@@ -101,7 +101,7 @@ impl Eq for DateText {
     ghost laws = { nat_list_eq_equiv };
 }
 
-/// Whether the octets are a day, as YYYYMMDD.
+/// Tells whether the octets are a day, as YYYYMMDD.
 fn is_day(octets: &[u8]) -> bool
     ensures { result ≡ is_day octets.now }
 {
@@ -115,7 +115,7 @@ fn is_day(octets: &[u8]) -> bool
     is_civil_day(year, pair(m1, m2), pair(d1, d2))
 }
 
-/// Whether the proleptic Gregorian calendar has the day.
+/// Tells whether the proleptic Gregorian calendar has the day.
 fn is_civil_day(year: u16, month: u8, day: u8) -> bool
     requires year { year ≤ 9999 }
     requires month { month ≤ 99 }

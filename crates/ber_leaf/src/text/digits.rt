@@ -4,7 +4,7 @@ ghost use Rattle.std.specs.Prelude.{◌≡◌, ◌≤◌, IsTrue};
 ghost use Rattle.std.specs.List.{list_all};
 ghost use Rattle.ber_leaf.specs.Leaf.{is_digit, two_digits};
 
-/// Whether each octet is a digit.
+/// Tells whether each octet is a digit.
 pub fn are_digits(octets: &[u8]) -> bool
     ensures { result ≡ list_all is_digit octets.now }
 {

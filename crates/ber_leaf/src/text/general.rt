@@ -51,7 +51,7 @@ impl GeneralText {
         &self.octets
     }
 
-    /// The same text in new memory.
+    /// A copy of the text in new memory.
     pub fn copy(&self, alloc: Global) -> Result<Self, AllocError>
         ensures { IfOk result (λ text. text ≡ self.now) }
     {
@@ -100,7 +100,7 @@ impl Eq for GeneralText {
     ghost laws = { nat_list_eq_equiv };
 }
 
-/// Whether no octet shifts or escapes.
+/// Tells whether no octet shifts or escapes.
 fn has_no_shift(octets: &[u8]) -> bool
     ensures { result ≡ list_all is_no_shift octets.now }
 {

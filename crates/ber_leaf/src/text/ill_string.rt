@@ -26,7 +26,7 @@ impl IllString {
         }
     }
 
-    /// The same string in new memory.
+    /// A copy of the string in new memory.
     pub fn copy(&self, alloc: Global) -> Result<Self, AllocError>
         ensures { IfOk result (λ string. string ≡ self.now) }
     {

@@ -51,7 +51,7 @@ impl TimeText {
         &self.octets
     }
 
-    /// The same text in new memory.
+    /// A copy of the text in new memory.
     pub fn copy(&self, alloc: Global) -> Result<Self, AllocError>
         ensures { IfOk result (λ text. text ≡ self.now) }
     {
@@ -100,7 +100,7 @@ impl Eq for TimeText {
     ghost laws = { nat_list_eq_equiv };
 }
 
-/// Whether the octets are a time of a day, as HHMMSS.
+/// Tells whether the octets are a time of a day, as HHMMSS.
 fn is_time(octets: &[u8]) -> bool
     ensures { result ≡ is_time octets.now }
 {
@@ -113,7 +113,7 @@ fn is_time(octets: &[u8]) -> bool
     is_clock_time(pair(h1, h2), pair(m1, m2), pair(s1, s2))
 }
 
-/// Whether a day has the time; a leap second may end any minute.
+/// Tells whether a day has the time; a leap second may end any minute.
 fn is_clock_time(hour: u8, minute: u8, second: u8) -> bool
     ensures { result ≡ is_clock_time hour minute second }
 {

@@ -51,7 +51,7 @@ impl VisibleText {
         &self.octets
     }
 
-    /// The same text in new memory.
+    /// A copy of the text in new memory.
     pub fn copy(&self, alloc: Global) -> Result<Self, AllocError>
         ensures { IfOk result (λ text. text ≡ self.now) }
     {
@@ -100,7 +100,7 @@ impl Eq for VisibleText {
     ghost laws = { nat_list_eq_equiv };
 }
 
-/// Whether each octet is graphic or the space.
+/// Tells whether each octet is graphic or the space.
 fn is_graphic(octets: &[u8]) -> bool
     ensures { result ≡ list_all is_graphic octets.now }
 {

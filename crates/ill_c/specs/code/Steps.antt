@@ -6,8 +6,8 @@ use Rattle.ill_refusals.specs.Fault.{fault_of}
 use Rattle.ill_read.specs.Answers.{IsPartIn, IsRefusedIn, RefusesWholeIn}
 use Rattle.ill_read.specs.Outline.{IsOutlineOf}
 use Rattle.ill_read.specs.declared.failure.Failure.{Failure}
-use Rattle.ill_read.specs.declared.normal.Normal.{Normal}
-use Rattle.ill_read.specs.declared.outline.Outline.{Outline}
+use Rattle.ill_read.specs.declared.normal.NormalForm.{NormalForm}
+use Rattle.ill_read.specs.declared.outline_draft.Outline.{Outline}
 use Rattle.ill_c.specs.declared.refusal.IllcanonRefusal.{IllcanonRefusal}
 use Rattle.ill_c.specs.declared.status.Status.{Status}
 use Rattle.ill_c.specs.Memory.{Change, Stays, Fills, Lacks}
@@ -25,8 +25,8 @@ IsReported (Failure.Refused it) refusal status = (status ≡ Status.Refused) × 
 IsReported Failure.OutOfMemory refusal status = (status ≡ Status.OutOfMemory) × Stays refusal
 
 -- of octets, at whose front a message of the profile may be
-abbrev pub FrontAnswers : Profile → List ℕ → Result (Option Normal) Failure → Type 0
-FrontAnswers p s (Ok (Some normal)) = (a : Apdu) × Accepts p s a normal.read × (normal.octets.items ≡ normal_form_in p a)
+abbrev pub FrontAnswers : Profile → List ℕ → Result (Option NormalForm) Failure → Type 0
+FrontAnswers p s (Ok (Some normal)) = (a : Apdu) × Accepts p s a normal.input_len × (normal.octets.items ≡ normal_form_in p a)
 FrontAnswers p s (Ok None) = IsPartIn p s
 FrontAnswers p s (Err failure) = IsRefusedIn p s failure
 

@@ -7,7 +7,7 @@ use crate::{
 const EXPIRED: &[u8] =
     b"\x74\x1f\x30\x1d\x80\x01\x02\xa1\x0a\xa1\x03\x1b\x01\x47\xa2\x03\x1b\x01\x51\xa2\x0c\xa0\x0a\x80\x08\x32\x30\x32\x34\x30\x32\x32\x39";
 
-/// The same with indefinite lengths, in 47 octets.
+/// EXPIRED with indefinite lengths, in 47 octets.
 const INDEFINITE: &[u8] =
     b"\x74\x80\x30\x80\x80\x01\x02\xa1\x80\xa1\x80\x1b\x01\x47\x00\x00\xa2\x80\x1b\x01\x51\x00\x00\x00\x00\xa2\x80\xa0\x80\x80\x08\x32\x30\x32\x34\x30\x32\x32\x39\x00\x00\x00\x00\x00\x00\x00\x00";
 
@@ -32,7 +32,7 @@ const UNSET: IllcanonRefusal = IllcanonRefusal {
     part: [77; 64],
 };
 
-/// Whether exactly these octets were put at the front of the buffer.
+/// Tells whether exactly these octets were put at the front of the buffer.
 fn begins(buffer: &[u8], size: usize, want: &[u8]) -> bool {
     match buffer.get(..size) {
         Some(front) => front == want,

@@ -1,8 +1,8 @@
 -- The fault that follows from a failure to read a message.
 use Rattle.std.specs.Prelude.{◌≡◌, ℕ}
 use Rattle.ill_read.specs.declared.failure.ReadFailure.{ReadFailure}
-use Rattle.ill_jobs.specs.Runs.{IsFault}
-use Rattle.ill_jobs.specs.declared.fault.RunFault.{RunFault}
+use Rattle.ill_commands.specs.Runs.{IsFault}
+use Rattle.ill_commands.specs.declared.fault.RunFault.{RunFault}
 
 -- message i was refused, or memory, the source or the sink failed
 abbrev pub FollowsFrom : ℕ → ReadFailure → RunFault → Type 0

@@ -6,11 +6,11 @@ use Rattle.ill_schema.specs.Content.{Content}
 use Rattle.ill_schema.specs.declared.node.NodeId.{NodeId}
 use Rattle.ill_text.specs.Shown.{row_name, row_node}
 use Rattle.ill_json.specs.Json.{value_json}
-use Rattle.ill_json.specs.declared.line.Head.{Head}
-use Rattle.ill_json.specs.declared.writing.Out.{Out}
+use Rattle.ill_json.specs.declared.line.LineHead.{LineHead}
+use Rattle.ill_json.specs.declared.writing.LineWriter.{LineWriter}
 
 -- these tokens were put, unless memory was refused
-unfoldable pub Adds : List Token → Out → Out → Type 0
+unfoldable pub Adds : List Token → LineWriter → LineWriter → Type 0
 Adds ts old new = new.failed ≡ false → (old.failed ≡ false) × (new.writer.tokens ≡ old.writer.tokens ++ ts)
 
 -- the member of the value in row i
@@ -33,7 +33,7 @@ file_tokens None = []
 file_tokens (Some name) = key (codes "file") ∷ string name ∷ []
 
 -- the members beside the value, with this name of the APDU
-abbrev pub head_tokens : Head → List ℕ → List Token
+abbrev pub head_tokens : LineHead → List ℕ → List Token
 head_tokens head apdu =
     key (codes "number") ∷ number (decimal head.number) ∷ key (codes "offset") ∷ number (decimal head.offset)
     ∷ key (codes "octets") ∷ number (decimal head.octets) ∷ key (codes "apdu") ∷ string apdu

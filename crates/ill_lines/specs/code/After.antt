@@ -1,10 +1,10 @@
 -- How far the lines are between two octets.
 use Rattle.std.specs.Prelude.{◌≡◌, ◌++◌, ◌&&◌, ℕ, Bool, false, List, [], codes, map, take, Option}
 use Rattle.std.specs.Io.KnownBytes.{Appends}
-use Rattle.ill_jobs.specs.Hexadecimal.{hex_octets}
+use Rattle.ill_commands.specs.Hexadecimal.{hex_octets}
 use Rattle.ill_lines.specs.Lines.{Answer, AreAnswers, IsResult, all_good, has_line_end, lines, output}
 use Rattle.ill_lines.specs.declared.job.LineOptions.{LineOptions}
-use Rattle.ill_lines.specs.declared.lines.Lines.{Lines}
+use Rattle.ill_lines.specs.declared.lines.LineReader.{LineReader}
 
 -- the lines that ended in the octets were answered; of what follows them as much is kept as shows that a line is too long
 pub record IsAfter (work : LineOptions) (octets kept made : List ℕ) (good : Bool) : Type 0 where
@@ -18,11 +18,11 @@ pub record IsAfter (work : LineOptions) (octets kept made : List ℕ) (good : Bo
   pub is_good : good ≡ all_good answers
 
 -- the same, where `put` was written of the results
-abbrev pub StandsAfter : LineOptions → List ℕ → List ℕ → Lines → Type 0
+abbrev pub StandsAfter : LineOptions → List ℕ → List ℕ → LineReader → Type 0
 StandsAfter work octets put now = IsAfter work octets now.part.items (put ++ now.ready.items) now.is_good
 
 -- one more line was answered, of which this was kept
-pub record Answers (work : LineOptions) (kept : List ℕ) (old new : Lines) : Type 0 where
+pub record Answers (work : LineOptions) (kept : List ℕ) (old new : LineReader) : Type 0 where
   pub result : List ℕ
   pub is_good : Bool
   pub is_result : IsResult work (hex_octets kept) result is_good
@@ -31,9 +31,9 @@ pub record Answers (work : LineOptions) (kept : List ℕ) (old new : Lines) : Ty
   pub part : new.part.items ≡ []
 
 -- nothing changed
-abbrev pub IsSame : Lines → Lines → Type 0
+abbrev pub IsSame : LineReader → LineReader → Type 0
 IsSame old new = (new.part.items ≡ old.part.items) × (new.ready.items ≡ old.ready.items) × (new.is_good ≡ old.is_good)
 
 -- the same of what the sink holds, which held `first` at the beginning
-abbrev pub HasWritten : LineOptions → List ℕ → Option (List ℕ) → Option (List ℕ) → Lines → Type 0
+abbrev pub HasWritten : LineOptions → List ℕ → Option (List ℕ) → Option (List ℕ) → LineReader → Type 0
 HasWritten work octets first held now = (put : List ℕ) × Appends first held put × StandsAfter work octets put now × (now.ready.items ≡ [])

@@ -17,23 +17,23 @@ use Rattle.ill_schema.specs.Table.{rows_of}
 use Rattle.ill_schema.specs.Value.{entries_of, items_of}
 use Rattle.ill_schema.specs.declared.part.Row.{Row}
 use Rattle.ill_refusals.specs.Fault.{fault, element_fault, fault_of}
-use Rattle.ill_cells.specs.Places.{alternative_of}
-use Rattle.ill_elements.specs.Due.{IsDueIn, behind, first_of, next_place, shape, shape_at, read_as, slot_in, due_with}
-use Rattle.ill_elements.specs.Elements.{element_is}
-use Rattle.ill_elements.specs.LeafTypes.{leaf_is, module_leaf_is}
-use Rattle.ill_elements.specs.Standing.{Level, foreign_entries, IsHeld, level_of, pushed, whole_level}
-use Rattle.ill_elements.specs.Contents.{IsValueOf, absent_content, with_alternative}
-use Rattle.ill_elements.specs.declared.due.Next.{Next}
-use Rattle.ill_elements.specs.declared.due.Next.TheVariants.{Rows, Either, Nothing}
-use Rattle.ill_elements.specs.declared.due.Slot.{Slot}
-use Rattle.ill_elements.specs.declared.due.Slot.TheVariants.{Row as AtRow}
-use Rattle.ill_elements.specs.declared.element.Element.{Element as CodeElement}
-use Rattle.ill_elements.specs.declared.element.Element.TheVariants.{Leaf, Sequence, List as ListOf, Wrapper, LooseWrapper, Segment, ModuleLeaf, BitString, BitSegment, Foreign}
+use Rattle.ill_grammar.specs.Places.{alternative_of}
+use Rattle.ill_grammar.specs.Due.{IsDueIn, behind, first_of, next_place, shape, shape_at, read_as, slot_in, due_with}
+use Rattle.ill_grammar.specs.Elements.{element_is}
+use Rattle.ill_grammar.specs.LeafTypes.{leaf_is, module_leaf_is}
+use Rattle.ill_grammar.specs.Standing.{Level, foreign_entries, IsHeld, level_of, pushed, whole_level}
+use Rattle.ill_grammar.specs.Contents.{IsValueOf, absent_content, with_alternative}
+use Rattle.ill_grammar.specs.declared.due.Next.{Next}
+use Rattle.ill_grammar.specs.declared.due.Next.TheVariants.{Rows, Either, Nothing}
+use Rattle.ill_grammar.specs.declared.due.Slot.{Slot}
+use Rattle.ill_grammar.specs.declared.due.Slot.TheVariants.{Row as AtRow}
+use Rattle.ill_grammar.specs.declared.element.Element.{Element as CodeElement}
+use Rattle.ill_grammar.specs.declared.element.Element.TheVariants.{Leaf, Sequence, List as ListOf, Wrapper, LooseWrapper, Segment, ModuleLeaf, BitString, BitSegment, Foreign}
 use Rattle.ill_read.specs.declared.failure.Failure.{Failure}
-use Rattle.ill_elements.specs.declared.frame.Frame.{Frame}
-use Rattle.ill_elements.specs.declared.judge.Opening.{Opening}
-use Rattle.ill_elements.specs.declared.judge.Reading.{Reading}
-use Rattle.ill_elements.specs.declared.leaf_type.LeafType.{LeafType}
+use Rattle.ill_grammar.specs.declared.frame.Frame.{Frame}
+use Rattle.ill_grammar.specs.declared.judge.Opening.{Opening}
+use Rattle.ill_grammar.specs.declared.judge.Reading.{Reading}
+use Rattle.ill_grammar.specs.declared.leaf_type.LeafType.{LeafType}
 
 -- the rows between a position and the row of an element
 abbrev pub rows_before : Next → Slot → List Row
@@ -113,8 +113,8 @@ InBitString levels = (l : Level) × (below : List Level) × (levels ≡ l ∷ be
 
 -- an element opened
 abbrev pub HasOpened : {D : Type 0} → (D → List Level → List ℕ → Type 0) → D → Next → Opening → ℕ → D → Type 0
-HasOpened holds old next o base new = (levels : List Level) (text : List ℕ) → holds old levels text → (IsNoSegment (read_as o.found) → IsOpeningIn levels text next o) → (read_as o.found ≡ BitSegment → InBitString levels)
-    → holds new (pushed (record { element = read_as o.found; tag = tag_of_id o.id; next = first_of (read_as o.found); base = base; entries = [] }) levels) (text_opened (read_as o.found) text)
+HasOpened holds old next o contents_start new = (levels : List Level) (text : List ℕ) → holds old levels text → (IsNoSegment (read_as o.found) → IsOpeningIn levels text next o) → (read_as o.found ≡ BitSegment → InBitString levels)
+    → holds new (pushed (record { element = read_as o.found; tag = tag_of_id o.id; next = first_of (read_as o.found); contents_start = contents_start; entries = [] }) levels) (text_opened (read_as o.found) text)
 
 -- the text grew
 abbrev pub HasText : {D : Type 0} → (D → List Level → List ℕ → Type 0) → D → List ℕ → D → Type 0

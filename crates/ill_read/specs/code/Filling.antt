@@ -4,7 +4,7 @@ use Rattle.ill_schema.specs.declared.profile.Profile.{Profile as Named}
 use Rattle.std.specs.Prelude.{◌≡◌, ◌≢◌, ◌⊎◌, ℕ, ◌≤◌, List, [], ◌++◌, length, Option}
 use Rattle.std.specs.Io.KnownBytes.{Appends, Consumes, IsAtEnd}
 use Rattle.ill_schema.specs.Apdu.{Apdu, Accepts}
-use Rattle.ill_elements.specs.Standing.{Level}
+use Rattle.ill_grammar.specs.Standing.{Level}
 use Rattle.ill_read.specs.code.ReaderCode.{IsFed}
 use Rattle.ill_read.specs.declared.reader.Reader.{Reader}
 use Rattle.ill_read.specs.declared.reader.State.TheVariants as state

@@ -11,17 +11,17 @@ use Rattle.ill_schema.specs.Tagging.{untagged}
 use Rattle.ill_refusals.specs.Place.{Open}
 use Rattle.ill_refusals.specs.Fault.{fault_of, element_fault}
 use Rattle.ill_refusals.specs.code.Judge.{Judgement, opens, reads, or_faulty}
-use Rattle.ill_elements.specs.Elements.{element_is}
-use Rattle.ill_elements.specs.Due.{read_as}
-use Rattle.ill_elements.specs.Standing.{Level, whole_level}
+use Rattle.ill_grammar.specs.Elements.{element_is}
+use Rattle.ill_grammar.specs.Due.{read_as}
+use Rattle.ill_grammar.specs.Standing.{Level, whole_level}
 use Rattle.ill_read.specs.Paths.{HoldsAt}
 use Rattle.ill_refusals.specs.code.Step.{Step, refused, goes, whole}
 use Rattle.ill_read.specs.declared.failure.Failure.{Failure}
 use Rattle.ill_read.specs.code.Progress.{Judgement as CodeJudgement}
 use Rattle.ill_read.specs.code.Progress as code
-use Rattle.ill_elements.specs.declared.frames.Frames.{Frames}
+use Rattle.ill_grammar.specs.declared.frames.Frames.{Frames}
 use Rattle.ill_read.specs.declared.path.Path.{Path}
-use Rattle.ill_elements.specs.code.Judging.{IsBegin, IsEnd, content_in}
+use Rattle.ill_grammar.specs.code.Judging.{IsBegin, IsEnd, content_in}
 
 -- the decoder's judgement is the one of the definitions, but for the fault of a text or a content
 abbrev pub IsJudgement : Named → Frames → List Open → ℕ → List ℕ → CodeJudgement → Judgement → Type 0

@@ -14,17 +14,17 @@ use Rattle.ill_schema.specs.Normal.{normal_tree, normal_trees, normal_items}
 use Rattle.ill_schema.specs.Table.{rows_of}
 use Rattle.ill_schema.specs.Tagging.{untagged, sequence_tag}
 use Rattle.ill_schema.specs.Value.{entries_of, items_of}
-use Rattle.ill_elements.specs.Due.{read_as}
-use Rattle.ill_elements.specs.Standing.{Level}
-use Rattle.ill_elements.specs.Written.{left_away}
-use Rattle.ill_elements.specs.declared.due.Next.{Next}
-use Rattle.ill_elements.specs.declared.due.Next.TheVariants.{Rows, Nothing}
-use Rattle.ill_elements.specs.declared.due.Slot.{Slot}
-use Rattle.ill_elements.specs.declared.element.Element.{Element as CodeElement}
-use Rattle.ill_elements.specs.declared.element.Element.TheVariants.{Leaf, Sequence, List as ListOf, Wrapper, LooseWrapper, Segment, ModuleLeaf, BitString, BitSegment, Foreign}
-use Rattle.ill_elements.specs.declared.element.Wrapped.{Wrapped}
-use Rattle.ill_elements.specs.declared.judge.Opening.{Opening}
-use Rattle.ill_read.specs.declared.octets.Octets.{Octets}
+use Rattle.ill_grammar.specs.Due.{read_as}
+use Rattle.ill_grammar.specs.Standing.{Level}
+use Rattle.ill_grammar.specs.Written.{left_away}
+use Rattle.ill_grammar.specs.declared.due.Next.{Next}
+use Rattle.ill_grammar.specs.declared.due.Next.TheVariants.{Rows, Nothing}
+use Rattle.ill_grammar.specs.declared.due.Slot.{Slot}
+use Rattle.ill_grammar.specs.declared.element.Element.{Element as CodeElement}
+use Rattle.ill_grammar.specs.declared.element.Element.TheVariants.{Leaf, Sequence, List as ListOf, Wrapper, LooseWrapper, Segment, ModuleLeaf, BitString, BitSegment, Foreign}
+use Rattle.ill_grammar.specs.declared.element.Wrapped.{Wrapped}
+use Rattle.ill_grammar.specs.declared.judge.Opening.{Opening}
+use Rattle.ill_read.specs.declared.normal_form_draft.NormalFormDraft.{NormalFormDraft}
 
 -- the items that are there
 abbrev pub items_in : List (Option Content) → List Content
@@ -78,9 +78,9 @@ IsApartAs o = (tag_of_id o.id).class ≡ Universal → (tag_of_id o.id).number �
 -- the octets are those of the levels, outermost first: each has its identifier, an octet for its length, and its entries; the message is in no element
 abbrev pub AreWritten : List Level → List ℕ → Type 0
 AreWritten [] octets = ⊥
-AreWritten (l ∷ []) octets = (octets ≡ written l.element l.next l.entries) × (l.base ≡ 0)
+AreWritten (l ∷ []) octets = (octets ≡ written l.element l.next l.entries) × (l.contents_start ≡ 0)
 AreWritten (l ∷ (k ∷ below)) octets = (before : List ℕ) × (header : List ℕ) × (octets ≡ before ++ (header ++ written l.element l.next l.entries))
-    × (l.base ≡ length (before ++ header)) × (IsApart l → header ≡ identifier l.tag (form_of l.element) ++ 0 ∷ []) × AreWritten (k ∷ below) before
+    × (l.contents_start ≡ length (before ++ header)) × (IsApart l → header ≡ identifier l.tag (form_of l.element) ++ 0 ∷ []) × AreWritten (k ∷ below) before
 
 -- the contents of an element that has ended: a loose wrapper without its SEQUENCE gets one
 abbrev pub enclosed : CodeElement → Next → List ℕ → List ℕ
@@ -89,7 +89,7 @@ enclosed (LooseWrapper w) n octets = identifier sequence_tag true ++ (shortest_l
 enclosed _ n octets = octets
 
 -- the text of the string that is open stands behind the octets; that of a BIT STRING stands apart
-abbrev pub IsBehind : Octets → CodeElement → List ℕ → List ℕ → Type 0
+abbrev pub IsBehind : NormalFormDraft → CodeElement → List ℕ → List ℕ → Type 0
 IsBehind draft BitString front text = (draft.octets ≡ front) × (draft.bits ≡ text)
 IsBehind draft _ front text = draft.octets ≡ front ++ text
 
@@ -105,11 +105,11 @@ abbrev pub innermost : List Level → CodeElement
 innermost [] = Segment
 innermost (l ∷ below) = l.element
 
-pub record AreOctets (draft : Octets) (levels : List Level) (text : List ℕ) : Type 0 where
+pub record AreOctets (draft : NormalFormDraft) (levels : List Level) (text : List ℕ) : Type 0 where
   pub front : List ℕ
   pub joined : IsBehind draft (innermost levels) front text
   pub are : AreWritten levels front
 
 -- the octets are the APDU's normal form
-abbrev pub AreNormal : Named → Octets → Apdu → ℕ → Type 0
+abbrev pub AreNormal : Named → NormalFormDraft → Apdu → ℕ → Type 0
 AreNormal p draft a n = draft.octets ≡ normal_form_in (profile_of p) a

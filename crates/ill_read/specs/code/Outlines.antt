@@ -7,28 +7,28 @@ use Rattle.ill_schema.specs.Apdu.{Apdu, choice_of}
 use Rattle.ill_schema.specs.Table.{kind_of, rows_of}
 use Rattle.ill_schema.specs.Value.{entries_of}
 use Rattle.ill_read.specs.Outline.{AreEntries, IsMarked, octets_marks}
-use Rattle.ill_elements.specs.Standing.{Level}
-use Rattle.ill_elements.specs.Due.{IsDueIn}
+use Rattle.ill_grammar.specs.Standing.{Level}
+use Rattle.ill_grammar.specs.Due.{IsDueIn}
 use Rattle.ill_read.specs.code.Drafts.{rows_before, rows_left}
-use Rattle.ill_elements.specs.Due.{due_with}
+use Rattle.ill_grammar.specs.Due.{due_with}
 use Rattle.ill_read.specs.code.OctetDrafts.{AreOctets, innermost}
-use Rattle.ill_read.specs.declared.octets.Octets.{Octets}
+use Rattle.ill_read.specs.declared.normal_form_draft.NormalFormDraft.{NormalFormDraft}
 use Rattle.ill_schema.specs.Content.{Content}
 use Rattle.ill_schema.specs.declared.node.Kind.{Kind}
-use Rattle.ill_elements.specs.declared.due.Next.{Next}
-use Rattle.ill_elements.specs.declared.due.Next.TheVariants.{Rows, Inner, Items, Either, Segments, BitSegments, Foreigns, Nothing, Root}
-use Rattle.ill_elements.specs.declared.due.Slot.{Slot}
-use Rattle.ill_elements.specs.declared.due.Slot.TheVariants.{Row as AtRow}
-use Rattle.ill_elements.specs.declared.element.Element.{Element as CodeElement}
-use Rattle.ill_elements.specs.declared.element.Element.TheVariants.{BitString, Foreign, Leaf, ModuleLeaf, Wrapper}
+use Rattle.ill_grammar.specs.declared.due.Next.{Next}
+use Rattle.ill_grammar.specs.declared.due.Next.TheVariants.{Rows, Inner, Items, Either, Segments, BitSegments, Foreigns, Nothing, Root}
+use Rattle.ill_grammar.specs.declared.due.Slot.{Slot}
+use Rattle.ill_grammar.specs.declared.due.Slot.TheVariants.{Row as AtRow}
+use Rattle.ill_grammar.specs.declared.element.Element.{Element as CodeElement}
+use Rattle.ill_grammar.specs.declared.element.Element.TheVariants.{BitString, Foreign, Leaf, ModuleLeaf, Wrapper}
 use Rattle.ill_read.specs.declared.mark.Mark.{Mark}
 use Rattle.ill_read.specs.declared.mark.Mark.TheVariants as mark
-use Rattle.ill_read.specs.declared.outline.Outlining.{Outlining}
+use Rattle.ill_read.specs.declared.outline_draft.OutlineDraft.{OutlineDraft}
 
 -- the marks of rows that have no element
 abbrev pub ArePassed : List Row → List Mark → Type 0
 ArePassed [] ms = ms ≡ []
-ArePassed (row ∷ rows) ms = (part : PartId) × (rest : List Mark) × (ms ≡ mark.Passed part ∷ rest) × (slice_get (rows_of part.node) part.row ≡ Some row) × ArePassed rows rest
+ArePassed (row ∷ rows) ms = (part : PartId) × (rest : List Mark) × (ms ≡ mark.Absent part ∷ rest) × (slice_get (rows_of part.node) part.row ≡ Some row) × ArePassed rows rest
 
 -- rows without an element were passed, after these marks
 pub record HasPassed (before : List Mark) (rows : List Row) (old new : List Mark) : Type 0 where
@@ -119,10 +119,10 @@ abbrev pub foreign_marks : Bool → List ℕ → List Mark
 foreign_marks true octets = octets_marks mark.Foreign octets
 foreign_marks false octets = []
 
-abbrev pub held_marks : CodeElement → Octets → ℕ → List Mark
-held_marks BitString octets base = map mark.Octet octets.bits
-held_marks (Wrapper w) octets base = foreign_marks (is_any (kind_of w.node)) (drop base octets.octets)
-held_marks _ octets base = []
+abbrev pub held_marks : CodeElement → NormalFormDraft → ℕ → List Mark
+held_marks BitString octets contents_start = map mark.Octet octets.bits
+held_marks (Wrapper w) octets contents_start = foreign_marks (is_any (kind_of w.node)) (drop contents_start octets.octets)
+held_marks _ octets contents_start = []
 
 -- the marks are those of the levels, outermost first
 abbrev pub AreFronts : List Level → List Mark → Type 0
@@ -130,12 +130,12 @@ AreFronts [] ms = ms ≡ []
 AreFronts (l ∷ below) ms = (before : List Mark) × (led : List Mark) × (own : List Mark)
     × (ms ≡ led ++ (first_marks l.next l.element ++ own)) × AreLed l.tag l.element below before led × AreOwn l.element l.entries own × AreFronts below before
 
-pub record AreOutlined (draft : Outlining) (levels : List Level) (text : List ℕ) : Type 0 where
+pub record AreOutlined (draft : OutlineDraft) (levels : List Level) (text : List ℕ) : Type 0 where
   pub octets : AreOctets draft.octets levels text
   pub front : List Mark
   pub joined : draft.marks.items ≡ front ++ text_marks (innermost levels) text
   pub are : AreFronts levels front
 
 -- the marks are the APDU's
-abbrev pub HasOutline : Outlining → Apdu → Type 0
+abbrev pub HasOutline : OutlineDraft → Apdu → Type 0
 HasOutline draft a = IsMarked (choice_of a) draft.marks.items

@@ -1,7 +1,7 @@
 -- How the path of open elements grows and shrinks.
 use Rattle.std.specs.Prelude.{◌+◌, ◌<◌, ◌≤◌, ℕ}
-use Rattle.ill_elements.specs.declared.judge.Opening.{Opening}
-use Rattle.ill_elements.specs.declared.judge.Reading.{Reading}
+use Rattle.ill_grammar.specs.declared.judge.Opening.{Opening}
+use Rattle.ill_grammar.specs.declared.judge.Reading.{Reading}
 
 -- what is done at a place where nothing is at fault but, perhaps, the text or content of a leaf
 pub data Judgement : Type 0 where

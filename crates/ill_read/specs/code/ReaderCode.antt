@@ -15,18 +15,18 @@ use Rattle.ill_refusals.specs.Place.{Open, bound}
 use Rattle.ill_refusals.specs.code.Judge.{Judgement as Judged, faulty, judge}
 use Rattle.ill_read.specs.Answers.{IsPart, IsPartIn, IsRead, IsRefused, IsRefusedIn}
 use Rattle.ill_read.specs.Paths.{HoldsAt}
-use Rattle.ill_elements.specs.Standing.{Level, StandsBefore, StandsLast}
+use Rattle.ill_grammar.specs.Standing.{Level, StandsBefore, StandsLast}
 use Rattle.ill_read.specs.code.Judged.{IsJudgement}
 use Rattle.ill_read.specs.Failures.{read_failure}
 use Rattle.ill_read.specs.declared.failure.Failure.{Failure}
 use Rattle.ill_read.specs.declared.failure.ReadFailure.{ReadFailure}
 use Rattle.ill_read.specs.code.Progress.{Judgement, IsProgress}
-use Rattle.ill_elements.specs.Standing.{depth_of}
-use Rattle.ill_elements.specs.declared.frames.Frames.{Frames}
+use Rattle.ill_grammar.specs.Standing.{depth_of}
+use Rattle.ill_grammar.specs.declared.frames.Frames.{Frames}
 use Rattle.ill_read.specs.declared.reader.Reader.{Reader}
 use Rattle.ill_read.specs.declared.reader.State.{State}
 use Rattle.ill_read.specs.declared.reader.State.TheVariants as state
-use Rattle.ill_read.specs.declared.values.Body.{Body}
+use Rattle.ill_read.specs.declared.value_draft.ApduValue.{ApduValue}
 
 -- a message was read of the octets, or they are refused, or else this holds
 abbrev pub InState : Named → State → List ℕ → Type 0 → Type 0 → Type 0
@@ -69,7 +69,7 @@ Steps p holds has old judgement new result = (s rest : List ℕ) → CanStep p h
 
 -- from the place it goes on, or fails, as is judged in the octets before the bound; `came` octets follow the place in all
 abbrev pub LeadsOn : {D : Type 0} → Named → (D → List Level → List ℕ → Type 0) → (Named → D → Apdu → ℕ → Type 0) → Reader D → List ℕ → ℕ → ℕ → Reader D → Option ℕ → (List Open → Fault → Judged) → Type 0
-LeadsOn p holds has old window room came new result judged = (s rest more : List ℕ) (b : StandsBefore p (HoldsAt p holds old.path) old.at s rest) → length rest ≡ came
+LeadsOn p holds has old window room available_len new result judged = (s rest more : List ℕ) (b : StandsBefore p (HoldsAt p holds old.path) old.at s rest) → length rest ≡ available_len
     → rest ≡ window ++ more → room ≡ bound (profile_of p) b.place - old.at
     → judge (profile_of p) b.place old.at rest ≡ judged b.place (cut_fault (profile_of p) b.place old.at rest) → HasAdvanced p holds has new s rest result
 
@@ -100,7 +100,7 @@ ended [] = Ok false
 ended (octet ∷ fed) = Err (Failure.Refused (record { at = length (octet ∷ fed); cause = Cause.Truncated }))
 
 -- the APDU of a body
-abbrev pub body_apdu : Body → Apdu
+abbrev pub body_apdu : ApduValue → Apdu
 body_apdu body = apdu_with (body.row + 1) body.value
 
 -- the message of an APDU that was read from `octets` octets, None where its normal form passes the limit

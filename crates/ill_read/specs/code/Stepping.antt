@@ -7,21 +7,21 @@ use Rattle.ill_refusals.specs.Place.{Open}
 use Rattle.ill_refusals.specs.Fault.{element_fault}
 use Rattle.ill_refusals.specs.code.Judge.{Judgement, or_faulty, reads}
 use Rattle.ill_refusals.specs.code.Step.{moved, opened}
-use Rattle.ill_elements.specs.Due.{read_as}
-use Rattle.ill_elements.specs.Elements.{element_is}
-use Rattle.ill_cells.specs.declared.at.At.{At}
-use Rattle.ill_elements.specs.code.Judging.{IsEnd, IsBegin}
+use Rattle.ill_grammar.specs.Due.{read_as}
+use Rattle.ill_grammar.specs.Elements.{element_is}
+use Rattle.ill_grammar.specs.declared.place.Place.{Place}
+use Rattle.ill_grammar.specs.code.Judging.{IsEnd, IsBegin}
 use Rattle.ill_read.specs.code.Judged.{IsStep}
-use Rattle.ill_elements.specs.Standing.{Level}
+use Rattle.ill_grammar.specs.Standing.{Level}
 use Rattle.ill_read.specs.Paths.{HoldsAt}
 use Rattle.ill_read.specs.declared.failure.Failure.{Failure}
-use Rattle.ill_elements.specs.declared.frame.Frame.{Frame}
-use Rattle.ill_elements.specs.declared.judge.Opening.{Opening}
-use Rattle.ill_elements.specs.declared.judge.Reading.{Reading}
+use Rattle.ill_grammar.specs.declared.frame.Frame.{Frame}
+use Rattle.ill_grammar.specs.declared.judge.Opening.{Opening}
+use Rattle.ill_grammar.specs.declared.judge.Reading.{Reading}
 use Rattle.ill_read.specs.declared.path.Path.{Path}
 
 -- the innermost element goes on at this place, or the message is whole
-abbrev pub GoesOn : At → List Frame → List Frame → Bool → Type 0
+abbrev pub GoesOn : Place → List Frame → List Frame → Bool → Type 0
 GoesOn after old new true = (old ≡ []) × (new ≡ [])
 GoesOn after old new false = (old ≡ [] → ⊥)
     × ((outer : List Frame) (f : Frame) → old ≡ outer ++ f ∷ [] → new ≡ outer ++ record f { place = after } ∷ [])

@@ -6,7 +6,7 @@ use Rattle.ber_core.specs.Tree.{Tree}
 use Rattle.ber_leaf.specs.Leaf.{Leaf, bit_string, value}
 use Rattle.ill_schema.specs.Content.{Content, simple, foreign}
 use Rattle.ill_schema.specs.declared.profile.Profile.{Profile as Named}
-use Rattle.ill_elements.specs.LeafTypes.{IsContentIn, module_leaf_is}
+use Rattle.ill_grammar.specs.LeafTypes.{IsContentIn, module_leaf_is}
 use Rattle.ill_read.specs.declared.mark.Mark.{Mark}
 use Rattle.ill_read.specs.declared.mark.Mark.TheVariants as mark
 

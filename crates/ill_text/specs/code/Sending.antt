@@ -1,7 +1,7 @@
 -- A text that is put into a sink, part by part.
 use Rattle.std.specs.Prelude.{◌≡◌, ℕ, ◌-◌, ◌^◌, ◌<◌, min, Bool, true, false, List, ◌++◌, length, take, Option, IsTrue}
 use Rattle.std.specs.Io.KnownBytes.{Appends}
-use Rattle.ill_text.specs.declared.outgoing.Out.{Out}
+use Rattle.ill_text.specs.declared.text_sink.TextSink.{TextSink}
 
 -- a count of octets, as far as 64 bits hold it
 abbrev pub counted : ℕ → ℕ
@@ -11,13 +11,13 @@ counted n = min n (2 ^ 64 - 1)
 pub record Sending : Type 0 where
   pub reported : Option (List ℕ)
   pub broken : Bool
-  pub out : Out
+  pub out : TextSink
 
-abbrev pub sending : Option (List ℕ) → Bool → Out → Sending
+abbrev pub sending : Option (List ℕ) → Bool → TextSink → Sending
 sending reported broken out = record { reported = reported; broken = broken; out = out }
 
 -- what isn't in the sink waits; or the sink is broken
-abbrev pub IsLeft : Out → Bool → List ℕ → Type 0
+abbrev pub IsLeft : TextSink → Bool → List ℕ → Type 0
 IsLeft out broken rest = elim out.broken as (λ _. Type 0) [ false ↦ rest ≡ take out.len out.waiting | true ↦ (0 < length rest) × IsTrue broken ]
 
 -- of the octets that were put, the first are in the sink, as many as are counted

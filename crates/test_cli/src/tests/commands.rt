@@ -2,7 +2,7 @@
 use super::runs::Octets::Text;
 use super::runs::{INDEFINITE, QUIET, Row, first_wrong};
 use std::test::Fail;
-use test_runtime::{Faults, NO_FAULTS};
+use test_host::{Faults, NO_FAULTS};
 
 /// Commands with no output of their own. O is absent.
 static ROWS: [Row; 33] = [

@@ -1,11 +1,11 @@
 //! Contracts that leave one result: what the calls return is proved of their contracts alone. So a body that returns anything else
 //! doesn't meet its contract.
 use ber_core::{Pieces, Source};
+use ill_args::{FileJob, Inputs, Order, Task};
 use ill_cli::{Action, InputAction, Plan, ReadOptions};
+use ill_commands::{Job, Verdict};
 use ill_files::{Opened, ProgramError, is_output_lost, keeps_output, status_of};
-use ill_jobs::{Job, Verdict};
 use ill_lines::{LineJob, LineOptions};
-use ill_orders::{EachJob, Inputs, Order, Task};
 
 /// The end has one status, which is 0 only where all is well.
 fn ends_have_one_status(done: &Result<Verdict, ProgramError>) {
@@ -70,7 +70,7 @@ fn check_checks(order: Order<'_>, inputs: Inputs<'_>) {
         job: LineJob::Check,
     };
     let task = Task::Each {
-        job: EachJob::Check,
+        job: FileJob::Check,
         inputs,
     };
     match Plan::new(Order { task, ..order }) {
@@ -104,7 +104,7 @@ fn inputs_are_named_where_there_are_several(
 ) {
     match InputAction::new(Action::Messages(job, reading), name, count) {
         InputAction::Messages(work) | InputAction::AcceptedMessages(work) => {
-            prove!(work.is_named == (count > 1));
+            prove!(work.names_input == (count > 1));
             prove!(work.name == name);
             prove!(work.hex == reading.hex && work.job == job);
             prove!(work.profile == reading.profile);

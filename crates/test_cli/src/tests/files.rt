@@ -5,7 +5,7 @@ use std::alloc::AllocError;
 use std::fs::{self, Permissions};
 use std::os::unix::fs::{MetadataExt, PermissionsExt, symlink};
 use std::test::Fail;
-use test_runtime::{Ended, Faults, NO_FAULTS, Start};
+use test_host::{Ended, Faults, NO_FAULTS, Start};
 
 fn canonicalise<'n>(rt: &HostRuntime, input: &'n [u8], output: &'n [u8]) -> Ended {
     let words: [&[u8]; 3] = [b"canonicalise", input, output];
@@ -21,12 +21,12 @@ fn canonicalise<'n>(rt: &HostRuntime, input: &'n [u8], output: &'n [u8]) -> Ende
     )
 }
 
-/// Whether the normal form of B goes to the file of this name, without a word.
+/// Tells whether the normal form of B goes to the file of this name, without a word.
 fn goes_to(rt: &HostRuntime, name: &str) -> Result<bool, Fail> {
     goes_directly_to(rt, name, "")
 }
 
-/// Whether the normal form of B goes to the file of this name, and this is printed of it on standard error.
+/// Tells whether the normal form of B goes to the file of this name, and this is printed of it on standard error.
 fn goes_directly_to(rt: &HostRuntime, name: &str, errors: &str) -> Result<bool, Fail> {
     let ended = canonicalise(rt, b"B", name.as_bytes());
     let is_right = ended.status == 0
@@ -39,7 +39,7 @@ fn has_form(rt: &HostRuntime, name: &str) -> Result<bool, Fail> {
     holds(rt, name, Repeated(EXPIRED, 33))
 }
 
-/// Whether a file is replaced by a new one of its mode, and a file of the name that the new one would have at first is left.
+/// Tells whether a file is replaced by a new one of its mode, and a file of the name that the new one would have at first is left.
 fn is_replaced(rt: &HostRuntime) -> Result<bool, Fail> {
     fs::write(rt, "old", b"old")?;
     fs::write(rt, "old.part", b"another's")?;
@@ -56,7 +56,7 @@ fn is_replaced(rt: &HostRuntime) -> Result<bool, Fail> {
     )
 }
 
-/// Whether a file of two names is written under both.
+/// Tells whether a file of two names is written under both.
 fn keeps_its_names(rt: &HostRuntime) -> Result<bool, Fail> {
     fs::write(rt, "one", b"old")?;
     fs::hard_link(rt, "one", "other")?;
@@ -68,7 +68,7 @@ fn keeps_its_names(rt: &HostRuntime) -> Result<bool, Fail> {
     )
 }
 
-/// Whether a link stays, and the file is made that it leads to, or written if it is there.
+/// Tells whether a link stays, and the file is made that it leads to, or written if it is there.
 fn keeps_the_link(rt: &HostRuntime) -> Result<bool, Fail> {
     symlink(rt, "target", "link")?;
     let line = "illcanon: link is written directly: it is a link\n";
@@ -80,7 +80,7 @@ fn keeps_the_link(rt: &HostRuntime) -> Result<bool, Fail> {
     )
 }
 
-/// Whether a file that its owner may not write is left as it was. Nothing stops root.
+/// Tells whether a file that its owner may not write is left as it was. Nothing stops root.
 fn keeps_what_may_not_be_written(rt: &HostRuntime) -> Result<bool, Fail> {
     fs::write(rt, "kept", b"kept")?;
     if fs::metadata(rt, "kept")?.uid() == 0 {
@@ -96,7 +96,7 @@ fn keeps_what_may_not_be_written(rt: &HostRuntime) -> Result<bool, Fail> {
     )
 }
 
-/// Whether nothing is written where all names of a new file are taken.
+/// Tells whether nothing is written where all names of a new file are taken.
 fn stops_where_no_name_is_free(rt: &HostRuntime) -> Result<bool, Fail> {
     fs::write(rt, "taken", b"taken")?;
     fs::write(rt, "taken.part", b"")?;
@@ -123,7 +123,7 @@ fn long_name(rt: &HostRuntime) -> Result<String, AllocError> {
     Ok(name)
 }
 
-/// Whether a file is left as it was where another takes the name of its new one, and that name isn't removed.
+/// Tells whether a file is left as it was where another takes the name of its new one, and that name isn't removed.
 fn keeps_what_another_took(rt: &HostRuntime) -> Result<bool, Fail> {
     fs::write(rt, "swapped", b"old")?;
     let words: [&[u8]; 3] = [b"canonicalise", b"B", b"swapped"];
@@ -157,12 +157,12 @@ fn is_written_under_a_long_name(rt: &HostRuntime) -> Result<bool, Fail> {
     goes_directly_to(rt, name.as_str(), line.as_str())
 }
 
-/// Whether an output that is absent is made, and no other file.
+/// Tells whether an output that is absent is made, and no other file.
 fn is_made(rt: &HostRuntime) -> Result<bool, Fail> {
     Ok(goes_to(rt, "new")? && !fs::exists(rt, "new.part")?)
 }
 
-/// Whether a file is refused as its own output under each of its names, and is as it was.
+/// Tells whether a file is refused as its own output under each of its names, and is as it was.
 fn is_refused_under_each_name(rt: &HostRuntime) -> Result<bool, Fail> {
     fs::hard_link(rt, "B", "hard")?;
     symlink(rt, "B", "soft")?;
@@ -179,7 +179,7 @@ fn is_refused<'n>(rt: &HostRuntime, input: &'n [u8], output: &'n [u8]) -> bool {
         && ended.errors.as_slice() == b"illcanon: IN and OUT are the same file\n".as_slice()
 }
 
-/// What goes wrong in the folder where this is.
+/// The fault of the folder where this is.
 fn first_wrong(rt: &HostRuntime) -> Result<Option<&'static str>, Fail> {
     Ok(if !is_made(rt)? {
         Some("an absent file")

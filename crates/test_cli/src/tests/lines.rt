@@ -2,7 +2,7 @@
 use super::runs::Octets::Text;
 use super::runs::{QUIET, Row, first_wrong, run_line};
 use std::test::Fail;
-use test_runtime::{Faults, NO_FAULTS};
+use test_host::{Faults, NO_FAULTS};
 
 /// Lines: a message three times, in other spellings, two blank lines, and what is refused.
 const LINES: &[u8] = b"\
@@ -20,7 +20,7 @@ const LINES: &[u8] = b"\
 7g7\n\
 ";
 
-/// What `canonicalise` makes of them.
+/// The output of `canonicalise` for them.
 const FORMS: &[u8] = b"\
 741f301d800102a10aa1031b0147a2031b0151a20ca00a80083230323430323239\n\
 741f301d800102a10aa1031b0147a2031b0151a20ca00a80083230323430323239\n\
@@ -36,7 +36,7 @@ hex: odd number of digits\n\
 hex: odd number of digits\n\
 ";
 
-/// What `check` makes of them.
+/// The output of `check` for them.
 const CHECKS: &[u8] = b"\
 Expired, 33 octets, normal\n\
 Expired, 47 octets, not normal, normal form 33 octets\n\
@@ -52,7 +52,7 @@ hex: odd number of digits\n\
 hex: odd number of digits\n\
 ";
 
-/// What `digest` makes of them.
+/// The output of `digest` for them.
 const DIGESTS: &[u8] = b"\
 41b0dca84b6db1db587880995cae8f2ae640c5af026d4d9745a5bc56ba11a782\n\
 41b0dca84b6db1db587880995cae8f2ae640c5af026d4d9745a5bc56ba11a782\n\
@@ -152,7 +152,7 @@ fn each_line_has_its_result(rt: HostRuntime) -> Result<(), Fail> {
     Ok(())
 }
 
-/// Whether a line of this many blanks has this result, and the line after it its own.
+/// Tells whether a line of this many blanks has this result, and the line after it its own.
 fn has_result(rt: &HostRuntime, blanks: usize, want: &str) -> Result<bool, Fail> {
     let mut input = vec![in rt.alloc(); b' '; blanks]?;
     input.extend_from_slice(

@@ -3,7 +3,7 @@ use super::runs::run;
 use ill_files::Name;
 use std::alloc::{AllocError, Global};
 use std::test::Fail;
-use test_runtime::{NO_FAULTS, Start};
+use test_host::{NO_FAULTS, Start};
 
 /// Names, and their form in a fault's line, as bash reads it back.
 static NAMES: [(&[u8], &[u8]); 13] = [
@@ -24,7 +24,7 @@ static NAMES: [(&[u8], &[u8]); 13] = [
     (b"a\xe2\x80\xa8b", b"$'a\\342\\200\\250b'"),
 ];
 
-/// Whether a name is printed so.
+/// Tells whether a name is printed so.
 fn is_printed(alloc: Global, octets: &[u8], want: &[u8]) -> Result<bool, AllocError> {
     let name = Name(octets.to_vec(alloc)?);
     let line = format!(in alloc; "{name}")?;
@@ -66,7 +66,7 @@ fn words_are_read_whole(rt: HostRuntime) -> Result<(), Fail> {
     Ok(())
 }
 
-/// Whether a run on these words ends with this status, and prints this on standard error.
+/// Tells whether a run on these words ends with this status, and prints this on standard error.
 fn ends_with(rt: &HostRuntime, words: &[&[u8]], status: u8, errors: &[u8]) -> bool {
     let ended = run(
         rt,

@@ -2,7 +2,7 @@
 mod contracts;
 
 use clap::error::ErrorKind;
-use ill_orders::{LineFault, Order, Task, order};
+use ill_args::{LineFault, Order, Task, order};
 use ill_schema::Profile;
 use std::alloc::{AllocError, Global};
 use std::test::Fail;
@@ -67,7 +67,7 @@ fn flags_of(order: &Order<'_>) -> Flags {
     ]
 }
 
-/// Whether words set these flags and no others.
+/// Tells whether words set these flags and no others.
 fn are_set(alloc: Global, words: &str, flags: Flags) -> Result<bool, AllocError> {
     let words = words_of(alloc, words)?;
     match order(alloc, &words) {
@@ -159,7 +159,7 @@ fn each_flag_is_its_own(rt: HostRuntime) -> Result<(), Fail> {
     Ok(())
 }
 
-/// Whether words give an order of `canonicalise` with these flags, from one word to another.
+/// Tells whether words give an order of `canonicalise` with these flags, from one word to another.
 fn gives_canonicalise(
     alloc: Global,
     words: &str,
@@ -184,7 +184,7 @@ fn canonicalise_has_its_flags_and_files(rt: HostRuntime) -> Result<(), Fail> {
     Ok(())
 }
 
-/// Whether words are refused for the same word.
+/// Tells whether words are refused for the same word.
 fn is_same_word(alloc: Global, words: &str) -> Result<bool, AllocError> {
     let words = words_of(alloc, words)?;
     Ok(matches!(order(alloc, &words), Err(LineFault::SameWord)))

@@ -2,7 +2,7 @@
 use super::runs::Octets::{Repeated, Text};
 use super::runs::{BEFORE, EXPIRED, INDEFINITE, QUIET, Row, first_wrong};
 use std::test::Fail;
-use test_runtime::{Faults, NO_FAULTS};
+use test_host::{Faults, NO_FAULTS};
 
 /// Commands with an output. O is absent, and `none` is no folder.
 static ROWS: [Row; 55] = [

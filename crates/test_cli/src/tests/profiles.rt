@@ -7,7 +7,7 @@ use std::test::Fail;
 const EXTENDED: &[u8] =
     b"\x74\x2d\x30\x2b\x80\x01\x02\xa1\x0a\xa1\x03\x1b\x01\x47\xa2\x03\x1b\x01\x51\xa2\x0c\xa0\x0a\x80\x08\x32\x30\x32\x34\x30\x32\x32\x39\xbf\x31\x0b\x30\x09\x80\x01\x01\xa2\x04\x30\x02\x05\x00";
 
-/// What each command does with messages that only the module profile reads.
+/// Checks each command on messages that only the module profile reads.
 static ROWS: [Row; 18] = [
     Row {
         words: "check --profile module E",

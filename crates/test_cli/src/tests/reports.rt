@@ -1,6 +1,6 @@
 //! The lines that the program prints where a job fails, and its statuses.
+use ill_commands::RunFault;
 use ill_files::{ProgramError, RunLine, status_of};
-use ill_jobs::RunFault;
 use ill_normal::{Cause, NodeId, PartId, Refusal, Side};
 use std::alloc::{AllocError, Global};
 use std::test::Fail;
@@ -92,7 +92,7 @@ static FAULTS: [(RunFault, &str, u8); 13] = [
     (RunFault::WriteFault(10), "write fault after 10 octets", 3),
 ];
 
-/// Whether a fault is printed as this line, and ends the program with this status.
+/// Tells whether a fault is printed as this line, and ends the program with this status.
 fn is_reported(alloc: Global, fault: RunFault, line: &str, status: u8) -> Result<bool, AllocError> {
     let text = format!(in alloc; "{}", RunLine(fault))?;
     Ok(text.as_str() == line && status_of(&Err(ProgramError::from(fault))) == status)

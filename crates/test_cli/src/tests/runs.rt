@@ -3,7 +3,7 @@ use ill_cli::run_program;
 use std::alloc::AllocError;
 use std::fs;
 use std::test::Fail;
-use test_runtime::{Ended, Fake, Faults, NO_FAULTS, Start, folder};
+use test_host::{Ended, Fake, Faults, NO_FAULTS, Start, folder};
 use test_support::octets_of;
 
 /// Runs the program.
@@ -17,11 +17,11 @@ pub fn run(host: &HostRuntime, start: Start<'_>) -> Ended {
 pub const EXPIRED: &[u8] =
     b"\x74\x1f\x30\x1d\x80\x01\x02\xa1\x0a\xa1\x03\x1b\x01\x47\xa2\x03\x1b\x01\x51\xa2\x0c\xa0\x0a\x80\x0820240229";
 
-/// The same in indefinite lengths.
+/// EXPIRED in indefinite lengths.
 pub const INDEFINITE: &[u8] =
     b"\x74\x80\x30\x80\x80\x01\x02\xa1\x80\xa1\x80\x1b\x01\x47\x00\x00\xa2\x80\x1b\x01\x51\x00\x00\x00\x00\xa2\x80\xa0\x80\x80\x0820240229\x00\x00\x00\x00\x00\x00\x00\x00";
 
-/// What OUT holds before each run.
+/// The content of OUT before each run.
 pub const BEFORE: &[u8] = b"what was there before";
 
 /// Octets that a run leaves.
@@ -47,7 +47,7 @@ pub struct Row {
     pub status: u8,
     pub output: Octets,
     pub errors: &'static str,
-    /// What OUT holds then.
+    /// The content of OUT after it.
     pub out: Octets,
 }
 
@@ -180,7 +180,7 @@ pub fn leave(rt: &HostRuntime, folder: &str) -> Result<(), Fail> {
     Ok(fs::remove_dir_all(rt, folder)?)
 }
 
-/// Whether the octets are the first of a text over and over.
+/// Tells whether the octets are the first of a text over and over.
 fn are_repeated(octets: &[u8], text: &[u8]) -> bool {
     for part in octets.chunks(text.len().max(1)) {
         if !text.starts_with(part) {
@@ -197,7 +197,7 @@ fn are(octets: &[u8], wanted: Octets) -> bool {
     }
 }
 
-/// Whether a file holds these octets.
+/// Tells whether a file holds these octets.
 pub fn holds(rt: &HostRuntime, name: &str, wanted: Octets) -> Result<bool, Fail> {
     Ok(are(fs::read(rt, name)?.as_slice(), wanted))
 }
@@ -226,7 +226,7 @@ pub fn run_line(rt: &HostRuntime, line: &'static str, input: &[u8]) -> Result<En
     ))
 }
 
-/// Whether a run ends as a row says.
+/// Tells whether a run ends as a row says.
 fn ends_right(rt: &HostRuntime, row: &Row) -> Result<bool, Fail> {
     let words = words_of(rt, row.words)?;
     let ended = run(
@@ -246,7 +246,7 @@ fn ends_right(rt: &HostRuntime, row: &Row) -> Result<bool, Fail> {
     )
 }
 
-/// Whether a row comes true. No other file is left beside OUT.
+/// Tells whether a row comes true. No other file is left beside OUT.
 pub fn comes_true(rt: &HostRuntime, row: &Row) -> Result<bool, Fail> {
     fs::write(rt, "OUT", BEFORE)?;
     Ok(ends_right(rt, row)? && holds(rt, "OUT", row.out)? && !fs::exists(rt, "OUT.part")?)

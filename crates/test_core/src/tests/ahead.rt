@@ -1,7 +1,9 @@
 //! Sources that show what they have at hand.
 use super::fake::Step::{self, Fails, Moves};
 use super::fake::{Log, Scripted, are_first, takes};
-use ber_core::{Ahead, AtHand, FromBuffer, FromSlice, Look, Pieces, Source, Unseen};
+use ber_core::{
+    Buffered, BufferedSource, FromBuffer, FromSlice, Lookahead, Pieces, Source, Unbuffered,
+};
 use std::alloc::{AllocError, Global};
 use std::io::ErrorKind;
 use std::test::Fail;
@@ -11,7 +13,7 @@ use std::test::Fail;
 enum Call {
     /// A `take` with a buffer of this size returns this number; None: it returns [`Broken`].
     Takes(usize, Option<usize>),
-    /// A `pass` of the first number of octets, of the second number that are at hand.
+    /// A `consume` of the first number of octets, of the second number that are at hand.
     Passes(usize, usize),
 }
 
@@ -20,7 +22,7 @@ use Call::{Passes, Takes};
 /// A run of calls on a source over a buffered reader.
 struct Row {
     name: &'static str,
-    /// What each call of the reader does.
+    /// The steps: one for each call of the reader.
     script: &'static [Step],
     calls: &'static [Call],
     /// The sizes of the buffers that reached the reader.
@@ -115,23 +117,23 @@ static ROWS: [Row; 9] = [
     },
 ];
 
-/// Whether as many octets are at hand as must be, and those that are passed are then gone. They are added to those that came before.
-fn passes<S: Ahead>(
+/// Tells whether as many octets are at hand as must be, and those that are passed are then gone. They are added to those that came before.
+fn passes<S: BufferedSource>(
     source: &mut S,
     count: usize,
-    at_hand: usize,
+    buffered: usize,
     came: &mut Vec<u8>,
 ) -> Result<bool, AllocError> {
-    let shown = source.at_hand();
-    if shown.len() != at_hand || count > at_hand {
+    let shown = source.buffered();
+    if shown.len() != buffered || count > buffered {
         return Ok(false);
     }
     came.extend_from_slice(&shown[..count])?;
-    source.pass(count);
+    source.consume(count);
     Ok(true)
 }
 
-/// Whether each call of a row does what it must, on a source that is not broken at first. The octets that came are added.
+/// Tells whether each call of a row does what it must, on a source that is not broken at first. The octets that came are added.
 fn calls_do(alloc: Global, row: &Row, log: &Log, came: &mut Vec<u8>) -> Result<bool, AllocError> {
     let script = row.script;
     let mut source = FromBuffer::new(alloc, Scripted { script, log })?;
@@ -139,14 +141,14 @@ fn calls_do(alloc: Global, row: &Row, log: &Log, came: &mut Vec<u8>) -> Result<b
     for call in row.calls {
         let is_next_right = match *call {
             Takes(size, want) => takes(alloc, &mut source, size, want, came)?,
-            Passes(count, at_hand) => passes(&mut source, count, at_hand, came)?,
+            Passes(count, buffered) => passes(&mut source, count, buffered, came)?,
         };
         is_right = is_right && is_next_right;
     }
     Ok(is_right)
 }
 
-/// Whether a row comes true: what each call does, which octets come, and what reaches the reader.
+/// Tells whether a row comes true: what each call does, which octets come, and what reaches the reader.
 fn comes_true(alloc: Global, row: &Row) -> Result<bool, AllocError> {
     let log = Log::new(alloc);
     let mut came = Vec::new(alloc);
@@ -167,20 +169,20 @@ fn slices_show_all_that_is_left(rt: HostRuntime) {
     let octets = [1, 2, 3, 4, 5];
     let mut source = FromSlice::new(&octets);
     let mut buffer = [0; 2];
-    let is_whole = source.at_hand() == octets.as_slice();
-    source.pass(2);
+    let is_whole = source.buffered() == octets.as_slice();
+    source.consume(2);
     let is_taken = source.take(&mut buffer) == Ok(2) && buffer == [3, 4];
-    let is_left = source.at_hand() == [5].as_slice();
-    source.pass(1);
+    let is_left = source.buffered() == [5].as_slice();
+    source.consume(1);
     assert!(rt; is_whole && is_taken && is_left);
-    assert!(rt; source.take(&mut buffer) == Ok(0) && source.at_hand().is_empty());
+    assert!(rt; source.take(&mut buffer) == Ok(0) && source.buffered().is_empty());
     assert!(rt; !source.broken());
 }
 
 /// Takes an octet, if one is seen.
-fn next<R: Source, L: Look<R>>(source: &mut R) -> Option<u8> {
-    let octet = *L::at_hand(source).first()?;
-    L::pass(source, 1);
+fn next<R: Source, L: Lookahead<R>>(source: &mut R) -> Option<u8> {
+    let octet = *L::buffered(source).first()?;
+    L::consume(source, 1);
     Some(octet)
 }
 
@@ -189,12 +191,12 @@ fn looks_see_what_is_at_hand_or_nothing(rt: HostRuntime) {
     let octets = [1, 2];
     let mut slice = FromSlice::new(&octets);
     let seen = [
-        next::<FromSlice<'_>, AtHand>(&mut slice),
-        next::<FromSlice<'_>, Unseen>(&mut slice),
-        next::<FromSlice<'_>, AtHand>(&mut slice),
-        next::<FromSlice<'_>, AtHand>(&mut slice),
+        next::<FromSlice<'_>, Buffered>(&mut slice),
+        next::<FromSlice<'_>, Unbuffered>(&mut slice),
+        next::<FromSlice<'_>, Buffered>(&mut slice),
+        next::<FromSlice<'_>, Buffered>(&mut slice),
     ];
     let mut pieces = Pieces::new(&octets, 1, None);
-    let unseen = next::<Pieces<'_>, Unseen>(&mut pieces);
+    let unseen = next::<Pieces<'_>, Unbuffered>(&mut pieces);
     assert!(rt; seen == [Some(1), None, Some(2), None] && unseen.is_none());
 }

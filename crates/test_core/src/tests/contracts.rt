@@ -6,15 +6,16 @@ ghost use Rattle.ber_core.specs.HeaderState.{Fed, IsOpen};
 ghost use Rattle.ber_leaf.specs.Content.{IsContent};
 ghost use Rattle.ber_leaf.specs.Leaf.{normal_content};
 
-use ber_buffer::DerBuffer;
 use ber_core::{
-    Ahead, AtHand, Broken, Class, FromBuffer, FromRead, FromSlice, Header, HeaderFault,
-    HeaderState, Id, Look, Pieces, Room, Sink, Source, ToWrite, Unseen, header_size, put_header,
+    Broken, Buffered, BufferedSource, Class, FromBuffer, FromRead, FromSlice, Header, HeaderFault,
+    HeaderState, Id, Lookahead, Pieces, Room, Sink, Source, ToWrite, Unbuffered, header_size,
+    put_header,
 };
 use ber_leaf::{
     BitString, DateText, GeneralText, IllString, Leaf, ObjectDescriptor, ObjectIdentifier,
     OctetString, PrintableText, Segments, TimeText, VisibleText,
 };
+use der_buffer::DerBuffer;
 use std::alloc::{AllocError, Global};
 use std::io::{Read, Write};
 
@@ -49,10 +50,10 @@ fn headers_are_written_in_one_way(id: Id, len: u32) {
 /// A buffer shows what was appended to it, up to where it is cut.
 fn der_buffers_keep_what_they_took(
     octets: &[u8],
-    base: usize,
+    contents_start: usize,
     alloc: Global,
 ) -> Result<(), AllocError>
-    requires { base ≤ length octets.now }
+    requires { contents_start ≤ length octets.now }
 {
     let mut buffer = DerBuffer::new(alloc);
     prove!(buffer.is_empty());
@@ -60,8 +61,8 @@ fn der_buffers_keep_what_they_took(
     prove!(buffer.octets() == octets);
     prove!(buffer.len() == octets.len());
     prove!(buffer.is_empty() == octets.is_empty());
-    buffer.cut(base);
-    prove!(buffer.octets() == &octets[..base]);
+    buffer.cut(contents_start);
+    prove!(buffer.octets() == &octets[..contents_start]);
     buffer.clear();
     prove!(buffer.len() == 0);
     Ok(())
@@ -69,7 +70,7 @@ fn der_buffers_keep_what_they_took(
 
 /// A buffer in the memory of others begins empty.
 fn der_buffers_forget_what_their_room_held(room: Vec<u8>, octets: &[u8]) -> Result<(), AllocError> {
-    let mut buffer = DerBuffer::reusing(room);
+    let mut buffer = DerBuffer::with_memory(room);
     prove!(buffer.is_empty());
     buffer.append(octets)?;
     prove!(buffer.octets() == octets);
@@ -93,27 +94,27 @@ fn elements_begin_in_one_way(
 fn elements_end_in_one_way(
     one: &mut DerBuffer,
     other: &mut DerBuffer,
-    base: usize,
+    contents_start: usize,
 ) -> Result<(), AllocError>
     requires same { one.old ≡ other.old }
     ensures { OnOk result (one.new ≡ other.new) }
 {
-    one.close(base)?;
-    other.close(base)
+    one.close(contents_start)?;
+    other.close(contents_start)
 }
 
 /// Octets become the contents of an element in one way.
 fn octets_are_enclosed_in_one_way(
     one: &mut DerBuffer,
     other: &mut DerBuffer,
-    base: usize,
+    contents_start: usize,
     id: Id,
 ) -> Result<(), AllocError>
     requires same { one.old ≡ other.old }
     ensures { OnOk result (one.new ≡ other.new) }
 {
-    one.enclose(base, id)?;
-    other.enclose(base, id)
+    one.enclose(contents_start, id)?;
+    other.enclose(contents_start, id)
 }
 
 /// An element is the same octets, whether it is written whole, in pieces, or around octets that are there.
@@ -130,12 +131,12 @@ fn elements_are_written_in_one_way(
     ensures around { OnOk result (whole.new ≡ around.new) }
 {
     whole.primitive(id, content)?;
-    let base = pieces.open(id)?;
+    let contents_start = pieces.open(id)?;
     pieces.append(content)?;
-    pieces.close(base)?;
-    let base = around.len();
+    pieces.close(contents_start)?;
+    let contents_start = around.len();
     around.append(content)?;
-    around.enclose(base, id)
+    around.enclose(contents_start, id)
 }
 
 /// States that were fed the same octets return the same for the next one.
@@ -233,9 +234,9 @@ fn slices_show_what_is_left(octets: &[u8], count: usize) -> FromSlice<'_>
     ensures { result ≡ drop count octets.now }
 {
     let mut source = FromSlice::new(octets);
-    prove!(source.at_hand() == octets);
+    prove!(source.buffered() == octets);
     prove!(!source.broken());
-    source.pass(count);
+    source.consume(count);
     source
 }
 
@@ -254,10 +255,10 @@ fn buffers_lose_nothing(
     let Ok(first) = source.take(one) else {
         return None;
     };
-    let Ok(shown) = Vec::from_slice(alloc, source.at_hand()) else {
+    let Ok(shown) = Vec::from_slice(alloc, source.buffered()) else {
         return None;
     };
-    source.pass(shown.len());
+    source.consume(shown.len());
     let Ok(last) = source.take(other) else {
         return None;
     };
@@ -272,28 +273,28 @@ fn buffers_say_that_they_broke<R: Read + Drop>(
 ) -> Result<(), AllocError> {
     let mut source = FromBuffer::new(alloc, reader)?;
     prove!(!source.broken());
-    prove!(source.at_hand().is_empty());
+    prove!(source.buffered().is_empty());
     let taken = source.take(buffer);
     prove!(taken.is_err() == source.broken());
     Ok(())
 }
 
-/// What is seen of a source is what is passed.
-fn looks_pass_what_they_show<R: Source, L: Look<R>>(
+/// Takes of a source the octets that are seen.
+fn looks_pass_what_they_show<R: Source, L: Lookahead<R>>(
     source: &mut R,
     alloc: Global,
 ) -> Result<Vec<u8>, AllocError>
     ensures octets { IfOk result (λ seen. Consumes (R.left source.old) (R.left source.new) seen.items) }
     ensures broken { R.is_broken source.new ≡ R.is_broken source.old }
 {
-    let seen = Vec::from_slice(alloc, L::at_hand(source))?;
-    L::pass(source, seen.len());
-    prove!(L::at_hand(source).is_empty());
+    let seen = Vec::from_slice(alloc, L::buffered(source))?;
+    L::consume(source, seen.len());
+    prove!(L::buffered(source).is_empty());
     Ok(seen)
 }
 
-/// What serves any look takes what a source shows, and of a source that is not seen as much as it says.
-fn looks_serve_all_sources<A: Ahead, R: Source>(
+/// A caller of any look takes what a source shows, and of a source that is not seen as much as it says.
+fn looks_serve_all_sources<A: BufferedSource, R: Source>(
     shown: &mut A,
     unseen: &mut R,
     alloc: Global,
@@ -301,14 +302,14 @@ fn looks_serve_all_sources<A: Ahead, R: Source>(
     ensures shown { IfOk result (λ r. Consumes (A.left shown.old) (A.left shown.new) r.0.items) }
     ensures unseen { IfOk result (λ r. Consumes (R.left unseen.old) (R.left unseen.new) r.1.items) }
 {
-    let seen = looks_pass_what_they_show::<A, AtHand>(shown, alloc)?;
-    let rest = looks_pass_what_they_show::<R, Unseen>(unseen, alloc)?;
+    let seen = looks_pass_what_they_show::<A, Buffered>(shown, alloc)?;
+    let rest = looks_pass_what_they_show::<R, Unbuffered>(unseen, alloc)?;
     Ok((seen, rest))
 }
 
 /// Nothing is seen of a source that doesn't show it.
 fn unseen_sources_show_nothing<R: Source>(source: &R) {
-    prove!(<Unseen as Look<R>>::at_hand(source).is_empty());
+    prove!(<Unbuffered as Lookahead<R>>::buffered(source).is_empty());
 }
 
 /// A source over a reader is broken exactly after an error.

@@ -1,6 +1,6 @@
 //! DER that is written forward, and the lengths that are set afterwards.
-use ber_buffer::DerBuffer;
 use ber_core::{Class, Id};
+use der_buffer::DerBuffer;
 use std::alloc::{AllocError, Global};
 use std::test::Fail;
 use test_support::octets_of;
@@ -21,12 +21,12 @@ static ROWS: [(&str, &str); 9] = [
 /// The SEQUENCE of an OCTET STRING, written as an element and whole contents.
 fn whole(buffer: &mut DerBuffer, ids: (Id, Id), content: &[u8]) -> Result<(), AllocError> {
     buffer.clear();
-    let base = buffer.open(ids.0)?;
+    let contents_start = buffer.open(ids.0)?;
     buffer.primitive(ids.1, content)?;
-    buffer.close(base)
+    buffer.close(contents_start)
 }
 
-/// The same, written as two elements that are open at once.
+/// Writes the element as two elements that are open at once.
 fn nested(buffer: &mut DerBuffer, ids: (Id, Id), content: &[u8]) -> Result<(), AllocError> {
     buffer.clear();
     let outer = buffer.open(ids.0)?;
@@ -36,7 +36,7 @@ fn nested(buffer: &mut DerBuffer, ids: (Id, Id), content: &[u8]) -> Result<(), A
     buffer.close(outer)
 }
 
-/// The same, written around the contents.
+/// Writes the element around its contents.
 fn enclosed(buffer: &mut DerBuffer, ids: (Id, Id), content: &[u8]) -> Result<(), AllocError> {
     buffer.clear();
     buffer.append(content)?;
@@ -44,7 +44,7 @@ fn enclosed(buffer: &mut DerBuffer, ids: (Id, Id), content: &[u8]) -> Result<(),
     buffer.enclose(0, ids.0)
 }
 
-/// Whether each way to write the contents gives the element.
+/// Tells whether each way to write the contents gives the element.
 fn is_written(
     buffer: &mut DerBuffer,
     ids: (Id, Id),
@@ -97,12 +97,12 @@ fn lengths_are_set_when_elements_close(rt: HostRuntime) -> Result<(), Fail> {
 /// Three octets, and an element with an element in it.
 fn follow(buffer: &mut DerBuffer, wrapper: Id, integer: Id) -> Result<(), AllocError> {
     buffer.append(b"\x01\x02\x03")?;
-    let base = buffer.open(wrapper)?;
+    let contents_start = buffer.open(wrapper)?;
     buffer.primitive(integer, &[5])?;
-    buffer.close(base)
+    buffer.close(contents_start)
 }
 
-/// Whether the buffer is cut to its first four octets, and not where that lengthens it.
+/// Tells whether the buffer is cut to its first four octets, and not where that lengthens it.
 fn is_cut(buffer: &mut DerBuffer) -> bool {
     buffer.cut(4);
     let is_cut = buffer.octets() == b"\x01\x02\x03\xBF".as_slice();
@@ -129,13 +129,13 @@ fn elements_follow_what_was_written(rt: HostRuntime) -> Result<(), Fail> {
 
 /// Closes an element at each of the places.
 fn close(buffer: &mut DerBuffer, bases: &[usize]) -> Result<(), AllocError> {
-    for base in bases {
-        buffer.close(*base)?;
+    for contents_start in bases {
+        buffer.close(*contents_start)?;
     }
     Ok(())
 }
 
-/// Whether nothing happens where no element was opened, and an element ends where one was.
+/// Tells whether nothing happens where no element was opened, and an element ends where one was.
 fn ends_what_was_opened(buffer: &mut DerBuffer, string: Id) -> Result<bool, AllocError> {
     close(buffer, &[0, 1])?;
     let is_empty = buffer.is_empty();

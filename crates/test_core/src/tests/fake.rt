@@ -6,7 +6,7 @@ use std::alloc::{AllocError, Global};
 use std::cell::{Cell, RefCell};
 use std::io::{self, Error, ErrorKind, Read, Write};
 
-/// What one call does.
+/// The effect of one call.
 #[derive(Clone, Copy)]
 pub enum Step {
     /// It moves this number of octets, or fewer where the buffer or the piece is shorter.
@@ -18,7 +18,7 @@ pub enum Step {
 /// The calls that reached a reader or a writer.
 #[derive(Drop)]
 pub struct Log {
-    /// How many octets each call's buffer or piece had.
+    /// The number of octets that each call's buffer or piece had.
     sizes: RefCell<Vec<usize>>,
     /// The octets that were moved.
     moved: RefCell<Vec<u8>>,
@@ -35,7 +35,7 @@ impl Log {
         }
     }
 
-    /// Whether exactly the calls of these sizes were made, in this order.
+    /// Tells whether exactly the calls of these sizes were made, in this order.
     pub fn has_calls(&self, sizes: &[usize]) -> bool {
         match self.sizes.try_borrow() {
             Ok(held) => !self.is_lost.get() && held.as_slice() == sizes,
@@ -43,7 +43,7 @@ impl Log {
         }
     }
 
-    /// Whether exactly these octets were moved.
+    /// Tells whether exactly these octets were moved.
     pub fn has_moved(&self, octets: &[u8]) -> bool {
         match self.moved.try_borrow() {
             Ok(held) => !self.is_lost.get() && held.as_slice() == octets,
@@ -51,7 +51,7 @@ impl Log {
         }
     }
 
-    /// How many octets were moved.
+    /// The number of octets that were moved.
     fn moved_len(&self) -> usize {
         match self.moved.try_borrow() {
             Ok(held) => held.len(),
@@ -133,10 +133,10 @@ impl Write for Scripted<'_> {
     }
 }
 
-/// What an octet of the caller's is that no call wrote.
+/// The value of an octet of the caller's that no call wrote.
 const UNTOUCHED: u8 = 0xEE;
 
-/// Whether a `take` with a buffer of this size returns this number of octets, or [`Broken`] for None, and writes no more than these. They
+/// Tells whether a `take` with a buffer of this size returns this number of octets, or [`Broken`] for None, and writes no more than these. They
 /// are added to those that came before.
 pub fn takes<S: Source>(
     alloc: Global,
@@ -162,7 +162,7 @@ fn are_untouched(octets: &[u8]) -> bool {
     true
 }
 
-/// Whether these are the first octets of what a scripted reader gives.
+/// Tells whether these are the first octets of what a scripted reader gives.
 pub fn are_first(octets: &[u8]) -> bool {
     for (place, octet) in octets.iter().enumerate() {
         if *octet != octet_at(place) {

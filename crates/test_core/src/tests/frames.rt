@@ -1,21 +1,21 @@
 //! Where an element ends, by its framing.
-use ber_frame::{Frame, Framer};
+use ber_framing::{Framer, Framing};
 
-/// What octets are that are fed one by one.
-fn pushed(octets: &[u8]) -> Frame {
+/// The framing of octets that are fed one by one.
+fn pushed(octets: &[u8]) -> Framing {
     let mut framer = Framer::new();
     for octet in octets {
         framer.push(*octet);
     }
-    framer.frame()
+    framer.framing()
 }
 
-/// How many octets are taken of these, which are fed in two slices, and what those are.
-fn fed(first: &[u8], second: &[u8]) -> (usize, Frame) {
+/// The number of octets that are taken of these, which are fed in two slices, and what those are.
+fn fed(first: &[u8], second: &[u8]) -> (usize, Framing) {
     let mut framer = Framer::new();
     let mut count = framer.feed(first).min(1 << 32);
     count += framer.feed(second).min(1 << 32);
-    (count, framer.frame())
+    (count, framer.framing())
 }
 
 /// The same octets are taken of a slice each time, and they are the same. So the contracts leave one result.
@@ -25,14 +25,14 @@ fn frames_end_in_one_way(octets: &[u8]) {
     let first = one.feed(octets);
     let second = other.feed(octets);
     prove!(first == second);
-    prove!(one.frame() == other.frame());
+    prove!(one.framing() == other.framing());
 }
 
-/// Whether the octets are this, and all that is shorter is part of an element; so also where they are fed in two slices.
-fn ends_as(octets: &[u8], frame: Frame) -> bool {
+/// Tells whether the octets are this, and all that is shorter is part of an element; so also where they are fed in two slices.
+fn ends_as(octets: &[u8], frame: Framing) -> bool {
     for cut in 0..octets.len() {
         let (first, second) = octets.split_at(cut);
-        if pushed(first) != Frame::Part || fed(first, second) != (octets.len(), frame) {
+        if pushed(first) != Framing::Part || fed(first, second) != (octets.len(), frame) {
             return false;
         }
     }
@@ -62,7 +62,7 @@ static ELEMENTS: [&[u8]; 12] = [
 #[test]
 fn framed_elements_end(rt: HostRuntime) {
     for element in &ELEMENTS {
-        assert!(rt; ends_as(element, Frame::Whole), "{element:?}");
+        assert!(rt; ends_as(element, Framing::Whole), "{element:?}");
     }
 }
 
@@ -70,9 +70,9 @@ fn framed_elements_end(rt: HostRuntime) {
 fn nothing_after_an_element_is_taken(rt: HostRuntime) {
     let octets = b"\x30\x80\x04\x01\x00\x00\x00\x00\x00";
     assert!(rt;
-        fed(b"\x05", b"\x00\x05\x00") == (2, Frame::Whole)
-            && fed(b"\x05\x00", b"\x00") == (2, Frame::Whole)
-            && fed(octets, b"\x00") == (7, Frame::Whole)
+        fed(b"\x05", b"\x00\x05\x00") == (2, Framing::Whole)
+            && fed(b"\x05\x00", b"\x00") == (2, Framing::Whole)
+            && fed(octets, b"\x00") == (7, Framing::Whole)
     );
 }
 
@@ -94,8 +94,8 @@ static UNFRAMED: [&[u8]; 9] = [
 fn some_ends_are_not_known(rt: HostRuntime) {
     for octets in &UNFRAMED {
         assert!(rt;
-            ends_as(octets, Frame::Unframed)
-                && fed(octets, b"\x00\x00") == (octets.len(), Frame::Unframed),
+            ends_as(octets, Framing::Unframed)
+                && fed(octets, b"\x00\x00") == (octets.len(), Framing::Unframed),
             "{octets:?}"
         );
     }
@@ -110,11 +110,11 @@ fn the_greatest_length_is_framed(rt: HostRuntime) {
     assert!(rt;
         framer.feed(b"\x00\x00\x00") == 3
             && framer.need() == 4_294_967_291
-            && framer.frame() == Frame::Part
+            && framer.framing() == Framing::Part
     );
 }
 
-/// Whether the octets are taken whole, each time.
+/// Tells whether the octets are taken whole, each time.
 fn takes_each(framer: &mut Framer, octets: &[u8], times: u32) -> bool {
     for _ in 0..times {
         if framer.feed(octets) != octets.len() {
@@ -130,11 +130,11 @@ fn elements_are_framed_however_deep(rt: HostRuntime) {
     assert!(rt;
         takes_each(&mut framer, b"\x30\x80", 100_000)
             && takes_each(&mut framer, b"\x00\x00", 99_999)
-            && framer.frame() == Frame::Part
+            && framer.framing() == Framing::Part
     );
     assert!(rt;
         framer.feed(b"\x00\x00\x00\x00") == 2
-            && framer.frame() == Frame::Whole
+            && framer.framing() == Framing::Whole
             && framer.need() == 0
     );
 }
@@ -150,10 +150,11 @@ static LACKING: [(&[u8], u8); 5] = [
 
 #[test]
 fn octets_of_a_great_length_are_missing(rt: HostRuntime) {
-    for (octets, lacks) in &LACKING {
+    for (octets, oversized_length_rest) in &LACKING {
         let mut framer = Framer::new();
         assert!(rt;
-            framer.feed(octets) == octets.len() && framer.lacks() == *lacks,
+            framer.feed(octets) == octets.len()
+                && framer.oversized_length_rest() == *oversized_length_rest,
             "{octets:?}"
         );
     }

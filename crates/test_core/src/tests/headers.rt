@@ -156,7 +156,7 @@ static SHORTEST: [(Class, bool, u32, u32, &[u8]); 5] = [
     ),
 ];
 
-/// Whether the header of this identifier and length is these octets, at the front of its room, and the rest of the room stays.
+/// Tells whether the header of this identifier and length is these octets, at the front of its room, and the rest of the room stays.
 fn is_put(id: Option<Id>, len: u32, octets: &[u8]) -> bool {
     let Some(id) = id else {
         return false;

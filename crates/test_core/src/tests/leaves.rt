@@ -89,7 +89,7 @@ static CONTENTS: [(&str, &str, &str, &str); 38] = [
     ("identifier-of-an-example", "O", "813403", "813403"),
 ];
 
-/// What is no content: a name, the kind, the octets, and the fault.
+/// A row of octets that are no content: a name, the kind, the octets, and the fault.
 static FAULTS: [(&str, &str, &str, LeafFault); 31] = [
     ("boolean-empty", "B", "", LeafFault::BadBoolean),
     ("boolean-two-octets", "B", "0000", LeafFault::BadBoolean),
@@ -303,7 +303,7 @@ fn normal_at(
     }
 }
 
-/// Whether the octets have this normal content.
+/// Tells whether the octets have this normal content.
 fn is_normal(alloc: Global, kind: &str, octets: &str, normal: &str) -> Result<bool, AllocError> {
     let found = normal_at(alloc, kind, octets_of(alloc, octets)?)?;
     let normal = octets_of(alloc, normal)?;
@@ -344,7 +344,7 @@ fn all_octets_but_zero_are_true(rt: HostRuntime) -> Result<(), Fail> {
     Ok(())
 }
 
-/// Whether the octets hold the number, and are its normal content.
+/// Tells whether the octets hold the number, and are its normal content.
 fn is_whole(alloc: Global, octets: &str, number: i64) -> Result<bool, AllocError> {
     let octets = octets_of(alloc, octets)?;
     let size = Whole::normal_size(&number);
@@ -366,7 +366,7 @@ fn integers_have_their_least_octets(rt: HostRuntime) -> Result<(), Fail> {
     Ok(())
 }
 
-/// Whether each alphabet has the octet where it must.
+/// Tells whether each alphabet has the octet where it must.
 fn is_in_its_alphabets(octet: u8) -> bool {
     let printable = b"ABCDEFGHIJKLMNOPQRSTUVWXYZabcdefghijklmnopqrstuvwxyz0123456789 '()+,-./:=?";
     let text = [octet];

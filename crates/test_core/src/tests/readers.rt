@@ -9,9 +9,9 @@ use std::test::Fail;
 /// A run of calls on a source over a reader.
 struct Row {
     name: &'static str,
-    /// What each call of the reader does.
+    /// The steps: one for each call of the reader.
     script: &'static [Step],
-    /// How many octets the buffer of each `take` has, and how many it returns; None: it returns [`Broken`].
+    /// The number of octets that the buffer of each `take` has, and how many it returns; None: it returns [`Broken`].
     ///
     /// [`Broken`]: ber_core::Broken
     takes: &'static [(usize, Option<usize>)],
@@ -167,7 +167,7 @@ static BROKEN: [Row; 9] = [
     },
 ];
 
-/// Whether each `take` of a row does what it must, on a source that is not broken at first. The octets that came are added.
+/// Tells whether each `take` of a row does what it must, on a source that is not broken at first. The octets that came are added.
 fn calls_do(alloc: Global, row: &Row, log: &Log, came: &mut Vec<u8>) -> Result<bool, AllocError> {
     let script = row.script;
     let mut source = FromRead::new(Scripted { script, log });
@@ -179,7 +179,7 @@ fn calls_do(alloc: Global, row: &Row, log: &Log, came: &mut Vec<u8>) -> Result<b
     Ok(is_right)
 }
 
-/// Whether a row comes true: what each `take` does, which octets come, and what reaches the reader.
+/// Tells whether a row comes true: what each `take` does, which octets come, and what reaches the reader.
 fn comes_true(alloc: Global, row: &Row) -> Result<bool, AllocError> {
     let log = Log::new(alloc);
     let mut came = Vec::new(alloc);

@@ -9,9 +9,9 @@ use std::test::Fail;
 /// A run of calls on a sink over a writer.
 struct Row {
     name: &'static str,
-    /// What each call of the writer does.
+    /// The steps: one for each call of the writer.
     script: &'static [Step],
-    /// How many octets the piece of each `put` has, and how many it returns; None: it returns [`Broken`].
+    /// The number of octets that the piece of each `put` has, and how many it returns; None: it returns [`Broken`].
     puts: &'static [(usize, Option<usize>)],
     /// The sizes of the pieces that reached the writer.
     writes: &'static [usize],
@@ -165,7 +165,7 @@ static BROKEN: [Row; 11] = [
     },
 ];
 
-/// Whether a `put` of a piece of this size does what it must. The piece follows what was taken; what is taken of it is added.
+/// Tells whether a `put` of a piece of this size does what it must. The piece follows what was taken; what is taken of it is added.
 fn puts<S: Sink>(
     alloc: Global,
     sink: &mut S,
@@ -182,7 +182,7 @@ fn puts<S: Sink>(
     Ok(count == want.ok_or(Broken) && sink.broken() == want.is_none())
 }
 
-/// Whether each `put` of a row does what it must, on a sink that is not broken at first. The octets that were taken are added.
+/// Tells whether each `put` of a row does what it must, on a sink that is not broken at first. The octets that were taken are added.
 fn calls_do(alloc: Global, row: &Row, log: &Log, taken: &mut Vec<u8>) -> Result<bool, AllocError> {
     let script = row.script;
     let mut sink = ToWrite::new(Scripted { script, log });
@@ -194,7 +194,7 @@ fn calls_do(alloc: Global, row: &Row, log: &Log, taken: &mut Vec<u8>) -> Result<
     Ok(is_right)
 }
 
-/// Whether a row comes true: what each `put` does, and which calls and octets reach the writer.
+/// Tells whether a row comes true: what each `put` does, and which calls and octets reach the writer.
 fn comes_true(alloc: Global, row: &Row) -> Result<bool, AllocError> {
     let log = Log::new(alloc);
     let mut taken = Vec::new(alloc);

@@ -1,13 +1,13 @@
 //! Contracts that leave one result. The calls are made on any arguments, often twice, and what they return is proved of their
 //! contracts alone. So a body that returns anything else doesn't meet its contract.
 ghost use Rattle.std.specs.Prelude.{◌≡◌};
-ghost use Rattle.ill_cells.specs.Places.{due_of};
+ghost use Rattle.ill_grammar.specs.Places.{due_of};
 
 use ber_core::Id;
-use ill_cells::{At, Found};
+use ill_grammar::{Found, Place};
 
 /// One thing is due at a place with an identifier, or nothing.
-fn one_thing_is_due(at: At, id: Id) {
+fn one_thing_is_due(at: Place, id: Id) {
     match (at.find(id), at.find(id)) {
         (None, None) => {}
         (Some(one), Some(other)) => one_thing_goes_one_way(one, other),
@@ -16,7 +16,7 @@ fn one_thing_is_due(at: At, id: Id) {
     }
 }
 
-/// What is due opens in one way, has one default, and lacks the same before and after.
+/// An element that is due opens in one way, has one default, and lacks the same before and after.
 fn one_thing_goes_one_way(one: Found, other: Found)
     requires { due_of one ≡ due_of other }
 {
@@ -27,7 +27,7 @@ fn one_thing_goes_one_way(one: Found, other: Found)
 }
 
 /// A place lacks one part or none.
-fn one_part_is_missing(at: At) {
+fn one_part_is_missing(at: Place) {
     prove!(at.missing() == at.missing());
     prove!(at.is_missing() == at.missing().is_some());
 }

@@ -40,7 +40,7 @@ static ROWS: [(&str, &str, Checked); 3] = [
     ),
 ];
 
-/// Whether this is said of the message, and then that no other follows, however many octets a call gives.
+/// Tells whether this is said of the message, and then that no other follows, however many octets a call gives.
 fn is_checked(alloc: Global, octets: &[u8], want: Checked) -> bool {
     for per_call in [1, 7, 4096] {
         let mut source = Pieces::new(octets, per_call, None);

@@ -5,7 +5,7 @@ use std::alloc::{AllocError, Global};
 use std::test::Fail;
 use test_support::octets_of;
 
-/// What comes of two messages: whether they are of one APDU, or which of them is refused.
+/// The result for two messages: whether they are of one APDU, or which of them is refused.
 type Compared = Result<bool, (Side, Failure)>;
 
 /// A name, two messages, and what comes of them.

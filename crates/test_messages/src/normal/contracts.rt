@@ -8,13 +8,13 @@ ghost use Rattle.ill_schema.specs.Message.{apdu_of, octets_of};
 ghost use Rattle.ill_schema.specs.Profiles.{profile_of};
 ghost use Rattle.ill_normal.specs.Messages.{AreSpelled, Spelling, spelling};
 
-use ber_core::{AtHand, FromSlice, Pieces, Room, Sink, Source, Unseen};
+use ber_core::{Buffered, FromSlice, Pieces, Room, Sink, Source, Unbuffered};
 use ill_normal::{
-    Checked, Failure, Message, MessagePlace, Normal, NormalFailure, NormalForms, NormalReader,
+    Checked, Failure, Message, MessagePlace, NormalFailure, NormalForm, NormalForms, NormalReader,
     ReadFailure, Refusal, Render, RenderedMessage, Side, StreamCounts, StreamError, StreamFailure,
     check_one, check_one_in, decode, decode_normal, for_each_message, is_normal, normalise,
-    normalise_stream, read_kept_normal_by, read_message, read_message_by, read_normal_by,
-    read_normal_in, same_message,
+    normalise_stream, read_message, read_message_peeking, read_normal_in, read_normal_peeking,
+    read_normal_recording_peeking, same_message,
 };
 use std::alloc::Global;
 
@@ -35,12 +35,12 @@ fn slices_have_one_answer(
 fn slices_have_the_normal_form_of_their_message(
     octets: &[u8],
     alloc: Global,
-) -> (Result<Message, Failure>, Result<Normal, Failure>)
-    ensures form { (m : Message) (n : Normal) → result.0 ≡ Ok m → result.1 ≡ Ok n → n.octets.items ≡ normal_form (apdu_of m) }
-    ensures read { (n : Normal) → result.1 ≡ Ok n → n.read ≡ length octets.now }
+) -> (Result<Message, Failure>, Result<NormalForm, Failure>)
+    ensures form { (m : Message) (n : NormalForm) → result.0 ≡ Ok m → result.1 ≡ Ok n → n.octets.items ≡ normal_form (apdu_of m) }
+    ensures read { (n : NormalForm) → result.1 ≡ Ok n → n.input_len ≡ length octets.now }
     ensures refusal { (x y : Refusal) → result.0 ≡ Err (Failure.Refused x) → result.1 ≡ Err (Failure.Refused y) → x ≡ y }
     ensures message { (m : Message) (y : Refusal) → result.0 ≡ Ok m → result.1 ≡ Err (Failure.Refused y) → ⊥ }
-    ensures normal { (x : Refusal) (n : Normal) → result.0 ≡ Err (Failure.Refused x) → result.1 ≡ Ok n → ⊥ }
+    ensures normal { (x : Refusal) (n : NormalForm) → result.0 ≡ Err (Failure.Refused x) → result.1 ≡ Ok n → ⊥ }
 {
     (decode(alloc, octets), decode_normal(alloc, octets))
 }
@@ -67,7 +67,7 @@ fn slices_are_normal_where_they_are_their_normal_form(
     is_normal(alloc, octets)
 }
 
-/// What is read are the first octets that are left, as many as the message says, and none after them.
+/// The first octets that are left are read, as many as the message says, and none after them.
 fn messages_are_taken_whole(
     source: &mut Pieces,
     alloc: Global,
@@ -90,78 +90,78 @@ fn messages_at_hand_are_taken_whole(
       | None ↦ (source.old ≡ []) × (source.new ≡ [])
     ]) }
 {
-    read_message_by::<FromSlice, AtHand>(alloc, source)
+    read_message_peeking::<FromSlice, Buffered>(alloc, source)
 }
 
-/// What is read is the normal form of the message at the front, and no octet after that message is taken; the octets that it had are kept.
+/// The normal form of the message at the front is read, and no octet after that message is taken; the octets that it had are kept.
 fn normal_forms_are_of_the_message_at_the_front(
     source: &mut Pieces,
     kept: &mut Vec<u8>,
     alloc: Global,
-) -> Result<Option<Normal>, ReadFailure>
+) -> Result<Option<NormalForm>, ReadFailure>
     ensures { (a : Apdu) (n : ℕ) → Accepts profile_two source.old.octets a n
         → IfOk result (λ found. elim found as (λ _. Type 0) [
-          | Some x ↦ (x.octets.items ≡ normal_form a) × (x.read ≡ n) × (source.new.octets ≡ drop n source.old.octets)
+          | Some x ↦ (x.octets.items ≡ normal_form a) × (x.input_len ≡ n) × (source.new.octets ≡ drop n source.old.octets)
               × (kept.new.items ≡ kept.old.items ++ take n source.old.octets)
           | None ↦ ⊥
         ]) }
 {
-    read_kept_normal_by::<Pieces, Unseen>(alloc, source, kept)
+    read_normal_recording_peeking::<Pieces, Unbuffered>(alloc, source, kept)
 }
 
 /// Of octets at hand no more are passed than the message has whose normal form is read.
 fn normal_forms_at_hand_are_taken_whole(
     source: &mut FromSlice,
     alloc: Global,
-) -> Result<Option<Normal>, ReadFailure>
+) -> Result<Option<NormalForm>, ReadFailure>
     ensures { (a : Apdu) (n : ℕ) → Accepts profile_two source.old a n
         → IfOk result (λ found. elim found as (λ _. Type 0) [
-          | Some x ↦ (x.octets.items ≡ normal_form a) × (x.read ≡ n) × (source.new ≡ drop n source.old)
+          | Some x ↦ (x.octets.items ≡ normal_form a) × (x.input_len ≡ n) × (source.new ≡ drop n source.old)
           | None ↦ ⊥
         ]) }
 {
-    read_normal_by::<FromSlice, AtHand>(alloc, source)
+    read_normal_peeking::<FromSlice, Buffered>(alloc, source)
 }
 
-/// Nothing that is in the room comes into a normal form.
+/// Nothing that is in the buffer comes into a normal form.
 fn normal_forms_have_nothing_of_the_room(
     source: &mut FromSlice,
-    room: Vec<u8>,
+    buffer: Vec<u8>,
     alloc: Global,
-) -> Result<Option<Normal>, ReadFailure>
+) -> Result<Option<NormalForm>, ReadFailure>
     ensures { (a : Apdu) (n : ℕ) → Accepts profile_two source.old a n
         → IfOk result (λ found. elim found as (λ _. Type 0) [
-          | Some x ↦ (x.octets.items ≡ normal_form a) × (x.read ≡ n) × (source.new ≡ drop n source.old)
+          | Some x ↦ (x.octets.items ≡ normal_form a) × (x.input_len ≡ n) × (source.new ≡ drop n source.old)
           | None ↦ ⊥
         ]) }
 {
-    read_normal_in::<FromSlice, AtHand>(alloc, source, room)
+    read_normal_in::<FromSlice, Buffered>(alloc, source, buffer)
 }
 
-/// Nothing that is in the room, or that the reader read before, comes into a normal form, or among the octets that are kept.
+/// Nothing that is in the buffer, or that the reader read before, comes into a normal form, or among the octets that are kept.
 fn kept_normal_forms_have_nothing_of_the_room(
     reader: &mut NormalReader,
     source: &mut Pieces,
-    room: Vec<u8>,
+    buffer: Vec<u8>,
     kept: &mut Vec<u8>,
-) -> Result<Option<Normal>, ReadFailure>
+) -> Result<Option<NormalForm>, ReadFailure>
     ensures { (a : Apdu) (n : ℕ) → Accepts profile_two source.old.octets a n
         → IfOk result (λ found. elim found as (λ _. Type 0) [
-          | Some x ↦ (x.octets.items ≡ normal_form a) × (x.read ≡ n) × (source.new.octets ≡ drop n source.old.octets)
+          | Some x ↦ (x.octets.items ≡ normal_form a) × (x.input_len ≡ n) × (source.new.octets ≡ drop n source.old.octets)
               × (kept.new.items ≡ kept.old.items ++ take n source.old.octets)
           | None ↦ ⊥
         ]) }
 {
-    reader.read_kept::<Pieces, Unseen>(source, room, kept)
+    reader.read_recording::<Pieces, Unbuffered>(source, buffer, kept)
 }
 
-/// Nothing that is in the room, or that the reader read before, comes into what is written of a message, whatever is made of it.
+/// Nothing that is in the buffer, or that the reader read before, comes into what is written of a message, whatever is made of it.
 fn pieces_have_nothing_of_the_room<M: Render>(
     maker: &M,
     reader: &mut M::Reader,
     position: MessagePlace,
     source: &mut Pieces,
-    room: M::Out,
+    buffer: M::Out,
     alloc: Global,
 ) -> Result<Option<RenderedMessage<M::Out>>, ReadFailure>
     ensures { (a : Apdu) (n : ℕ) → Accepts (profile_of (M.profile maker.now)) source.old.octets a n
@@ -170,10 +170,10 @@ fn pieces_have_nothing_of_the_room<M: Render>(
           | None ↦ ⊥
         ]) }
 {
-    maker.next::<Pieces, Unseen>(alloc, reader, position, source, room)
+    maker.next::<Pieces, Unbuffered>(alloc, reader, position, source, buffer)
 }
 
-/// What is checked is the message at the front, and the result describes it.
+/// The message at the front is checked, and the result describes it.
 fn checks_describe_what_they_took(
     source: &mut Pieces,
     alloc: Global,
@@ -188,11 +188,11 @@ fn checks_describe_what_they_took(
     check_one(alloc, source)
 }
 
-/// What is checked is the message at the front, and nothing that is in the room, or that the reader read before, comes into its normal form.
+/// The message at the front is checked, and nothing that is in the buffer, or that the reader read before, comes into its normal form.
 fn checks_have_nothing_of_the_room(
     reader: &mut NormalReader,
     source: &mut Pieces,
-    room: Vec<u8>,
+    buffer: Vec<u8>,
     alloc: Global,
 ) -> Result<Option<(Checked, Vec<u8>)>, ReadFailure>
     ensures { (a : Apdu) (n : ℕ) → Accepts profile_two source.old.octets a n
@@ -202,7 +202,7 @@ fn checks_have_nothing_of_the_room(
           | None ↦ ⊥
         ]) }
 {
-    check_one_in::<Pieces, Unseen>(alloc, reader, source, room)
+    check_one_in::<Pieces, Unbuffered>(alloc, reader, source, buffer)
 }
 
 /// Nothing is written before the whole message was read, and then as many octets as are reported.
@@ -233,7 +233,7 @@ fn nothing_is_written_for_what_is_no_message(
     }
 }
 
-/// What begins with a spelling is normalised to the normal form of its APDU, however it is spelled.
+/// An input that begins with a spelling is normalised to the normal form of its APDU, however it is spelled.
 fn spellings_are_normalised_alike(
     source: &mut Pieces,
     sink: &mut Room<64>,
@@ -274,5 +274,5 @@ fn messages_are_gone_through_to_their_end(
         × AreSpelled (take stopped.before source.old.octets) messages []) }
     ensures stop { IfErr result (λ stopped. length source.old.octets ≤ stopped.before + (1_048_576 + length source.new.octets)) }
 {
-    for_each_message::<NormalForms, Pieces, Unseen, Room<64>>(alloc, &NormalForms, source, sink)
+    for_each_message::<NormalForms, Pieces, Unbuffered, Room<64>>(alloc, &NormalForms, source, sink)
 }

@@ -1,19 +1,16 @@
 //! Messages one after another, where some are refused.
 use super::{EXPIRED, EXPIRED_HEX, INDEFINITE_HEX};
-use ber_core::{AtHand, FromSlice, Look, Unseen};
-use ill_going::{
-    RefusalReport, ReportRefusals, SkippingCounts, SkippingError, SkippingErrorKind,
-    for_each_accepted_message,
-};
+use ber_core::{Buffered, FromSlice, Lookahead, Unbuffered};
 use ill_normal::{
-    Broken, Cause, NodeId, NormalFailure, NormalForms, PartId, Pieces, Refusal, Room, Source,
-    StreamCause, ToWrite, normalise_stream,
+    Broken, Cause, NodeId, NormalFailure, NormalForms, PartId, Pieces, Refusal, RefusalReport,
+    ReportRefusals, Room, SkippingCounts, SkippingError, SkippingErrorKind, Source, StreamCause,
+    ToWrite, for_each_accepted_message, normalise_stream,
 };
 use std::alloc::Global;
 use std::test::Fail;
 use test_support::octets_of;
 
-/// What was reported.
+/// The report that came.
 #[derive(Drop)]
 struct Reported {
     reports: Vec<RefusalReport>,
@@ -36,14 +33,14 @@ struct Row {
     written: usize,
     reports: &'static [Refused],
     messages: u32,
-    /// How many octets those have whose ends are known.
+    /// The number of octets that those have whose ends are known.
     octets: u64,
 }
 
 /// A refused message: its number, the offset, the cause, and whether its end is known.
 type Refused = (u32, u32, Cause, bool);
 
-/// Whether these were reported.
+/// Tells whether these were reported.
 fn are_reported(reports: &[RefusalReport], wanted: &[Refused]) -> bool {
     if reports.len() != wanted.len() {
         return false;
@@ -173,7 +170,7 @@ static ROWS: [Row; 12] = [
     },
 ];
 
-/// Whether the octets are EXPIRED, `count` times.
+/// Tells whether the octets are EXPIRED, `count` times.
 fn are_expireds(octets: &[u8], count: usize) -> bool {
     let mut found = 0usize;
     for message in octets.chunks(EXPIRED.len()) {
@@ -194,17 +191,17 @@ fn joined(alloc: Global, words: &[&str]) -> Result<Vec<u8>, Fail> {
     Ok(octets)
 }
 
-/// What comes of messages that are gone over.
+/// The result for messages, some of which are skipped.
 #[derive(Clone, Copy)]
 struct Want<'a> {
     result: Result<SkippingCounts, SkippingError>,
-    /// How often EXPIRED is written.
+    /// The number of times that EXPIRED is written.
     written: usize,
     reports: &'a [Refused],
 }
 
-/// Whether that comes of the messages of a source.
-fn comes_of<R: Source, L: Look<R>>(alloc: Global, source: &mut R, want: &Want<'_>) -> bool {
+/// Tells whether that comes of the messages of a source.
+fn comes_of<R: Source, L: Lookahead<R>>(alloc: Global, source: &mut R, want: &Want<'_>) -> bool {
     let mut octets = Vec::new(alloc);
     let mut reported = Reported {
         reports: Vec::new(alloc),
@@ -221,7 +218,7 @@ fn comes_of<R: Source, L: Look<R>>(alloc: Global, source: &mut R, want: &Want<'_
         && are_reported(&reported.reports, want.reports)
 }
 
-/// Whether a call that stops at the first message that is refused stops at the first of these.
+/// Tells whether a call that stops at the first message that is refused stops at the first of these.
 fn stops_at_the_first(alloc: Global, octets: &[u8], refused: &[Refused]) -> bool {
     let mut source = FromSlice::new(octets);
     let mut sink: Room<128> = Room::new(128, None);
@@ -240,7 +237,7 @@ fn stops_at_the_first(alloc: Global, octets: &[u8], refused: &[Refused]) -> bool
     }
 }
 
-/// Whether a row comes true, of octets in pieces and of octets at hand.
+/// Tells whether a row comes true, of octets in pieces and of octets at hand.
 fn comes_true(alloc: Global, row: &Row, octets: &[u8]) -> bool {
     let want = Want {
         result: Ok(SkippingCounts {
@@ -255,11 +252,11 @@ fn comes_true(alloc: Global, row: &Row, octets: &[u8]) -> bool {
     };
     for per_call in [1, 5, 64] {
         let mut source = Pieces::new(octets, per_call, None);
-        if !comes_of::<Pieces<'_>, Unseen>(alloc, &mut source, &want) {
+        if !comes_of::<Pieces<'_>, Unbuffered>(alloc, &mut source, &want) {
             return false;
         }
     }
-    comes_of::<FromSlice<'_>, AtHand>(alloc, &mut FromSlice::new(octets), &want)
+    comes_of::<FromSlice<'_>, Buffered>(alloc, &mut FromSlice::new(octets), &want)
 }
 
 #[test]
@@ -279,10 +276,10 @@ fn refused_messages_are_passed_over(rt: HostRuntime) -> Result<(), Fail> {
 /// EXPIRED, a REFUSED, and EXPIRED.
 const BETWEEN: &[&str] = &[EXPIRED_HEX, "0500", EXPIRED_HEX];
 
-/// What is reported of these.
+/// The reports of these.
 const REFUSED: &[Refused] = &[(2, 0, Cause::UnexpectedTag, true)];
 
-/// Whether a sink that breaks after n octets, of the 66 that are to be written, has these.
+/// Tells whether a sink that breaks after n octets, of the 66 that are to be written, has these.
 fn has_the_first(alloc: Global, octets: &[u8], n: usize) -> bool {
     let mut source = FromSlice::new(octets);
     let mut sink: Room<128> = Room::new(64, Some(n));
@@ -292,7 +289,7 @@ fn has_the_first(alloc: Global, octets: &[u8], n: usize) -> bool {
     let result = for_each_accepted_message::<
         NormalForms,
         FromSlice<'_>,
-        AtHand,
+        Buffered,
         Room<128>,
         Reported,
     >(alloc, &NormalForms, &mut source, &mut sink, &mut reported);
@@ -326,7 +323,7 @@ fn a_broken_sink_has_the_first_octets(rt: HostRuntime) -> Result<(), Fail> {
     Ok(())
 }
 
-/// Whether a source that breaks after n octets leaves the normal forms of the messages that are whole in these.
+/// Tells whether a source that breaks after n octets leaves the normal forms of the messages that are whole in these.
 fn leaves_what_was_whole(alloc: Global, octets: &[u8], n: usize) -> bool {
     let (messages, written, before, reports) = match n {
         0..=32 => (0, 0, 0, [].as_slice()),
@@ -348,7 +345,7 @@ fn leaves_what_was_whole(alloc: Global, octets: &[u8], n: usize) -> bool {
         reports,
     };
     let mut source = Pieces::new(octets, 64, Some(n));
-    comes_of::<Pieces<'_>, Unseen>(alloc, &mut source, &want)
+    comes_of::<Pieces<'_>, Unbuffered>(alloc, &mut source, &want)
 }
 
 #[test]
@@ -378,7 +375,7 @@ fn a_message_past_the_limit_is_passed_over(rt: HostRuntime) -> Result<(), Fail> 
         reports: &[(1, 0, Cause::TooLong, true)],
     };
     let mut source = FromSlice::new(&octets);
-    assert!(rt; comes_of::<FromSlice<'_>, AtHand>(rt.alloc(), &mut source, &want));
+    assert!(rt; comes_of::<FromSlice<'_>, Buffered>(rt.alloc(), &mut source, &want));
     Ok(())
 }
 
@@ -409,7 +406,7 @@ impl Source for Nulls {
     }
 }
 
-/// How many reports came.
+/// The number of reports that came.
 #[derive(Drop)]
 struct Count {
     reports: u32,
@@ -431,7 +428,7 @@ fn a_million_refused_messages_are_enough(rt: HostRuntime) {
     let mut source = Nulls { at: false };
     let mut sink: Room<1> = Room::new(1, None);
     let mut count = Count { reports: 0 };
-    let result = for_each_accepted_message::<NormalForms, Nulls, Unseen, Room<1>, Count>(
+    let result = for_each_accepted_message::<NormalForms, Nulls, Unbuffered, Room<1>, Count>(
         rt.alloc(),
         &NormalForms,
         &mut source,

@@ -12,7 +12,7 @@ fn number(octets: usize) -> u32 {
     u32::try_from(octets).unwrap_or(u32::MAX)
 }
 
-/// Whether the octets, which are the front of a message, are refused as cut short after the last, as a slice and from a source. A source
+/// Tells whether the octets, which are the front of a message, are refused as cut short after the last, as a slice and from a source. A source
 /// without an octet has no message.
 fn is_truncated(alloc: Global, octets: &[u8]) -> bool {
     let refusal = Refusal {
@@ -28,7 +28,7 @@ fn is_truncated(alloc: Global, octets: &[u8]) -> bool {
         }
 }
 
-/// What comes of a message from a source that breaks after a number of octets, into a sink that breaks so: the result, and how many octets
+/// The result for a message from a source that breaks after a number of octets, into a sink that breaks so, and how many octets
 /// the sink has, None where they are not the first of the normal form.
 fn broken(
     alloc: Global,
@@ -44,7 +44,7 @@ fn broken(
     (result, count)
 }
 
-/// Whether a source that breaks in the message leaves nothing in the sink. One that breaks after it is not noticed.
+/// Tells whether a source that breaks in the message leaves nothing in the sink. One that breaks after it is not noticed.
 fn breaks_at_each_read(alloc: Global, octets: &[u8], normal: &[u8]) -> bool {
     for n in 0..octets.len() {
         let found = broken(alloc, octets, normal, (Some(n), None));
@@ -56,7 +56,7 @@ fn breaks_at_each_read(alloc: Global, octets: &[u8], normal: &[u8]) -> bool {
     found == (Ok(Some(number(normal.len()))), Some(normal.len()))
 }
 
-/// Whether a sink that breaks has the first octets of the normal form.
+/// Tells whether a sink that breaks has the first octets of the normal form.
 fn breaks_at_each_write(alloc: Global, octets: &[u8], normal: &[u8]) -> bool {
     for n in 0..normal.len() {
         let fault = NormalFailure::WriteFault(number(n));
@@ -76,7 +76,7 @@ fn ends_at_each_octet(alloc: Global, octets: &[u8]) -> bool {
     true
 }
 
-/// Whether a row comes true where its message ends early, and where a source or a sink breaks. One of more than 200 octets isn't tried.
+/// Tells whether a row comes true where its message ends early, and where a source or a sink breaks. One of more than 200 octets isn't tried.
 fn comes_true(alloc: Global, row: &str) -> Result<bool, Fail> {
     let (octets, normal) = octets_of_row(alloc, row)?;
     Ok(
@@ -99,7 +99,7 @@ fn messages_that_break_off_leave_what_they_must(rt: HostRuntime) -> Result<(), F
 const NESTED: &str =
     "71803080800102a10aa1031b0147a2031b0151a20ca00a80083230323430323239bf2e803b80 2480*27 040141*349474 00*62";
 
-/// Whether the note is joined, with as many octets a call.
+/// Tells whether the note is joined, with as many octets a call.
 fn is_joined(alloc: Global, octets: &[u8], per_call: usize) -> bool {
     let mut source = Pieces::new(octets, per_call.max(1), None);
     let mut sink: Room<350_000> = Room::new(4096, None);

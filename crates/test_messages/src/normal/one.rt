@@ -1,21 +1,21 @@
 //! Single messages to their normal form.
 use super::rows::{ROWS, octets_of_row};
-use super::sips::Sips;
+use super::sips::ShortWriter;
 use super::{EXPIRED, INDEFINITE_HEX, LONG_FORM};
 use ill_normal::{
-    Ahead, AtHand, Cause, FromSlice, Message, NodeId, NormalFailure, PartId, Pieces, Refusal, Room,
-    Source, apdu_name, decode, normal_form_is_accepted, normal_form_is_its_own,
+    Buffered, BufferedSource, Cause, FromSlice, Message, NodeId, NormalFailure, PartId, Pieces,
+    Refusal, Room, Source, apdu_name, decode, normal_form_is_accepted, normal_form_is_its_own,
     normal_forms_are_equal_exactly_if_apdus_are, normalise, one_prefix_is_accepted,
-    one_refusal_of_a_slice, read_message, read_message_by,
+    one_refusal_of_a_slice, read_message, read_message_peeking,
 };
 use std::alloc::{AllocError, Global};
 use std::test::Fail;
 use test_support::octets_of;
 
-/// Whether the message has this normal form, with as many octets a call at most, read and written.
+/// Tells whether the message has this normal form, with as many octets a call at most, read and written.
 fn has_normal_form(alloc: Global, octets: &[u8], normal: &[u8], per_call: usize) -> bool {
     let mut source = Pieces::new(octets, per_call.max(1), None);
-    let mut sink = Sips {
+    let mut sink = ShortWriter {
         octets: Vec::new(alloc),
         per_call,
         broken: false,
@@ -25,13 +25,13 @@ fn has_normal_form(alloc: Global, octets: &[u8], normal: &[u8], per_call: usize)
         && sink.octets.as_slice() == normal
 }
 
-/// Whether there is a message, and then this number of octets is at hand.
+/// Tells whether there is a message, and then this number of octets is at hand.
 fn leaves(alloc: Global, source: &mut FromSlice<'_>, count: usize) -> bool {
-    let read = read_message_by::<FromSlice<'_>, AtHand>(alloc, source);
-    matches!(read, Ok(Some(_))) && source.at_hand().len() == count
+    let read = read_message_peeking::<FromSlice<'_>, Buffered>(alloc, source);
+    matches!(read, Ok(Some(_))) && source.buffered().len() == count
 }
 
-/// Whether a message that is there twice is taken twice, and then none.
+/// Tells whether a message that is there twice is taken twice, and then none.
 fn is_taken_twice(alloc: Global, octets: &[u8]) -> Result<bool, AllocError> {
     let mut twice = octets.to_vec(alloc)?;
     twice.extend_from_slice(octets)?;
@@ -40,13 +40,13 @@ fn is_taken_twice(alloc: Global, octets: &[u8]) -> Result<bool, AllocError> {
         leaves(alloc, &mut source, octets.len())
             && leaves(alloc, &mut source, 0)
             && matches!(
-                read_message_by::<FromSlice<'_>, AtHand>(alloc, &mut source),
+                read_message_peeking::<FromSlice<'_>, Buffered>(alloc, &mut source),
                 Ok(None)
             ),
     )
 }
 
-/// Whether the message of a row has its normal form, and is taken whole where it is at hand.
+/// Tells whether the message of a row has its normal form, and is taken whole where it is at hand.
 fn row_comes_true(alloc: Global, row: &str) -> Result<bool, Fail> {
     let (octets, normal) = octets_of_row(alloc, row)?;
     Ok(
@@ -142,7 +142,7 @@ fn octets_after_the_message_are_not_read(rt: HostRuntime) {
     assert!(rt; source.take(&mut rest) == Ok(1) && rest[0] == 0x75);
 }
 
-/// Whether the message leaves nothing where the source breaks after five octets.
+/// Tells whether the message leaves nothing where the source breaks after five octets.
 fn leaves_nothing(alloc: Global, octets: &[u8]) -> bool {
     let mut source = Pieces::new(octets, 64, Some(5));
     let mut sink: Room<64> = Room::new(64, None);
@@ -151,7 +151,7 @@ fn leaves_nothing(alloc: Global, octets: &[u8]) -> bool {
         && sink.octets().is_empty()
 }
 
-/// What comes of a message, whose normal form is EXPIRED, in a sink that takes as many octets a call and breaks after a number: the result,
+/// The result for a message, whose normal form is EXPIRED, in a sink that takes as many octets a call and breaks after a number,
 /// and how many octets the sink has, None where they are not the first.
 fn written(
     alloc: Global,
@@ -198,7 +198,7 @@ fn are_of_expired(read: &Message, decoded: &Message) -> bool {
         && apdu_name(read.apdu()) == Some("Expired")
 }
 
-/// Whether a message that is read is the APDU that a slice is decoded to, by another spelling.
+/// Tells whether a message that is read is the APDU that a slice is decoded to, by another spelling.
 fn is_one_apdu(alloc: Global, read: &[u8], decoded: &[u8]) -> bool {
     let mut source = Pieces::new(read, 5, None);
     match (read_message(alloc, &mut source), decode(alloc, decoded)) {

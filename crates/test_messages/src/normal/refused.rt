@@ -26,7 +26,7 @@ fn messages_are_refused_in_one_way(
     read_message(alloc, source)
 }
 
-/// The same where a message is checked.
+/// A message that is checked is refused with its one fault, too.
 fn checks_are_refused_in_one_way(
     source: &mut Pieces,
     alloc: Global,
@@ -37,7 +37,7 @@ fn checks_are_refused_in_one_way(
     check_one(alloc, source)
 }
 
-/// The same where a message is normalised.
+/// A message that is normalised is refused with its one fault, too.
 fn normal_forms_are_refused_in_one_way(
     source: &mut Pieces,
     sink: &mut Room<64>,

@@ -3,13 +3,13 @@ use ill_normal::{Broken, Sink};
 
 /// It keeps what it took, and breaks when out of memory.
 #[derive(Drop)]
-pub struct Sips {
+pub struct ShortWriter {
     pub octets: Vec<u8>,
     pub per_call: usize,
     pub broken: bool,
 }
 
-impl Sink for Sips {
+impl Sink for ShortWriter {
     ghost use Rattle.std.specs.Prelude.{None};
 
     ghost contents = { λ _. None };

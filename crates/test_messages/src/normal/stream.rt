@@ -11,7 +11,7 @@ use test_support::octets_of;
 /// An EXPIRED over and over: a number of times and some octets more, or for ever.
 #[derive(Drop)]
 struct Expireds {
-    /// How many octets are left; None is for ever.
+    /// The number of octets that are left; None is for ever.
     left: Option<usize>,
     at: usize,
 }
@@ -69,20 +69,20 @@ impl Sink for Counter {
 const TWO: &str =
     "741f301d800102a10aa1031b0147a2031b0151a20ca00a80083230323430323239 741f301d800102a10aa1031b0147a2031b0151a20ca00a80083230323430323239";
 
-/// The same, the first of them with indefinite lengths, in 47 octets.
+/// Two EXPIREDs, the first with indefinite lengths, in 47 octets.
 const MIXED: &str =
     "74803080800102a180a1801b01470000a2801b015100000000a280a080800832303234303232390000000000000000 741f301d800102a10aa1031b0147a2031b0151a20ca00a80083230323430323239";
 
 /// EXPIRED, and an octet that begins no message.
 const BAD_SECOND: &str = "741f301d800102a10aa1031b0147a2031b0151a20ca00a80083230323430323239 75";
 
-/// Whether the octets are the first of EXPIRED and EXPIRED.
+/// Tells whether the octets are the first of EXPIRED and EXPIRED.
 fn are_of_two(octets: &[u8]) -> bool {
     let (first, second) = octets.split_at(octets.len().min(EXPIRED.len()));
     EXPIRED.starts_with(first) && EXPIRED.starts_with(second)
 }
 
-/// Whether a stream comes to this result with as many octets a call, and this number of octets of EXPIRED and EXPIRED is written to a sink
+/// Tells whether a stream comes to this result with as many octets a call, and this number of octets of EXPIRED and EXPIRED is written to a sink
 /// that breaks after 36 where it must.
 fn comes_to(
     alloc: Global,
@@ -144,7 +144,7 @@ fn a_stream_is_normalised_as_far_as_it_goes(rt: HostRuntime) -> Result<(), Fail>
     Ok(())
 }
 
-/// What comes of EXPIRED over and over, of this number of octets, or for ever.
+/// The result for EXPIRED over and over, of this number of octets, or for ever.
 fn repeated(alloc: Global, left: Option<usize>) -> (Result<u32, StreamFailure>, u64) {
     let mut source = Expireds { left, at: 0 };
     let mut sink = Counter { octets: 0 };

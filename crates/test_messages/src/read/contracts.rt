@@ -6,7 +6,7 @@ ghost use Rattle.ill_schema.specs.Profiles.{profile_of};
 ghost use Rattle.ill_read.specs.Feeding.{HasFailedWith, IsOpenAfter, IsWholeWith, MayTake};
 
 use ill_read::{
-    Decoder, Failure, Normal, Progress, decode_normal_as, decoders_are_apart, one_place,
+    Decoder, Failure, NormalForm, Progress, decode_normal_as, decoders_are_apart, one_place,
 };
 use ill_schema::{Message, Profile, Refusal};
 use std::alloc::Global;
@@ -103,15 +103,15 @@ fn slices_have_one_normal_form_in_each_profile(
     octets: &[u8],
     profile: Profile,
     alloc: Global,
-) -> (Result<Normal, Failure>, Result<Normal, Failure>)
-    ensures form { (a : Apdu) (n : Normal) → SpellsApdu (profile_of profile) a octets.now → result.0 ≡ Ok n
+) -> (Result<NormalForm, Failure>, Result<NormalForm, Failure>)
+    ensures form { (a : Apdu) (n : NormalForm) → SpellsApdu (profile_of profile) a octets.now → result.0 ≡ Ok n
         → n.octets.items ≡ normal_form_in (profile_of profile) a }
-    ensures same { (m n : Normal) → result.0 ≡ Ok m → result.1 ≡ Ok n → m.octets.items ≡ n.octets.items }
-    ensures read { (n : Normal) → result.0 ≡ Ok n → n.read ≡ length octets.now }
+    ensures same { (m n : NormalForm) → result.0 ≡ Ok m → result.1 ≡ Ok n → m.octets.items ≡ n.octets.items }
+    ensures read { (n : NormalForm) → result.0 ≡ Ok n → n.input_len ≡ length octets.now }
     ensures accepted { (a : Apdu) (x : Refusal) → SpellsApdu (profile_of profile) a octets.now
         → result.0 ≡ Err (Failure.Refused x) → ⊥ }
     ensures refusal { (x y : Refusal) → result.0 ≡ Err (Failure.Refused x) → result.1 ≡ Err (Failure.Refused y) → x ≡ y }
-    ensures apart { (n : Normal) (x : Refusal) → result.0 ≡ Ok n → result.1 ≡ Err (Failure.Refused x) → ⊥ }
+    ensures apart { (n : NormalForm) (x : Refusal) → result.0 ≡ Ok n → result.1 ≡ Err (Failure.Refused x) → ⊥ }
 {
     (
         decode_normal_as(alloc, profile, octets),

@@ -1,14 +1,14 @@
 //! Worked inputs of the module profile through the reader of normal forms: whole, and octet by octet.
 use super::module_rows::ROWS;
 use super::refusal_text;
-use ber_core::{Pieces, Unseen};
-use ill_read::{Failure, Normal, ReadFailure, decode_normal_as, read_normal_as};
+use ber_core::{Pieces, Unbuffered};
+use ill_read::{Failure, NormalForm, ReadFailure, decode_normal_as, read_normal_as};
 use ill_schema::{Cause, Profile, Refusal};
 use std::alloc::{AllocError, Global};
 use std::test::Fail;
 use test_support::octets_of;
 
-/// What a row says: the profile, the octets, and the outcome.
+/// A row: the profile, the octets, and the outcome.
 #[derive(Drop)]
 struct Worked {
     profile: Profile,
@@ -42,7 +42,7 @@ impl Worked {
     fn is_outcome(
         &self,
         alloc: Global,
-        answer: Result<Normal, Failure>,
+        answer: Result<NormalForm, Failure>,
     ) -> Result<bool, AllocError> {
         match (answer, self.want.strip_prefix("normal ")) {
             (Ok(normal), Some(pieces)) => Ok(normal.octets == octets_of(alloc, pieces)?),
@@ -60,7 +60,7 @@ impl Worked {
 
     fn octet_by_octet(&self, alloc: Global) -> Result<bool, AllocError> {
         let mut source = Pieces::new(&self.octets, 1, None);
-        let answer = match read_normal_as::<_, Unseen>(alloc, self.profile, &mut source) {
+        let answer = match read_normal_as::<_, Unbuffered>(alloc, self.profile, &mut source) {
             Ok(Some(normal)) => Ok(normal),
             Ok(None) => Err(Failure::Refused(Refusal {
                 at: 0,

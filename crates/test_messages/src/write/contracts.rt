@@ -3,9 +3,9 @@
 ghost use Rattle.std.specs.Prelude.{◌≡◌, IfOk};
 ghost use Rattle.ill_write.specs.Sizes.{contents_of};
 
-use ber_core::{Room, Sink};
+use ber_core::{Room, Sink, put_all};
 use ill_schema::Message;
-use ill_write::{Sizes, WriteFailure, normal_bytes, put_all, write_normal};
+use ill_write::{Sizes, WriteFailure, normal_bytes, write_normal};
 use std::alloc::{AllocError, Global};
 
 /// Messages of one APDU have one normal form.

@@ -27,7 +27,7 @@ fn parts_are_equal_where_their_values_are<T: Typed>(
     Ok(())
 }
 
-/// What is read from a part's value is the part again.
+/// A part is read again from its value.
 fn parts_come_back<T: Typed>(part: &T, alloc: Global) -> Result<(), AllocError> {
     let value = part.to_value(alloc)?;
     if let Some(back) = T::from_value(alloc, &value)? {

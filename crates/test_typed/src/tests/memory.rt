@@ -6,7 +6,7 @@ use ill_parts::{Part, TransactionId, Typed, optional_value, required_value};
 use ill_schema::{Message, Value};
 use std::alloc::{AllocError, Global};
 use std::test::Fail;
-use test_support::{Hoard, Outcome, message, value};
+use test_support::{MemoryHog, Outcome, message, value};
 
 /// A message of each APDU: its number, and the parts of its body, as [`test_support::message`] reads them.
 const EACH_APDU: &str = "\
@@ -29,7 +29,7 @@ const EACH_APDU: &str = "\
 18 head none:2 seq:7
 20 head - seq:6";
 
-/// What comes of calls on parts: `to_value` of a part and of a list, `from_value`, `required_value` and `optional_value`. Those of `ill_parts`
+/// The results of calls on parts: `to_value` of a part and of a list, `from_value`, `required_value` and `optional_value`. Those of `ill_parts`
 /// that aren't called here take what only the types of these crates have, and are called by them.
 fn part_calls<T: Typed>(
     alloc: Global,
@@ -62,7 +62,7 @@ fn list_of<T: Typed>(alloc: Global, value: &Value) -> Result<Vec<T>, Fail> {
     Ok(list)
 }
 
-/// What comes of the calls on a part and a list of it, with memory and then without.
+/// The results of the calls on a part and a list of it, with memory and then without.
 fn calls_with_and_without<T: Typed>(
     alloc: Global,
     part: &Option<T>,
@@ -70,7 +70,7 @@ fn calls_with_and_without<T: Typed>(
     value: &Value,
 ) -> Result<[[Outcome; 5]; 2], Fail> {
     let with = part_calls(alloc, part, list, value);
-    let hoard = Hoard::of_all(alloc)?;
+    let hoard = MemoryHog::of_all(alloc)?;
     let is_empty_before = hoard.has_all();
     let without = part_calls(alloc, part, list, value);
     let is_empty = is_empty_before && hoard.has_all();
@@ -81,7 +81,7 @@ fn calls_with_and_without<T: Typed>(
     Ok([with, without])
 }
 
-/// The same of the part that a value is.
+/// The results of calls on the part that a value is.
 fn calls_on_part<T: Typed>(alloc: Global, value: &Value) -> Result<[[Outcome; 5]; 2], Fail> {
     let list = list_of(alloc, value)?;
     let part: Result<Option<T>, AllocError> = T::from_value(alloc, value);
@@ -91,7 +91,7 @@ fn calls_on_part<T: Typed>(alloc: Global, value: &Value) -> Result<[[Outcome; 5]
     }
 }
 
-/// What comes of the calls on a part that words write, with memory and then without.
+/// The results of the calls on a part that words write, with memory and then without.
 fn part_calls_twice<T: Typed>(alloc: Global, words: &str) -> Result<[[Outcome; 5]; 2], Fail> {
     let value = value(alloc, words)?;
     calls_on_part::<T>(alloc, &value)
@@ -107,7 +107,7 @@ fn calls_on_parts_succeed_with_memory_alone(rt: HostRuntime) -> Result<(), Fail>
     Ok(())
 }
 
-/// What comes of `to_message` and `from_message`.
+/// The results of `to_message` and `from_message`.
 fn apdu_calls(alloc: Global, message: &Message, apdu: &Apdu) -> [Outcome; 2] {
     let sent = match apdu.to_message(alloc) {
         Ok(message) => Outcome::right(message.apdu() == apdu.number()),
@@ -116,14 +116,14 @@ fn apdu_calls(alloc: Global, message: &Message, apdu: &Apdu) -> [Outcome; 2] {
     [sent, Outcome::of(Apdu::from_message(alloc, message))]
 }
 
-/// What comes of the calls on an APDU, with memory and then without.
+/// The results of the calls on an APDU, with memory and then without.
 fn apdu_calls_twice(
     alloc: Global,
     message: &Message,
     apdu: &Apdu,
 ) -> Result<[[Outcome; 2]; 2], Fail> {
     let with = apdu_calls(alloc, message, apdu);
-    let hoard = Hoard::of_all(alloc)?;
+    let hoard = MemoryHog::of_all(alloc)?;
     let is_empty_before = hoard.has_all();
     let without = apdu_calls(alloc, message, apdu);
     let is_empty = is_empty_before && hoard.has_all();

@@ -10,7 +10,7 @@ use std::alloc::Global;
 use std::test::Fail;
 use test_support::{date_text, general_string, value};
 
-/// Whether the words write a value that is no `T`.
+/// Tells whether the words write a value that is no `T`.
 fn is_no<T: Typed>(alloc: Global, words: &str) -> Result<bool, Fail> {
     let value = value(alloc, words)?;
     Ok(T::from_value(alloc, &value)?.is_none())
@@ -27,7 +27,7 @@ fn values_that_do_not_fit_are_no_parts(rt: HostRuntime) -> Result<(), Fail> {
     Ok(())
 }
 
-/// Whether the part is read from the value.
+/// Tells whether the part is read from the value.
 fn is_read_from<T: Typed>(alloc: Global, part: &T, value: &Value) -> Result<bool, Fail> {
     match T::from_value(alloc, value)? {
         Some(read) => Ok(read == *part),
@@ -35,13 +35,13 @@ fn is_read_from<T: Typed>(alloc: Global, part: &T, value: &Value) -> Result<bool
     }
 }
 
-/// Whether the part has the value.
+/// Tells whether the part has the value.
 fn has_value<T: Typed>(alloc: Global, part: &T, wanted: &Value) -> Result<bool, Fail> {
     let made = part.to_value(alloc)?;
     Ok(equal(&made, wanted))
 }
 
-/// Whether the part has the value that the words write, and is read from it.
+/// Tells whether the part has the value that the words write, and is read from it.
 fn is_written<T: Typed>(alloc: Global, part: &T, words: &str) -> Result<bool, Fail> {
     let wanted = value(alloc, words)?;
     Ok(has_value(alloc, part, &wanted)? && is_read_from(alloc, part, &wanted)?)
@@ -129,7 +129,7 @@ fn visible(alloc: Global, letters: &[u8]) -> Result<IllString, Fail> {
     }
 }
 
-/// Whether these are the symbols "L" of a person, a GeneralString, and of an institution, a VisibleString.
+/// Tells whether these are the symbols "L" of a person, a GeneralString, and of an institution, a VisibleString.
 fn are_symbols(alloc: Global, person: &Symbol, institution: &Symbol) -> Result<bool, Fail> {
     Ok(
         is_written(alloc, person, "general:L alt:0")?
@@ -152,7 +152,7 @@ fn part<T: Typed>(alloc: Global, words: &str) -> Result<Option<T>, Fail> {
     Ok(T::from_value(alloc, &value)?)
 }
 
-/// Whether the parts that two lines of words write are equal.
+/// Tells whether the parts that two lines of words write are equal.
 fn are_equal<T: Typed>(alloc: Global, one: &str, other: &str) -> Result<bool, Fail> {
     let one: Option<T> = part(alloc, one)?;
     let other: Option<T> = part(alloc, other)?;
@@ -172,7 +172,7 @@ fn parts_differ_where_their_texts_differ(rt: HostRuntime) -> Result<(), Fail> {
     Ok(())
 }
 
-/// Whether the list is read from its value.
+/// Tells whether the list is read from its value.
 fn is_read_again(alloc: Global, list: &Vec<UnitsPerMedium>) -> Result<bool, Fail> {
     let value = list.to_value(alloc)?;
     let again = Vec::<UnitsPerMedium>::read(alloc, &value)?;

@@ -81,7 +81,7 @@ fn notes_are_within_the_limit(rt: HostRuntime) -> Result<(), Fail> {
 const REQUEST: &str =
     "head 1 none:3 1 list:1 - false false 1 1 seq:4 none:2 3 - none:23 seq:23 none:4 false false none:3 seq:26";
 
-/// Whether an APDU is that ILL-Request, with this item.
+/// Tells whether an APDU is that ILL-Request, with this item.
 fn is_the_least(apdu: &Apdu, item: &Option<ItemId>) -> bool {
     match (apdu, item) {
         (Apdu::IllRequest(request), Some(item)) => {
@@ -97,7 +97,7 @@ fn is_the_least(apdu: &Apdu, item: &Option<ItemId>) -> bool {
     }
 }
 
-/// Whether the least ILL-Request is read from its message. Its item has nothing in it.
+/// Tells whether the least ILL-Request is read from its message. Its item has nothing in it.
 fn has_the_least(alloc: Global, message: &Message) -> Result<bool, Fail> {
     let nothing = value(alloc, "none:23 seq:23")?;
     let item = ItemId::from_value(alloc, &nothing)?;
@@ -126,7 +126,7 @@ fn read_back(alloc: Global, message: &Message) -> Result<Apdu, Fail> {
     Ok(Apdu::from_message(alloc, &read)?)
 }
 
-/// Whether the APDU is sent as the message, and read back from its octets.
+/// Tells whether the APDU is sent as the message, and read back from its octets.
 fn is_sent_as(alloc: Global, apdu: &Apdu, message: &Message) -> Result<bool, Fail> {
     let made = sent(alloc, apdu)?;
     let again = read_back(alloc, &made)?;
@@ -138,7 +138,7 @@ fn is_sent_as(alloc: Global, apdu: &Apdu, message: &Message) -> Result<bool, Fai
     )
 }
 
-/// Whether the message comes back from the APDU that is read from it.
+/// Tells whether the message comes back from the APDU that is read from it.
 fn comes_back(alloc: Global, message: &Message) -> Result<bool, Fail> {
     let apdu = Apdu::from_message(alloc, message)?;
     is_sent_as(alloc, &apdu, message)
@@ -168,7 +168,7 @@ fn debug_text_of_a_fault(rt: HostRuntime) -> Result<(), AllocError> {
 const EXPIRED: &[u8] =
     b"\x74\x1f\x30\x1d\x80\x01\x02\xa1\x0a\xa1\x03\x1b\x01\x47\xa2\x03\x1b\x01\x51\xa2\x0c\xa0\x0a\x80\x0820240229";
 
-/// Whether the transaction-id of the EXPIRED that is read from a message is written as the entry of its row.
+/// Tells whether the transaction-id of the EXPIRED that is read from a message is written as the entry of its row.
 fn has_its_transaction_id(alloc: Global, message: &Message) -> Result<bool, Fail> {
     let apdu = Apdu::from_message(alloc, message)?;
     let Apdu::Expired(expired) = &apdu else {

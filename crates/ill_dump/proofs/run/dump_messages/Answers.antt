@@ -29,7 +29,7 @@ loop-before-preserved g c =
     record {
       reached = reached_more _ _ _ _ _ _ _ _ _ _ c.loop-before.invariant.reached message.1 message.2.0.1 begins;
       none = c.in_ok-put_message-in-Ok-Some.ensures.none;
-      source_stays = λ t. c.read_kept_as-read.ensures.next.stays (c.loop-before.invariant.source_stays t);
+      source_stays = λ t. c.read_recording_as-read.ensures.next.stays (c.loop-before.invariant.source_stays t);
       sink_stays = λ t. c.put_message.ensures.stays (c.loop-before.invariant.sink_stays t);
     }
 

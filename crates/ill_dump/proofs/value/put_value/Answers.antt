@@ -4,7 +4,7 @@ use Rattle.ber_leaf.specs.Leaf.{content_fault}
 use Rattle.ill_schema.specs.Profiles.{profile_of}
 use Rattle.ber_leaf.specs.declared.fault.LeafFault.{LeafFault}
 use Rattle.ill_schema.specs.declared.profile.Profile.TheVariants.{Two}
-use Rattle.ill_elements.specs.LeafTypes.{leaf_is}
+use Rattle.ill_grammar.specs.LeafTypes.{leaf_is}
 use Rattle.ill_read.proofs.ProfileOfPath.{content_two}
 use Rattle.ill_dump.proofs.value.put_value.Goals as goal
 

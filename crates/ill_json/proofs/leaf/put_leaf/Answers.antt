@@ -3,7 +3,7 @@ use Rattle.std.proofs.lemmas.Int.{to_z-of_z}
 use Rattle.ber_leaf.specs.Leaf.{value}
 use Rattle.ber_leaf.specs.Simple.{whole}
 use Rattle.json.specs.Tree.{json_tokens}
-use Rattle.ill_elements.specs.LeafTypes.{IsContentIn, leaf_is}
+use Rattle.ill_grammar.specs.LeafTypes.{IsContentIn, leaf_is}
 use Rattle.ill_text.specs.Marks.{octets_in}
 use Rattle.ill_text.proofs.Lines.{few_enumerated, few_octets}
 use Rattle.ill_json.specs.Json.{leaf_json}

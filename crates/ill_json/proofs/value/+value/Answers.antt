@@ -99,11 +99,11 @@ put_value-returns-in-ModuleLeaf-clause-adds t c x ms rest h q =
     let f = module_first x ms rest tail c.in-Some.first is h (sym all ∙ q) in
     c.put_module_value.ensures.adds x c.args.name.now f.0 c.args.node rest f.1 (c.after_first-rest.ensures ∙ f.2)
 
-pub put_value-returns-in-Passed-clause-adds : goal.put_value-returns-in-Passed-clause-adds
-put_value-returns-in-Passed-clause-adds t c x ms rest h q =
+pub put_value-returns-in-Absent-clause-adds : goal.put_value-returns-in-Absent-clause-adds
+put_value-returns-in-Absent-clause-adds t c x ms rest h q =
     let tail = drop 1 c.args.marks.now in
-    let all = starts c.args.marks.now c.in-Some.first (sym c.first_mark.ensures ∙ c.in-Some.is) ∙ ap (λ m. m ∷ tail) c.in-Passed.is in
-    let f = passed_first x ms rest tail c.in-Passed.part h (sym all ∙ q) in
+    let all = starts c.args.marks.now c.in-Some.first (sym c.first_mark.ensures ∙ c.in-Some.is) ∙ ap (λ m. m ∷ tail) c.in-Absent.is in
+    let f = passed_first x ms rest tail c.in-Absent.part h (sym all ∙ q) in
     (c.after_first-rest.ensures ∙ f.1, c.put_default.ensures (Some x) c.args.node f.0)
 
 pub put_value-returns-in-Alternative-clause-adds : goal.put_value-returns-in-Alternative-clause-adds

@@ -5,7 +5,7 @@ use Rattle.ill_json.proofs.value.put_module_value.Goals as goal
 
 pub returns-clause-adds : goal.returns-clause-adds
 returns-clause-adds c x name octets node rest says e =
-    let n = c.front_octets-count.result in
-    let parts = leaf_parts octets rest c.args.marks.now n e c.front_octets-count.ensures.exact in
+    let n = c.leading_octets-count.result in
+    let parts = leaf_parts octets rest c.args.marks.now n e c.leading_octets-count.ensures.exact in
     let at : c.min.result ≡ n + 1 = omega (arith, c.min.ensures, parts.2) in
     (ap (λ (k : ℕ). take (length c.args.marks.now - k) (drop k c.args.marks.now)) at ∙ whole_rest (n + 1) c.args.marks.now ∙ parts.1, c.put_module_octets.ensures x name node (subst (SaysOctets c.args.first x) (sym parts.0) says))

@@ -2,7 +2,7 @@ use Rattle.std.proofs.Common.{◌≡◌, ℕ, List, ◌++◌, length, refl, sym,
 use Rattle.std.proofs.lemmas.Bool.Decides.{Decides-eqb}
 use Rattle.std.proofs.lemmas.Slice.Eq.{slice_eq-Decides}
 use Rattle.ill_read.specs.Answers.{IsNormalIn}
-use Rattle.ill_read.specs.declared.normal.Normal.{Normal}
+use Rattle.ill_read.specs.declared.normal.NormalForm.{NormalForm}
 use Rattle.ill_normal.specs.declared.check.Checked.{Checked}
 use Rattle.std.proofs.lemmas.Result.{err_from_is_err_and}
 use Rattle.ill_read.proofs.NextRead.{reads_as}
@@ -27,9 +27,9 @@ returns-clause-next g c =
     let p = profile_of c.args.profile in
     let h = rw c.in-Some.is at c.in_ok-normal.ensures.next in
     let eq = slice_eq-Decides Decides-eqb c.as_slice.result.now c.as_slice-2.result.now c.eq.result c.eq.ensures in
-    let checked : Checked = record { apdu = c.apdu_number.result; octets = c.in-Some.normal.read; normal = c.len.result; is_normal = c.eq.result } in
-    reads_as (λ (n : Normal) (b : List ℕ). IsNormalIn p n b × (c.read_kept_as.new.kept.items ≡ c.new-kept.result.items ++ b)) (λ found b. DescribesIn p found.0 b × IsFormIn p found.1.items b)
-    (g.R.Source.left c.args.source.now) (g.R.Source.left c.read_kept_as.new.source) (g.R.Source.is_broken c.args.source.now) (g.R.Source.is_broken c.read_kept_as.new.source)
+    let checked : Checked = record { apdu = c.apdu_number.result; octets = c.in-Some.normal.input_len; normal = c.len.result; is_normal = c.eq.result } in
+    reads_as (λ (n : NormalForm) (b : List ℕ). IsNormalIn p n b × (c.read_recording_as.new.kept.items ≡ c.new-kept.result.items ++ b)) (λ found b. DescribesIn p found.0 b × IsFormIn p found.1.items b)
+    (g.R.Source.left c.args.source.now) (g.R.Source.left c.read_recording_as.new.source) (g.R.Source.is_broken c.args.source.now) (g.R.Source.is_broken c.read_recording_as.new.source)
     c.in-Some.normal (checked, c.in-Some.normal.octets)
     (λ b is. (
       described p checked c.in-Some.normal b _ is.0 (is.1 ∙ ap (λ x. x ++ b) c.new-kept.ensures.items)

@@ -5,7 +5,7 @@ use Rattle.ill_schema.specs.declared.profile.Profile.TheVariants.{Two}
 use Rattle.ill_read.specs.Paths.{AreMessage, AreValues}
 use Rattle.ill_read.specs.code.ReaderCode.{HasBegun, HasOutcome}
 use Rattle.ill_read.specs.declared.failure.Failure.{Failure}
-use Rattle.ill_read.specs.declared.values.Values.{Values}
+use Rattle.ill_read.specs.declared.value_draft.ValueDraft.{ValueDraft}
 use Rattle.ill_read.proofs.MessageEnds.{message_is, runs}
 use Rattle.ill_read.proofs.read.begun.Goals as goal
 
@@ -16,7 +16,7 @@ returns-in-Ok-true c =
     let came = c.outcome.ensures Two w (drop c.run.result w) (c.run.ensures.stopped Two w (runs Two AreValues (λ p values a n. AreMessage values a n) c.new-reader.result w ok (c.new-reader.ensures.«open» c.new.ensures))) in
     let read = subst (λ (e : Result Bool Failure). HasOutcome Two (λ p values a n. AreMessage values a n) c.run.new.self w e) (c.in-Ok-true.is ∙ ap Ok c.in-Ok-true.field-0-test) came in
     let m = message_is c.run.new.self w read in
-    subst (λ x. HasBegun w (Ok x)) (sym (c.into_message.ensures ∙ ap (λ (v : Values). v.message) c.into_draft.ensures ∙ m.1)) m.2
+    subst (λ x. HasBegun w (Ok x)) (sym (c.into_message.ensures ∙ ap (λ (v : ValueDraft). v.message) c.into_draft.ensures ∙ m.1)) m.2
 
 pub returns-in-Ok-false : goal.returns-in-Ok-false
 returns-in-Ok-false c =

@@ -1,7 +1,7 @@
 use Rattle.std.proofs.Common.{◌≡◌, [], ◌++◌, Err, length-append, ap, ◌∙◌, inl, sym, subst, arith}
 use Rattle.std.proofs.KnownBytes.{Appends-trans, Consumes-trans, Consumes-kept}
 use Rattle.std.proofs.lemmas.List.{nil_from_length}
-use Rattle.ill_read.specs.declared.read.Unfilled.TheVariants.{Broken}
+use Rattle.ill_read.specs.declared.read.FillError.TheVariants.{Broken}
 use Rattle.ill_read.proofs.SourceReads.{full_closed}
 use Rattle.ill_read.proofs.read.fill.Goals as goal
 

@@ -11,7 +11,7 @@ abbrev pub invariant-loop-room : goal.invariant-loop-room
 invariant-loop-room g l =
     ((b : List ℕ) × Consumes (g.R.Source.left l.fn.source) (g.R.Source.left l.source) b × (length b + l.room ≡ 1_048_576)
     × ((p : Named) → IsOpenAt p g.D.Draft.holds l.fn.reader [] → IsFed p g.D.Draft.holds g.D.Draft.has l.reader b × NoneEndsWithin p b)
-    × Appends (g.K.Keep.kept l.fn.keep) (g.K.Keep.kept l.keep) b)
+    × Appends (g.K.Recorder.kept l.fn.recorder) (g.K.Recorder.kept l.recorder) b)
     × (IsTrue (g.R.Source.is_broken l.fn.source) → IsTrue (g.R.Source.is_broken l.source)) × (l.reader.path.frames.profile ≡ l.fn.reader.path.frames.profile)
 
 abbrev pub decreases-loop-room : goal.decreases-loop-room

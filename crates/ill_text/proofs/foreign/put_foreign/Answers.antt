@@ -12,6 +12,6 @@ use Rattle.ill_text.proofs.foreign.put_foreign.Goals as goal
 
 pub returns-clause-adds : goal.returns-clause-adds
 returns-clause-adds g c T h e =
-    let are = front_are c.args.marks.now c.front_octets-count.result c.front_octets-count.ensures.exact ∙ ap (map mark.Octet) (e ∙ sym (append-nil (encoding T))) in
+    let are = front_are c.args.marks.now c.leading_octets-count.result c.leading_octets-count.ensures.exact ∙ ap (map mark.Octet) (e ∙ sym (append-nil (encoding T))) in
     adds_as _ _ _ _ (line_opened (path_of c.args.trail.now) (codes "foreign ") (tree_text T))
     (adds_then _ _ _ _ _ (adds_then _ _ _ _ _ (adds_then _ _ _ _ _ c.put_path.ensures.adds c.put.ensures.adds) (c.put_trees.ensures.adds (more T none) (one_tree foreign_levels T h) are)) c.put-2.ensures.adds)

@@ -1,6 +1,6 @@
 use Rattle.std.proofs.Common.{◌∙◌, ap, sym, Option}
 use Rattle.ill_schema.specs.Content.{Content}
-use Rattle.ill_elements.specs.Contents.{absent_content}
+use Rattle.ill_grammar.specs.Contents.{absent_content}
 use Rattle.ill_read.specs.Outline.{IsPassed}
 use Rattle.ill_text.specs.Marks.{entry_text}
 use Rattle.ill_text.specs.code.Trails.{place_at}

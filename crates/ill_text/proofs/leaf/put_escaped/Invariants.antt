@@ -1,14 +1,14 @@
 use Rattle.std.proofs.Common.{◌≡◌, ◌+◌, IsTrue, drop, take}
 use Rattle.std.specs.Prelude.{flat_map}
 use Rattle.ill_text.specs.Shown.{escaped}
-use Rattle.ill_text.specs.Marks.{front_octets, octets_in}
+use Rattle.ill_text.specs.Marks.{leading_octets, octets_in}
 use Rattle.ill_text.specs.code.Sending.{Adds, sending}
 use Rattle.ill_text.proofs.leaf.put_escaped.Given as goal
 
 abbrev pub invariant-loop-mark : goal.invariant-loop-mark
 invariant-loop-mark g l = record {
   count : l.count ≡ l.mark-index;
-  front : front_octets l.marks ≡ l.count + front_octets (drop l.mark-index l.marks);
+  front : leading_octets l.marks ≡ l.count + leading_octets (drop l.mark-index l.marks);
   adds : Adds (flat_map escaped (octets_in (take l.mark-index l.marks))) (sending (g.W.Sink.contents l.fn.sink) (g.W.Sink.is_broken l.fn.sink) l.fn.out) (sending (g.W.Sink.contents l.sink) (g.W.Sink.is_broken l.sink) l.out);
   stays : IsTrue (g.W.Sink.is_broken l.fn.sink) → IsTrue (g.W.Sink.is_broken l.sink);
 }

@@ -11,8 +11,8 @@ use Rattle.ill_text.proofs.module_leaf.put_bits.Goals as goal
 
 pub returns-clause-adds : goal.returns-clause-adds
 returns-clause-adds g c p name content =
-    let o = octets_in (take c.front_octets-count.result c.args.marks.now) in
-    let are = front_are c.args.marks.now c.front_octets-count.result c.front_octets-count.ensures.exact in
+    let o = octets_in (take c.leading_octets-count.result c.args.marks.now) in
+    let are = front_are c.args.marks.now c.leading_octets-count.result c.leading_octets-count.ensures.exact in
     let bits = are_bits p o content in
     adds_as _ _ _ _ (line_opened (path_of c.args.trail.now) (codes "bits ") (decimal (bit_count o) ++ filled_text (bit_octets o)) ∙ ap (line (path_of c.args.trail.now)) (bits_text name o bits))
     (adds_then _ _ _ _ _ (adds_then _ _ _ _ _ (adds_then _ _ _ _ _ c.put_path.ensures.adds c.put.ensures.adds) (c.put_bit_content.ensures.adds o bits are)) c.put-2.ensures.adds)

@@ -8,7 +8,7 @@ use Rattle.ill_text.proofs.module_leaf.put_octet_string.Goals as goal
 
 pub returns-clause-adds : goal.returns-clause-adds
 returns-clause-adds g c =
-    let o = octets_in (take c.front_octets-count.result c.args.marks.now) in
-    let are = front_are c.args.marks.now c.front_octets-count.result c.front_octets-count.ensures.exact in
+    let o = octets_in (take c.leading_octets-count.result c.args.marks.now) in
+    let are = front_are c.args.marks.now c.leading_octets-count.result c.leading_octets-count.ensures.exact in
     adds_as _ _ _ _ (line_opened (path_of c.args.trail.now) (codes "octets ") (content_text o))
     (adds_then _ _ _ _ _ (adds_then _ _ _ _ _ (adds_then _ _ _ _ _ c.put_path.ensures.adds c.put.ensures.adds) (c.put_content.ensures.adds o are)) c.put-2.ensures.adds)

@@ -126,11 +126,11 @@ put_value-returns-in-ModuleLeaf-clause-adds g t c x ms rest h q =
     let f = module_first x ms rest tail c.in-Some.first is h (sym all ∙ q) in
     c.put_module_line.ensures.adds x f.0 rest (place_at c.args.trail.now c.args.name.now c.args.node) refl f.1 (c.after_first-rest.ensures ∙ f.2)
 
-pub put_value-returns-in-Passed-clause-adds : goal.put_value-returns-in-Passed-clause-adds
-put_value-returns-in-Passed-clause-adds g t c x ms rest h q =
+pub put_value-returns-in-Absent-clause-adds : goal.put_value-returns-in-Absent-clause-adds
+put_value-returns-in-Absent-clause-adds g t c x ms rest h q =
     let tail = drop 1 c.args.marks.now in
-    let all = starts c.args.marks.now c.in-Some.first (sym c.first_mark.ensures ∙ c.in-Some.is) ∙ ap (λ m. m ∷ tail) c.in-Passed.is in
-    let f = passed_first x ms rest tail c.in-Passed.part h (sym all ∙ q) in
+    let all = starts c.args.marks.now c.in-Some.first (sym c.first_mark.ensures ∙ c.in-Some.is) ∙ ap (λ m. m ∷ tail) c.in-Absent.is in
+    let f = passed_first x ms rest tail c.in-Absent.part h (sym all ∙ q) in
     (c.after_first-rest.ensures ∙ f.1, c.put_default.ensures.adds (Some x) c.args.node f.0)
 
 pub put_value-returns-in-Alternative-clause-adds : goal.put_value-returns-in-Alternative-clause-adds

@@ -1,6 +1,6 @@
 use Rattle.std.proofs.Common.{◌≡◌, ◌+◌, ◌-◌, ◌∙◌, ap, sym, subst, ℕ, length, take, drop, arith}
 use Rattle.ber_leaf.specs.Leaf.{value}
-use Rattle.ill_elements.specs.LeafTypes.{IsContentIn, leaf_is}
+use Rattle.ill_grammar.specs.LeafTypes.{IsContentIn, leaf_is}
 use Rattle.ill_text.specs.Shown.{leaf_text, line}
 use Rattle.ill_text.specs.code.Trails.{path_of}
 use Rattle.ill_text.proofs.Lines.{leaf_parts, whole_rest}

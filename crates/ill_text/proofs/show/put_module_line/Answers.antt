@@ -1,7 +1,7 @@
 use Rattle.std.proofs.Common.{◌≡◌, ◌+◌, ◌-◌, ◌∙◌, ◌++◌, ap, ap₂, sym, subst, subst₂, ℕ, List, length, take, drop, arith, codes}
 use Rattle.ber_leaf.specs.Leaf.{Leaf, bit_string, value}
-use Rattle.ill_elements.specs.LeafTypes.{IsContentIn, module_leaf_is}
-use Rattle.ill_text.specs.Marks.{front_octets}
+use Rattle.ill_grammar.specs.LeafTypes.{IsContentIn, module_leaf_is}
+use Rattle.ill_text.specs.Marks.{leading_octets}
 use Rattle.ill_text.specs.Shown.{Place, leaf_text, line, lines_of, tree_text}
 use Rattle.ill_text.specs.code.MarkedOctets.{IsLeafOf, SaysOctets}
 use Rattle.ill_schema.specs.Content.{Content}
@@ -22,7 +22,7 @@ returns-clause-adds g c x octets rest p here is e =
     let marks = c.args.marks.now in
     let path = path_of c.args.trail.now in
     let old = sending (g.W.Sink.contents c.args.sink.now) (g.W.Sink.is_broken c.args.sink.now) c.args.out.now in
-    let left : (n : ℕ) → n ≡ front_octets marks → c.match-first.count ≡ n → take (length marks - c.min.result) (drop c.min.result marks) ≡ rest = λ n exact count.
+    let left : (n : ℕ) → n ≡ leading_octets marks → c.match-first.count ≡ n → take (length marks - c.min.result) (drop c.min.result marks) ≡ rest = λ n exact count.
     let parts = leaf_parts octets rest marks n e exact in
     let at : c.min.result ≡ n + 1 = omega (arith, c.min.ensures, parts.2, count) in
     ap (λ (k : ℕ). take (length marks - k) (drop k marks)) at ∙ whole_rest (n + 1) marks ∙ parts.1 in

@@ -222,12 +222,12 @@ write_value-write_row-requires g t c κs within =
 pub write_value-returns-in-Flag-clause-puts : goal.write_value-returns-in-Flag-clause-puts
 write_value-returns-in-Flag-clause-puts g t c =
     let e = leaf_tree c.args.replaced c.args.node _ (flag c.in-Flag.flag) _ (ap content_of c.in-Flag.is ∙ content_of-Flag c.in-Flag.flag) c.element_tag-tag.ensures in
-    subst (λ T. Puts c.write_short.result (encoding T) (g.W.Sink.contents c.args.sink.now) c.args.progress.now (g.W.Sink.contents c.write_short.new.sink) c.write_short.new.progress) (sym e) c.write_short.ensures.puts
+    subst (λ T. Puts c.write_short_contents.result (encoding T) (g.W.Sink.contents c.args.sink.now) c.args.progress.now (g.W.Sink.contents c.write_short_contents.new.sink) c.write_short_contents.new.progress) (sym e) c.write_short_contents.ensures.puts
 
 pub write_value-returns-in-Whole-clause-puts : goal.write_value-returns-in-Whole-clause-puts
 write_value-returns-in-Whole-clause-puts g t c =
     let e = leaf_tree c.args.replaced c.args.node _ (whole c.in-Whole.number) _ (ap content_of c.in-Whole.is ∙ content_of-Whole c.in-Whole.number) c.element_tag-tag.ensures in
-    subst (λ T. Puts c.write_short-in-Whole.result (encoding T) (g.W.Sink.contents c.args.sink.now) c.args.progress.now (g.W.Sink.contents c.write_short-in-Whole.new.sink) c.write_short-in-Whole.new.progress) (sym e) c.write_short-in-Whole.ensures.puts
+    subst (λ T. Puts c.write_short_contents-in-Whole.result (encoding T) (g.W.Sink.contents c.args.sink.now) c.args.progress.now (g.W.Sink.contents c.write_short_contents-in-Whole.new.sink) c.write_short_contents-in-Whole.new.progress) (sym e) c.write_short_contents-in-Whole.ensures.puts
 
 pub write_present-returns-then-is_default-clause-puts : goal.write_present-returns-then-is_default-clause-puts
 write_present-returns-then-is_default-clause-puts g t c =

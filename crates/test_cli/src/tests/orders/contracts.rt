@@ -3,13 +3,13 @@
 ghost use Rattle.std.specs.Prelude.{◌≡◌, ◌∷◌, [], codes, map, IfOk, Ok, Err};
 ghost use Rattle.std.specs.String.{string_bytes};
 ghost use Rattle.clap.specs.declared.error.kind.ErrorKind.TheVariants.{ArgumentConflict, InvalidValue};
-ghost use Rattle.ill_orders.specs.Refused.{IsRefusedBy};
+ghost use Rattle.ill_args.specs.Refused.{IsRefusedBy};
 ghost use Rattle.ill_schema.specs.declared.profile.Profile.TheVariants.{Two, Module};
-ghost use Rattle.ill_orders.specs.declared.fault.LineFault.TheVariants.{SameWord};
-ghost use Rattle.ill_orders.specs.declared.orders.Order.{Order};
+ghost use Rattle.ill_args.specs.declared.fault.LineFault.TheVariants.{SameWord};
+ghost use Rattle.ill_args.specs.declared.orders.Order.{Order};
 ghost use Rattle.test_cli.specs.Tasks.{HasSameFlags, IsSameTask};
 
-use ill_orders::{LineFault, Order, Task, order};
+use ill_args::{LineFault, Order, Task, order};
 use std::alloc::Global;
 
 /// Words that give an order give one command on the same files, one profile, and one value of each flag.

@@ -10,5 +10,5 @@ returns c =
     let fits : FitsSigned w64 c.from_be_bytes.result = search rules in
     to_z-of_z w64 c.from_be_bytes.result fits
     ∙ c.from_be_bytes.ensures
-    ∙ ap (λ (bytes : List ℕ). cast_signed w64 (from_be_bytes w64 bytes)) c.extended.ensures
+    ∙ ap (λ (bytes : List ℕ). cast_signed w64 (from_be_bytes w64 bytes)) c.sign_extended.ensures
     ∙ extended_value c.args.octets.now (octets_fit _ (λ i. let h : get_or c.args.octets.now i 0 < 256 = omega (arith, c.type_inv.octets i) in h)) c.requires.some c.requires.few

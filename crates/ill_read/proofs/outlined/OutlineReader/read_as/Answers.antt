@@ -19,7 +19,7 @@ returns-in-Ok-Some-clause-next g c =
     let Is : ℕ → List ℕ → Type 0 = λ n octets. (n ≡ length octets) × IsReadOf p (λ q draft a octets. HasOutline draft a) c.read_draft.new.reader.path.draft octets × Appends None None octets in
     let was = subst (λ o. ReadsNextIn (profile_of p) {T = ℕ} (g.R.Source.left c.args.source.now) (g.R.Source.left c.read_draft.new.source) (g.R.Source.is_broken c.args.source.now) (g.R.Source.is_broken c.read_draft.new.source) Is (Ok o)) c.in-Ok-Some.field-0-is
     (c.in-Ok-Some.ensures p (c.restart.ensures.«open» (c.new.ensures p))) in
-    reads_as Is (IsOutlinedIn (profile_of p)) _ _ _ _ c.in-Ok-Some.read c.outlined.result (λ b h. (h.1.0, h.1.1, subst (IsMarked (choice_of h.1.0)) (sym c.outlined.ensures.outline) h.1.2, c.outlined.ensures.read ∙ h.0)) was
+    reads_as Is (IsOutlinedIn (profile_of p)) _ _ _ _ c.in-Ok-Some.read c.outlined.result (λ b h. (h.1.0, h.1.1, subst (IsMarked (choice_of h.1.0)) (sym c.outlined.ensures.outline) h.1.2, c.outlined.ensures.input_len ∙ h.0)) was
 
 pub returns-in-Ok-None-clause-next : goal.returns-in-Ok-None-clause-next
 returns-in-Ok-None-clause-next g c =

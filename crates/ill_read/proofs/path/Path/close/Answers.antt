@@ -1,15 +1,15 @@
 use Rattle.std.proofs.Common.{◌≡◌, ◌⊎◌, Ok, Err, inl, inr, ◌∙◌, refl, sym, subst}
 use Rattle.std.specs.Prelude.{⊤}
 use Rattle.ill_refusals.specs.code.Step.{moved}
-use Rattle.ill_elements.specs.Due.{read_as}
-use Rattle.ill_elements.specs.Two.{is_found_of}
-use Rattle.ill_elements.specs.declared.element.Element.TheVariants.{BitSegment, Segment}
+use Rattle.ill_grammar.specs.Due.{read_as}
+use Rattle.ill_grammar.specs.Two.{is_found_of}
+use Rattle.ill_grammar.specs.declared.element.Element.TheVariants.{BitSegment, Segment}
 use Rattle.ill_read.specs.code.Drafts.{ChecksText, HasClosed}
 use Rattle.ill_read.specs.code.Judged.{IsStep}
 use Rattle.ill_read.specs.declared.path.Path.{Path}
 use Rattle.ill_read.proofs.ClosedElements.{segment_closed, element_closed, element_refused, handed_on}
-use Rattle.ill_elements.specs.Standing.{next_at}
-use Rattle.ill_elements.proofs.OfTwo.{after_of, closed_of}
+use Rattle.ill_grammar.specs.Standing.{next_at}
+use Rattle.ill_grammar.proofs.OfTwo.{after_of, closed_of}
 use Rattle.ill_read.proofs.path.Path.close.Goals as goal
 
 pub returns-in-Segment-clause-exact : goal.returns-in-Segment-clause-exact

@@ -1,10 +1,10 @@
 use Rattle.std.proofs.Common.{sym, subst}
-use Rattle.ill_elements.specs.LeafTypes.{IsContentIn, leaf_is}
-use Rattle.ill_elements.specs.Due.{shape}
+use Rattle.ill_grammar.specs.LeafTypes.{IsContentIn, leaf_is}
+use Rattle.ill_grammar.specs.Due.{shape}
 use Rattle.ill_read.specs.code.Drafts.{HasLeaf}
 use Rattle.ill_read.proofs.PrimitiveElements.{leaf_read}
-use Rattle.ill_elements.specs.Standing.{next_at}
-use Rattle.ill_elements.proofs.OfTwo.{after_of}
+use Rattle.ill_grammar.specs.Standing.{next_at}
+use Rattle.ill_grammar.proofs.OfTwo.{after_of}
 use Rattle.ill_read.proofs.path.Path.take_leaf.Goals as goal
 
 pub leaf-requires-clause-content : goal.leaf-requires-clause-content

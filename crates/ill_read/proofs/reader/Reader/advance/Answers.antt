@@ -3,10 +3,10 @@ use Rattle.ill_read.proofs.ProfileOfPath.{stands_at}
 use Rattle.std.proofs.Common.{◌≡◌, ◌-◌, ◌++◌, ◌∙◌, ℕ, List, [], Bor, true, false, take, drop, length, refl, sym, ap, subst, arith, take_all, take-append-drop}
 use Rattle.ill_refusals.specs.Place.{bound}
 use Rattle.ill_read.specs.Paths.{HoldsAt}
-use Rattle.ill_elements.specs.Standing.{StandsAt, StandsBefore}
+use Rattle.ill_grammar.specs.Standing.{StandsAt, StandsBefore}
 use Rattle.ill_read.specs.code.ReaderCode.{HasRead, InState}
 use Rattle.ill_read.specs.declared.reader.State.TheVariants.{Open}
-use Rattle.ill_elements.proofs.Judgements.{ended_judged, within_judged}
+use Rattle.ill_grammar.proofs.Judgements.{ended_judged, within_judged}
 use Rattle.ill_read.proofs.reader.Reader.advance.Goals as goal
 use Rattle.ill_read.proofs.reader.Reader.advance.Goals.{in-Open, in_default, then-rest-room, else-rest-room}
 

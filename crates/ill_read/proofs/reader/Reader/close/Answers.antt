@@ -8,7 +8,7 @@ use Rattle.ill_read.proofs.reader.Reader.close.Goals as goal
 pub returns-in-Ok-clause-goes : goal.returns-in-Ok-clause-goes
 returns-in-Ok-clause-goes g c p s rest can progress =
     let d = c.args.self.now in let b = can.0 in
-    c.go_on.ensures.goes p (subst g.D.Draft.takes b.stands.3 c.requires.takes) d.path s rest (Closes c.args.marks) b progress can.1 refl
+    c.move_on.ensures.goes p (subst g.D.Draft.takes b.stands.3 c.requires.takes) d.path s rest (Closes c.args.marks) b progress can.1 refl
     (c.in-Ok.ensures.exact p b.place c.args.marks d.at rest (judge (profile_of p) b.place d.at rest) b.stands can.1)
 
 pub returns-in-Err-clause-goes : goal.returns-in-Err-clause-goes

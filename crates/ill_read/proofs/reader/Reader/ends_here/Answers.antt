@@ -1,5 +1,5 @@
 use Rattle.std.proofs.Common.{◌∙◌, sym, arith}
-use Rattle.ill_elements.proofs.Judgements.{ends_at_bound}
+use Rattle.ill_grammar.proofs.Judgements.{ends_at_bound}
 use Rattle.ill_read.proofs.reader.Reader.ends_here.Goals as goal
 
 pub returns-then-room-gt0-clause-exact : goal.returns-then-room-gt0-clause-exact

@@ -8,11 +8,11 @@ use Rattle.ill_read.proofs.ProfileOfPath.{stands_at}
 use Rattle.std.proofs.Common.{◌≡◌, ◌≤◌, ℕ, List, length, take, ap, subst, ◌∙◌, arith}
 use Rattle.std.proofs.lemmas.List.{take_all}
 use Rattle.ill_read.specs.Paths.{HoldsAt}
-use Rattle.ill_elements.specs.Standing.{Level, StandsAt, StandsLast}
-use Rattle.ill_elements.specs.Need.{IsNeed}
+use Rattle.ill_grammar.specs.Standing.{Level, StandsAt, StandsLast}
+use Rattle.ill_grammar.specs.Need.{IsNeed}
 use Rattle.ill_read.specs.declared.path.Path.{Path}
 use Rattle.ill_read.specs.declared.reader.Reader.{Reader}
-use Rattle.ill_elements.proofs.PlaceNeeds.{few}
+use Rattle.ill_grammar.proofs.PlaceNeeds.{few}
 use Rattle.ill_read.proofs.NeededOctets.{needs_after, need_open, need_at_least}
 use Rattle.ill_read.proofs.reader.Reader.need.Goals as goal
 

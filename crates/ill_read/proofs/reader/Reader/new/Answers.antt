@@ -1,6 +1,6 @@
 use Rattle.std.proofs.Common.{[], refl, sym, subst}
 use Rattle.ill_read.specs.Paths.{HoldsAt}
-use Rattle.ill_elements.specs.Standing.{StandsLast}
+use Rattle.ill_grammar.specs.Standing.{StandsLast}
 use Rattle.ill_read.proofs.reader.Reader.new.Goals as goal
 
 pub returns-clause-open : goal.returns-clause-open

@@ -10,7 +10,7 @@ pub returns-in-Ok-clause-goes : goal.returns-in-Ok-clause-goes
 returns-in-Ok-clause-goes g c p s rest can progress =
     let d = c.args.self.now in let b = can.0 in
     let made = subst (λ x. IsStep p g.D.Draft.holds c.open.new.self (Ok false) (moved x b.place d.at rest)) (sym can.1.1) (c.in-Ok.ensures.exact p b.place b.stands can.1.0) in
-    c.go_on.ensures.goes p (subst g.D.Draft.takes b.stands.3 c.requires.takes) d.path s rest (Opens c.args.opening) b progress can.1 refl made
+    c.move_on.ensures.goes p (subst g.D.Draft.takes b.stands.3 c.requires.takes) d.path s rest (Opens c.args.opening) b progress can.1 refl made
 
 pub returns-in-Err-clause-goes : goal.returns-in-Err-clause-goes
 returns-in-Err-clause-goes g c p s rest can progress = c.fail.ensures.goes p s rest (subst (IsRefusedIn (profile_of p) s) (sym c.from.ensures) tt)

@@ -2,7 +2,7 @@ use Rattle.std.proofs.Common.{length, subst, arith, ap, length-append}
 use Rattle.ber_core.specs.Id.{tag_of_id}
 use Rattle.ill_schema.specs.Profiles.{profile_of}
 use Rattle.ill_refusals.specs.code.Judge.{judge}
-use Rattle.ill_elements.specs.code.Judging.{Fits, IsBegin, IsExtent}
+use Rattle.ill_grammar.specs.code.Judging.{Fits, IsBegin, IsExtent}
 use Rattle.std.proofs.Common.{Ok}
 use Rattle.ill_read.proofs.reader.Reader.open_or_read.Goals as goal
 

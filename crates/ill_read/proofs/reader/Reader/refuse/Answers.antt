@@ -1,7 +1,7 @@
 use Rattle.std.proofs.Common.{◌≡◌, ◌≢◌, true, false, sym, subst, ◌∙◌}
 use Rattle.ill_schema.specs.declared.refusal.Cause.{Cause}
 use Rattle.ill_read.specs.Paths.{HoldsAt}
-use Rattle.ill_elements.specs.Standing.{StandsLast}
+use Rattle.ill_grammar.specs.Standing.{StandsLast}
 use Rattle.ill_read.specs.code.ReaderCode.{HasRead, InState}
 use Rattle.ill_read.proofs.MessageEnds.{stops_open, stops_refused}
 use Rattle.ill_read.proofs.reader.Reader.refuse.Goals as goal

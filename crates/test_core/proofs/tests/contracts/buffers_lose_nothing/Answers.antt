@@ -7,8 +7,8 @@ returns c =
     let shown = c.in-Ok-from_slice.shown.items in
     shown_runs _ _ _ _ c.args.octets.now _ shown _ _ _
     c.in-Ok.ensures.left
-    (c.in-Ok-from_slice.ensures.items ∙ c.at_hand.ensures.hand)
-    (c.len.ensures ∙ c.in-Ok-from_slice.ensures.len ∙ ap length c.at_hand.ensures.hand)
+    (c.in-Ok-from_slice.ensures.items ∙ c.buffered.ensures.hand)
+    (c.len.ensures ∙ c.in-Ok-from_slice.ensures.len ∙ ap length c.buffered.ensures.hand)
     c.in-Ok-take.ensures.octets.0
-    c.pass.ensures.octets
+    c.consume.ensures.octets
     c.in-Ok-take-2.ensures.octets.0

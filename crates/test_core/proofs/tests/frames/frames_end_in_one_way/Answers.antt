@@ -13,6 +13,6 @@ prove-unreachable-requires c =
 
 pub prove-unreachable-requires-2 : goal.prove-unreachable-requires-2
 prove-unreachable-requires-2 c =
-    let same : c.frame.result ≡ c.frame-2.result = judged_once c.args.octets.now c.feed-first.result c.feed-second.result c.frame.result c.frame-2.result c.if-prove.false
-    (c.frame.ensures _ (c.feed-first.ensures.fed [] c.new-one.ensures)) (c.frame-2.ensures _ (c.feed-second.ensures.fed [] c.new-other.ensures)) in
+    let same : c.framing.result ≡ c.framing-2.result = judged_once c.args.octets.now c.feed-first.result c.feed-second.result c.framing.result c.framing-2.result c.if-prove.false
+    (c.framing.ensures _ (c.feed-first.ensures.fed [] c.new-one.ensures)) (c.framing-2.ensures _ (c.feed-second.ensures.fed [] c.new-other.ensures)) in
     search rules

@@ -1,7 +1,7 @@
 use Rattle.std.proofs.Common.{◌∙◌, ap, subst}
 use Rattle.clap.specs.Words.{fault_of}
-use Rattle.ill_orders.specs.CommandLine.{program}
-use Rattle.ill_orders.specs.Refused.{IsRefusedBy}
+use Rattle.ill_args.specs.CommandLine.{program}
+use Rattle.ill_args.specs.Refused.{IsRefusedBy}
 use Rattle.test_cli.proofs.Profiles.{two_names}
 use Rattle.test_cli.proofs.tests.orders.contracts.a_profile_is_named_once.Goals as goal
 

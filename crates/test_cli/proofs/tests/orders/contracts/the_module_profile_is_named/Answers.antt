@@ -2,7 +2,7 @@ use Rattle.std.proofs.Common.{◌∙◌, ap}
 use Rattle.std.proofs.lemmas.Result.{IfOk-weaker}
 use Rattle.clap.specs.Words.{subcommand_of}
 use Rattle.ill_schema.specs.declared.profile.Profile.{Profile}
-use Rattle.ill_orders.specs.CommandLine.{program}
+use Rattle.ill_args.specs.CommandLine.{program}
 use Rattle.test_cli.proofs.Profiles.{named_in, profile_of, module_name}
 use Rattle.test_cli.proofs.tests.orders.contracts.the_module_profile_is_named.Goals as goal
 

@@ -1,8 +1,0 @@
-use Rattle.std.proofs.Common.{sym, ◌∙◌}
-use Rattle.ber_core.specs.Identifier.{identifier}
-use Rattle.ber_buffer.proofs.OpenElements.{closed_element}
-use Rattle.ber_buffer.proofs.der_buffer.DerBuffer.close.Goals as goal
-
-pub returns-clause-element : goal.returns-clause-element
-returns-clause-element c before body tag form x e l =
-    rw (sym (closed_element before (identifier tag form) body c.self.inside.octets.items x c.args.base (c.self.view_is ∙ e) l)) c.set_length.ensures

@@ -1,0 +1,107 @@
+-- The command line that the program has, as clap's contracts see it.
+use Rattle.std.specs.Prelude.{true, List, [], ◌∷◌, codes, Some}
+use Rattle.std.specs.Borrow.{Bor}
+use Rattle.clap.specs.Walk.{Rule, Text}
+use Rattle.clap.specs.Simple.{App, new_app, new_rule, with_rule, with_subcommand}
+use Rattle.clap.specs.declared.builder.action.ArgAction.TheVariants.{Append, SetTrue}
+use Rattle.clap.specs.declared.builder.value_parser.ValueParser.TheVariants.{Names}
+use Rattle.ill_schema.specs.declared.profile.Profile.{Profile}
+use Rattle.ill_args.specs.Orders.{profile_name}
+
+-- the flag `--NAME`
+abbrev pub flag_rule : Text → Rule
+flag_rule name = record (new_rule name) { long = Some name; action = Some SetTrue }
+
+-- a file that must be named
+abbrev pub file_rule : Text → Rule
+file_rule id = record (new_rule id) { value_names = 1; required = true }
+
+-- the option `--files-from LIST`
+abbrev pub list_rule : Rule
+list_rule = record (new_rule (codes "files-from")) { long = Some (codes "files-from"); value_names = 1 }
+
+-- any number of files
+abbrev pub files_rule : Rule
+files_rule = record (new_rule (codes "file")) { value_names = 1; action = Some Append }
+
+-- the option `-o OUT`, `--output OUT`
+abbrev pub output_rule : Rule
+output_rule = record (new_rule (codes "output")) { long = Some (codes "output"); short = Some 111; value_names = 1 }
+
+-- names of profiles, with the places where they are in memory
+abbrev pub ProfileNames : Type 0
+ProfileNames = Bor (List (Bor Text))
+
+-- the option `--profile NAME`, where NAME is one of these names; without it, profile 2
+abbrev pub profile_rule : ProfileNames → Rule
+profile_rule names = record (new_rule (codes "profile")) {
+  long = Some (codes "profile");
+  value_names = 1;
+  defaults = profile_name Profile.Two ∷ [];
+  parser = Some (Names names);
+}
+
+-- a command and its files
+abbrev pub with_files : App → App
+with_files a = with_rule (with_rule a list_rule) files_rule
+
+abbrev pub top : App
+top = let a = new_app (codes "illcanon") in
+    record a { top = record a.top { has_version = true; subcommand_required = true; arg_required_else_help = true } }
+
+-- a topic of `help`: a command that has only a help text
+abbrev pub topic : Text → App
+topic name = let a = new_app name in
+    record a { top = record a.top { subcommand_required = true; arg_required_else_help = true } }
+
+module _ (names : ProfileNames) where
+  -- a command on any number of files, one that goes on after a message that is refused, counts messages and writes JSON, and one that has lines, too
+
+  abbrev pub with_hex : Text → App
+  with_hex name = with_rule (with_rule (new_app name) (flag_rule (codes "hex"))) (profile_rule names)
+
+  abbrev pub each_file : Text → App
+  each_file name = with_files (with_hex name)
+
+  abbrev pub each_counted : Text → App
+  each_counted name = with_rule (with_rule (each_file name) (flag_rule (codes "keep-going"))) (flag_rule (codes "summary"))
+
+  abbrev pub each_going : Text → App
+  each_going name = with_rule (each_counted name) (flag_rule (codes "json"))
+
+  abbrev pub with_going : Text → App
+  with_going name = with_rule (with_rule (with_hex name) (flag_rule (codes "keep-going"))) (flag_rule (codes "summary"))
+
+  abbrev pub with_lines : Text → App
+  with_lines name = with_rule (with_going name) (flag_rule (codes "lines"))
+
+  abbrev pub each_line : Text → App
+  each_line name = with_files (with_lines name)
+
+  -- a command on two files
+  abbrev pub two_files : Text → App
+  two_files name = with_rule (with_rule (with_hex name) (file_rule (codes "first"))) (file_rule (codes "second"))
+
+  -- a command that writes what it makes of any number of files into one, or of one file into another
+  abbrev pub with_whole : Text → App
+  with_whole name = with_rule (with_lines name) (flag_rule (codes "whole"))
+
+  abbrev pub with_output : Text → App
+  with_output name = with_rule (with_whole name) output_rule
+
+  abbrev pub into_one : Text → App
+  into_one name = with_files (with_output name)
+
+  -- the program with its six commands, and two topics
+  abbrev pub program_of : App
+  program_of = with_subcommand (with_subcommand (with_subcommand (with_subcommand (with_subcommand (with_subcommand (with_subcommand (with_subcommand top
+      (each_going (codes "show")).top) (each_line (codes "check")).top) (each_line (codes "digest")).top) (each_file (codes "dump")).top)
+      (two_files (codes "same")).top) (into_one (codes "canonicalise")).top) (topic (codes "causes")).top) (topic (codes "profile")).top
+
+-- a reference, where the place in memory makes no difference
+abbrev pub reference : {X : Type 0} → X → Bor X
+reference x = record { ref_ptr = (0, 0); now = x }
+
+-- the program, where each profile can be named
+abbrev pub program : App
+program = program_of (reference (reference (profile_name Profile.Two) ∷ reference (profile_name Profile.Module) ∷ []))

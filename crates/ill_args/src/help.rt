@@ -1,0 +1,162 @@
+//! The end of each help text: what is written, an example, and the statuses.
+
+pub const PROGRAM: &str = "\
+`-` in place of a file is standard input, or standard output for OUT.
+
+Example: illcanon check messages.ber
+
+`illcanon help causes` explains why messages are refused, and `illcanon help profile`
+says what is read of a message in each profile.
+
+Status: 0 done, and all is well; 1 a message is refused or not normal, messages are
+different, or the hexadecimal text is invalid; 2 usage; 3 memory, files or pipes.";
+
+pub const SHOW: &str = "\
+Each message is a line `message 1 Expired` and then a line for each leaf, as
+`service-date-time.date-time-of-this-service.date = 20240229`. Of several files, the
+first line of each message begins with the name of its file and `: `.
+
+With --json each message is one line of JSON: its number, its offset and size in octets,
+its APDU, whether it is in normal form, and its value, nested by the names of the tables.
+Of several files, the line has the name of its file as `file`.
+
+With --keep-going each message that is refused has its line on standard error, and the
+next one is read, where the end of the refused one is known.
+
+With --summary a line on standard error at the end says how many files, messages and
+octets were read, and how many messages are in normal form, are not, and are refused.
+On a terminal, a line says how far the work is, where it takes more than two seconds.
+
+Example: illcanon show messages.ber
+         illcanon show --keep-going messages.ber 2> refused.txt
+         illcanon show --profile module messages.ber
+         illcanon show --json messages.ber | jq -r .apdu | sort | uniq -c
+
+Status: 0 done; 1 a message is refused, or the hexadecimal text is invalid; 2 usage;
+3 memory, files or pipes. Of several files: 3 if one gave 3, else 1 if one gave 1.";
+
+pub const CHECK: &str = "\
+Each message has a line, as `message 1: Expired, 33 octets, normal` or
+`message 2: Expired, 47 octets, not normal, normal form 33 octets`. Of several files,
+each line begins with the name of its file and `: `.
+
+With --keep-going each message that is refused has its line on standard error, and the
+next one is read, where the end of the refused one is known.
+
+With --summary a line on standard error at the end says how many files, messages and
+octets were read, and how many messages are in normal form, are not, and are refused.
+On a terminal, a line says how far the work is, where it takes more than two seconds.
+
+Example: illcanon check messages.ber | grep 'not normal'
+         illcanon check --keep-going archive/*.ber > lines.txt 2> refused.txt
+         find archive -name '*.ber' -print0 | illcanon check --files-from -
+         illcanon check --lines messages.txt | grep -n refused
+         illcanon check --keep-going --summary archive/*.ber > lines.txt
+
+Status: 0 all are normal; 1 one is not normal or is refused, or the hexadecimal text
+is invalid; 2 usage; 3 memory, files or pipes. Of several files: 3 if one gave 3,
+else 1 if one gave 1.";
+
+pub const DIGEST: &str = "\
+Each message has a line: its digest, which is SHA-256 of its normal form, in hexadecimal
+digits, two blanks, the name of the file, `:` and the number of the message. Messages
+that say the same have the same digest, however they are spelled.
+
+With --keep-going each message that is refused has its line on standard error, and the
+next one is read, where the end of the refused one is known.
+
+With --summary a line on standard error at the end says how many files, messages and
+octets were read, and how many messages are in normal form, are not, and are refused.
+On a terminal, a line says how far the work is, where it takes more than two seconds.
+
+Example: illcanon digest *.ber | sort | uniq -w 64 -D    # copies
+         illcanon digest --keep-going archive/*.ber > digests.txt 2> refused.txt
+         illcanon digest --lines messages.txt | paste - messages.txt
+
+Status: 0 done; 1 a message is refused, or the hexadecimal text is invalid; 2 usage;
+3 memory, files or pipes. Of several files: 3 if one gave 3, else 1 if one gave 1.";
+
+pub const DUMP: &str = "\
+Each message has the line that `check` writes, and then a line for each element as it is
+spelled: its offset in the message, its identifier and length octets, its name in the
+tables, and the value of a leaf; and in brackets what is not normal in its spelling, as
+`indefinite`, `length in 3 octets where 1 does`, `segment`, `default written`,
+`TRUE as 01` or `without inner SEQUENCE`. Where a message is refused, the elements
+before the place have their lines, and then comes the refusal: the cause in words, the
+names of the elements around the place, what was found there, and which tags were due.
+
+Example: illcanon dump messages.ber
+         echo 740430020500 | illcanon dump --hex -
+
+`illcanon help causes` explains each cause, and `illcanon help profile` says what is
+read of a message in each profile.
+
+Status: 0 done; 1 a message is refused, or the hexadecimal text is invalid; 2 usage;
+3 memory, files or pipes. Of several files: 3 if one gave 3, else 1 if one gave 1.";
+
+pub const SAME: &str = "\
+Writes `same` or `different`. Each file holds one message; at most one file is `-`.
+
+`same` is never wrong. With --profile module `different` may be too fine:
+`illcanon help profile` says where.
+
+Example: illcanon same sent.ber received.ber
+
+Status: 0 same; 1 different, or a file is not one message; 2 usage; 3 memory, files
+or pipes.";
+
+pub const CANONICALISE: &str = "\
+OUT is replaced, whatever it held. Where a message is refused, it then holds only the
+messages before it: none if the first is refused, or if the hexadecimal text is invalid.
+With --whole OUT is replaced only if every message of every input was good; otherwise it
+stays as it was.
+
+OUT also stays as it was if the input can't be read, if the output can't be written, if
+memory runs out, or if the command is killed: where OUT is absent, or a regular file with
+one name, the output is written to a new file beside it, OUT.part, which takes the name
+OUT at the end. If the command is killed, OUT.part is left, and may be removed. If it is
+there already, OUT.part1 to OUT.part99 are tried. All other files (devices, pipes, links,
+files with several names) are written directly, and so is OUT where no new file can be
+made; a line on standard error says so if a regular file is written. --whole refuses
+them. Access control lists and extended attributes of OUT are not kept.
+
+With --hex the output has a line of hexadecimal digits for each message, and otherwise
+the octets. IN and OUT must be different files.
+
+With -o OUT the normal forms of the messages of each FILE go to OUT, one file after the
+other. A file that can't be opened doesn't stop the others, unless --whole is given. OUT
+is as it was if none can be opened. It must not be one of the files.
+
+With --keep-going each message that is refused has its line on standard error, and the
+next one is read, where the end of the refused one is known.
+
+With --summary a line on standard error at the end says how many files, messages and
+octets were read, and how many messages are in normal form, are not, and are refused.
+On a terminal, a line says how far the work is, where it takes more than two seconds.
+
+With --lines each line of OUT is the normal form of the message in this line of IN, or
+why the line is not a message, as `refused at 0: Truncated` or `hex: odd number of digits`.
+
+Example: illcanon canonicalise messages.ber messages.der
+         illcanon canonicalise --whole messages.ber messages.der
+         illcanon canonicalise --keep-going -o all.der archive/*.ber
+         illcanon canonicalise --lines messages.txt - | sort -u
+
+Status: 0 done; 1 a message is refused, or the hexadecimal text is invalid; 2 usage,
+or IN and OUT are the same file; 3 memory, files or pipes. Of several files: 3 if one
+gave 3, else 1 if one gave 1.";
+
+/// The two forms of `canonicalise`.
+pub const CANONICALISE_USAGE: &str = "\
+illcanon canonicalise [OPTIONS] <IN> <OUT>
+       illcanon canonicalise [OPTIONS] -o <OUT> <FILE>...";
+
+/// The line for what is missing, as clap says it.
+pub const NO_FILE: &str =
+    "the following required arguments were not provided:\n  <FILE>..., or --files-from <LIST>";
+
+pub const NO_IN: &str = "the following required arguments were not provided:\n  <IN>\n  <OUT>";
+
+pub const NO_OUT: &str = "the following required arguments were not provided:\n  <OUT>";
+
+pub const NO_OUTPUT: &str = "the following required arguments were not provided:\n  -o <OUT>";

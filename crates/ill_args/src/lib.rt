@@ -1,0 +1,22 @@
+//! The command line of the program `illcanon`: which order its words give, or why they give none. A caller needs it only to read the same
+//! command line.
+//!
+//! ```
+//! match order(alloc, &words) {
+//!     Ok(order) => println!(rt; "{order:?}"),
+//!     Err(fault) => println!(rt; "{fault}"),
+//! }
+//! ```
+#![tactic(auto)]
+
+mod commands;
+mod fault;
+mod help;
+mod line;
+mod matches;
+mod orders;
+mod topics;
+
+pub use fault::LineFault;
+pub use line::order;
+pub use orders::{FileJob, Inputs, Order, Task, Verb};

@@ -1,3 +1,0 @@
-pub mod Cells
-pub mod Places
-pub mod code

@@ -1,0 +1,144 @@
+-- Which result a text or plain octets have.
+use Rattle.std.proofs.Common.{◌≡◌, ℕ, ◌+◌, ◌<◌, Bool, true, false, List, [], ◌++◌, length, Option, Some, None, Result, Ok, Err, IfSome, refl, sym, ap, subst, ◌∙◌, inl, inr, arith, append-nil, length-append}
+use Rattle.std.specs.Prelude.{IfOk, IfErr, if◌then◌else◌}
+use Rattle.std.specs.Io.KnownBytes.{IsAtEnd}
+use Rattle.std.proofs.lemmas.Bool.{cases_lt, lt-ltb}
+use Rattle.hex.specs.Hex.{decode_of}
+use Rattle.ber_leaf.specs.Profile.{Profile}
+use Rattle.ill_schema.specs.Profiles.{profile_of}
+use Rattle.ill_refusals.specs.Fault.{Fault}
+use Rattle.ill_normal.proofs.InputAnswers.{front}
+use Rattle.ill_normal.specs.Calls.{taking, putting}
+use Rattle.ill_commands.specs.declared.job.Counts.{Counts}
+use Rattle.ill_commands.specs.declared.job.Job.{Job}
+use Rattle.ill_commands.specs.declared.job.Verdict.{Verdict}
+use Rattle.ill_commands.specs.declared.job.JobOptions.{JobOptions}
+use Rattle.ill_commands.specs.declared.fault.RunFault.{RunFault}
+use Rattle.ill_commands.specs.Hexadecimal.{hex_octets, with_fault, without_blanks, TakesText}
+use Rattle.ill_normal.specs.Messages.{AreSpelledIn}
+use Rattle.ill_commands.specs.Runs.{Done, StopsAfter, TextOf, NoHex, FailsText, IsUnread, IsFault, IsRefused, DoesMessages, RefusesFirst, RefusesMore, RefusesText}
+use Rattle.ill_commands.proofs.JobAnswers.{does, refuses, refuses_more}
+
+too_long : (text : List ℕ) → 4_194_304 < length text → hex_octets text ≡ Err RunFault.HexTooLong
+too_long text h = ap (λ (b : Bool). if b then Err RunFault.HexTooLong else with_fault (decode_of (without_blanks text))) (lt-ltb 4_194_304 (length text) h)
+
+-- the text that was taken stands for what the whole does
+pub same_octets : (s : List ℕ) (left' : Option (List ℕ)) (text : List ℕ) → TakesText (Some s) left' text → hex_octets s ≡ hex_octets text
+same_octets s left' text h = elim (cases_lt 4_194_304 (length text)) [
+  | inl lt ↦
+      let t = front s left' text h.0 in
+      let more : 4_194_304 < length s = omega (arith, lt, ap length t.1, length-append text t.0) in
+      too_long s more ∙ sym (too_long text lt)
+  | inr le ↦
+      let t = front s left' text h.0 in
+      let none : t.0 ≡ [] = subst IsAtEnd t.2 (h.2 le) in
+      ap hex_octets (t.1 ∙ ap (λ l. text ++ l) none ∙ append-nil text)
+]
+
+pub same_ok : (r : Result (List ℕ) RunFault) (a b : List ℕ) → r ≡ Ok a → r ≡ Ok b → a ≡ b
+same_ok r a b e f = cc
+
+pub same_err : (r : Result (List ℕ) RunFault) (e f : RunFault) → r ≡ Err e → r ≡ Err f → e ≡ f
+same_err r e f h k = cc
+
+pub not_both : (r : Result (List ℕ) RunFault) (a : List ℕ) (e : RunFault) → r ≡ Ok a → r ≡ Err e → ⊥
+not_both r a e h k = cc
+
+module _ (work : JobOptions) (held held' : Option (List ℕ)) (x y : Bool) (answer : Result Verdict RunFault) (counts : Counts) where
+  abbrev q : Profile
+  q = profile_of work.profile
+
+  -- octets as they are
+  pub plain_does : (left left' : Option (List ℕ)) → IfOk answer (Done work left left' held held' counts) → IfErr answer (StopsAfter work (taking left left' x) (putting held held' y) counts)
+      → IfSome left (λ s. DoesMessages q work.job false s answer)
+  plain_does None left' d n = tt
+  plain_does (Some s) left' d n = λ octets ms e h le.
+      does work s left' held held' counts x y answer d n ms (subst (λ z. AreSpelledIn q z ms []) (sym (same_ok (Ok s) s octets refl e)) h) le
+
+  pub plain_refuses : (left left' : Option (List ℕ)) → IfOk answer (Done work left left' held held' counts) → IfErr answer (StopsAfter work (taking left left' x) (putting held held' y) counts)
+      → IfSome left (λ s. RefusesFirst q false s answer)
+  plain_refuses None left' d n = tt
+  plain_refuses (Some s) left' d n = λ octets rest ms f e h lt some only.
+      refuses work s left' held held' counts x y answer d n rest ms f (subst (λ z. AreSpelledIn q z ms rest) (sym (same_ok (Ok s) s octets refl e)) h) lt some only
+
+  pub plain_more : (left left' : Option (List ℕ)) → IfOk answer (Done work left left' held held' counts) → IfErr answer (StopsAfter work (taking left left' x) (putting held held' y) counts)
+      → IfSome left (λ s. RefusesMore q false s answer)
+  plain_more None left' d n = tt
+  plain_more (Some s) left' d n = λ octets rest ms e h many some.
+      refuses_more work s left' held held' counts x y answer d n rest ms (subst (λ z. AreSpelledIn q z ms rest) (sym (same_ok (Ok s) s octets refl e)) h) many some
+
+  pub plain_text : (left : Option (List ℕ)) → IfSome left (λ s. RefusesText false s answer)
+  plain_text None = tt
+  plain_text (Some s) = λ fault e. absurd (not_both (Ok s) s fault refl e)
+
+  -- the octets of a text
+  module _ (octets : List ℕ) (rest : Option (List ℕ)) (d : IfOk answer (Done work (Some octets) rest held held' counts))
+      (n : IfErr answer (StopsAfter work (taking (Some octets) rest x) (putting held held' y) counts)) where
+    stands : (s : List ℕ) (left' : Option (List ℕ)) → TextOf (Some s) left' octets → hex_octets s ≡ Ok octets
+    stands s left' t = same_octets s left' t.text t.taken ∙ t.stands
+
+    pub text_does : (left left' : Option (List ℕ)) → TextOf left left' octets → IfSome left (λ s. DoesMessages q work.job true s answer)
+    text_does None left' t = tt
+    text_does (Some s) left' t = λ o ms e h le.
+        does work octets rest held held' counts x y answer d n ms (subst (λ z. AreSpelledIn q z ms []) (same_ok (hex_octets s) o octets e (stands s left' t)) h) le
+
+    pub text_refuses : (left left' : Option (List ℕ)) → TextOf left left' octets → IfSome left (λ s. RefusesFirst q true s answer)
+    text_refuses None left' t = tt
+    text_refuses (Some s) left' t = λ o r ms f e h lt some only.
+        refuses work octets rest held held' counts x y answer d n r ms f (subst (λ z. AreSpelledIn q z ms r) (same_ok (hex_octets s) o octets e (stands s left' t)) h) lt some only
+
+    pub text_more : (left left' : Option (List ℕ)) → TextOf left left' octets → IfSome left (λ s. RefusesMore q true s answer)
+    text_more None left' t = tt
+    text_more (Some s) left' t = λ o r ms e h many some.
+        refuses_more work octets rest held held' counts x y answer d n r ms (subst (λ z. AreSpelledIn q z ms r) (same_ok (hex_octets s) o octets e (stands s left' t)) h) many some
+
+    pub text_stands : (left left' : Option (List ℕ)) → TextOf left left' octets → IfSome left (λ s. RefusesText true s answer)
+    text_stands None left' t = tt
+    text_stands (Some s) left' t = λ fault e. absurd (not_both (hex_octets s) octets fault (stands s left' t) e)
+
+pub is_fault : (n : ℕ) (left left' : Option (List ℕ)) (x : Bool) (e : RunFault) → IsUnread n left left' x e → IsFault e
+is_fault n left left' x RunFault.OutOfMemory h = tt
+is_fault n left left' x RunFault.ReadFault h = tt
+is_fault n left left' x (RunFault.Refused message refusal) h = absurd h
+is_fault n left left' x (RunFault.RefusedSide side refusal) h = absurd h
+is_fault n left left' x RunFault.OddHex h = absurd h
+is_fault n left left' x (RunFault.BadHex i) h = absurd h
+is_fault n left left' x RunFault.HexTooLong h = absurd h
+is_fault n left left' x RunFault.TooManyMessages h = absurd h
+is_fault n left left' x (RunFault.WriteFault i) h = absurd h
+
+refused_or : (n : ℕ) (left left' : Option (List ℕ)) (x : Bool) (e : RunFault) (i : ℕ) (f : Fault) → IsUnread n left left' x e → IsRefused e i f
+refused_or n left left' x RunFault.OutOfMemory i f h = tt
+refused_or n left left' x RunFault.ReadFault i f h = tt
+refused_or n left left' x (RunFault.Refused message refusal) i f h = absurd h
+refused_or n left left' x (RunFault.RefusedSide side refusal) i f h = absurd h
+refused_or n left left' x RunFault.OddHex i f h = absurd h
+refused_or n left left' x (RunFault.BadHex place) i f h = absurd h
+refused_or n left left' x RunFault.HexTooLong i f h = absurd h
+refused_or n left left' x RunFault.TooManyMessages i f h = absurd h
+refused_or n left left' x (RunFault.WriteFault count) i f h = absurd h
+
+-- a text that was not read, or stands for nothing
+module _ (q : Profile) (job : Job) (x : Bool) (e : RunFault) where
+  stands_not : (s : List ℕ) (left' : Option (List ℕ)) → NoHex (Some s) left' e → hex_octets s ≡ Err e
+  stands_not s left' t = same_octets s left' t.text t.taken ∙ t.stands
+
+  pub unread_does : (left left' : Option (List ℕ)) → FailsText left left' x e → IfSome left (λ s. DoesMessages q job true s (Err e))
+  unread_does None left' h = tt
+  unread_does (Some s) left' (inl t) = λ o ms k h le. absurd (not_both (hex_octets s) o e k (stands_not s left' t))
+  unread_does (Some s) left' (inr u) = λ o ms k h le. is_fault 4_194_305 (Some s) left' x e u
+
+  pub unread_refuses : (left left' : Option (List ℕ)) → FailsText left left' x e → IfSome left (λ s. RefusesFirst q true s (Err e))
+  unread_refuses None left' h = tt
+  unread_refuses (Some s) left' (inl t) = λ o r ms f k h lt some only. absurd (not_both (hex_octets s) o e k (stands_not s left' t))
+  unread_refuses (Some s) left' (inr u) = λ o r ms f k h lt some only. refused_or 4_194_305 (Some s) left' x e (length ms + 1) f u
+
+  pub unread_more : (left left' : Option (List ℕ)) → FailsText left left' x e → IfSome left (λ s. RefusesMore q true s (Err e))
+  unread_more None left' h = tt
+  unread_more (Some s) left' (inl t) = λ o r ms k h many some. absurd (not_both (hex_octets s) o e k (stands_not s left' t))
+  unread_more (Some s) left' (inr u) = λ o r ms k h many some. inr (is_fault 4_194_305 (Some s) left' x e u)
+
+  pub unread_text : (left left' : Option (List ℕ)) → FailsText left left' x e → IfSome left (λ s. RefusesText true s (Err e))
+  unread_text None left' h = tt
+  unread_text (Some s) left' (inl t) = λ fault k. inl (same_err (hex_octets s) e fault (stands_not s left' t) k)
+  unread_text (Some s) left' (inr u) = λ fault k. inr (is_fault 4_194_305 (Some s) left' x e u)

@@ -1,0 +1,180 @@
+-- What a job does to its source and its sink.
+use Rattle.std.specs.Prelude.{◌≡◌, ◌⊎◌, ℕ, ◌+◌, ◌<◌, ◌≤◌, Bool, true, false, List, [], ◌∷◌, ◌++◌, length, take, codes, Option, Some, Result, Ok, Err, IfSome, IsTrue}
+use Rattle.std.specs.Io.KnownBytes.{Consumes, Keeps, Appends, IsAtEnd}
+use Rattle.ber_leaf.specs.Profile.{Profile}
+use Rattle.ill_schema.specs.Apdu.{SpellsApdu}
+use Rattle.ill_schema.specs.Profiles.{profile_of}
+use Rattle.ill_schema.specs.declared.profile.Profile.{Profile as Named}
+use Rattle.ill_refusals.specs.Fault.{Fault, fault_of}
+use Rattle.ill_read.specs.declared.failure.ReadFailure.{ReadFailure}
+use Rattle.ill_read.specs.Answers.{TakesFront}
+use Rattle.ill_refusals.specs.Outcome.{OnlyRefuses}
+use Rattle.ill_normal.specs.Calls.{Taking, taking, Putting, putting}
+use Rattle.ill_commands.specs.declared.job.Counts.{Counts}
+use Rattle.ill_commands.specs.declared.job.Job.{Job}
+use Rattle.ill_commands.specs.declared.job.Verdict.{Verdict}
+use Rattle.ill_commands.specs.declared.job.JobOptions.{JobOptions}
+use Rattle.ill_commands.specs.declared.fault.RunFault.{RunFault}
+use Rattle.ill_normal.specs.Messages.{Spelling, AreSpelledIn, TakesNoFurtherIn}
+use Rattle.ill_normal.specs.Messages as messages
+use Rattle.ill_commands.specs.Output.{counts_of, message_output, output, verdict_of}
+use Rattle.ill_commands.specs.Hexadecimal.{hex_octets, TakesText}
+use Rattle.ill_commands.specs.ReadErrors.{TakesAtMost}
+
+-- the octets that were taken are these messages, and their output was written
+abbrev pub Writes : JobOptions → Option (List ℕ) → Option (List ℕ) → Option (List ℕ) → Option (List ℕ) → List Spelling → Type 0
+Writes work left left' held held' ms = messages.WritesIn (profile_of work.profile) (message_output work) left left' held held' ms
+
+-- where a sink broke: of the output, with that of one message more, the first n octets were written
+pub record BrokeAt (work : JobOptions) (left left' held held' : Option (List ℕ)) (messages : List Spelling) (n : ℕ) : Type 0 where
+  pub message : Spelling
+  pub spells : SpellsApdu (profile_of work.profile) message.apdu message.octets
+  pub taken : Consumes left left' message.octets
+  pub written : Appends held held' (take n (output work (messages ++ message ∷ [])))
+  pub some : length (output work messages) ≤ n
+  pub not_all : n < length (output work (messages ++ message ∷ []))
+
+-- why a job stopped after these messages, from where its source and its sink stood then; `first` is what the sink held before all of them
+abbrev pub Stops : JobOptions → Taking → Putting → Option (List ℕ) → List Spelling → RunFault → Type 0
+Stops work source sink first ms (RunFault.Refused message refusal) =
+    (message ≡ length ms + 1) × (length ms < 1_000_000)
+    × IfSome source.left (λ s. (0 < length s) × OnlyRefuses (profile_of work.profile) s (fault_of refusal)) × Keeps sink.held sink.held'
+Stops work source sink first ms RunFault.TooManyMessages =
+    (length ms ≡ 1_000_000) × ((octet : ℕ) × Consumes source.left source.left' (octet ∷ [])) × Keeps sink.held sink.held'
+Stops work source sink first ms RunFault.OutOfMemory = (length ms < 1_000_000) × Keeps sink.held sink.held'
+Stops work source sink first ms RunFault.ReadFault =
+    (length ms ≤ 1_000_000) × IsTrue source.broken × TakesNoFurtherIn (profile_of work.profile) (length ms) source.left source.left' × Keeps sink.held sink.held'
+Stops work source sink first ms (RunFault.WriteFault n) =
+    (length ms < 1_000_000) × IsTrue sink.broken × BrokeAt work source.left source.left' first sink.held' ms n
+Stops work source sink first ms _ = ⊥
+
+-- the failure to read message i
+abbrev pub fault_at : ℕ → ReadFailure → RunFault
+fault_at i (ReadFailure.Refused refusal) = RunFault.Refused i refusal
+fault_at i ReadFailure.OutOfMemory = RunFault.OutOfMemory
+fault_at i ReadFailure.ReadFault = RunFault.ReadFault
+
+-- the messages before the fault, and why the job went no further; of what follows them no more was taken than a message may have
+pub record StopsAfter (work : JobOptions) (source : Taking) (sink : Putting) (counts : Counts) (fault : RunFault) : Type 0 where
+  pub messages : List Spelling
+  pub rest : Option (List ℕ)
+  pub grown : Option (List ℕ)
+  pub writes : Writes work source.left rest sink.held grown messages
+  pub counted : counts ≡ counts_of work writes.octets messages
+  pub taken : TakesFront rest source.left'
+  pub stops : Stops work (taking rest source.left' source.broken) (putting grown sink.held' sink.broken) sink.held messages fault
+
+-- the job was done: the octets are messages to their end, at most 1,000,000
+pub record Done (work : JobOptions) (left left' held held' : Option (List ℕ)) (counts : Counts) (verdict : Verdict) : Type 0 where
+  pub messages : List Spelling
+  pub writes : Writes work left left' held held' messages
+  pub counted : counts ≡ counts_of work writes.octets messages
+  pub end : IsAtEnd left'
+  pub few : length messages ≤ 1_000_000
+  pub is_verdict : verdict ≡ verdict_of (profile_of work.profile) work.job messages
+
+-- a text was taken that stands for these octets
+pub record TextOf (left left' : Option (List ℕ)) (octets : List ℕ) : Type 0 where
+  pub text : List ℕ
+  pub taken : TakesText left left' text
+  pub stands : hex_octets text ≡ Ok octets
+
+-- a text was taken that stands for no octets, for this reason
+pub record NoHex (left left' : Option (List ℕ)) (fault : RunFault) : Type 0 where
+  pub text : List ℕ
+  pub taken : TakesText left left' text
+  pub stands : hex_octets text ≡ Err fault
+
+-- memory or the source failed before any message was read; of the source at most n octets were taken by then
+abbrev pub IsUnread : ℕ → Option (List ℕ) → Option (List ℕ) → Bool → RunFault → Type 0
+IsUnread n left left' source_broken RunFault.OutOfMemory = TakesAtMost n left left'
+IsUnread n left left' source_broken RunFault.ReadFault = IsTrue source_broken × TakesAtMost n left left'
+IsUnread n left left' source_broken _ = ⊥
+
+-- a text stands for no octets, or was not read; whatever the failure, at most 4,194,305 octets were taken
+abbrev pub FailsText : Option (List ℕ) → Option (List ℕ) → Bool → RunFault → Type 0
+FailsText left left' source_broken fault = NoHex left left' fault ⊎ IsUnread 4_194_305 left left' source_broken fault
+
+-- the same of an input that is read as octets, or as hexadecimal text
+abbrev pub RunDone : Bool → JobOptions → Option (List ℕ) → Option (List ℕ) → Option (List ℕ) → Option (List ℕ) → Counts → Verdict → Type 0
+RunDone false work left left' held held' counts verdict = Done work left left' held held' counts verdict
+RunDone true work left left' held held' counts verdict =
+    (octets : List ℕ) × TextOf left left' octets × ((rest : List ℕ) × Done work (Some octets) (Some rest) held held' counts verdict)
+
+abbrev pub RunFails : Bool → JobOptions → Taking → Putting → Counts → RunFault → Type 0
+RunFails false work source sink counts fault = StopsAfter work source sink counts fault
+RunFails true work source sink counts fault =
+    (FailsText source.left source.left' source.broken fault × Keeps sink.held sink.held' × (counts ≡ counts_of work [] []))
+    ⊎ ((octets : List ℕ) × TextOf source.left source.left' octets × ((rest : List ℕ) × StopsAfter work (taking (Some octets) (Some rest) false) sink counts fault))
+
+-- the work of a job on an input that no line names, of messages of the profile
+pub record IsUnnamed (q : Named) (job : Job) (hex : Bool) (work : JobOptions) : Type 0 where
+  pub profile : work.profile ≡ q
+  pub same_job : work.job ≡ job
+  pub same_hex : work.hex ≡ hex
+  pub name : work.name.now ≡ codes "-"
+  pub not_named : work.names_input ≡ false
+  pub not_compared : work.compares ≡ false
+
+-- a job was done on an input that no line names
+pub record JobDone (q : Named) (job : Job) (hex : Bool) (source : Taking) (sink : Putting) (verdict : Verdict) : Type 0 where
+  pub work : JobOptions
+  pub unnamed : IsUnnamed q job hex work
+  pub counts : Counts
+  pub done : RunDone hex work source.left source.left' sink.held sink.held' counts verdict
+
+-- it was not
+pub record JobFails (q : Named) (job : Job) (hex : Bool) (source : Taking) (sink : Putting) (fault : RunFault) : Type 0 where
+  pub work : JobOptions
+  pub unnamed : IsUnnamed q job hex work
+  pub counts : Counts
+  pub fails : RunFails hex work source sink counts fault
+
+-- ---- which result an input has
+
+-- memory, the source or the sink failed
+abbrev pub IsFault : RunFault → Type 0
+IsFault RunFault.OutOfMemory = Unit {0}
+IsFault RunFault.ReadFault = Unit {0}
+IsFault (RunFault.WriteFault n) = Unit {0}
+IsFault _ = ⊥
+
+abbrev pub AnswersVerdict : Result Verdict RunFault → Verdict → Type 0
+AnswersVerdict (Ok v) w = v ≡ w
+AnswersVerdict (Err fault) w = IsFault fault
+
+abbrev pub IsRefused : RunFault → ℕ → Fault → Type 0
+IsRefused (RunFault.Refused message refusal) i f = (message ≡ i) × (fault_of refusal ≡ f)
+IsRefused fault i f = IsFault fault
+
+abbrev pub AnswersRefused : Result Verdict RunFault → ℕ → Fault → Type 0
+AnswersRefused (Ok v) i f = ⊥
+AnswersRefused (Err fault) i f = IsRefused fault i f
+
+abbrev pub AnswersFault : Result Verdict RunFault → RunFault → Type 0
+AnswersFault (Ok v) fault = ⊥
+AnswersFault (Err why) fault = (why ≡ fault) ⊎ IsFault why
+
+-- the octets of an input
+abbrev pub octets_of_input : Bool → List ℕ → Result (List ℕ) RunFault
+octets_of_input false s = Ok s
+octets_of_input true s = hex_octets s
+
+-- at most 1,000,000 messages to the end are done
+abbrev pub DoesMessages : Profile → Job → Bool → List ℕ → Result Verdict RunFault → Type 0
+DoesMessages q job hex s result = (octets : List ℕ) (ms : List Spelling) → octets_of_input hex s ≡ Ok octets → AreSpelledIn q octets ms []
+    → length ms ≤ 1_000_000 → AnswersVerdict result (verdict_of q job ms)
+
+-- the first message that is refused is named
+abbrev pub RefusesFirst : Profile → Bool → List ℕ → Result Verdict RunFault → Type 0
+RefusesFirst q hex s result = (octets rest : List ℕ) (ms : List Spelling) (f : Fault) → octets_of_input hex s ≡ Ok octets → AreSpelledIn q octets ms rest
+    → length ms < 1_000_000 → 0 < length rest → OnlyRefuses q rest f → AnswersRefused result (length ms + 1) f
+
+-- more messages are too many
+abbrev pub RefusesMore : Profile → Bool → List ℕ → Result Verdict RunFault → Type 0
+RefusesMore q hex s result = (octets rest : List ℕ) (ms : List Spelling) → octets_of_input hex s ≡ Ok octets → AreSpelledIn q octets ms rest
+    → length ms ≡ 1_000_000 → 0 < length rest → AnswersFault result RunFault.TooManyMessages
+
+-- a text that stands for no octets is refused
+abbrev pub RefusesText : Bool → List ℕ → Result Verdict RunFault → Type 0
+RefusesText hex s result = (fault : RunFault) → octets_of_input hex s ≡ Err fault → AnswersFault result fault

@@ -1,0 +1,166 @@
+//! Jobs that go on after a message that is refused.
+ghost use Rattle.std.specs.Prelude.{◌≡◌, ◌+◌, ◌≤◌, IfOk, IfErr, IsTrue};
+ghost use Rattle.ill_schema.specs.Profiles.{profile_of};
+ghost use Rattle.ill_normal.specs.Calls.{taking, putting};
+ghost use Rattle.ill_normal.specs.Skipping.{SkipsToEnd, reporting};
+ghost use Rattle.ill_commands.specs.Output.{message_output, is_counted_good};
+ghost use Rattle.ill_commands.specs.Skipping.{counts_before, fault_of_kind, RunsSkipping, RunsSkippingFails, StopsFor, verdict_of_counts};
+
+use crate::fault::RunFault;
+use crate::hexadecimal::read_hex;
+use crate::job::{Job, JobOptions, Verdict};
+use crate::messages::verdict;
+use ber_core::{Buffered, FromSlice, Lookahead, Sink, Source, Unbuffered};
+use ill_normal::{
+    ReportRefusals, SkippingCounts, SkippingError, SkippingErrorKind, for_each_accepted_message,
+};
+use std::alloc::Global;
+
+/// The reason why a job went no further, and what had been gone through by then.
+#[derive(Clone, Copy, Debug, PartialEq, Eq)]
+pub struct JobError {
+    pub fault: RunFault,
+    pub before: SkippingCounts,
+}
+
+/// The verdict of a job: good if no message is refused, and for `Check` each is in normal form.
+pub fn verdict_of(job: Job, gone: SkippingCounts) -> Verdict
+    ensures { result ≡ verdict_of_counts job gone }
+{
+    if gone.refused == 0 {
+        verdict(job, gone.all_good)
+    } else {
+        Verdict::NotGood
+    }
+}
+
+/// Does a job as [`run`](crate::run) does, and where a message is refused, reports it and goes on with the next one. It ends where its
+/// outermost element does, as its length or its end marks say; where that can't be known, the report says so, and the input is read no
+/// further. Numbers count refused messages, too. What is written of the others is what would be written without the refused ones, but
+/// for their numbers.
+///
+/// # Errors
+///
+/// The reason why the job was not done to the end of the input, see [`RunFault`], and what was gone through before; a refused message is no such fault.
+pub fn run_skipping<R: Source, W: Sink, T: ReportRefusals>(
+    alloc: Global,
+    work: JobOptions<'_>,
+    source: &mut R,
+    sink: &mut W,
+    reports: &mut T,
+) -> Result<SkippingCounts, JobError>
+    ensures done { IfOk result (RunsSkipping work.entry.hex work.entry (taking (R.left source.old) (R.left source.new) (R.is_broken source.new))
+        (putting (W.contents sink.old) (W.contents sink.new) (W.is_broken sink.new)) (reporting (T.reported reports.old) (T.reported reports.new))) }
+    ensures fails { IfErr result (RunsSkippingFails work.entry.hex work.entry (taking (R.left source.old) (R.left source.new) (R.is_broken source.new))
+        (putting (W.contents sink.old) (W.contents sink.new) (W.is_broken sink.new)) (reporting (T.reported reports.old) (T.reported reports.new))) }
+    ensures source_stays { IsTrue (R.is_broken source.old) → IsTrue (R.is_broken source.new) }
+    ensures sink_stays { IsTrue (W.is_broken sink.old) → IsTrue (W.is_broken sink.new) }
+{
+    run_skipping_peeking::<R, Unbuffered, W, T>(alloc, work, source, sink, reports)
+}
+
+/// Does a job as [`run_on`] does, by a way to look at the source.
+///
+/// # Errors
+///
+/// Those of [`run_on`].
+pub fn run_skipping_peeking<R: Source, L: Lookahead<R>, W: Sink, T: ReportRefusals>(
+    alloc: Global,
+    work: JobOptions<'_>,
+    source: &mut R,
+    sink: &mut W,
+    reports: &mut T,
+) -> Result<SkippingCounts, JobError>
+    ensures done { IfOk result (RunsSkipping work.entry.hex work.entry (taking (R.left source.old) (R.left source.new) (R.is_broken source.new))
+        (putting (W.contents sink.old) (W.contents sink.new) (W.is_broken sink.new)) (reporting (T.reported reports.old) (T.reported reports.new))) }
+    ensures fails { IfErr result (RunsSkippingFails work.entry.hex work.entry (taking (R.left source.old) (R.left source.new) (R.is_broken source.new))
+        (putting (W.contents sink.old) (W.contents sink.new) (W.is_broken sink.new)) (reporting (T.reported reports.old) (T.reported reports.new))) }
+    ensures source_stays { IsTrue (R.is_broken source.old) → IsTrue (R.is_broken source.new) }
+    ensures sink_stays { IsTrue (W.is_broken sink.old) → IsTrue (W.is_broken sink.new) }
+{
+    if !work.hex {
+        return go_on::<R, L, W, T>(alloc, work, source, sink, reports);
+    }
+    let octets = match read_hex(alloc, source) {
+        Ok(octets) => octets,
+        Err(fault) => return Err(at_start(fault)),
+    };
+    let mut messages = FromSlice::new(&octets);
+    go_on::<FromSlice<'_>, Buffered, W, T>(alloc, work, &mut messages, sink, reports)
+}
+
+fn go_on<R: Source, L: Lookahead<R>, W: Sink, T: ReportRefusals>(
+    alloc: Global,
+    work: JobOptions<'_>,
+    source: &mut R,
+    sink: &mut W,
+    reports: &mut T,
+) -> Result<SkippingCounts, JobError>
+    ensures through { IfOk result (SkipsToEnd (profile_of work.entry.profile) (message_output work.entry) (is_counted_good work.entry) (taking (R.left source.old) (R.left source.new) (R.is_broken source.new))
+        (putting (W.contents sink.old) (W.contents sink.new) (W.is_broken sink.new)) (reporting (T.reported reports.old) (T.reported reports.new))) }
+    ensures halts { IfErr result (StopsFor work.entry (taking (R.left source.old) (R.left source.new) (R.is_broken source.new))
+        (putting (W.contents sink.old) (W.contents sink.new) (W.is_broken sink.new)) (reporting (T.reported reports.old) (T.reported reports.new))) }
+    ensures source_stays { IsTrue (R.is_broken source.old) → IsTrue (R.is_broken source.new) }
+    ensures sink_stays { IsTrue (W.is_broken sink.old) → IsTrue (W.is_broken sink.new) }
+{
+    match for_each_accepted_message::<JobOptions<'_>, R, L, W, T>(
+        alloc, &work, source, sink, reports,
+    ) {
+        Ok(gone) => Ok(gone),
+        Err(halted) => Err(halted_job(halted)),
+    }
+}
+
+/// A fault before any message was gone through.
+fn at_start(fault: RunFault) -> JobError
+    ensures fault { result.fault ≡ fault }
+    ensures none { result.before ≡ counts_before 0 0 0 0 }
+{
+    JobError {
+        fault,
+        before: SkippingCounts {
+            messages: 0,
+            refused: 0,
+            good: 0,
+            octets: 0,
+            all_good: true,
+        },
+    }
+}
+
+/// The reason why a job went no further, and what was gone through before.
+fn halted_job(halted: SkippingError) -> JobError
+    requires { halted.refused + halted.good ≤ halted.messages }
+    ensures fault { result.fault ≡ fault_of_kind halted.written halted.why }
+    ensures before { result.before ≡ counts_before halted.messages halted.refused halted.good halted.octets }
+{
+    let SkippingError {
+        messages,
+        refused,
+        good,
+        octets,
+        written,
+        why,
+    } = halted;
+    JobError {
+        fault: fault_of(written, why),
+        before: SkippingCounts {
+            messages,
+            refused,
+            good,
+            octets,
+            all_good: refused + good == messages,
+        },
+    }
+}
+
+fn fault_of(written: u128, why: SkippingErrorKind) -> RunFault
+    ensures { result ≡ fault_of_kind written why }
+{
+    match why {
+        SkippingErrorKind::OutOfMemory => RunFault::OutOfMemory,
+        SkippingErrorKind::ReadFault => RunFault::ReadFault,
+        SkippingErrorKind::WriteFault(_) => RunFault::WriteFault(written),
+        SkippingErrorKind::TooMany => RunFault::TooManyMessages,
+    }
+}

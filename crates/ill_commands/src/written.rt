@@ -1,0 +1,67 @@
+//! What is written of a message.
+ghost use Rattle.std.specs.Prelude.{◌≡◌, ℕ, ◌^◌, ◌<◌, ◌≤◌, List, length, take, IfOk, IfErr, IsErr, IsTrue, OnOk};
+ghost use Rattle.std.specs.Io.KnownBytes.{Appends};
+ghost use Rattle.ill_commands.specs.code.Writing.{IsShown, IsWritten};
+
+use ber_core::{Sink, put_all};
+use ill_normal::Rendered;
+use ill_read::Outline;
+use ill_text::Text;
+use std::alloc::Global;
+
+/// What is written of a message: octets that were made, or the text of an outline, of which only what its first line begins with is
+/// held.
+#[derive(Drop)]
+pub enum JobOutput {
+    Octets(Vec<u8>),
+    Shown { label: Vec<u8>, text: Text },
+}
+
+impl JobOutput {
+    /// Memory for octets.
+    pub fn into_octets(self) -> Vec<u8> {
+        match self {
+            JobOutput::Octets(octets) => octets,
+            JobOutput::Shown { label, .. } => label,
+        }
+    }
+
+    /// Memory for octets and for an outline.
+    pub fn into_both(self, alloc: Global) -> (Vec<u8>, Outline) {
+        match self {
+            JobOutput::Octets(octets) => (octets, Outline::new(alloc)),
+            JobOutput::Shown { label, text } => (label, text.into_outline()),
+        }
+    }
+}
+
+impl Rendered for JobOutput {
+    ghost is = { λ written octets. IsWritten written octets };
+
+    fn empty(alloc: Global) -> JobOutput {
+        JobOutput::Octets(Vec::new(alloc))
+    }
+
+    fn put<W: Sink>(&self, sink: &mut W) -> Result<usize, usize> {
+        match self {
+            JobOutput::Octets(octets) => octets.put(sink),
+            JobOutput::Shown { label, text } => put_shown(label, text, sink),
+        }
+    }
+}
+
+/// Puts a text after a label. That takes no memory.
+fn put_shown<W: Sink>(label: &[u8], text: &Text, sink: &mut W) -> Result<usize, usize>
+    ensures all { (octets : List ℕ) → IsShown label.now text.now octets → OnOk result (Appends (W.contents sink.old) (W.contents sink.new) octets) }
+    ensures count { (octets : List ℕ) → IsShown label.now text.now octets → IfOk result (λ n. (n ≡ length octets) × (n ≤ 2 ^ 63)) }
+    ensures some { (octets : List ℕ) → IsShown label.now text.now octets → IfErr result (λ n. Appends (W.contents sink.old) (W.contents sink.new) (take n octets)) }
+    ensures fewer { (octets : List ℕ) → IsShown label.now text.now octets → IfErr result (λ n. n < length octets) }
+    ensures breaks { (octets : List ℕ) → IsShown label.now text.now octets → IsErr result → IsTrue (W.is_broken sink.new) }
+    ensures stays { IsTrue (W.is_broken sink.old) → IsTrue (W.is_broken sink.new) }
+{
+    put_all(sink, label)?;
+    match text.put(sink) {
+        Ok(count) => Ok(label.len().saturating_add(count)),
+        Err(count) => Err(label.len().saturating_add(count)),
+    }
+}

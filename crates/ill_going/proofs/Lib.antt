@@ -1,3 +1,0 @@
-pub mod TakenElements
-pub mod SkippedMessages
-pub mod OneWay

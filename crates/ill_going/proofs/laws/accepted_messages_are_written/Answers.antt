@@ -1,5 +1,0 @@
-use Rattle.ill_going.proofs.OneWay.{good_written}
-use Rattle.ill_going.proofs.laws.accepted_messages_are_written.Goals as goal
-
-pub returns : goal.returns
-returns c = λ text i items same. good_written text same i items

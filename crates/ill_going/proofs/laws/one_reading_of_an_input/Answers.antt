@@ -1,5 +1,0 @@
-use Rattle.ill_going.proofs.OneWay.{one_reading_of_an_input}
-use Rattle.ill_going.proofs.laws.one_reading_of_an_input.Goals as goal
-
-pub returns : goal.returns
-returns c = one_reading_of_an_input

@@ -1,5 +1,0 @@
-use Rattle.ill_going.proofs.OneWay.{still_refused}
-use Rattle.ill_going.proofs.laws.refusals_are_of_the_input.Goals as goal
-
-pub returns : goal.returns
-returns c = still_refused

@@ -1,3 +1,0 @@
-pub mod Items
-pub mod Skipping
-pub mod code

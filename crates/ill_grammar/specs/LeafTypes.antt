@@ -1,0 +1,30 @@
+-- The leaves that the code names.
+use Rattle.std.specs.Prelude.{◌≡◌, ℕ, List, None, IsTrue}
+use Rattle.ber_core.specs.Octets.{are_octets}
+use Rattle.ill_schema.specs.Profiles.{profile_of}
+use Rattle.ill_schema.specs.declared.profile.Profile.{Profile as Named}
+use Rattle.ber_leaf.specs.Leaf.{Leaf, content_fault, boolean, integer, enumerated, general_string, visible_string, printable_string, iso_date, iso_time, null_type, object_identifier, octet_string, object_descriptor}
+use Rattle.ill_grammar.specs.declared.leaf_type.LeafType.{LeafType}
+use Rattle.ill_grammar.specs.declared.leaf_type.LeafType.TheVariants as code
+use Rattle.ill_grammar.specs.declared.leaf_type.ModuleLeaf.{ModuleLeaf}
+use Rattle.ill_grammar.specs.declared.leaf_type.ModuleLeaf.TheVariants as named
+
+abbrev pub leaf_is : LeafType → Leaf
+leaf_is code.Boolean = boolean
+leaf_is code.Integer = integer
+leaf_is code.Enumerated = enumerated
+leaf_is code.General = general_string
+leaf_is code.Visible = visible_string
+leaf_is code.Printable = printable_string
+leaf_is code.Date = iso_date
+leaf_is code.Time = iso_time
+
+abbrev pub module_leaf_is : ModuleLeaf → Leaf
+module_leaf_is named.Null = null_type
+module_leaf_is named.ObjectIdentifier = object_identifier
+module_leaf_is named.OctetString = octet_string
+module_leaf_is named.ObjectDescriptor = object_descriptor
+
+-- the octets are a content of the leaf in the profile
+abbrev pub IsContentIn : Named → Leaf → List ℕ → Type 0
+IsContentIn p leaf octets = IsTrue (are_octets octets) × (content_fault (profile_of p) leaf octets ≡ None)

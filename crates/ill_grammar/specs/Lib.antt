@@ -1,0 +1,13 @@
+pub mod Cells
+pub mod Places
+pub mod LeafTypes
+pub mod Found
+pub mod Elements
+pub mod Due
+pub mod Contents
+pub mod Written
+pub mod HeaderCode
+pub mod Two
+pub mod Standing
+pub mod code
+pub mod Need

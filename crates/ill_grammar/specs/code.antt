@@ -1,0 +1,4 @@
+pub mod Meant
+pub mod Starts
+pub mod ByTag
+pub mod Judging

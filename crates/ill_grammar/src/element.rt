@@ -1,0 +1,90 @@
+//! The elements that an encoding may hold.
+ghost use Rattle.std.specs.Prelude.{◌≡◌, IsTrue};
+ghost use Rattle.ill_grammar.specs.Places.{is_two};
+
+use crate::cell::{ElementType, levels_in};
+use crate::leaf_type::{LeafType, ModuleLeaf};
+use crate::place::Found;
+use ber_leaf::{BitString, Leaf, LeafFault};
+use ill_schema::{NodeId, PartId, Profile};
+
+/// An element, as what it is read.
+#[derive(Clone, Copy)]
+pub enum Element {
+    Leaf(LeafType),
+    Sequence(NodeId),
+    List(NodeId),
+    /// An explicit tag.
+    Wrapper(Wrapped),
+    /// An explicit tag, whose contents may also be the components of what it wraps.
+    LooseWrapper(Wrapped),
+    /// An OCTET STRING in a string.
+    Segment,
+    ModuleLeaf(ModuleLeaf),
+    BitString,
+    /// A BIT STRING in a BIT STRING.
+    BitSegment,
+    /// An element of a foreign tree, in which so many levels may stand.
+    Foreign(u8),
+}
+
+impl Element {
+    ghost use Rattle.ill_grammar.specs.Due.{read_as};
+    ghost use Rattle.ill_grammar.specs.Elements.{element_is, is_two_element};
+    ghost use Rattle.ill_refusals.specs.Fault.{element_fault};
+    ghost use Rattle.ill_schema.specs.Profiles.{profile_of};
+
+    /// The element that was found, as code reads it. One that is left out never is read.
+    #[inline(always)]
+    pub fn of(found: Found) -> Element
+        ensures element { result ≡ read_as found }
+        ensures two { IsTrue (is_two found) → IsTrue (is_two_element result) }
+    {
+        let node = found.node();
+        let wrapped = Wrapped {
+            part: found.part(),
+            node,
+        };
+        match found.element_type() {
+            ElementType::Boolean => Element::Leaf(LeafType::Boolean),
+            ElementType::Integer => Element::Leaf(LeafType::Integer),
+            ElementType::Enumerated => Element::Leaf(LeafType::Enumerated),
+            ElementType::General => Element::Leaf(LeafType::General),
+            ElementType::Visible => Element::Leaf(LeafType::Visible),
+            ElementType::Printable => Element::Leaf(LeafType::Printable),
+            ElementType::Date => Element::Leaf(LeafType::Date),
+            ElementType::Time => Element::Leaf(LeafType::Time),
+            ElementType::Sequence => Element::Sequence(node),
+            ElementType::List | ElementType::LeftOut => Element::List(node),
+            ElementType::Wrapper => Element::Wrapper(wrapped),
+            ElementType::LooseWrapper => Element::LooseWrapper(wrapped),
+            ElementType::Null => Element::ModuleLeaf(ModuleLeaf::Null),
+            ElementType::ObjectIdentifier => Element::ModuleLeaf(ModuleLeaf::ObjectIdentifier),
+            ElementType::OctetString => Element::ModuleLeaf(ModuleLeaf::OctetString),
+            ElementType::ObjectDescriptor => Element::ModuleLeaf(ModuleLeaf::ObjectDescriptor),
+            ElementType::Segment => Element::Segment,
+            ElementType::BitString => Element::BitString,
+            ElementType::BitSegment => Element::BitSegment,
+            ElementType::Foreign => Element::Foreign(levels_in(found.part())),
+        }
+    }
+
+    /// The reason why the octets are no content of it in the profile: None exactly where they are, or where it has none of its own.
+    pub fn fault(self, profile: Profile, octets: &[u8]) -> Option<LeafFault>
+        ensures { result ≡ element_fault (profile_of profile) (element_is self) octets.now }
+    {
+        match self {
+            Element::Leaf(leaf) => leaf.fault(profile, octets),
+            Element::ModuleLeaf(leaf) => leaf.fault(octets),
+            Element::BitString => BitString::check(octets),
+            _ => None,
+        }
+    }
+}
+
+/// The part and the node that an explicit tag wraps.
+#[derive(Clone, Copy)]
+pub struct Wrapped {
+    pub part: PartId,
+    pub node: NodeId,
+}

@@ -1,0 +1,37 @@
+//! The elements of a message as code reads them: the element that a tag begins at a place, the open elements, and the judgement of the
+//! octets at a place. All of it is proved to be what the definitions say. A caller needs it only to walk through elements, as `ill_dump`
+//! does.
+//!
+//! ```
+//! // What follows an element that is found at a place
+//! match Element::of(found) {
+//!     Element::Leaf(leaf) => content_of(leaf),
+//!     Element::Segment => part_of_a_string(),
+//!     _ => elements_in_it(),
+//! }
+//! ```
+#![tactic(auto)]
+
+mod cell;
+mod cell_tables;
+mod due;
+mod element;
+mod form;
+mod frame;
+mod frames;
+mod header;
+mod judge;
+mod leaf_type;
+mod need;
+mod place;
+
+pub use cell::{ElementType, EntryRole, is_strict, levels_in};
+pub use due::{Next, Slot};
+pub use element::{Element, Wrapped};
+pub use frame::Frame;
+pub use frames::{Frames, MAX_DEPTH};
+pub use header::{HeaderRead, LengthRead, first_identifier, length_after, read_header};
+pub use judge::{Extent, Opening, Reading};
+pub use leaf_type::{LeafType, ModuleLeaf};
+pub use need::need_at;
+pub use place::{Found, Place};

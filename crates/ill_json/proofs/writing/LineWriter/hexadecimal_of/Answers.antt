@@ -1,0 +1,10 @@
+use Rattle.std.proofs.Common.{◌∙◌, ◌++◌, ap, refl}
+use Rattle.std.proofs.lemmas.Result.{on_ok_weaker}
+use Rattle.ill_text.specs.Shown.{hexadecimal}
+use Rattle.ill_json.proofs.Added.{adds_from}
+use Rattle.ill_json.proofs.writing.LineWriter.hexadecimal_of.Goals as goal
+
+pub returns : goal.returns
+returns c =
+    let text = hexadecimal c.args.octets.now in
+    adds_from _ _ _ _ refl refl (c.put_made.ensures text (on_ok_weaker c.add_octets-made.result (λ made. made ∙ ap (λ bytes. bytes ++ text) c.clear.ensures.bytes) c.add_octets-made.ensures))

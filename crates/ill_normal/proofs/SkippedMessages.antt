@@ -1,0 +1,321 @@
+-- Messages that are gone through, one after another.
+use Rattle.std.proofs.Common.{◌≡◌, ℕ, suc, ◌+◌, ◌<◌, ◌≤◌, Bool, true, false, ◌&&◌, List, [], ◌∷◌, ◌++◌, length, take, Option, Some, None, IsTrue, refl, sym, ap, ap₂, subst, ◌∙◌, arith, inl, inr, nat_eq, append_assoc, append-nil, length-append}
+use Rattle.std.proofs.Math.Dec.{eqb-suc-suc}
+use Rattle.std.proofs.Math.Nat.{min-eq_left}
+use Rattle.std.specs.Io.KnownBytes.{Consumes, Keeps, Appends, IsAtEnd}
+use Rattle.std.proofs.KnownBytes.{Consumes-nil, Consumes-trans, Consumes-kept, Keeps-refl, Appends-nil, Appends-trans}
+use Rattle.ill_schema.specs.Profiles.{profile_of}
+use Rattle.ill_schema.specs.declared.profile.Profile.{Profile as Named}
+use Rattle.ber_framing.specs.Framed.{IsFrame}
+use Rattle.ill_schema.specs.declared.refusal.Refusal.{Refusal}
+use Rattle.ill_schema.specs.Apdu.{SpellsApdu}
+use Rattle.ill_schema.proofs.Streams.{accepts_some}
+use Rattle.ill_normal.specs.Calls.{Taking, taking, Putting, putting}
+use Rattle.ill_normal.specs.Messages.{Spelling, spelling, counted, position, first, after, one_if, MakesIn, BreaksWithinIn}
+use Rattle.ill_normal.proofs.WrittenMessages.{all_counted, counted_left, counted_right, one_bound}
+use Rattle.ill_normal.specs.declared.messages.MessagePlace.{MessagePlace}
+use Rattle.ill_normal.specs.declared.messages.RenderedMessage.{RenderedMessage}
+use Rattle.ill_normal.specs.declared.report.RefusalReport.{RefusalReport}
+use Rattle.ill_normal.specs.declared.skipping.SkippingError.{SkippingError}
+use Rattle.ill_normal.specs.declared.skipping.SkippingErrorKind.{SkippingErrorKind}
+use Rattle.ill_normal.specs.Items.{Item, good, bad, IsRefusedFor, AreItems, item_octets, position_past, written_of, written_from, report, reports_from, good_in, all_good, Adds}
+use Rattle.ill_normal.specs.Skipping.{Reporting, reporting, Goes, HasNoEnd, SkipsToEnd, part_of, StopsFor, SkipsAndStops}
+use Rattle.ill_normal.specs.code.Taking.{TakesPart}
+use Rattle.ill_normal.specs.code.SkippingEnds.{GoesOn, counts_of, error_at, why_of}
+use Rattle.ill_normal.specs.declared.next_message.TakeError.{TakeError}
+
+pub adds_none : (r : Option (List RefusalReport)) → Adds r r []
+adds_none None = tt
+adds_none (Some rs) = sym (append-nil rs)
+
+adds_more : (old new next : Option (List RefusalReport)) (xs ys : List RefusalReport) → Adds old new xs → Adds new next ys → Adds old next (xs ++ ys)
+adds_more None new next xs ys h k = tt
+adds_more (Some a) None next xs ys h k = absurd h
+adds_more (Some a) (Some b) None xs ys h k = absurd k
+adds_more (Some a) (Some b) (Some c) xs ys h k = k ∙ ap (λ z. z ++ ys) h ∙ append_assoc a xs ys
+
+-- one message more that is refused
+lost_all : (r g n : ℕ) → nat_eq (r + 1 + g) (n + 1) ≡ nat_eq (r + g) n
+lost_all r g n =
+    let a : r + 1 + g ≡ suc (r + g) = omega arith in
+    let b : n + 1 ≡ suc n = omega arith in
+    ap₂ (λ (x y : ℕ). nat_eq x y) a b ∙ eqb-suc-suc (r + g) n
+
+module _ (text : MessagePlace → Spelling → List ℕ) where
+  written_push : (p : MessagePlace) (items : List Item) (x : Item) → written_from text p (items ++ x ∷ []) ≡ written_from text p items ++ written_of (text (position_past p items)) x
+  written_push p [] x = append-nil (written_of (text p) x)
+  written_push p (y ∷ items) x =
+      let next = after p (length (item_octets y)) in
+      ap (λ z. written_of (text p) y ++ z) (written_push next items x)
+      ∙ sym (append_assoc (written_of (text p) y) (written_from text next items) (written_of (text (position_past next items)) x))
+
+past_push : (p : MessagePlace) (items : List Item) (x : Item) → position_past p (items ++ x ∷ []) ≡ after (position_past p items) (length (item_octets x))
+past_push p [] x = refl
+past_push p (y ∷ items) x = past_push (after p (length (item_octets y))) items x
+
+reports_push : (i : ℕ) (items : List Item) (x : Item) → reports_from i (items ++ x ∷ []) ≡ reports_from i items ++ reports_from (i + length items) (x ∷ [])
+reports_push i [] x = let e : i ≡ i + 0 = omega arith in ap (λ (n : ℕ). reports_from n (x ∷ [])) e
+reports_push i (good m ∷ items) x =
+    let e : suc i + length items ≡ i + suc (length items) = omega arith in
+    reports_push (suc i) items x ∙ ap (λ (n : ℕ). reports_from (suc i) items ++ reports_from n (x ∷ [])) e
+reports_push i (bad octets refusal ∷ items) x =
+    let e : suc i + length items ≡ i + suc (length items) = omega arith in
+    ap (λ z. report i refusal true ∷ z) (reports_push (suc i) items x ∙ ap (λ (n : ℕ). reports_from (suc i) items ++ reports_from n (x ∷ [])) e)
+
+good_push : (p : Spelling → Bool) (items : List Item) (m : Spelling) → good_in p (items ++ good m ∷ []) ≡ good_in p items + one_if (p m)
+good_push p [] m = omega arith
+good_push p (good x ∷ items) m = omega (arith, good_push p items m)
+good_push p (bad octets refusal ∷ items) m = good_push p items m
+
+bad_push : (p : Spelling → Bool) (items : List Item) (octets : List ℕ) (refusal : Refusal) → good_in p (items ++ bad octets refusal ∷ []) ≡ good_in p items
+bad_push p [] octets refusal = refl
+bad_push p (good x ∷ items) octets refusal = ap (λ (n : ℕ). one_if (p x) + n) (bad_push p items octets refusal)
+bad_push p (bad o r ∷ items) octets refusal = bad_push p items octets refusal
+
+-- no more are refused or good than there are
+sum_bound : (p : Spelling → Bool) (i : ℕ) (items : List Item) → length (reports_from i items) + good_in p items ≤ length items
+sum_bound p i [] = omega arith
+sum_bound p i (good m ∷ items) = omega (arith, one_bound (p m), sum_bound p (suc i) items)
+sum_bound p i (bad octets refusal ∷ items) = omega (arith, sum_bound p (suc i) items)
+
+counted_good : (b rest : Bool) (r g n : ℕ) → r + g ≤ n → nat_eq (r + g) n ≡ rest → nat_eq (r + (one_if b + g)) (suc n) ≡ (b && rest)
+counted_good b rest r g n le e =
+    let sum : r + (one_if b + g) ≡ one_if b + (r + g) = omega arith in
+    ap (λ (k : ℕ). nat_eq k (suc n)) sum ∙ all_counted b rest (r + g) n le e
+
+-- all that aren't refused are good exactly if as many are refused or good as there are
+counted_all : (p : Spelling → Bool) (i : ℕ) (items : List Item) → nat_eq (length (reports_from i items) + good_in p items) (length items) ≡ all_good p items
+counted_all p i [] = refl
+counted_all p i (good m ∷ items) =
+    counted_good (p m) (all_good p items) (length (reports_from (suc i) items)) (good_in p items) (length items) (sum_bound p (suc i) items) (counted_all p (suc i) items)
+counted_all p i (bad octets refusal ∷ items) =
+    let refused = length (reports_from (suc i) items) in
+    let more : suc refused + good_in p items ≡ suc (refused + good_in p items) = omega arith in
+    ap (λ (k : ℕ). nat_eq k (suc (length items))) more ∙ eqb-suc-suc (refused + good_in p items) (length items) ∙ counted_all p (suc i) items
+
+module _ (q : Named) where
+  -- an item that is right for its octets
+  abbrev Is : Item → List ℕ → Type 0
+  Is (good m) b = (m.octets ≡ b) × SpellsApdu (profile_of q) m.apdu m.octets
+  Is (bad octets refusal) b = (octets ≡ b) × IsFrame octets × IsRefusedFor (profile_of q) octets refusal
+
+  items_one : (x : Item) (b : List ℕ) → Is x b → AreItems (profile_of q) b (x ∷ []) []
+  items_one (good m) b h = ([], sym h.0 ∙ sym (append-nil m.octets), h.1, refl)
+  items_one (bad octets refusal) b h = ([], sym h.0 ∙ sym (append-nil octets), h.1, h.2, refl)
+
+  items_more : (s b : List ℕ) (items : List Item) (x : Item) → AreItems (profile_of q) s items [] → Is x b → AreItems (profile_of q) (s ++ b) (items ++ x ∷ []) []
+  items_more s b [] x h k = subst (λ z. AreItems (profile_of q) (z ++ b) (x ∷ []) []) (sym h) (items_one x b k)
+  items_more s b (good m ∷ items) x h k = (h.0 ++ b, ap (λ z. z ++ b) h.1 ∙ append_assoc m.octets h.0 b, h.2, items_more h.0 b items x h.3 k)
+  items_more s b (bad octets refusal ∷ items) x h k =
+      (h.0 ++ b, ap (λ z. z ++ b) h.1 ∙ append_assoc octets h.0 b, h.2, h.3, items_more h.0 b items x h.4 k)
+
+  -- `before` messages were gone through, of which some were refused and some good, whose output has `written` octets; the next one is at `offset`
+  pub record Reached (text : MessagePlace → Spelling → List ℕ) (is_good : Spelling → Bool) (left left' held held' : Option (List ℕ)) (reports : Reporting) (before refused good_ones offset written : ℕ) : Type 0 where
+    pub items : List Item
+    pub goes : Goes (profile_of q) text left left' held held' reports items
+    pub count : before ≡ length items
+    pub bad_ones : refused ≡ length (reports_from 1 items)
+    pub good_are : good_ones ≡ good_in is_good items
+    pub input : offset ≡ counted (length goes.octets)
+    pub next : position_past first items ≡ position (before + 1) offset
+    pub size : written ≡ length (written_from text first items)
+
+  pub reached_none : (text : MessagePlace → Spelling → List ℕ) (is_good : Spelling → Bool) (left held : Option (List ℕ)) (r : Option (List RefusalReport)) → Reached text is_good left left held held (reporting r r) 0 0 0 0 0
+  reached_none text is_good left held r = record {
+    items = [];
+    goes = record { octets = []; are = refl; taken = Consumes-nil left; written = Appends-nil held; reported = adds_none r };
+    count = refl;
+    bad_ones = refl;
+    good_are = refl;
+    input = refl;
+    next = refl;
+    size = refl;
+  }
+
+  -- the octets of the next message were taken, and the piece was made of them
+  abbrev pub Made : {T : Type 0} → (T → List ℕ → Type 0) → (MessagePlace → Spelling → List ℕ) → (Spelling → Bool) → MessagePlace → Option (List ℕ) → Option (List ℕ) → RenderedMessage T → Type 0
+  Made is text is_good p left left' piece = (b : List ℕ) × Consumes left left' b × MakesIn (profile_of q) is (text p) is_good piece b
+
+  module _ (text : MessagePlace → Spelling → List ℕ) (is_good : Spelling → Bool) (left left' left'' held held' held'' : Option (List ℕ)) (old new next : Option (List RefusalReport)) (before refused good_ones offset written : ℕ)
+      (r : Reached text is_good left left' held held' (reporting old new) before refused good_ones offset written) where
+    here : MessagePlace
+    here = position (before + 1) offset
+
+    pushed : (x : Item) → written_from text first (r.items ++ x ∷ []) ≡ written_from text first r.items ++ written_of (text here) x
+    unfolding here
+    pushed x = written_push text first r.items x ∙ ap (λ (p : MessagePlace). written_from text first r.items ++ written_of (text p) x) r.next
+
+    -- the offset after an item whose octets were counted
+    offset_more : (x : Item) (b : List ℕ) (n : ℕ) → n ≡ counted (length b) → item_octets x ≡ b
+        → (counted (offset + n) ≡ counted (length (r.goes.octets ++ b))) × (position_past first (r.items ++ x ∷ []) ≡ position (before + 2) (counted (offset + n)))
+    offset_more x b n e f =
+        let sum : counted (offset + n) ≡ counted (offset + length b) = ap (λ (k : ℕ). counted (offset + k)) e ∙ counted_right offset (length b) in
+        let all : counted (offset + length b) ≡ counted (length (r.goes.octets ++ b)) =
+        ap (λ (k : ℕ). counted (k + length b)) r.input ∙ counted_left (length r.goes.octets) (length b) ∙ ap counted (sym (length-append r.goes.octets b)) in
+        let number : before + 1 + 1 ≡ before + 2 = omega arith in (
+          sum ∙ all,
+          past_push first r.items x ∙ ap₂ after r.next (ap length f) ∙ ap (λ (k : ℕ). position k (counted (offset + length b))) number ∙ ap (position (before + 2)) (sym sum),
+        )
+
+    reported : (x : Item) → reports_from 1 (r.items ++ x ∷ []) ≡ reports_from 1 r.items ++ reports_from (before + 1) (x ∷ [])
+    reported x =
+        let e : 1 + length r.items ≡ before + 1 = omega (arith, r.count) in
+        reports_push 1 r.items x ∙ ap (λ (n : ℕ). reports_from 1 r.items ++ reports_from n (x ∷ [])) e
+
+    goes_more : (x : Item) (b : List ℕ) → Is x b → Consumes left' left'' b → Appends held' held'' (written_of (text (position (before + 1) offset)) x) → Adds new next (reports_from (before + 1) (x ∷ []))
+        → Goes (profile_of q) text left left'' held held'' (reporting old next) (r.items ++ x ∷ [])
+    unfolding here
+    goes_more x b is c w a = record {
+      octets = r.goes.octets ++ b;
+      are = items_more r.goes.octets b r.items x r.goes.are is;
+      taken = Consumes-trans left left' left'' r.goes.octets b r.goes.taken c;
+      written = subst (Appends held held'') (sym (pushed x)) (Appends-trans held held' held'' _ _ r.goes.written w);
+      reported = subst (Adds old next) (sym (reported x)) (adds_more old new next _ _ r.goes.reported a);
+    }
+
+    -- a message was written
+    pub reached_good : {T : Type 0} (is : T → List ℕ → Type 0) (piece : RenderedMessage T) (p : Made is text is_good (position (before + 1) offset) left' left'' piece) (size : ℕ)
+        → size ≡ length (text (position (before + 1) offset) (spelling p.2.apdu p.0)) → Appends held' held'' (text (position (before + 1) offset) (spelling p.2.apdu p.0)) → new ≡ next
+        → Reached text is_good left left'' held held'' (reporting old next) (before + 1) refused (good_ones + one_if piece.is_good) (counted (offset + piece.octets)) (written + size)
+    unfolding here goes_more
+    reached_good is piece p size n w e =
+        let m : Spelling = spelling p.2.apdu p.0 in
+        let x = good m in
+        let short : length p.0 ≤ 1_048_576 = p.2.spells.encodes.short in
+        let more = offset_more x p.0 piece.octets (p.2.size ∙ sym (min-eq_left (omega (arith, short)))) refl in
+        record {
+          items = r.items ++ x ∷ [];
+          goes = goes_more x p.0 (refl, p.2.spells) p.1 w (subst (λ (z : Option (List RefusalReport)). Adds new z []) e (adds_none new));
+          count = omega (arith, r.count, length-append r.items (x ∷ []));
+          bad_ones = r.bad_ones ∙ sym (ap length (reported x ∙ append-nil (reports_from 1 r.items)));
+          good_are = omega (arith, r.good_are, ap one_if p.2.good, good_push is_good r.items m);
+          input = more.0;
+          next = more.1 ∙ ap (λ (k : ℕ). position k (counted (offset + piece.octets))) (let e : before + 2 ≡ before + 1 + 1 = omega arith in e);
+          size = omega (arith, r.size, n, ap length (pushed x), length-append (written_from text first r.items) (text (position (before + 1) offset) m));
+        }
+
+    -- a message was refused, and reported
+    pub reached_bad : (b : List ℕ) (refusal : Refusal) (n : ℕ) → n ≡ counted (length b) → Consumes left' left'' b → IsRefusedFor (profile_of q) b refusal → IsFrame b → held' ≡ held'' → Adds new next (report (before + 1) refusal true ∷ [])
+        → Reached text is_good left left'' held held'' (reporting old next) (before + 1) (refused + 1) good_ones (counted (offset + n)) written
+    unfolding here goes_more
+    reached_bad b refusal n e c is frame same a =
+        let x = bad b refusal in
+        let more = offset_more x b n e refl in
+        record {
+          items = r.items ++ x ∷ [];
+          goes = goes_more x b (refl, frame, is) c (subst (λ (z : Option (List ℕ)). Appends held' z []) same (Appends-nil held')) a;
+          count = omega (arith, r.count, length-append r.items (x ∷ []));
+          bad_ones = omega (arith, r.bad_ones, ap length (reported x), length-append (reports_from 1 r.items) (report (before + 1) refusal true ∷ []));
+          good_are = r.good_are ∙ sym (bad_push is_good r.items b refusal);
+          input = more.0;
+          next = more.1 ∙ ap (λ (k : ℕ). position k (counted (offset + n))) (let e : before + 2 ≡ before + 1 + 1 = omega arith in e);
+          size = r.size ∙ sym (ap length (pushed x ∙ append-nil (written_from text first r.items)));
+        }
+
+    module _ (x y : Bool) where
+      -- nothing was left
+      pub through_end : (n : ℕ) → n ≡ before → n ≤ 1_000_000 → Consumes left' left'' [] → IsAtEnd left'' → held' ≡ held'' → new ≡ next
+          → SkipsToEnd (profile_of q) text is_good (taking left left'' x) (putting held held'' y) (reporting old next) (counts_of n refused good_ones offset)
+      through_end n same le c e h k = record {
+        items = r.items;
+        rest = left';
+        reported = new;
+        goes = record {
+          octets = r.goes.octets;
+          are = r.goes.are;
+          taken = r.goes.taken;
+          written = subst (λ (z : Option (List ℕ)). Appends held z (written_from text first r.items)) h r.goes.written;
+          reported = r.goes.reported;
+        };
+        ends = inl (record { none = c; end = e; reported = subst (λ (z : Option (List RefusalReport)). Adds new z []) k (adds_none new) }, same ∙ r.count, r.bad_ones);
+        few = le;
+        good = r.good_are;
+        octets = r.input;
+        all = ap₂ (λ (a b : ℕ). nat_eq a b) (ap₂ (λ (a b : ℕ). a + b) r.bad_ones r.good_are) (same ∙ r.count) ∙ counted_all is_good 1 r.items;
+      }
+
+      -- a message was refused whose end can't be known
+      pub through_lost : (b : List ℕ) (refusal : Refusal) → before < 1_000_000 → Consumes left' left'' b → IsRefusedFor (profile_of q) b refusal → HasNoEnd b left'' → held' ≡ held''
+          → Adds new next (report (before + 1) refusal false ∷ [])
+          → SkipsToEnd (profile_of q) text is_good (taking left left'' x) (putting held held'' y) (reporting old next) (counts_of (before + 1) (refused + 1) good_ones offset)
+      through_lost b refusal lt c is no_end h a =
+          let number : before + 1 ≡ length r.items + 1 = omega (arith, r.count) in
+          record {
+            items = r.items;
+            rest = left';
+            reported = new;
+            goes = record {
+              octets = r.goes.octets;
+              are = r.goes.are;
+              taken = r.goes.taken;
+              written = subst (λ (z : Option (List ℕ)). Appends held z (written_from text first r.items)) h r.goes.written;
+              reported = r.goes.reported;
+            };
+            ends = inr (
+              record { octets = b; refusal = refusal; taken = c; no_end = no_end; refused = is; reported = subst (λ (n : ℕ). Adds new next (report n refusal false ∷ [])) number a },
+              number,
+              omega (arith, r.bad_ones),
+            );
+            few = omega arith;
+            good = r.good_are;
+            octets = r.input;
+            all = lost_all refused good_ones before ∙ ap₂ (λ (a b : ℕ). nat_eq a b) (ap₂ (λ (a b : ℕ). a + b) r.bad_ones r.good_are) r.count ∙ counted_all is_good 1 r.items;
+          }
+
+      halts : (n written' : ℕ) (why : SkippingErrorKind) → n ≡ before → new ≡ next → written' ≡ length (written_from text first r.items) + part_of why
+          → StopsFor (profile_of q) text (taking left' left'' x) (putting held' held'' y) n (position_past first r.items) why
+          → SkipsAndStops (profile_of q) text is_good (taking left left'' x) (putting held held'' y) (reporting old next) (error_at n refused good_ones offset written' why)
+      halts n written' why same k size h = record {
+        items = r.items;
+        rest = left';
+        grown = held';
+        goes = record {
+          octets = r.goes.octets;
+          are = r.goes.are;
+          taken = r.goes.taken;
+          written = r.goes.written;
+          reported = subst (λ (z : Option (List RefusalReport)). Adds old z (reports_from 1 r.items)) k r.goes.reported;
+        };
+        messages = same ∙ r.count;
+        refused = r.bad_ones;
+        good = r.good_are;
+        octets = r.input;
+        written = size;
+        halts = h;
+      }
+
+      pub halts_unread : (u : TakeError) → before < 1_000_000 → held' ≡ held'' → new ≡ next → (u ≡ TakeError.Broken → IsTrue x × TakesPart left' left'')
+          → SkipsAndStops (profile_of q) text is_good (taking left left'' x) (putting held held'' y) (reporting old next) (error_at before refused good_ones offset written (why_of u))
+      halts_unread TakeError.OutOfMemory lt h k broken =
+          halts before written SkippingErrorKind.OutOfMemory refl k (omega (arith, r.size)) (lt, subst (λ (z : Option (List ℕ)). Keeps held' z) h (Keeps-refl held'))
+      halts_unread TakeError.Broken lt h k broken =
+          let b = broken refl in
+          halts before written SkippingErrorKind.ReadFault refl k (omega (arith, r.size))
+          (omega arith, b.0, ((b.1.octets, b.1.taken, b.1.unfinished q), λ full. absurd (omega (arith, lt, full))), subst (λ (z : Option (List ℕ)). Keeps held' z) h (Keeps-refl held'))
+
+      pub halts_writing : {T : Type 0} (is : T → List ℕ → Type 0) (piece : RenderedMessage T) (n written' : ℕ) → before < 1_000_000 → written' ≡ written + n → (p : Made is text is_good (position (before + 1) offset) left' left'' piece)
+          → Appends held' held'' (take n (text (position (before + 1) offset) (spelling p.2.apdu p.0))) → n < length (text (position (before + 1) offset) (spelling p.2.apdu p.0)) → IsTrue y → new ≡ next
+          → SkipsAndStops (profile_of q) text is_good (taking left left'' x) (putting held held'' y) (reporting old next) (error_at before refused good_ones offset written' (SkippingErrorKind.WriteFault n))
+      halts_writing is piece n written' lt sum p w fewer broken k =
+          halts before written' (SkippingErrorKind.WriteFault n) refl k (omega (arith, sum, r.size)) (
+            lt,
+            subst (λ (i : MessagePlace). BreaksWithinIn (profile_of q) (text i) (taking left' left'' x) (putting held' held'' y) n) (sym r.next)
+                (record { message = spelling p.2.apdu p.0; spells = p.2.spells; taken = p.1; written = w; fewer = fewer; broken = broken }),
+          )
+
+      -- after the last message that an input may have an octet was taken, or the source broke
+      pub halts_at_last : (n : ℕ) (why : SkippingErrorKind) → n ≡ before → n ≡ 1_000_000 → held' ≡ held'' → new ≡ next → GoesOn left' left'' x why
+          → SkipsAndStops (profile_of q) text is_good (taking left left'' x) (putting held held'' y) (reporting old next) (error_at n refused good_ones offset written why)
+      halts_at_last n SkippingErrorKind.TooMany same last h k e =
+          halts n written SkippingErrorKind.TooMany same k (omega (arith, r.size)) (last, e, subst (λ (z : Option (List ℕ)). Keeps held' z) h (Keeps-refl held'))
+      halts_at_last n SkippingErrorKind.ReadFault same last h k e =
+          let none = Consumes-kept left' left' left'' [] (Consumes-nil left') e.1 in
+          halts n written SkippingErrorKind.ReadFault same k (omega (arith, r.size))
+          (omega (arith, last), e.0, (([], none, λ a i accepted. accepts_some (profile_of q) [] a i refl accepted), λ full. e.1), subst (λ (z : Option (List ℕ)). Keeps held' z) h (Keeps-refl held'))
+      halts_at_last n SkippingErrorKind.OutOfMemory same last h k e = absurd e
+      halts_at_last n (SkippingErrorKind.WriteFault i) same last h k e = absurd e
+
+  -- no more are refused or good than were gone through
+  pub halted_sum : (text : MessagePlace → Spelling → List ℕ) (is_good : Spelling → Bool) (source : Taking) (sink : Putting) (reports : Reporting) (halted : SkippingError)
+      → SkipsAndStops (profile_of q) text is_good source sink reports halted → halted.refused + halted.good ≤ halted.messages
+  halted_sum text is_good source sink reports halted h = omega (arith, h.messages, h.refused, h.good, sum_bound is_good 1 h.items)

@@ -1,0 +1,318 @@
+-- Octets of an element that are taken, fed to a framer and kept.
+use Rattle.std.proofs.Common.{◌≡◌, ℕ, zero, suc, ◌+◌, ◌-◌, ◌<◌, ◌≤◌, Bool, List, [], ◌∷◌, ◌++◌, length, take, drop, Option, Some, refl, sym, ap, ap₂, subst, ◌∙◌, arith, inl, inr, append_assoc, append-nil, length-append, lit≤}
+use Rattle.std.specs.Prelude.{MatchOption}
+use Rattle.std.proofs.lemmas.Bool.{cases_lt}
+use Rattle.std.proofs.lemmas.List.{length-take-le, take-take, take_all, take-append-le, take-append-drop}
+use Rattle.std.proofs.Math.Seq.{take-append-add}
+use Rattle.std.specs.Io.KnownBytes.{Consumes, Keeps, IsAtEnd}
+use Rattle.std.proofs.KnownBytes.{Consumes-nil, Consumes-trans, Consumes-kept}
+use Rattle.ber_core.specs.Length.{short}
+use Rattle.ber_core.specs.Tree.{depth}
+use Rattle.ill_schema.specs.Profiles.{profile_of}
+use Rattle.ill_schema.specs.declared.profile.Profile.{Profile as Named}
+use Rattle.ber_framing.specs.declared.framer.Framing.{Framing}
+use Rattle.ber_framing.specs.declared.framer.Framing.TheVariants as framed
+use Rattle.ber_framing.specs.declared.framer.Framer.{Framer}
+use Rattle.ber_framing.specs.Framed.{IsFrame, IsPart, IsUnframed, definite, low}
+use Rattle.ber_framing.specs.Framer.{IsFed, Judged}
+use Rattle.ber_framing.proofs.FrameSteps.{front_of}
+use Rattle.ber_framing.proofs.Frames.{part_and_whole, tree_framed}
+use Rattle.ill_schema.specs.declared.refusal.Refusal.{Refusal}
+use Rattle.ill_schema.specs.Apdu.{Apdu, SpellsApdu}
+use Rattle.ill_schema.proofs.Streams.{take_front}
+use Rattle.ill_refusals.specs.Fault.{fault_of}
+use Rattle.ill_refusals.specs.Outcome.{OnlyRefuses}
+use Rattle.ill_read.specs.Answers.{IsUnfinishedIn}
+use Rattle.ill_normal.specs.Messages.{Spelling, counted, MakesIn}
+use Rattle.ill_normal.proofs.WrittenMessages.{counted_left}
+use Rattle.ill_normal.specs.declared.messages.RenderedMessage.{RenderedMessage}
+use Rattle.ill_normal.specs.declared.next_message.NextMessage.{NextMessage}
+use Rattle.ill_normal.specs.Skipping.{HasNoEnd}
+use Rattle.ill_normal.specs.code.Taking.{IsFraming, Takes, TakesElement, TakesPart, TakesRest, TakesUnframed, Took, IsNext, end_of}
+
+-- all octets of a slice of which no fewer leave more to be needed
+pub feeds_all : (f : Framer) (b xs : List ℕ) (m need : ℕ) → m ≤ length xs → length xs ≤ need → ((w : List ℕ) → length w < need → IsPart (b ++ w))
+    → IsFed f (b ++ take m xs) → ((c : List ℕ) → IsFed f c → IsPart c → m ≡ length xs) → m ≡ length xs
+feeds_all f b xs m need le within any fed all = elim (cases_lt m (length xs)) [
+  | inl lt ↦ all (b ++ take m xs) fed (any (take m xs) (omega (arith, length-take-le m xs le, lt, within)))
+  | inr ge ↦ omega arith
+]
+
+module _ (left left' : Option (List ℕ)) (f f' : Framer) (kept kept' : List ℕ) where
+  pub takes_seen : (hand : List ℕ) (n : ℕ) → 0 < n → n ≤ length hand → Consumes left left' (take n hand) → ((b : List ℕ) → IsFed f b → IsFed f' (b ++ take n hand))
+      → ((b : List ℕ) (k : ℕ) → IsFed f b → k < n → IsPart (b ++ take k hand)) → kept' ≡ kept ++ take (1_048_576 - length kept) (take n hand)
+      → Takes left left' f f' kept kept' n
+  takes_seen hand n some le taken fed within keeps =
+      let size : length (take n hand) ≡ n = length-take-le n hand le in
+      record {
+        octets = take n hand;
+        size = sym size;
+        taken = taken;
+        fed = fed;
+        within = λ b k h lt. subst (λ w. IsPart (b ++ w)) (sym (take-take k n hand (omega (arith, lt, size)))) (within b k h (omega (arith, lt, size)));
+        none = λ b z _ _. absurd (omega arith);
+        keeps = keeps;
+      }
+
+  -- octets that were needed
+  pub takes_needed : (xs : List ℕ) (m need : ℕ) → Consumes left left' xs → m ≤ length xs → length xs ≤ need
+      → ((b w : List ℕ) → IsFed f b → length w < need → IsPart (b ++ w)) → ((b : List ℕ) → IsFed f b → IsFed f' (b ++ take m xs))
+      → ((c : List ℕ) → IsFed f' c → IsPart c → m ≡ length xs) → (length xs ≡ 0 → IsAtEnd left')
+      → kept' ≡ kept ++ take (1_048_576 - length kept) xs → Takes left left' f f' kept kept' (length xs)
+  takes_needed xs m need taken le most any fed all end keeps = record {
+    octets = xs;
+    size = refl;
+    taken = taken;
+    fed = λ b h.
+        let all_fed : m ≡ length xs = feeds_all f' b xs m need le most (λ w lt. any b w h lt) (fed b h) all in
+        subst (λ w. IsFed f' (b ++ w)) (ap (λ (k : ℕ). take k xs) all_fed ∙ take_all (length xs) xs (omega arith)) (fed b h);
+    within = λ b k h lt. any b (take k xs) h (omega (arith, length-take-le k xs (omega (arith, lt)), lt, most));
+    none = λ b z _ _. end z;
+    keeps = keeps;
+  }
+
+  -- nothing is needed
+  pub takes_none : Consumes left left' [] → ((b : List ℕ) → IsFed f b → IsFed f' b) → ((b : List ℕ) → IsFed f b → IsPart b → IsAtEnd left') → kept' ≡ kept
+      → Takes left left' f f' kept kept' 0
+  takes_none taken fed end keeps = record {
+    octets = [];
+    size = refl;
+    taken = taken;
+    fed = λ b h. subst (IsFed f') (sym (append-nil b)) (fed b h);
+    within = λ b k h lt. absurd (omega (arith, lt));
+    none = λ b _ h p. end b h p;
+    keeps = keeps ∙ sym (append-nil kept) ∙ ap (λ z. kept ++ z) (sym (take_all (1_048_576 - length kept) [] (omega arith)));
+  }
+
+-- a framer that was fed nothing more
+pub fed_no_more : (f f' : Framer) (hand : List ℕ) (n : ℕ) → n ≤ 0 → ((b : List ℕ) → IsFed f b → IsFed f' (b ++ take n hand)) → (b : List ℕ) → IsFed f b → IsFed f' b
+fed_no_more f f' hand n none fed b h =
+    let z : n ≡ 0 = omega arith in
+    subst (IsFed f') (ap (λ (k : ℕ). b ++ take k hand) z ∙ append-nil b) (fed b h)
+
+pub framing_none : (left : Option (List ℕ)) (f : Framer) → IsFed f [] → IsFraming left left f [] 0 0
+framing_none left f h = record {
+  octets = [];
+  taken = Consumes-nil left;
+  fed = h;
+  within = λ n lt. absurd (omega (arith, lt));
+  keeps = sym (take_all 1_048_576 [] (omega arith));
+  counts = omega arith;
+  size_is = refl;
+}
+
+-- the first octets of two lists
+kept_more : (m : ℕ) (a b : List ℕ) → take m a ++ take (m - length (take m a)) b ≡ take m (a ++ b)
+kept_more zero a b = refl
+kept_more (suc m) [] b = let e : suc m - 0 ≡ suc m = omega arith in ap (λ (i : ℕ). take i b) e
+kept_more (suc m) (x ∷ a) b =
+    let e : suc m - suc (length (take m a)) ≡ m - length (take m a) = omega arith in
+    ap (λ z. x ∷ z) (ap (λ (i : ℕ). take m a ++ take i b) e ∙ kept_more m a b)
+
+module _ (left left' left'' : Option (List ℕ)) (f f' : Framer) (kept kept' : List ℕ) (count size n : ℕ) (r : IsFraming left left' f kept count size) (t : Takes left' left'' f f' kept kept' n) where
+  within_both : (k : ℕ) → k < length (r.octets ++ t.octets) → IsPart (take k (r.octets ++ t.octets))
+  within_both k lt = elim (cases_lt k (length r.octets)) [
+    | inl less ↦ subst IsPart (sym (take-append-le k r.octets t.octets (omega (arith, less)))) (r.within k less)
+    | inr ge ↦
+        let more : k - length r.octets < length t.octets = omega (arith, ge, lt, length-append r.octets t.octets) in
+        let sum : length r.octets + (k - length r.octets) ≡ k = omega (arith, ge) in
+        let e : r.octets ++ take (k - length r.octets) t.octets ≡ take k (r.octets ++ t.octets) =
+        sym (take-append-add r.octets t.octets (k - length r.octets)) ∙ ap (λ (i : ℕ). take i (r.octets ++ t.octets)) sum in
+        subst IsPart e (t.within r.octets (k - length r.octets) r.fed more)
+  ]
+
+  pub framing_more : (least : ℕ) → least ≤ count + n → IsFraming left left'' f' kept' least (counted (size + n))
+  framing_more least le = record {
+    octets = r.octets ++ t.octets;
+    taken = Consumes-trans left left' left'' r.octets t.octets r.taken t.taken;
+    fed = t.fed r.octets r.fed;
+    within = within_both;
+    keeps = t.keeps ∙ ap (λ z. z ++ take (1_048_576 - length z) t.octets) r.keeps ∙ kept_more 1_048_576 r.octets t.octets;
+    counts = omega (arith, le, r.counts, t.size, length-append r.octets t.octets);
+    size_is = ap₂ (λ (a b : ℕ). counted (a + b)) r.size_is t.size ∙ counted_left (length r.octets) (length t.octets) ∙ ap counted (sym (length-append r.octets t.octets));
+  }
+
+  -- no octet more was taken
+  no_more : (x : List ℕ) → length x ≡ 0 → x ≡ []
+  no_more [] z = refl
+  no_more (o ∷ x) z = absurd (omega (arith, z))
+
+  pub element_ends : (frame : Framing) → n ≡ 0 → ((b : List ℕ) → IsFed f' b → Judged b frame) → TakesElement left left'' kept' size frame
+  unfolding framing_more
+  element_ends frame z judged =
+      let m = framing_more 0 (omega arith) in
+      let none : r.octets ++ t.octets ≡ r.octets = ap (λ w. r.octets ++ w) (no_more t.octets (sym t.size ∙ z)) ∙ append-nil r.octets in
+      record {
+        octets = m.octets;
+        taken = m.taken;
+        judged = judged m.octets m.fed;
+        within = m.within;
+        keeps = m.keeps;
+        part = λ p. inl (t.none r.octets z r.fed (subst IsPart none p));
+        size_is = r.size_is ∙ ap (λ x. counted (length x)) (sym none);
+      }
+
+pub element_endless : (left left' : Option (List ℕ)) (f : Framer) (kept : List ℕ) (count size : ℕ) (frame : Framing) → IsFraming left left' f kept count size → 18_446_744_073_709_551_615 ≤ count
+    → ((b : List ℕ) → IsFed f b → Judged b frame) → TakesElement left left' kept size frame
+element_endless left left' f kept count size frame r le judged = record {
+  octets = r.octets;
+  taken = r.taken;
+  judged = judged r.octets r.fed;
+  within = r.within;
+  keeps = r.keeps;
+  part = λ p. inr (omega (arith, le, r.counts));
+  size_is = r.size_is;
+}
+
+-- ---- what is taken, as messages
+
+pub spelling_framed : (q : Named) (a : Apdu) (b : List ℕ) → SpellsApdu (profile_of q) a b → IsFrame b
+spelling_framed q a b h =
+    let e = h.encodes in
+    let short : length b ≤ 1_048_576 = e.short in
+    let shallow : depth e.tree ≤ 32 = e.shallow in
+    tree_framed e.tree 18_446_744_073_709_551_615 b e.spells (omega (arith, short)) (omega (arith, shallow))
+
+-- in part of an element no message ends
+no_message : (q : Named) (b : List ℕ) → IsPart b → ((n : ℕ) → n < length b → IsPart (take n b)) → IsUnfinishedIn (profile_of q) b
+no_message q b p within a n h = elim (cases_lt n (length b)) [
+  | inl lt ↦ part_and_whole (take n b) (within n lt) (spelling_framed q a (take n b) h.1)
+  | inr ge ↦ part_and_whole b p (subst IsFrame (take_all n b ge) (spelling_framed q a (take n b) h.1))
+]
+
+pub part_taken : (left left' left'' : Option (List ℕ)) (f : Framer) (kept : List ℕ) (count size : ℕ) → IsFraming left left' f kept count size → Keeps left' left'' → ((b : List ℕ) → IsFed f b → IsPart b)
+    → TakesPart left left''
+part_taken left left' left'' f kept count size r keeps part = record {
+  octets = r.octets;
+  taken = Consumes-kept left left' left'' r.octets r.taken keeps;
+  unfinished = λ q. no_message q r.octets (part r.octets r.fed) r.within;
+}
+
+none_is_part : IsPart []
+none_is_part = (1 ∷ 0 ∷ [], (λ e. cc), definite [] (low (λ e. omega arith) (λ e. omega arith) refl) (short (lit≤ tt)) (lit≤ tt) refl)
+
+nothing_kept : (m : ℕ) (xs : List ℕ) → take (suc m) xs ≡ [] → xs ≡ []
+nothing_kept m [] e = refl
+nothing_kept m (x ∷ xs) e = let f : x ∷ take m xs ≡ [] = e in cc
+
+module _ (left left' : Option (List ℕ)) (kept : List ℕ) (size : ℕ) (frame : Framing) (t : TakesElement left left' kept size frame) where
+  -- a message at the front of an element is the element
+  message_is : (q : Named) (a : Apdu) (m rest : List ℕ) → SpellsApdu (profile_of q) a m → kept ≡ m ++ rest → t.octets ≡ m
+  message_is q a m rest h e =
+      let all : t.octets ≡ m ++ (rest ++ drop 1_048_576 t.octets) =
+      sym (take-append-drop 1_048_576 t.octets) ∙ ap (λ z. z ++ drop 1_048_576 t.octets) (sym t.keeps ∙ e) ∙ append_assoc m rest (drop 1_048_576 t.octets) in
+      let more = rest ++ drop 1_048_576 t.octets in
+      elim (cases_lt (length m) (length t.octets)) [
+        | inl lt ↦ part_and_whole m (subst IsPart (ap (λ z. take (length m) z) all ∙ take_front m more) (t.within (length m) lt)) (spelling_framed q a m h)
+        | inr ge ↦ all ∙ ap (λ z. m ++ z) (none_left more (omega (arith, ge, ap length all, length-append m more))) ∙ append-nil m
+      ]
+    where
+      none_left : (x : List ℕ) → length x ≡ 0 → x ≡ []
+      none_left [] z = refl
+      none_left (o ∷ x) z = absurd (omega (arith, z))
+
+  pub read_next : {T : Type 0} (q : Named) (is : T → List ℕ → Type 0) (text : Spelling → List ℕ) (is_good : Spelling → Bool) (piece : RenderedMessage T) (rest : List ℕ) (m : List ℕ) → Consumes (Some kept) (Some rest) m
+      → MakesIn (profile_of q) is text is_good piece m → IsNext (profile_of q) is text is_good left left' (NextMessage.Read piece)
+  read_next q is text is_good piece rest m c h =
+      let same = message_is q h.apdu m rest h.spells c in
+      (m, subst (Consumes left left') same t.taken, h)
+
+  pub none_next : (rest : List ℕ) → Consumes (Some kept) (Some rest) [] → IsAtEnd (Some rest) → Consumes left left' [] × IsAtEnd left'
+  none_next rest c end =
+      let none : t.octets ≡ [] = nothing_kept 1_048_575 t.octets (sym t.keeps ∙ c ∙ end) in (
+        subst (Consumes left left') none t.taken,
+        elim (t.part (subst IsPart (sym none) none_is_part)) [ inl e ↦ e | inr le ↦ absurd (omega (arith, le, ap length none)) ],
+      )
+
+  end_is : (f : Framing) → Judged t.octets f → MatchOption (end_of f size) (HasNoEnd t.octets left') (λ n. IsFrame t.octets × (n ≡ counted (length t.octets)))
+  end_is framed.Whole j = (j, t.size_is)
+  end_is framed.Unframed j = inl (record { front = t.octets; more = []; joined = sym (append-nil t.octets); unframed = j; within = t.within })
+  end_is framed.Part j = inr (j, t.part j)
+
+  pub refused_next : {T : Type 0} (q : Named) (is : T → List ℕ → Type 0) (text : Spelling → List ℕ) (is_good : Spelling → Bool) (refusal : Refusal) (end : Option ℕ) → end ≡ end_of frame size
+      → OnlyRefuses (profile_of q) kept (fault_of refusal) → IsNext (profile_of q) {T = T} is text is_good left left' (NextMessage.Refused refusal end)
+  refused_next q is text is_good refusal end e h = (
+    t.octets,
+    t.taken,
+    subst (λ z. OnlyRefuses (profile_of q) z (fault_of refusal)) t.keeps h,
+    subst (λ (o : Option ℕ). MatchOption o (HasNoEnd t.octets left') (λ n. IsFrame t.octets × (n ≡ counted (length t.octets)))) (sym e) (end_is frame t.judged),
+  )
+
+-- ---- the rest of a length that is too great
+
+pub rest_none : (left : Option (List ℕ)) (kept : List ℕ) → TakesRest left left kept kept
+rest_none left kept = record { more = []; taken = Consumes-nil left; keeps = λ octets e. e ∙ ap (λ z. take 1_048_576 z) (sym (append-nil octets)) }
+
+pub rest_more : (left left' left'' : Option (List ℕ)) (kept kept' kept'' x : List ℕ) → TakesRest left left' kept kept' → Consumes left' left'' x
+    → kept'' ≡ kept' ++ take (1_048_576 - length kept') x → TakesRest left left'' kept kept''
+rest_more left left' left'' kept kept' kept'' x r c k = record {
+  more = r.more ++ x;
+  taken = Consumes-trans left left' left'' r.more x r.taken c;
+  keeps = λ octets e.
+      k ∙ ap (λ z. z ++ take (1_048_576 - length z) x) (r.keeps octets e) ∙ kept_more 1_048_576 (octets ++ r.more) x
+      ∙ ap (λ z. take 1_048_576 z) (append_assoc octets r.more x);
+}
+
+pub took_unframed : (left left' left'' : Option (List ℕ)) (kept kept' : List ℕ) (size : ℕ) → TakesElement left left' kept size framed.Unframed → TakesRest left' left'' kept kept' → TakesUnframed left left'' kept'
+took_unframed left left' left'' kept kept' size t r = record {
+  octets = t.octets;
+  more = r.more;
+  taken = Consumes-trans left left' left'' t.octets r.more t.taken r.taken;
+  unframed = t.judged;
+  within = t.within;
+  keeps = r.keeps t.octets t.keeps;
+}
+
+-- no message is at the front of octets with which no element begins
+pub none_begins : (octets more : List ℕ) → IsUnframed octets → ((n : ℕ) → n < length octets → IsPart (take n octets)) → (m rest : List ℕ) → IsFrame m → octets ++ more ≡ m ++ rest → ⊥
+none_begins octets more unframed within m rest frame e = elim (cases_lt (length m) (length octets)) [
+  | inl less ↦
+      let t = front_of m octets rest more (omega (arith, less)) (sym e) in
+      part_and_whole m (subst IsPart (ap (λ z. take (length m) z) t.1 ∙ take_front m t.0) (within (length m) less)) frame
+  | inr ge ↦ let t = front_of octets m more rest ge e in unframed t.0 (subst IsFrame t.1 frame)
+]
+
+unframed_unfinished : (q : Named) (octets more : List ℕ) → IsUnframed octets → ((n : ℕ) → n < length octets → IsPart (take n octets)) → IsUnfinishedIn (profile_of q) (octets ++ more)
+unframed_unfinished q octets more unframed within a n h =
+    none_begins octets more unframed within (take n (octets ++ more)) (drop n (octets ++ more)) (spelling_framed q a (take n (octets ++ more)) h.1) (sym (take-append-drop n (octets ++ more)))
+
+pub unframed_broken : (left left' left'' : Option (List ℕ)) (kept kept' : List ℕ) (size : ℕ) → TakesElement left left' kept size framed.Unframed → TakesRest left' left'' kept kept' → TakesPart left left''
+unframed_broken left left' left'' kept kept' size t r = record {
+  octets = t.octets ++ r.more;
+  taken = Consumes-trans left left' left'' t.octets r.more t.taken r.taken;
+  unfinished = λ q. unframed_unfinished q t.octets r.more t.judged t.within;
+}
+
+module _ (left left' : Option (List ℕ)) (kept : List ℕ) (size : ℕ) where
+  -- what the reader made of what was kept
+  pub read_took : {T : Type 0} (q : Named) (is : T → List ℕ → Type 0) (text : Spelling → List ℕ) (is_good : Spelling → Bool) (frame : Framing) → Took left left' kept size frame → (piece : RenderedMessage T) (rest m : List ℕ)
+      → Consumes (Some kept) (Some rest) m → MakesIn (profile_of q) is text is_good piece m → IsNext (profile_of q) is text is_good left left' (NextMessage.Read piece)
+  read_took q is text is_good framed.Whole t piece rest m c h = read_next left left' kept size framed.Whole t q is text is_good piece rest m c h
+  read_took q is text is_good framed.Part t piece rest m c h = read_next left left' kept size framed.Part t q is text is_good piece rest m c h
+  read_took q is text is_good framed.Unframed t piece rest m c h =
+      let all : t.octets ++ t.more ≡ m ++ (rest ++ drop 1_048_576 (t.octets ++ t.more)) =
+      sym (take-append-drop 1_048_576 (t.octets ++ t.more)) ∙ ap (λ z. z ++ drop 1_048_576 (t.octets ++ t.more)) (sym t.keeps ∙ c) ∙ append_assoc m rest (drop 1_048_576 (t.octets ++ t.more)) in
+      absurd (none_begins t.octets t.more t.unframed t.within m _ (spelling_framed q h.apdu m h.spells) all)
+
+  nothing_first : (a b : List ℕ) → a ++ b ≡ [] → a ≡ []
+  nothing_first [] b e = refl
+  nothing_first (x ∷ a) b e = let f : x ∷ (a ++ b) ≡ [] = e in cc
+
+  pub none_took : (frame : Framing) → Took left left' kept size frame → (rest : List ℕ) → Consumes (Some kept) (Some rest) [] → IsAtEnd (Some rest) → Consumes left left' [] × IsAtEnd left'
+  none_took framed.Whole t rest c end = none_next left left' kept size framed.Whole t rest c end
+  none_took framed.Part t rest c end = none_next left left' kept size framed.Part t rest c end
+  none_took framed.Unframed t rest c end =
+      let none : t.octets ≡ [] = nothing_first t.octets t.more (nothing_kept 1_048_575 (t.octets ++ t.more) (sym t.keeps ∙ c ∙ end)) in
+      absurd (t.unframed none_is_part.0 (subst (λ z. IsFrame (z ++ none_is_part.0)) (sym none) none_is_part.2))
+
+  pub refused_took : {T : Type 0} (q : Named) (is : T → List ℕ → Type 0) (text : Spelling → List ℕ) (is_good : Spelling → Bool) (frame : Framing) → Took left left' kept size frame → (refusal : Refusal) (end : Option ℕ)
+      → end ≡ end_of frame size → OnlyRefuses (profile_of q) kept (fault_of refusal) → IsNext (profile_of q) {T = T} is text is_good left left' (NextMessage.Refused refusal end)
+  refused_took q is text is_good framed.Whole t refusal end e h = refused_next left left' kept size framed.Whole t q is text is_good refusal end e h
+  refused_took q is text is_good framed.Part t refusal end e h = refused_next left left' kept size framed.Part t q is text is_good refusal end e h
+  refused_took q is text is_good framed.Unframed t refusal end e h = (
+    t.octets ++ t.more,
+    t.taken,
+    subst (λ z. OnlyRefuses (profile_of q) z (fault_of refusal)) t.keeps h,
+    subst (λ (o : Option ℕ). MatchOption o (HasNoEnd (t.octets ++ t.more) left') (λ n. IsFrame (t.octets ++ t.more) × (n ≡ counted (length (t.octets ++ t.more))))) (sym e)
+        (inl (record { front = t.octets; more = t.more; joined = refl; unframed = t.unframed; within = t.within })),
+  )

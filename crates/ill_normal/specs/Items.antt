@@ -1,0 +1,82 @@
+-- An input that isn't given up at a message that is refused: what it is, what is written of it, and what is reported.
+use Rattle.std.specs.Prelude.{◌≡◌, ℕ, suc, ◌+◌, Bool, true, ◌&&◌, List, [], ◌∷◌, ◌++◌, length, take, Option, Some, None}
+use Rattle.ber_leaf.specs.Profile.{Profile}
+use Rattle.ber_framing.specs.Framed.{IsFrame}
+use Rattle.ill_schema.specs.declared.refusal.Refusal.{Refusal}
+use Rattle.ill_schema.specs.Apdu.{SpellsApdu}
+use Rattle.ill_refusals.specs.Fault.{fault_of}
+use Rattle.ill_refusals.specs.Outcome.{OnlyRefuses}
+use Rattle.ill_normal.specs.Messages.{Spelling, after, one_if}
+use Rattle.ill_normal.specs.declared.messages.MessagePlace.{MessagePlace}
+use Rattle.ill_normal.specs.declared.report.RefusalReport.{RefusalReport}
+
+-- one message of an input: a spelling, or octets that are refused
+pub data Item : Type 0 where
+  good : Spelling → Item
+  bad : List ℕ → Refusal → Item
+
+-- the refusal says the one fault of the octets; of more than a message may have, that of the first 1,048,576
+abbrev pub IsRefusedFor : Profile → List ℕ → Refusal → Type 0
+IsRefusedFor q octets refusal = OnlyRefuses q (take 1_048_576 octets) (fault_of refusal)
+
+-- s is these messages, one after another, and then the rest; those that are refused are framed elements
+abbrev pub AreItems : Profile → List ℕ → List Item → List ℕ → Type 0
+AreItems q s [] rest = s ≡ rest
+AreItems q s (good m ∷ items) rest = (t : List ℕ) × (s ≡ m.octets ++ t) × SpellsApdu q m.apdu m.octets × AreItems q t items rest
+AreItems q s (bad octets refusal ∷ items) rest = (t : List ℕ) × (s ≡ octets ++ t) × IsFrame octets × IsRefusedFor q octets refusal × AreItems q t items rest
+
+abbrev pub item_octets : Item → List ℕ
+item_octets (good m) = m.octets
+item_octets (bad octets refusal) = octets
+
+-- the position after messages
+abbrev pub position_past : MessagePlace → List Item → MessagePlace
+position_past p [] = p
+position_past p (x ∷ items) = position_past (after p (length (item_octets x))) items
+
+-- what is written of one message, where `text` is written of it if it isn't refused
+abbrev pub written_of : (Spelling → List ℕ) → Item → List ℕ
+written_of text (good m) = text m
+written_of text (bad octets refusal) = []
+
+-- what is written of messages from this position on, where `text p m` is written of the message at p if it isn't refused
+abbrev pub written_from : (MessagePlace → Spelling → List ℕ) → MessagePlace → List Item → List ℕ
+written_from text p [] = []
+written_from text p (x ∷ items) = written_of (text p) x ++ written_from text (after p (length (item_octets x))) items
+
+abbrev pub report : ℕ → Refusal → Bool → RefusalReport
+report i refusal ends = record { message = i; refusal = refusal; ends = ends }
+
+-- what is reported: each message that is refused
+abbrev pub reports_from : ℕ → List Item → List RefusalReport
+reports_from i [] = []
+reports_from i (good m ∷ items) = reports_from (suc i) items
+reports_from i (bad octets refusal ∷ items) = report i refusal true ∷ reports_from (suc i) items
+
+-- whether each message that isn't refused is as it should be
+abbrev pub all_good : (Spelling → Bool) → List Item → Bool
+all_good is_good [] = true
+all_good is_good (good m ∷ items) = is_good m && all_good is_good items
+all_good is_good (bad octets refusal ∷ items) = all_good is_good items
+
+-- how many messages that aren't refused are as they should be
+abbrev pub good_in : (Spelling → Bool) → List Item → ℕ
+good_in is_good [] = 0
+good_in is_good (good m ∷ items) = one_if (is_good m) + good_in is_good items
+good_in is_good (bad octets refusal ∷ items) = good_in is_good items
+
+-- the messages that aren't refused
+abbrev pub good_ones : List Item → List Spelling
+good_ones [] = []
+good_ones (good m ∷ items) = m ∷ good_ones items
+good_ones (bad octets refusal ∷ items) = good_ones items
+
+-- known reports grow by these
+abbrev pub Adds : Option (List RefusalReport) → Option (List RefusalReport) → List RefusalReport → Type 0
+Adds None new more = Unit {0}
+Adds (Some old) None more = ⊥
+Adds (Some old) (Some new) more = new ≡ old ++ more
+
+-- no front of the octets is a framed element, so no message ends in them
+abbrev pub HasNoMore : List ℕ → Type 0
+HasNoMore s = (x y : List ℕ) → IsFrame x → s ≡ x ++ y → ⊥

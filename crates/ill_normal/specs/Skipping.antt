@@ -1,0 +1,103 @@
+-- What a call that goes on after refusals does to its source, its sink and its reports.
+use Rattle.std.specs.Prelude.{◌≡◌, ◌⊎◌, ℕ, ◌+◌, ◌<◌, ◌≤◌, Bool, false, List, [], ◌∷◌, ◌++◌, length, take, Option, IsTrue}
+use Rattle.std.specs.Io.KnownBytes.{Consumes, Keeps, Appends, IsAtEnd}
+use Rattle.ber_framing.specs.Framed.{IsPart, IsUnframed}
+use Rattle.ber_leaf.specs.Profile.{Profile}
+use Rattle.ill_schema.specs.declared.refusal.Refusal.{Refusal}
+use Rattle.ill_normal.specs.Calls.{Taking, taking, Putting, putting}
+use Rattle.ill_normal.specs.Messages.{Spelling, counted, first, BreaksWithinIn, TakesNoFurtherIn}
+use Rattle.ill_normal.specs.declared.messages.MessagePlace.{MessagePlace}
+use Rattle.ill_normal.specs.Items.{Item, AreItems, IsRefusedFor, position_past, written_from, report, reports_from, good_in, all_good, Adds}
+use Rattle.ill_normal.specs.declared.report.RefusalReport.{RefusalReport}
+use Rattle.ill_normal.specs.declared.skipping.SkippingCounts.{SkippingCounts}
+use Rattle.ill_normal.specs.declared.skipping.SkippingError.{SkippingError}
+use Rattle.ill_normal.specs.declared.skipping.SkippingErrorKind.{SkippingErrorKind}
+
+-- what was reported, over a call, where that is known
+pub record Reporting : Type 0 where
+  pub old : Option (List RefusalReport)
+  pub new : Option (List RefusalReport)
+
+abbrev pub reporting : Option (List RefusalReport) → Option (List RefusalReport) → Reporting
+reporting old new = record { old = old; new = new }
+
+-- the octets that were taken are these messages; what is written of them was put, and what is refused was reported
+pub record Goes (q : Profile) (text : MessagePlace → Spelling → List ℕ) (left left' held held' : Option (List ℕ)) (reports : Reporting) (items : List Item) : Type 0 where
+  pub octets : List ℕ
+  pub are : AreItems q octets items []
+  pub taken : Consumes left left' octets
+  pub written : Appends held held' (written_from text first items)
+  pub reported : Adds reports.old reports.new (reports_from 1 items)
+
+-- of these octets no element begins with the first ones, of which any fewer are part of one
+pub record IsEndless (octets : List ℕ) : Type 0 where
+  pub front : List ℕ
+  pub more : List ℕ
+  pub joined : octets ≡ front ++ more
+  pub unframed : IsUnframed front
+  pub within : (n : ℕ) → n < length front → IsPart (take n front)
+
+-- where an element ends that begins with these octets can't be known; or they are part of one, and the input ends in them, or they are too many
+-- to count
+abbrev pub HasNoEnd : List ℕ → Option (List ℕ) → Type 0
+HasNoEnd octets left' = IsEndless octets ⊎ (IsPart octets × (IsAtEnd left' ⊎ (18_446_744_073_709_551_615 ≤ length octets)))
+
+-- after this many messages one was refused whose end can't be known, which was reported
+pub record LosesEnd (q : Profile) (left left' : Option (List ℕ)) (reports : Reporting) (before : ℕ) : Type 0 where
+  pub octets : List ℕ
+  pub refusal : Refusal
+  pub taken : Consumes left left' octets
+  pub no_end : HasNoEnd octets left'
+  pub refused : IsRefusedFor q octets refusal
+  pub reported : Adds reports.old reports.new (report (before + 1) refusal false ∷ [])
+
+-- nothing was left
+pub record IsDone (left left' : Option (List ℕ)) (reports : Reporting) : Type 0 where
+  pub none : Consumes left left' []
+  pub end : IsAtEnd left'
+  pub reported : Adds reports.old reports.new []
+
+-- what came after these messages: the end of the input, or one more that was refused, whose end can't be known
+abbrev pub EndsWith : Profile → Option (List ℕ) → Option (List ℕ) → Reporting → List Item → SkippingCounts → Type 0
+EndsWith q left left' reports items gone =
+    (IsDone left left' reports × (gone.messages ≡ length items) × (gone.refused ≡ length (reports_from 1 items)))
+    ⊎ (LosesEnd q left left' reports (length items) × (gone.messages ≡ length items + 1) × (gone.refused ≡ length (reports_from 1 items) + 1))
+
+-- the input was gone through, as far as the ends of its messages can be known
+pub record SkipsToEnd (q : Profile) (text : MessagePlace → Spelling → List ℕ) (is_good : Spelling → Bool) (source : Taking) (sink : Putting) (reports : Reporting) (gone : SkippingCounts) : Type 0 where
+  pub items : List Item
+  pub rest : Option (List ℕ)
+  pub reported : Option (List RefusalReport)
+  pub goes : Goes q text source.left rest sink.held sink.held' (reporting reports.old reported) items
+  pub ends : EndsWith q rest source.left' (reporting reported reports.new) items gone
+  pub few : gone.messages ≤ 1_000_000
+  pub good : gone.good ≡ good_in is_good items
+  pub octets : gone.octets ≡ counted (length goes.octets)
+  pub all : gone.all_good ≡ all_good is_good items
+
+-- why no further message was gone through, after `before` of them, where `next` is the position of the next one
+abbrev pub StopsFor : Profile → (MessagePlace → Spelling → List ℕ) → Taking → Putting → ℕ → MessagePlace → SkippingErrorKind → Type 0
+StopsFor q text source sink before next SkippingErrorKind.OutOfMemory = (before < 1_000_000) × Keeps sink.held sink.held'
+StopsFor q text source sink before next SkippingErrorKind.ReadFault =
+    (before ≤ 1_000_000) × IsTrue source.broken × TakesNoFurtherIn q before source.left source.left' × Keeps sink.held sink.held'
+StopsFor q text source sink before next (SkippingErrorKind.WriteFault n) = (before < 1_000_000) × BreaksWithinIn q (text next) source sink n
+StopsFor q text source sink before next SkippingErrorKind.TooMany =
+    (before ≡ 1_000_000) × ((octet : ℕ) × Consumes source.left source.left' (octet ∷ [])) × Keeps sink.held sink.held'
+
+-- the octets of the last message that were written, where the sink broke within it
+abbrev pub part_of : SkippingErrorKind → ℕ
+part_of (SkippingErrorKind.WriteFault n) = n
+part_of _ = 0
+
+-- the messages before the end, and why there was one
+pub record SkipsAndStops (q : Profile) (text : MessagePlace → Spelling → List ℕ) (is_good : Spelling → Bool) (source : Taking) (sink : Putting) (reports : Reporting) (halted : SkippingError) : Type 0 where
+  pub items : List Item
+  pub rest : Option (List ℕ)
+  pub grown : Option (List ℕ)
+  pub goes : Goes q text source.left rest sink.held grown reports items
+  pub messages : halted.messages ≡ length items
+  pub refused : halted.refused ≡ length (reports_from 1 items)
+  pub good : halted.good ≡ good_in is_good items
+  pub octets : halted.octets ≡ counted (length goes.octets)
+  pub written : halted.written ≡ length (written_from text first items) + part_of halted.why
+  pub halts : StopsFor q text (taking rest source.left' source.broken) (putting grown sink.held' sink.broken) halted.messages (position_past first items) halted.why

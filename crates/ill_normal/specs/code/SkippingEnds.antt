@@ -1,0 +1,27 @@
+-- How the work stops.
+use Rattle.std.specs.Prelude.{ℕ, ◌+◌, nat_eq, Bool, List, [], ◌∷◌, Option, IsTrue}
+use Rattle.std.specs.Io.KnownBytes.{Consumes, Keeps}
+use Rattle.ill_normal.specs.declared.skipping.SkippingCounts.{SkippingCounts}
+use Rattle.ill_normal.specs.declared.skipping.SkippingError.{SkippingError}
+use Rattle.ill_normal.specs.declared.skipping.SkippingErrorKind.{SkippingErrorKind}
+use Rattle.ill_normal.specs.declared.next_message.TakeError.{TakeError}
+
+-- an octet more was taken, or the source broke and none was
+abbrev pub GoesOn : Option (List ℕ) → Option (List ℕ) → Bool → SkippingErrorKind → Type 0
+GoesOn left left' broken SkippingErrorKind.TooMany = (octet : ℕ) × Consumes left left' (octet ∷ [])
+GoesOn left left' broken SkippingErrorKind.ReadFault = IsTrue broken × Keeps left left'
+GoesOn left left' broken _ = ⊥
+
+-- messages that were gone through to their end
+abbrev pub counts_of : ℕ → ℕ → ℕ → ℕ → SkippingCounts
+counts_of messages refused good octets =
+    record { messages = messages; refused = refused; good = good; octets = octets; all_good = nat_eq (refused + good) messages }
+
+-- messages that were gone through before the work was halted
+abbrev pub error_at : ℕ → ℕ → ℕ → ℕ → ℕ → SkippingErrorKind → SkippingError
+error_at messages refused good octets written why =
+    record { messages = messages; refused = refused; good = good; octets = octets; written = written; why = why }
+
+abbrev pub why_of : TakeError → SkippingErrorKind
+why_of TakeError.OutOfMemory = SkippingErrorKind.OutOfMemory
+why_of TakeError.Broken = SkippingErrorKind.ReadFault

@@ -1,0 +1,227 @@
+//! The next message of an input: its octets, up to where they end by their framing, and what is made of them.
+ghost use Rattle.std.specs.Prelude.{◌≡◌, ℕ, ◌-◌, ◌<◌, ◌≤◌, List, [], ◌++◌, length, take, IfOk, IfErr, OnOk, IsTrue, MatchOption};
+ghost use Rattle.std.specs.Io.KnownBytes.{Consumes, IsAtEnd, Keeps};
+ghost use Rattle.ber_framing.specs.Framed.{IsPart};
+ghost use Rattle.ill_schema.specs.Profiles.{profile_of};
+ghost use Rattle.ber_framing.specs.Framer.{IsFed, Judged};
+ghost use Rattle.ill_normal.specs.code.Taking.{end_of, IsNext, Takes, TakesElement, TakesPart, TakesRest, Took};
+
+use crate::messages::{MessagePlace, Render, RenderedMessage};
+use crate::skipping::SkippingErrorKind;
+use ber_core::{Buffered, FromSlice, Lookahead, Source};
+use ber_framing::{Framer, Framing};
+use ill_read::ReadFailure;
+use ill_schema::{LIMIT, Refusal};
+use std::alloc::{AllocError, Global};
+
+/// The number of octets that are asked of a source at once.
+const READ_LEN: usize = 1024;
+
+/// The next message.
+#[derive(Drop)]
+pub enum NextMessage<T: Drop> {
+    /// The output for it.
+    Read(RenderedMessage<T>),
+    /// The reason why it is refused, and how many octets it has, where its end is known; 18,446,744,073,709,551,615 where they are more.
+    Refused { refusal: Refusal, end: Option<u64> },
+}
+
+/// The reason why no message was read.
+#[derive(Clone, Copy)]
+pub enum TakeError {
+    OutOfMemory,
+    Broken,
+}
+
+impl TakeError {
+    ghost use Rattle.ill_normal.specs.code.SkippingEnds.{why_of};
+
+    /// The reason why the work stops.
+    pub fn why(self) -> SkippingErrorKind
+        ensures { result ≡ why_of self }
+    {
+        match self {
+            TakeError::OutOfMemory => SkippingErrorKind::OutOfMemory,
+            TakeError::Broken => SkippingErrorKind::ReadFault,
+        }
+    }
+}
+
+/// Reads the next message, and has made of it what is written, or says why it is refused; None at the end of the input. Its octets are
+/// kept in `kept`.
+pub fn next_message<M: Render, R: Source, L: Lookahead<R>>(
+    alloc: Global,
+    maker: &M,
+    reader: &mut M::Reader,
+    position: MessagePlace,
+    source: &mut R,
+    kept: &mut Vec<u8>,
+    buffer: M::Out,
+) -> Result<Option<NextMessage<M::Out>>, TakeError>
+    ensures next { IfOk result (λ found. MatchOption found (Consumes (R.left source.old) (R.left source.new) [] × IsAtEnd (R.left source.new))
+        (IsNext (profile_of (M.profile maker.now)) M.Out.is (M.text maker.now position) (M.is_good maker.now) (R.left source.old) (R.left source.new))) }
+    ensures broken { IfErr result (λ e. e ≡ TakeError.Broken → IsTrue (R.is_broken source.new) × TakesPart (R.left source.old) (R.left source.new)) }
+    ensures stays { IsTrue (R.is_broken source.old) → IsTrue (R.is_broken source.new) }
+{
+    let taken = match take_element::<R, L>(source, kept) {
+        Ok(taken) => taken,
+        Err(unread) => return Err(unread),
+    };
+    let mut octets = FromSlice::new(kept.as_slice());
+    match maker.next::<FromSlice<'_>, Buffered>(alloc, reader, position, &mut octets, buffer) {
+        Ok(Some(piece)) => Ok(Some(NextMessage::Read(piece))),
+        Ok(None) => Ok(None),
+        Err(ReadFailure::Refused(refusal)) => {
+            let end = end_of(taken);
+            Ok(Some(NextMessage::Refused { refusal, end }))
+        }
+        Err(ReadFailure::OutOfMemory) => Err(TakeError::OutOfMemory),
+        Err(ReadFailure::ReadFault) => unreachable!(),
+    }
+}
+
+/// The octets that were taken: their framing, and their number, up to 18,446,744,073,709,551,615.
+#[derive(Clone, Copy)]
+pub struct TakenElement {
+    pub framing: Framing,
+    pub octets: u64,
+}
+
+/// The number of octets that an element has whose end was found.
+fn end_of(taken: TakenElement) -> Option<u64>
+    ensures { result ≡ end_of taken.framing taken.octets }
+{
+    match taken.framing {
+        Framing::Whole => Some(taken.octets),
+        Framing::Part | Framing::Unframed => None,
+    }
+}
+
+/// Takes the next element, up to where its end can't be known or the input ends, and keeps its first 1,048,576 octets.
+/// Of a length that is too great it takes the rest, so that the reader sees it whole.
+fn take_element<R: Source, L: Lookahead<R>>(
+    source: &mut R,
+    kept: &mut Vec<u8>,
+) -> Result<TakenElement, TakeError>
+    ensures element { IfOk result (λ taken. Took (R.left source.old) (R.left source.new) kept.new.items taken.octets taken.framing) }
+    ensures broken { IfErr result (λ e. e ≡ TakeError.Broken → IsTrue (R.is_broken source.new) × TakesPart (R.left source.old) (R.left source.new)) }
+    ensures stays { IsTrue (R.is_broken source.old) → IsTrue (R.is_broken source.new) }
+{
+    let (framer, octets) = match take_framed::<R, L>(source, kept) {
+        Ok(taken) => taken,
+        Err(unread) => return Err(unread),
+    };
+    match framer.framing() {
+        Framing::Unframed => match take_rest(source, kept, framer.oversized_length_rest()) {
+            Ok(()) => Ok(TakenElement {
+                framing: Framing::Unframed,
+                octets,
+            }),
+            Err(unread) => Err(unread),
+        },
+        Framing::Whole => Ok(TakenElement {
+            framing: Framing::Whole,
+            octets,
+        }),
+        Framing::Part => Ok(TakenElement {
+            framing: Framing::Part,
+            octets,
+        }),
+    }
+}
+
+/// Takes octets and feeds a framer with them, up to where nothing more is needed or the input ends, and keeps the first ones. Returns how
+/// many they are as well, up to 18,446,744,073,709,551,615.
+fn take_framed<R: Source, L: Lookahead<R>>(
+    source: &mut R,
+    kept: &mut Vec<u8>,
+) -> Result<(Framer, u64), TakeError>
+    ensures element { IfOk result (λ taken. (frame : Framing) → ((b : List ℕ) → IsFed taken.0 b → Judged b frame)
+        → TakesElement (R.left source.old) (R.left source.new) kept.new.items taken.1 frame) }
+    ensures broken { IfErr result (λ e. e ≡ TakeError.Broken → IsTrue (R.is_broken source.new) × TakesPart (R.left source.old) (R.left source.new)) }
+    ensures stays { IsTrue (R.is_broken source.old) → IsTrue (R.is_broken source.new) }
+{
+    kept.clear();
+    let mut framer = Framer::new();
+    let mut buffer = [0; READ_LEN];
+    let mut octets: u64 = 0;
+    'element: for _ in 0..u64::MAX {
+        match take_some::<R, L>(source, &mut framer, kept, &mut buffer) {
+            Ok(0) => return Ok((framer, octets)),
+            Ok(count) => octets = octets.saturating_add(count as u64),
+            Err(unread) => return Err(unread),
+        }
+    }
+    Ok((framer, octets))
+}
+
+/// Takes `count` octets more, or fewer where the input ends, and keeps them.
+fn take_rest<R: Source>(source: &mut R, kept: &mut Vec<u8>, count: u8) -> Result<(), TakeError>
+    ensures rest { OnOk result (TakesRest (R.left source.old) (R.left source.new) kept.old.items kept.new.items) }
+    ensures broken { IfErr result (λ e. e ≡ TakeError.Broken → IsTrue (R.is_broken source.new)
+        × TakesRest (R.left source.old) (R.left source.new) kept.old.items kept.new.items) }
+    ensures stays { IsTrue (R.is_broken source.old) → IsTrue (R.is_broken source.new) }
+{
+    let mut octet = [0];
+    'rest: for _ in 0..count {
+        match source.take(&mut octet) {
+            Ok(0) => return Ok(()),
+            Ok(_) => match keep(kept, &octet) {
+                Ok(()) => {}
+                Err(AllocError) => return Err(TakeError::OutOfMemory),
+            },
+            Err(_) => return Err(TakeError::Broken),
+        }
+    }
+    Ok(())
+}
+
+/// Takes some octets of an element, feeds a framer with them, and returns how many they are; 0 where the element or the input ends, or
+/// where the element's end can't be known.
+fn take_some<R: Source, L: Lookahead<R>>(
+    source: &mut R,
+    framer: &mut Framer,
+    kept: &mut Vec<u8>,
+    buffer: &mut [u8],
+) -> Result<usize, TakeError>
+    requires { 0 < length buffer.old }
+    ensures takes { IfOk result (Takes (R.left source.old) (R.left source.new) framer.old framer.new kept.old.items kept.new.items) }
+    ensures broken { IfErr result (λ e. e ≡ TakeError.Broken → IsTrue (R.is_broken source.new) × Keeps (R.left source.old) (R.left source.new)) }
+    ensures part { IfErr result (λ e. e ≡ TakeError.Broken → (b : List ℕ) → IsFed framer.old b → IsPart b) }
+    ensures stays { IsTrue (R.is_broken source.old) → IsTrue (R.is_broken source.new) }
+    ensures room { length buffer.new ≡ length buffer.old }
+{
+    let hand = L::buffered(source);
+    let seen = framer.feed(hand);
+    if seen > 0 {
+        return match keep(kept, &hand[..seen]) {
+            Ok(()) => {
+                L::consume(source, seen);
+                Ok(seen)
+            }
+            Err(AllocError) => Err(TakeError::OutOfMemory),
+        };
+    }
+    let wanted = (framer.need() as usize).min(buffer.len());
+    if wanted == 0 {
+        return Ok(0);
+    }
+    let Ok(count) = source.take(&mut buffer[..wanted]) else {
+        return Err(TakeError::Broken);
+    };
+    let octets = &buffer[..count];
+    let _ = framer.feed(octets);
+    match keep(kept, octets) {
+        Ok(()) => Ok(count),
+        Err(AllocError) => Err(TakeError::OutOfMemory),
+    }
+}
+
+/// Keeps octets, as far as a message may have more.
+fn keep(kept: &mut Vec<u8>, octets: &[u8]) -> Result<(), AllocError>
+    ensures { OnOk result (kept.new.items ≡ kept.old.items ++ take (1_048_576 - length kept.old.items) octets.now) }
+{
+    let room = (LIMIT as usize).saturating_sub(kept.len());
+    let count = octets.len().min(room);
+    kept.extend_from_slice(&octets[..count])
+}

@@ -1,9 +1,0 @@
-use Rattle.std.proofs.Common.{◌≡◌, ◌+◌, ◌-◌, ◌≤◌, ◌++◌, length, map, take}
-use Rattle.std.specs.Vec.{vec_len, vec_capacity}
-use Rattle.ill_read.specs.declared.mark.Mark.TheVariants as mark
-use Rattle.ill_read.proofs.outline.put_octets.Given as goal
-
-abbrev pub invariant-loop-octet : goal.invariant-loop-octet
-invariant-loop-octet l =
-    (l.marks.items ≡ l.fn.marks.items ++ map mark.Octet (take l.octet-index l.octets))
-    × (vec_len l.marks + (length l.octets - l.octet-index) ≤ vec_capacity l.marks)

@@ -1,0 +1,330 @@
+//! The draft that is the outline of a message: marks that say what its value is, made while the message is read.
+ghost use Rattle.ill_schema.specs.declared.profile.Profile.{Profile as Named};
+ghost use Rattle.std.specs.Prelude.{◌≡◌, ◌++◌, [], ◌∷◌, ◌≤◌, length, map, take, drop, OnOk};
+ghost use Rattle.ill_grammar.specs.Places.{alternative_of};
+ghost use Rattle.ill_schema.specs.Table.{kind_of, rows_of};
+ghost use Rattle.ill_grammar.specs.Due.{first_of, read_as, shape, slot_in};
+ghost use Rattle.ill_read.specs.Outline.{octets_marks};
+ghost use Rattle.ill_grammar.specs.Standing.{top_level};
+ghost use Rattle.ill_read.specs.code.Drafts.{rows_before, rows_left};
+ghost use Rattle.ill_read.specs.declared.mark.Mark.{Mark};
+ghost use Rattle.ill_read.specs.code.Outlines.{AreOutlined, HasLed, HasOutline, HasPassed, HasRear, alternative_marks, first_marks, held_marks, is_any, late_marks, start_marks};
+
+use crate::draft::Draft;
+use crate::failure::Failure;
+use crate::mark::Mark;
+use crate::normal_form_draft::NormalFormDraft;
+use ill_grammar::{Element, Found, Frame, LeafType, Next, Opening, Place, Reading, Slot};
+use ill_schema::{NodeId, PartId, Profile, rows};
+use std::alloc::{AllocError, Global};
+
+/// The outline of a message: marks that say what its value is, in reading order.
+#[derive(Drop)]
+pub struct Outline {
+    marks: Vec<Mark>,
+    /// Memory for the next one.
+    octets: Vec<u8>,
+}
+
+impl Outline {
+    /// The outline of nothing, which takes no memory.
+    pub fn new(alloc: Global) -> Outline
+        ensures { result.marks.items ≡ [] }
+    {
+        Outline {
+            marks: Vec::new(alloc),
+            octets: Vec::new(alloc),
+        }
+    }
+
+    /// Its marks.
+    pub fn marks(&self) -> &[Mark]
+        ensures { result.now ≡ self.now.marks.items }
+    {
+        self.marks.as_slice()
+    }
+}
+
+/// The marks of the elements that have been read, beside the normal form, by which the limit is judged.
+#[derive(Drop)]
+pub struct OutlineDraft {
+    octets: NormalFormDraft,
+    marks: Vec<Mark>,
+}
+
+impl OutlineDraft {
+    /// Holds nothing, in the memory of `buffer`, whose marks are forgotten.
+    pub fn new(alloc: Global, buffer: Outline) -> OutlineDraft
+        ensures { (p : Named) → AreOutlined result (top_level p ∷ []) [] }
+    {
+        let Outline { mut marks, octets } = buffer;
+        marks.clear();
+        OutlineDraft {
+            octets: NormalFormDraft::new(alloc, octets),
+            marks,
+        }
+    }
+
+    /// Marks the octets that only the draft of octets has when an element ends: the bits of a BIT STRING, and a foreign tree in its
+    /// wrapper.
+    #[inline(always)]
+    fn put_held(&mut self, frame: Frame) -> Result<(), AllocError>
+        ensures octets { self.new.octets ≡ self.old.octets }
+        ensures marks { OnOk result (self.new.marks.items ≡ self.old.marks.items ++ held_marks (read_as frame.found) self.old.octets frame.contents_start) }
+    {
+        match Element::of(frame.found) {
+            Element::BitString => put_octets(&mut self.marks, self.octets.bit_string()),
+            Element::Wrapper(wrapped) => {
+                if !is_open_type(wrapped.node) {
+                    return Ok(());
+                }
+                put_foreign(
+                    &mut self.marks,
+                    self.octets.written_from(frame.contents_start),
+                )
+            }
+            _ => Ok(()),
+        }
+    }
+
+    /// The result of the draft.
+    pub fn into_outline(self) -> Outline
+        ensures { result.marks.items ≡ self.marks.items }
+    {
+        let OutlineDraft { octets, marks } = self;
+        Outline {
+            marks,
+            octets: octets.into_octets(),
+        }
+    }
+}
+
+/// Tells whether the type of a node is left open, so that what stands there is a foreign tree.
+fn is_open_type(node: NodeId) -> bool
+    ensures { result ≡ is_any (kind_of node) }
+{
+    matches!(&node, NodeId::Any)
+}
+
+/// Marks what comes before an element that was found at this place: the rows that it passes, and the alternative that it is.
+fn lead(marks: &mut Vec<Mark>, place: Place, found: Found) -> Result<(), AllocError>
+    ensures { OnOk result (HasLed (shape place) (slot_in found) (alternative_of found) marks.old.items marks.new.items) }
+{
+    pass_before(marks, Next::at(place), Slot::of(found))?;
+    choose(marks, found.alternative())
+}
+
+/// Marks that an element begins. What comes in a loose wrapper says whether it is a sequence, and a foreign tree is marked when its
+/// wrapper ends.
+fn begin(marks: &mut Vec<Mark>, element: Element) -> Result<(), AllocError>
+    ensures { OnOk result (marks.new.items ≡ marks.old.items ++ first_marks (first_of element) element) }
+{
+    match element {
+        Element::Leaf(leaf) => marks.push(Mark::Leaf(leaf))?,
+        Element::ModuleLeaf(leaf) => marks.push(Mark::ModuleLeaf(leaf))?,
+        Element::BitString => marks.push(Mark::BitString)?,
+        Element::Sequence(_) => marks.push(Mark::Sequence)?,
+        Element::List(_) => marks.push(Mark::List)?,
+        _ => {}
+    }
+    Ok(())
+}
+
+/// Marks a choice's alternative.
+fn choose(marks: &mut Vec<Mark>, alternative: Option<u8>) -> Result<(), AllocError>
+    ensures { OnOk result (marks.new.items ≡ marks.old.items ++ alternative_marks alternative) }
+{
+    if let Some(row) = alternative {
+        marks.push(Mark::Alternative(row))?;
+    }
+    Ok(())
+}
+
+/// Marks octets.
+fn put_octets(marks: &mut Vec<Mark>, octets: &[u8]) -> Result<(), AllocError>
+    ensures { OnOk result (marks.new.items ≡ marks.old.items ++ map Mark.Octet octets.now) }
+{
+    marks.reserve(octets.len())?;
+    for octet in octets {
+        marks.push_reserved(Mark::Octet(*octet));
+    }
+    Ok(())
+}
+
+/// Marks what has only octets, which begins with this mark. Room is made once.
+#[inline(always)]
+fn put_content(marks: &mut Vec<Mark>, first: Mark, octets: &[u8]) -> Result<(), AllocError>
+    ensures { OnOk result (marks.new.items ≡ marks.old.items ++ octets_marks first octets.now) }
+{
+    marks.reserve(octets.len() + 2)?;
+    marks.push_reserved(first);
+    for octet in octets {
+        marks.push_reserved(Mark::Octet(*octet));
+    }
+    marks.push_reserved(Mark::End);
+    Ok(())
+}
+
+/// Marks a foreign tree, which has these octets.
+#[inline(never)]
+fn put_foreign(marks: &mut Vec<Mark>, octets: &[u8]) -> Result<(), AllocError>
+    ensures { OnOk result (marks.new.items ≡ marks.old.items ++ octets_marks Mark.Foreign octets.now) }
+{
+    put_content(marks, Mark::Foreign, octets)
+}
+
+/// Passes the rows before an element at the slot, where this may come next in the element round it. The first row in a loose wrapper
+/// says that this is a sequence.
+fn pass_before(marks: &mut Vec<Mark>, next: Next, slot: Slot) -> Result<(), AllocError>
+    ensures { OnOk result (HasPassed (start_marks next slot) (rows_before next slot) marks.old.items marks.new.items) }
+{
+    match (next, slot) {
+        (Next::Rows(node, position), Slot::Row(row)) => {
+            pass(marks, node, position, row.min(rows(node)))
+        }
+        (Next::Either(wrapped), Slot::Row(row)) => {
+            marks.push(Mark::Sequence)?;
+            pass(marks, wrapped.node, 0, row.min(rows(wrapped.node)))
+        }
+        _ => Ok(()),
+    }
+}
+
+/// Passes the rows that are still to come.
+fn pass_last(marks: &mut Vec<Mark>, next: Next) -> Result<(), AllocError>
+    ensures { OnOk result (HasPassed (late_marks next) (rows_left next) marks.old.items marks.new.items) }
+{
+    match next {
+        Next::Rows(node, position) => pass(marks, node, position, rows(node)),
+        Next::Either(wrapped) => {
+            marks.push(Mark::Sequence)?;
+            pass(marks, wrapped.node, 0, rows(wrapped.node))
+        }
+        _ => Ok(()),
+    }
+}
+
+/// Ends the marks of an element, where this might still come in it.
+fn end(marks: &mut Vec<Mark>, next: Next) -> Result<(), AllocError>
+    ensures { OnOk result (HasRear next marks.old.items marks.new.items) }
+{
+    if let Next::Inner(_) | Next::Root(_) | Next::Foreigns(_) | Next::Nothing = next {
+        return Ok(());
+    }
+    pass_last(marks, next)?;
+    marks.push(Mark::End)?;
+    Ok(())
+}
+
+/// Passes rows that have no element.
+fn pass(marks: &mut Vec<Mark>, node: NodeId, from: u8, until: u8) -> Result<(), AllocError>
+    requires { until ≤ length (rows_of node) }
+    ensures { OnOk result (HasPassed [] (drop from (take until (rows_of node))) marks.old.items marks.new.items) }
+{
+    for row in from..until {
+        marks.push(Mark::Absent(PartId { node, row }))?;
+    }
+    Ok(())
+}
+
+impl Draft for OutlineDraft {
+    ghost takes = { λ p. Unit };
+
+    ghost holds = { λ draft levels text. AreOutlined draft levels text };
+
+    ghost has = { λ p draft a octets. HasOutline draft a };
+
+    #[inline(always)]
+    fn open(
+        &mut self,
+        profile: Profile,
+        place: Place,
+        opening: Opening,
+    ) -> Result<usize, AllocError> {
+        let element = Element::of(opening.found);
+        match element {
+            Element::Segment | Element::BitSegment => {}
+            _ => {
+                lead(&mut self.marks, place, opening.found)?;
+                begin(&mut self.marks, element)?;
+            }
+        }
+        self.octets.open(profile, place, opening)
+    }
+
+    #[inline(always)]
+    fn open_usual(
+        &mut self,
+        profile: Profile,
+        place: Place,
+        opening: Opening,
+    ) -> Result<usize, AllocError> {
+        let element = Element::of(opening.found);
+        lead(&mut self.marks, place, opening.found)?;
+        begin(&mut self.marks, element)?;
+        self.octets.open_usual(profile, place, opening)
+    }
+
+    fn text(&mut self, octets: &[u8]) -> Result<(), AllocError> {
+        self.octets.text(octets)?;
+        put_octets(&mut self.marks, octets)
+    }
+
+    fn bits(
+        &mut self,
+        profile: Profile,
+        reading: Reading,
+        content: &[u8],
+    ) -> Result<(), AllocError> {
+        self.octets.bits(profile, reading, content)
+    }
+
+    #[inline(always)]
+    fn leaf(
+        &mut self,
+        profile: Profile,
+        place: Place,
+        reading: Reading,
+        leaf: LeafType,
+        content: &[u8],
+    ) -> Result<(), AllocError> {
+        self.octets.leaf(profile, place, reading, leaf, content)?;
+        let marks = &mut self.marks;
+        lead(marks, place, reading.found)?;
+        put_content(marks, Mark::Leaf(leaf), content)?;
+        Ok(())
+    }
+
+    fn module_element(
+        &mut self,
+        profile: Profile,
+        place: Place,
+        reading: Reading,
+        content: &[u8],
+    ) -> Result<(), AllocError> {
+        self.octets
+            .module_element(profile, place, reading, content)?;
+        let element = Element::of(reading.found);
+        if let Element::Foreign(_) = element {
+            return Ok(());
+        }
+        let marks = &mut self.marks;
+        lead(marks, place, reading.found)?;
+        begin(marks, element)?;
+        put_octets(marks, content)?;
+        marks.push(Mark::End)?;
+        Ok(())
+    }
+
+    #[inline(always)]
+    fn close(&mut self, profile: Profile, frame: Frame, place: Place) -> Result<(), Failure> {
+        self.put_held(frame)?;
+        self.octets.close(profile, frame, place)?;
+        end(&mut self.marks, frame.next())?;
+        Ok(())
+    }
+
+    fn end(&mut self, octets: u32) -> bool {
+        self.octets.end(octets)
+    }
+}

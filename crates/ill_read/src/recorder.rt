@@ -1,0 +1,37 @@
+//! Recorders of the octets that a message is read from.
+ghost use Rattle.std.specs.Prelude.{OnOk, List, ℕ, Option, None, Some};
+ghost use Rattle.std.specs.Io.KnownBytes.{Appends};
+
+use std::alloc::AllocError;
+
+/// A recorder of the octets that a message is read from.
+pub(crate) trait Recorder {
+    // The recorded octets, where it records them.
+    ghost kept: { Self → Option (List ℕ) };
+
+    /// Appends octets to the recorded ones.
+    fn append(&mut self, octets: &[u8]) -> Result<(), AllocError>
+        ensures { OnOk result (Appends (kept self.old) (kept self.new) octets.now) };
+}
+
+/// Records nothing.
+#[derive(Drop)]
+pub(crate) struct NoRecorder;
+
+impl Recorder for NoRecorder {
+    ghost kept = { λ _. None };
+
+    fn append(&mut self, octets: &[u8]) -> Result<(), AllocError> {
+        let _ = octets;
+        Ok(())
+    }
+}
+
+impl Recorder for Vec<u8> {
+    ghost kept = { λ v. Some v.items };
+
+    fn append(&mut self, octets: &[u8]) -> Result<(), AllocError> {
+        self.extend_from_slice(octets)?;
+        Ok(())
+    }
+}

@@ -1,0 +1,61 @@
+//! Where a value is.
+ghost use Rattle.std.specs.Prelude.{◌≡◌, not, IsTrue};
+ghost use Rattle.ill_text.specs.Shown.{line};
+ghost use Rattle.ill_text.specs.code.Sending.{Adds, sending};
+ghost use Rattle.ill_text.specs.code.Trails.{is_nothing, path_of};
+
+use crate::text_sink::TextSink;
+use ber_core::Sink;
+use itoa::Buffer;
+
+/// The rows and items round a value, the innermost last.
+#[derive(Clone, Copy)]
+pub enum FieldPath<'a> {
+    Start,
+    /// The name of a row, empty where it has none.
+    Row(&'a FieldPath<'a>, &'a str),
+    /// The index of an item of a list.
+    Item(&'a FieldPath<'a>, usize),
+}
+
+/// Puts the path, and returns whether it has any octet.
+#[cycle(path)]
+pub fn put_path<W: Sink>(trail: &FieldPath<'_>, out: &mut TextSink, sink: &mut W) -> bool
+    ensures adds { Adds (path_of trail.now) (sending (W.contents sink.old) (W.is_broken sink.old) out.old) (sending (W.contents sink.new) (W.is_broken sink.new) out.new) }
+    ensures some { result ≡ not (is_nothing (path_of trail.now)) }
+    ensures stays { IsTrue (W.is_broken sink.old) → IsTrue (W.is_broken sink.new) }
+{
+    match trail {
+        FieldPath::Start => false,
+        FieldPath::Row(outer, name) => {
+            let some = put_path(outer, out, sink);
+            if name.is_empty() {
+                return some;
+            }
+            if some {
+                out.put(sink, b".");
+            }
+            out.put(sink, name.as_bytes());
+            true
+        }
+        FieldPath::Item(outer, i) => {
+            let _ = put_path(outer, out, sink);
+            let mut buffer = Buffer::new();
+            out.put(sink, b"[");
+            out.put(sink, buffer.format(*i).as_bytes());
+            out.put(sink, b"]");
+            true
+        }
+    }
+}
+
+/// Puts a line whose text is known.
+pub fn put_line<W: Sink>(trail: &FieldPath<'_>, text: &[u8], out: &mut TextSink, sink: &mut W)
+    ensures adds { Adds (line (path_of trail.now) text.now) (sending (W.contents sink.old) (W.is_broken sink.old) out.old) (sending (W.contents sink.new) (W.is_broken sink.new) out.new) }
+    ensures stays { IsTrue (W.is_broken sink.old) → IsTrue (W.is_broken sink.new) }
+{
+    let _ = put_path(trail, out, sink);
+    out.put(sink, b" = ");
+    out.put(sink, text);
+    out.put(sink, b"\n");
+}

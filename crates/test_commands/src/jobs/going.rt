@@ -1,0 +1,163 @@
+//! What `run_on` writes and reports, row by row.
+use ber_core::{Pieces, ToWrite};
+use ill_commands::{
+    Job, JobOptions, RefusalReport, ReportRefusals, RunFault, SkippingCounts, run_skipping,
+};
+use ill_normal::{Cause, Refusal};
+use std::alloc::Global;
+use std::test::Fail;
+use test_support::octets_of;
+
+/// The report that came.
+#[derive(Drop)]
+struct Reported {
+    reports: Vec<RefusalReport>,
+}
+
+impl ReportRefusals for Reported {
+    ghost use Rattle.std.specs.Prelude.{None};
+
+    ghost reported = { λ _. None };
+
+    fn report(&mut self, report: RefusalReport) {
+        let _ = self.reports.push(report);
+    }
+}
+
+/// A run. The input is text where `hex` says so, and otherwise octets, here in hexadecimal. In it the second message is a NULL, if it is
+/// gone through.
+struct Row {
+    name: &'static str,
+    job: Job,
+    hex: bool,
+    input: &'static str,
+    output: &'static str,
+    answer: Result<SkippingCounts, RunFault>,
+}
+
+/// An EXPIRED in normal form, a NULL, and the EXPIRED with indefinite lengths.
+const BETWEEN: &str =
+    "741f301d800102a10aa1031b0147a2031b0151a20ca00a80083230323430323239050074803080800102a180a1801b01470000a2801b015100000000a280a080800832303234303232390000000000000000";
+
+static ROWS: [Row; 6] = [
+    Row {
+        name: "check",
+        job: Job::Check,
+        hex: false,
+        input: BETWEEN,
+        output: "message 1: Expired, 33 octets, normal\nmessage 3: Expired, 47 octets, not normal, normal form 33 octets\n",
+        answer: Ok(SkippingCounts {
+            messages: 3,
+            refused: 1,
+            good: 1,
+            octets: 82,
+            all_good: false,
+        }),
+    },
+    Row {
+        name: "check-text",
+        job: Job::Check,
+        hex: true,
+        input: BETWEEN,
+        output: "message 1: Expired, 33 octets, normal\nmessage 3: Expired, 47 octets, not normal, normal form 33 octets\n",
+        answer: Ok(SkippingCounts {
+            messages: 3,
+            refused: 1,
+            good: 1,
+            octets: 82,
+            all_good: false,
+        }),
+    },
+    Row {
+        name: "canonicalise-text",
+        job: Job::Canonicalise,
+        hex: true,
+        input: BETWEEN,
+        output: "741f301d800102a10aa1031b0147a2031b0151a20ca00a80083230323430323239\n741f301d800102a10aa1031b0147a2031b0151a20ca00a80083230323430323239\n",
+        answer: Ok(SkippingCounts {
+            messages: 3,
+            refused: 1,
+            good: 2,
+            octets: 82,
+            all_good: true,
+        }),
+    },
+    Row {
+        name: "show",
+        job: Job::Show,
+        hex: false,
+        input: BETWEEN,
+        output: "message 1 Expired\nprotocol-version-num = 2\ntransaction-id.transaction-group-qualifier = general \"G\"\ntransaction-id.transaction-qualifier = general \"Q\"\nservice-date-time.date-time-of-this-service.date = 20240229\nmessage 3 Expired\nprotocol-version-num = 2\ntransaction-id.transaction-group-qualifier = general \"G\"\ntransaction-id.transaction-qualifier = general \"Q\"\nservice-date-time.date-time-of-this-service.date = 20240229\n",
+        answer: Ok(SkippingCounts {
+            messages: 3,
+            refused: 1,
+            good: 2,
+            octets: 82,
+            all_good: true,
+        }),
+    },
+    Row {
+        name: "odd-text",
+        job: Job::Check,
+        hex: true,
+        input: "05 0",
+        output: "",
+        answer: Err(RunFault::OddHex),
+    },
+    Row {
+        name: "bad-digit",
+        job: Job::Check,
+        hex: true,
+        input: "05 0G",
+        output: "",
+        answer: Err(RunFault::BadHex(3)),
+    },
+];
+
+/// The report of the second message.
+const NULL: RefusalReport = RefusalReport {
+    message: 2,
+    refusal: Refusal {
+        at: 0,
+        cause: Cause::UnexpectedTag,
+    },
+    ends: true,
+};
+
+/// Tells whether a row comes true of these octets. The second message is reported, if all are gone through.
+fn comes_true(alloc: Global, row: &Row, octets: &[u8]) -> bool {
+    let mut source = Pieces::new(octets, 64, None);
+    let mut written = Vec::new(alloc);
+    let mut reported = Reported {
+        reports: Vec::new(alloc),
+    };
+    let answer = match run_skipping(
+        alloc,
+        JobOptions::new(row.job, row.hex),
+        &mut source,
+        &mut ToWrite::new(&mut written),
+        &mut reported,
+    ) {
+        Ok(gone) => Ok(gone),
+        Err(halt) => Err(halt.fault),
+    };
+    answer == row.answer
+        && written.as_slice() == row.output.as_bytes()
+        && match answer {
+            Ok(_) => reported.reports.as_slice() == [NULL].as_slice(),
+            Err(_) => reported.reports.is_empty(),
+        }
+}
+
+#[test]
+fn refused_messages_are_reported_and_passed_over(rt: HostRuntime) -> Result<(), Fail> {
+    for row in &ROWS {
+        let octets = if row.hex {
+            row.input.as_bytes().to_vec(rt.alloc())?
+        } else {
+            octets_of(rt.alloc(), row.input)?
+        };
+        assert!(rt; comes_true(rt.alloc(), row, &octets), "{}", row.name);
+    }
+    Ok(())
+}

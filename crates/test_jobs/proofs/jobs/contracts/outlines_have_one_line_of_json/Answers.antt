@@ -1,5 +1,0 @@
-use Rattle.std.proofs.Common.{◌∙◌, sym}
-use Rattle.test_jobs.proofs.jobs.contracts.outlines_have_one_line_of_json.Goals as goal
-
-pub returns : goal.returns
-returns c a h k = c.in_ok-json_line_as.ensures a h ∙ sym (c.in_ok-json_line_as-2.ensures a k)

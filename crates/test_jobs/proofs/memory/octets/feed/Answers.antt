@@ -1,5 +1,0 @@
-use Rattle.std.proofs.Common.{arith}
-use Rattle.test_jobs.proofs.memory.octets.feed.Goals as goal
-
-pub feed-again-requires : goal.feed-again-requires
-feed-again-requires c = (c.need-need.result, c.need-need.ensures.needs, omega arith)
