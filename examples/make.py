@@ -10,11 +10,11 @@ from pathlib import Path
 FOLDER = Path(__file__).resolve().parent
 sys.path[:0] = [str(FOLDER.parent / "vectors"), str(FOLDER.parent / "tests")]
 
-from encoder import Writer
-from judge import message
+from model.encoder import Writer
+from model.judge import message
+from model.tables import ALL_ROWS, NAMES, ROOTS
 from rules.octets import element, text
 from rules.values import from_json, identifier_from_json
-from tables import ALL_ROWS, NAMES, ROOTS
 
 ROOT = ROOTS["module"]
 MARC_21, DELIVERY_INFO = "1.2.840.10003.5.10", "1.0.10161.13.3"

@@ -1,32 +1,51 @@
-#!/bin/sh
-# Builds the programs and runs what isn't part of rt ci: the documents and their examples, growths of memory refused in turn, the program on its rows, the program under faults,
-# the calls for C, and, where Python, GNU time or YAZ's headers are installed, the package for Python, the comparisons with another encoder,
-# judge and text, lines, the time and memory of the worst inputs, and the comparison with other codecs. Takes minutes where the crates have to be proved first.
+#!/bin/bash
+# Builds the programs and runs what isn't part of `rt ci`: the documents and their examples, the test vectors, the program on its rows and
+# under faults, allocations of memory refused in turn, and the calls for C. Where Python, GNU time or YAZ's headers are installed: the
+# package for Python, the comparisons with the model in Python, the time and memory of the worst inputs, and the comparison with other
+# codecs. Takes minutes where the crates have to be proved first.
 cd "$(dirname "$0")" || exit 2
-./build_program.sh >/dev/null 2>&1 || exit 2
 status=0
-command -v python3 >/dev/null && { python3 trusted.py --check && python3 docs.py && python3 ../examples/make.py --check || status=1; }
-command -v python3 >/dev/null && { python3 ../vectors/make.py --check || status=1; }
+log=$(mktemp) || exit 2
+trap 'rm -f "$log"' EXIT
+
+# build WHAT COMMAND..: runs a command that builds something, and stops with its output where that fails
+build() {
+    echo "== building $1"
+    shift
+    "$@" >"$log" 2>&1 && return
+    tail -n 40 "$log"
+    echo "all.sh: stopped: this failed: $*"
+    exit 2
+}
+
+# run COMMAND..: runs a test, and goes on where it fails
+run() {
+    echo "== $*"
+    "$@" || { status=1 && echo "failed: $*"; }
+}
+
+has() { command -v "$1" >/dev/null || { echo "== without $1, its tests are left out" && false; }; }
+
+calls_for_c() { (cd ../crates/ill_c && rt lib) && make -C ../bindings/c all example; }
+
+build "the program" ./build_program.sh
+build "the libraries for C" calls_for_c
+run memory/allocations.sh
+for script in program/program.sh program/faults.sh program/descriptors.sh ../bindings/c/tests/run.sh; do run $script; done
+has python3 || exit $status
+run python3 docs/trusted.py --check
+run python3 docs/calling.py --check
+run python3 docs/docs.py
+run python3 ../examples/make.py --check
+run python3 ../vectors/make.py --check
+run ../bindings/python/tests/run.sh
+for script in memory/files_allocations.py program/progress.py program/packaging.py program/outputs.py; do run $script; done
+[ -e /usr/include/yaz/ill.h ] && run program/peer.py
 for profile in 2 module; do
-    command -v python3 >/dev/null && { ../vectors/run.py --adapter illcanon --profile $profile || status=1; }
-done
-(cd ../crates/ill_c && rt lib >/dev/null 2>&1) && make -s -C ../bindings/c all example || exit 2
-scripts="growths.sh program.sh faults.sh descriptors.sh ../bindings/c/tests/run.sh"
-command -v python3 >/dev/null && scripts="$scripts ../bindings/python/tests/run.sh files_growths.py progress.py packaging.py outputs.py"
-[ -e /usr/include/yaz/ill.h ] && command -v python3 >/dev/null && scripts="$scripts peer.py"
-for script in $scripts; do
-    echo "== $script"
-    ./$script || status=1
-done
-in_both="spellings.py 2000 refusals.py 2000 shown.py 2000 json_lines.py 2000 lines.py 500 dump.py 400 archive.py 200000"
-for profile in 2 module; do
-    command -v python3 >/dev/null || break
-    set -- $in_both
-    while [ $# -gt 0 ]; do
-        echo "== $1, profile $profile"
-        ./$1 $(od -An -N2 -tu2 /dev/urandom) $2 $profile || status=1
-        shift 2
+    run ../vectors/run.py --adapter illcanon --profile $profile
+    for test in "spellings 2000" "refusals 2000" "shown 2000" "json_lines 2000" "lines 500" "dump 400" "archive 200000"; do
+        run program/${test% *}.py "$(od -An -N2 -tu2 /dev/urandom | tr -d ' ')" ${test#* } $profile
     done
-    [ -x /usr/bin/time ] && { ./worst.py $profile || status=1; }
+    [ -x /usr/bin/time ] && run speed/worst.py $profile
 done
 exit $status

@@ -11,7 +11,7 @@ from pathlib import Path
 FOLDER = Path(__file__).resolve().parent
 sys.path[:0] = [str(FOLDER), str(FOLDER.parent / "tests")]
 
-from schema import Schema
+from model.schema import Schema
 
 THEMES = "identifiers lengths end_marks booleans integers strings dates rows tagging defaults wrappers limits causes worked streams module module_worked".split()
 

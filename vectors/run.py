@@ -26,7 +26,7 @@ from collections import Counter, namedtuple
 from pathlib import Path
 
 FOLDER = Path(__file__).resolve().parent
-sys.path[:0] = [str(FOLDER), str(FOLDER.parent / "tests")]
+sys.path[:0] = [str(FOLDER), str(FOLDER.parent / "tests"), str(FOLDER.parent / "tests/program")]
 
 from peers import Erlang, build_yaz
 
@@ -75,7 +75,7 @@ class Illcanon:
     """The program of this repository: `same` reads one whole message, `canonicalise` a stream."""
 
     def __init__(self, profile):
-        from tables import PROGRAM
+        from model.tables import PROGRAM
 
         self.program, self.profile = PROGRAM, [] if profile == "2" else ["--profile", profile]
 
@@ -157,7 +157,7 @@ def says(vector, answer, normal, options):
         return False
     if not options.any_spelling:
         return answer.output == normal
-    from judge import Refused, message
+    from model.judge import Refused, message
 
     try:
         return message(answer.output, options.profile) == message(normal, options.profile)

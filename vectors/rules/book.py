@@ -1,9 +1,9 @@
 """Groups of test vectors, each with its rule. What is expected is said where the test vector is made, and judged once more when it is added."""
 import re
 
-from encoder import Writer
-from judge import Refused, message
-from tables import ALL_ROWS, NAMES, ROOTS
+from model.encoder import Writer
+from model.judge import Refused, message
+from model.tables import ALL_ROWS, NAMES, ROOTS
 
 from rules.messages import around, octets_of
 from rules.octets import SHORT, runs

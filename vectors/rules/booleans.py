@@ -1,10 +1,10 @@
 """BOOLEAN contents."""
-from tables import ROWS
+from model.tables import ROWS
 
 from rules.book import Book
 from rules.messages import Octets, around, message, octets_of, other, part_name, sample, slug, with_head
 from rules.octets import MARK, element
-from encoder import Writer
+from model.encoder import Writer
 
 
 def books():

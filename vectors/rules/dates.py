@@ -1,6 +1,6 @@
 """ISO-Date and ISO-Time."""
-from encoder import Writer
-from tables import ROWS
+from model.encoder import Writer
+from model.tables import ROWS
 
 from rules.book import Book
 from rules.messages import Octets, around, expired, octets_of, part_name, sample, slug, with_date

@@ -1,6 +1,6 @@
 """DEFAULT values, written and not."""
-from encoder import Writer
-from tables import ROWS, default_of
+from model.encoder import Writer
+from model.tables import ROWS, default_of
 
 from rules.book import Book
 from rules.messages import OPTIONAL_MESSAGES, REQUEST_VALUE, TYPES, Octets

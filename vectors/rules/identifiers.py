@@ -1,5 +1,5 @@
 """Identifier octets: classes, forms, tag numbers in one octet and in more."""
-from tables import ROWS
+from model.tables import ROWS
 
 from rules.book import Book
 from rules.messages import HEAD, HEAD_VALUE, REQUEST_VALUE, SERVICE, TRANSACTION

@@ -1,6 +1,6 @@
 """INTEGER and ENUMERATED contents."""
-from encoder import Writer, whole
-from tables import ROWS
+from model.encoder import Writer, whole
+from model.tables import ROWS
 
 from rules.book import Book
 from rules.messages import REQUEST_VALUE, Octets, around, expired, octets_of, part_name, request, sample, slug, with_head

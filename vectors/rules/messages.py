@@ -2,8 +2,8 @@
 import copy
 from functools import cache
 
-from encoder import Writer
-from tables import ALL_LISTS, ALL_ROWS, CHOICES, NAMES, NULL, ROOTS, Bits, Tree, default_of
+from model.encoder import Writer
+from model.tables import ALL_LISTS, ALL_ROWS, CHOICES, NAMES, NULL, ROOTS, Bits, Tree, default_of
 
 from rules.octets import element, joined, text
 

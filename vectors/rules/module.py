@@ -1,8 +1,8 @@
 """The module profile: each row of its own nodes, EXTERNAL, foreign trees, the leaves that it adds, and its causes of refusal."""
 from itertools import product
 
-from encoder import Writer
-from tables import ALL_LISTS, ALL_ROWS, CHOICES, LEVELS, NAMES, NULL, ROOTS, TWO, Bits, Tree, reached
+from model.encoder import Writer
+from model.tables import ALL_LISTS, ALL_ROWS, CHOICES, LEVELS, NAMES, NULL, ROOTS, TWO, Bits, Tree, reached
 
 from rules.book import Book
 from rules.limits import LIMIT

@@ -2,8 +2,8 @@
 
 Octets are written as what stands before the version, the transaction and the service of a message, and what stands after them; or whole.
 """
-from encoder import Writer
-from judge import message
+from model.encoder import Writer
+from model.judge import message
 
 from rules.book import Book
 from rules.messages import HEAD

@@ -1,5 +1,5 @@
 """Each row of the tables: there alone, absent among all others, twice, and out of order."""
-from tables import ALL_LISTS, ALL_ROWS, CHOICES, NAMES, ROWS, default_of
+from model.tables import ALL_LISTS, ALL_ROWS, CHOICES, NAMES, ROWS, default_of
 
 from rules.book import Book
 from rules.messages import Builder, Contents, Octets, full, identifier, other, part_name, sample, shortest_way, slug

@@ -1,6 +1,6 @@
 """Streams: messages one after another, up to the end of the input."""
-from encoder import Writer
-from tables import ROWS
+from model.encoder import Writer
+from model.tables import ROWS
 
 from rules.book import TOO_MANY, Book
 from rules.end_marks import all_indefinite

@@ -1,6 +1,6 @@
 """Strings: segments and alphabets."""
-from encoder import Writer
-from tables import ROWS
+from model.encoder import Writer
+from model.tables import ROWS
 
 from rules.book import Book
 from rules.messages import HEAD_VALUE, Octets, around, expired, message, octets_of, part_name, sample, slug, with_group, with_head

@@ -1,6 +1,6 @@
 """IMPLICIT and EXPLICIT tags, and CHOICE: each row with the other tagging, and each alternative where it may stand."""
-from encoder import Writer
-from tables import CHOICES, LISTS, NAMES, ROWS
+from model.encoder import Writer
+from model.tables import CHOICES, LISTS, NAMES, ROWS
 
 from rules.book import Book
 from rules.messages import Octets, along, around, identifier, octets_of, other, part_name, sample, shortest_way, slug

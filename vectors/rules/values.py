@@ -8,9 +8,9 @@ In the module profile a NULL is null; an OBJECT IDENTIFIER is its numbers with d
 nine octets; an OCTET STRING is an object with `octets`, a BIT STRING one with `bits` and `octets`, and a foreign tree one with `foreign`, its
 normal octets, all in hexadecimal. EXTERNAL's own tag is a choice whose one row has no name, so that only what is in it is written.
 """
-from encoder import Writer
-from judge import Judge
-from tables import ALL_LISTS, ALL_ROWS, CHOICES, NAMES, NULL, Bits, Tree, default_of
+from model.encoder import Writer
+from model.judge import Judge
+from model.tables import ALL_LISTS, ALL_ROWS, CHOICES, NAMES, NULL, Bits, Tree, default_of
 
 from rules.octets import SHORT, expanded, runs
 

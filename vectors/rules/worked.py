@@ -1,6 +1,6 @@
 """Worked rows: octets and what comes of them, both written down by hand. The judge has to find the same."""
-from encoder import Writer
-from judge import message
+from model.encoder import Writer
+from model.judge import message
 
 from rules.book import Book
 from rules.limits import LIMIT

@@ -1,5 +1,5 @@
 """The EXPLICIT tags of APDUs and of results, which some implementations write without the SEQUENCE inside."""
-from tables import NAMES, ROWS
+from model.tables import NAMES, ROWS
 
 from rules.book import Book
 from rules.messages import APPLICATION, HEAD, HEAD_VALUE, RESULT, Builder, along, message, part_name, sample, shortest_way, slug, with_head

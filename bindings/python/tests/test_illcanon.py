@@ -19,11 +19,11 @@ TOP = os.path.join(os.path.dirname(os.path.abspath(__file__)), "..", "..", "..")
 PROGRAM = os.path.join(TOP, "crates", "illcanon", "out", "illcanon")
 ROWS = os.path.join(TOP, "crates", "test_messages", "src", "read", "module_rows.rt")
 COUNT = int(os.environ.get("COUNT") or 2000)
-sys.path.insert(0, os.path.join(TOP, "tests"))
-from encoder import Speller, Writer
-from judge import Judge, Refused as Judged
+sys.path[:0] = [os.path.join(TOP, "tests"), os.path.join(TOP, "tests", "program")]
+from model.encoder import Speller, Writer
+from model.judge import Judge, Refused as Judged
+from model.tables import ROOTS, random_value
 from refusals import misspelled
-from tables import ROOTS, random_value
 
 EXPIRED = bytes.fromhex("741f301d800102a10aa1031b0147a2031b0151a20ca00a80083230323430323239")
 REQUEST = bytes.fromhex("61343032800102a10aa1031b0147a2031b0151a20ca00a80083230323430323239a9030a0101ab0c800100810100820101830101b000")

@@ -1,0 +1,204 @@
+#!/usr/bin/env python3
+"""Checks the documents: links and names of files, sizes, words, the version, and the examples with their output.
+
+Usage: tests/docs/docs.py [PROGRAM]
+
+A block ```console holds commands, each after `$ `, and after each the lines that it prints (standard output and standard
+error together). They run one after the other, by bash, in a new folder that has the files of examples/, with `illcanon` on
+the path. A block ```sh is run, too, unless it is marked `no-run`, and has to end with status 0. PROGRAM is the built program
+(else crates/illcanon/out/illcanon); without it no example is run, and that is said.
+"""
+import os
+import pathlib
+import re
+import shutil
+import subprocess
+import sys
+import tempfile
+
+ROOT = pathlib.Path(__file__).resolve().parents[2]
+DOCUMENTS = [ROOT / "README.md", ROOT / "CHANGELOG.md", ROOT / "vectors/README.md", *sorted((ROOT / "docs").glob("*.md"))]
+# Words that the documents don't use, each with one to use in its place.
+WORDS = [
+    (re.compile(r"\bwant of\b|\bwanting\b"), "missing"),
+    (re.compile(r"\bso many\b"), "a number"),
+    (re.compile(r"\bbehind\b"), "after"),
+    (re.compile(r"\bis none\b"), "is not, or invalid"),
+    (re.compile(r"\bsurely\b"), "certainly"),
+    (re.compile(r"\btold\b"), "reported"),
+    (re.compile(r"\bstands?\b(?! for)|\bstanding\b"), "is"),
+]
+LARGEST = {"README.md": 9216, "docs/DECISIONS.md": 12288}
+faults = []
+
+
+def fault(path, line, text):
+    faults.append(f"{path.relative_to(ROOT)}:{line}: {text}")
+
+
+def prose(text):
+    """The lines of a document with their numbers, without blocks of code, and with code between backticks left out."""
+    code = False
+    for number, line in enumerate(text.splitlines(), 1):
+        if line.lstrip().startswith("```"):
+            code = not code
+        elif not code:
+            yield number, re.sub(r"`[^`]*`", "``", line)
+
+
+def anchors(path):
+    """The anchors of the headings of a document, as forges make them."""
+    for line in path.read_text(encoding="utf-8").splitlines():
+        if line.startswith("#"):
+            title = re.sub(r"[^\w\- ]", "", line.lstrip("#").strip().lower())
+            yield title.replace(" ", "-")
+
+
+def check_links(path, text):
+    for number, line in enumerate(text.splitlines(), 1):
+        for target in re.findall(r"\]\(([^)\s]+)\)", line):
+            if re.match(r"[a-z]+:", target):
+                continue
+            name, _, anchor = target.partition("#")
+            file = (path.parent / name).resolve() if name else path
+            if not file.exists():
+                fault(path, number, f"no such file: {target}")
+            elif anchor and anchor not in set(anchors(file)):
+                fault(path, number, f"no such heading: {target}")
+
+
+def sources():
+    """The names of all files, and each with the folders after crates/."""
+    names = set()
+    for file in subprocess.run(["git", "ls-files", "-co", "--exclude-standard"], cwd=ROOT, capture_output=True, text=True, check=True).stdout.splitlines():
+        parts = file.split("/")
+        names.update("/".join(parts[i:]) for i in range(len(parts)))
+        names.update("/".join(parts[:i]) for i in range(1, len(parts)))
+        if parts[0] == "crates":
+            names.update("/".join(parts[1:i]) for i in range(2, len(parts)))
+    return names
+
+
+def check_names(path, text, names):
+    """Names of files between backticks exist."""
+    for number, line in enumerate(text.splitlines(), 1):
+        for name in re.findall(r"`([\w./-]+)`", line):
+            named = name.rstrip("/")
+            if re.search(r"\.(rt|antt|py|sh|md|txt|edit|h|c|toml|json)$", named) and not named.startswith(("/", "../")):
+                if named.removeprefix("./") not in names and not (path.parent / named).exists():
+                    fault(path, number, f"no such file: {name}")
+            elif name.endswith("/") and named not in names and not (path.parent / named).exists() and not any(n.endswith("/" + named) for n in names):
+                fault(path, number, f"no such folder: {name}")
+
+
+def check_words(path, text):
+    for number, line in prose(text):
+        for word, instead in WORDS:
+            if word.search(line):
+                fault(path, number, f"say `{instead}` for `{word.search(line).group()}`")
+
+
+def check_sizes(path, text):
+    most = LARGEST.get(str(path.relative_to(ROOT)))
+    if most and len(text.encode()) > most:
+        fault(path, 1, f"{len(text.encode())} octets, and at most {most} are wanted")
+    if path.name != "README.md" or path.parent != ROOT:
+        return
+    paragraph, start = [], 1
+    for number, line in [*prose(text), (0, "")]:
+        if line.strip() and not line.startswith(("|", "#", "- ", "1. ")):
+            start = start if paragraph else number
+            paragraph += line.split()
+            continue
+        if len(paragraph) > 80:
+            fault(path, start, f"a paragraph of {len(paragraph)} words; at most 80 are wanted")
+        paragraph = []
+
+
+def check_version():
+    wanted = re.search(r'\.version\("([^"]+)"\)', (ROOT / "crates/ill_args/src/commands.rt").read_text()).group(1)
+    for file, pattern in [
+        ("bindings/c/Makefile", r"^VERSION = (\S+)"),
+        ("bindings/c/illcanon.h", r'ILLCANON_VERSION "([^"]+)"'),
+        ("bindings/python/pyproject.toml", r'^version = "([^"]+)"'),
+    ]:
+        path = ROOT / file
+        found = re.search(pattern, path.read_text(), re.M)
+        if not found or found.group(1) != wanted:
+            fault(path, 1, f"the version is not {wanted}, that of crates/ill_args/src/commands.rt")
+
+
+def blocks(text):
+    """Each block of code: the number of its first line, its language with what follows it, and its lines."""
+    lines = text.splitlines()
+    at = 0
+    while at < len(lines):
+        if lines[at].startswith("```"):
+            end = next(i for i in range(at + 1, len(lines)) if lines[i].startswith("```"))
+            yield at + 2, lines[at][3:].strip(), lines[at + 1 : end]
+            at = end
+        at += 1
+
+
+def steps(lines):
+    """The commands of a block with the number of their line and the output that they are to have."""
+    found = []
+    for number, line in enumerate(lines):
+        if line.startswith("$ "):
+            found.append((number, [line[2:]], []))
+        elif line.startswith("> ") and found and not found[-1][2]:
+            found[-1][1].append(line[2:])
+        else:
+            found[-1][2].append(line)
+    return found
+
+
+def run_examples(path, text, program):
+    with tempfile.TemporaryDirectory() as folder:
+        work = pathlib.Path(folder) / "work"
+        shutil.copytree(ROOT / "examples", work)
+        (pathlib.Path(folder) / "bin").mkdir()
+        os.symlink(program, pathlib.Path(folder) / "bin/illcanon")
+        environment = {**os.environ, "PATH": f"{folder}/bin:{os.environ['PATH']}", "ILLCANON": str(ROOT), "LC_ALL": "C.UTF-8"}
+
+        def run(command):
+            return subprocess.run(["bash", "-c", command], cwd=work, env=environment, stdin=subprocess.DEVNULL, stdout=subprocess.PIPE, stderr=subprocess.STDOUT, text=True, timeout=600)
+
+        count = 0
+        for first, language, lines in blocks(text):
+            if language == "console":
+                for number, command, wanted in steps(lines):
+                    count += 1
+                    found = run("\n".join(command)).stdout.splitlines()
+                    if found != wanted:
+                        fault(path, first + number, "`{}` prints\n  {}".format(" ".join(command), "\n  ".join(found)))
+            elif language == "sh":
+                count += 1
+                done = run("set -e\n" + "\n".join(lines))
+                if done.returncode != 0:
+                    fault(path, first, f"ends with status {done.returncode}:\n  " + "\n  ".join(done.stdout.splitlines()))
+        return count
+
+
+def main():
+    program = pathlib.Path(sys.argv[1] if len(sys.argv) > 1 else ROOT / "crates/illcanon/out/illcanon").resolve()
+    names = sources()
+    examples = 0
+    for path in DOCUMENTS:
+        text = path.read_text(encoding="utf-8")
+        check_links(path, text)
+        check_names(path, text, names)
+        check_words(path, text)
+        check_sizes(path, text)
+        if program.exists() and path.parent != ROOT / "vectors":
+            examples += run_examples(path, text, program)
+    check_version()
+    for line in faults:
+        print(line)
+    ran = f"{examples} examples" if program.exists() else "no example was run: the program is not built"
+    print(f"{len(DOCUMENTS)} documents, {ran}, {len(faults)} faults")
+    sys.exit(1 if faults else 0)
+
+
+if __name__ == "__main__":
+    main()

@@ -1,0 +1,311 @@
+"""What must be believed: follows contracts through specs/, and prints the files and definitions that they reach.
+
+With --check, fails where docs/TRUSTED.md is not what it prints. With --private, prints the files of specs/ that no public contract
+reaches, and those of specs/code/ that one does.
+"""
+import os
+import re
+import sys
+
+TOP = os.path.join(os.path.dirname(os.path.abspath(__file__)), "..", "..")
+CRATES = os.path.join(TOP, "crates")
+LIST = os.path.join(TOP, "docs", "TRUSTED.md")
+WORD = re.compile(r"[^\s(){}\[\],.;:]+")
+KEYWORDS = ("pub", "abbrev", "opaque", "unfoldable", "record", "data", "mutual", "ghost")
+
+
+def without_comments(line):
+    return re.sub(r"(^|\s)--.*$", "", line).rstrip()
+
+
+def names_of(text, prefix=""):
+    """The name that each part of a use stands for in its file: {local: (module, name)}."""
+    text = text.strip()
+    found = {}
+    if "{" in text:
+        head, _, rest = text.partition("{")
+        depth, part, parts = 0, "", []
+        for c in rest[: rest.rindex("}")] + ",":
+            if c == "," and depth == 0:
+                parts.append(part)
+                part = ""
+                continue
+            depth += (c == "{") - (c == "}")
+            part += c
+        for part in parts:
+            if part.strip():
+                found.update(names_of(part, prefix + head))
+        return found
+    path, _, local = text.partition(" as ")
+    module, _, name = (prefix + path.strip()).rpartition(".")
+    found[(local or name).strip()] = (module, name)
+    return found
+
+
+def uses_of(lines, ghost):
+    found = {}
+    text = "\n".join(lines)
+    pattern = r"(?m)^\s*ghost use ([^;]*);" if ghost else r"(?m)^(?:pub )?use (.*(?:\n[ \t}].*)*)$"
+    for at in re.finditer(pattern, text):
+        found.update(names_of(" ".join(at[1].split())))
+    return found
+
+
+class File:
+    """A file of specs/: its uses, and its definitions with their lines."""
+
+    def __init__(self, module):
+        self.module = module
+        parts = module.split(".")
+        self.path = os.path.join(parts[1], *parts[2:]) + ".antt"
+        with open(os.path.join(CRATES, self.path), encoding="utf-8") as it:
+            lines = [without_comments(line) for line in it.read().split("\n")]
+        self.uses = uses_of(lines, ghost=False)
+        self.items = {}
+        self.inside = {}
+        self.read(lines)
+
+    def read(self, lines):
+        name, in_mutual = None, False
+        for line in lines:
+            if not line or re.match(r"(pub )?use |pub mod |\}", line):
+                continue
+            indent = len(line) - len(line.lstrip())
+            is_end = line.lstrip()[0] in "])}"
+            if indent == 0 and not is_end:
+                in_mutual = False
+            if not is_end and indent == (2 if in_mutual else 0):
+                words = line.split()
+                while words and words[0] in KEYWORDS:
+                    in_mutual |= words[0] == "mutual"
+                    words = words[1:]
+                if not words:
+                    continue
+                name = words[0]
+                self.items.setdefault(name, [])
+            if name is None:
+                continue
+            self.items[name].append(line)
+            member = re.match(r"\s+(?:pub )?(\S+) : ", line)
+            if member and indent > (2 if in_mutual else 0):
+                self.inside.setdefault(member[1], name)
+
+
+FILES = {}
+
+
+def file_of(module):
+    """The file of a module of ours, None of what is generated or of the toolchain."""
+    if module not in FILES:
+        parts = module.split(".")
+        is_ours = len(parts) > 2 and parts[0] == "Rattle" and parts[2] == "specs" and "declared" not in parts
+        path = os.path.join(CRATES, *parts[1:]) + ".antt"
+        FILES[module] = File(module) if is_ours and os.path.isfile(path) else None
+    return FILES[module]
+
+
+def resolved(module, name):
+    """The definition that a module has under a name, its own or one that it passes on."""
+    file = file_of(module)
+    if file is None:
+        return None
+    if name in file.items:
+        return module, name
+    if name in file.inside:
+        return module, file.inside[name]
+    if name in file.uses:
+        return resolved(*file.uses[name])
+    return None
+
+
+def words_in(text, uses, own=None):
+    """The definitions that a text cites."""
+    for word in WORD.findall(text):
+        if own and (word in own.items or word in own.inside):
+            yield own.module, own.inside.get(word, word) if word not in own.items else word
+        elif word in uses:
+            found = resolved(*uses[word])
+            if found:
+                yield found
+
+
+def reached(seeds):
+    """The definitions that the seeds reach, by file."""
+    todo, found, laws = list(seeds), {}, set()
+    while todo:
+        module, name = todo.pop()
+        names = found.setdefault(module, set())
+        if name in names:
+            continue
+        names.add(name)
+        if (module, name) in LAWS:
+            names.discard(name)
+            law = LAWS[module, name]
+            if law not in laws:
+                laws.add(law)
+                todo += contracts_of(law[0], (law[1],))
+            continue
+        file = file_of(module)
+        todo += words_in("\n".join(file.items[name]), file.uses, file)
+    return {module: names for module, names in found.items() if names}
+
+
+def rust_of(crate):
+    for at, _, files in sorted(os.walk(os.path.join(CRATES, crate, "src"))):
+        for name in sorted(files):
+            if name.endswith(".rt"):
+                with open(os.path.join(at, name), encoding="utf-8") as it:
+                    yield os.path.join(at, name), [re.sub(r"//.*$", "", line) for line in it.read().split("\n")]
+
+
+def exported(crate):
+    """The names that a library passes on."""
+    with open(os.path.join(CRATES, crate, "src", "lib.rt"), encoding="utf-8") as it:
+        uses = re.findall(r"pub use ([^;]*);", it.read())
+    return {word for use in uses for word in re.findall(r"\w+", use)}
+
+
+def functions_of(lines):
+    """Each function with a contract: what it is in (an `impl` or a trait, or nothing), whether it is `pub`, its name, its contract."""
+    block = ""
+    for i, line in enumerate(lines):
+        if re.match(r"(pub )?(impl|trait)\b", line):
+            block = line
+        elif line.startswith("}"):
+            block = ""
+        at = re.match(r"\s*(pub )?(?:const |extern \"C\" )?fn (\w+)", line)
+        if at:
+            yield block, bool(at[1]), at[2], contract_at(lines, i)
+
+
+def ghosts_of(lines):
+    """Each ghost member of an `impl` or a trait, with what it is in."""
+    block = ""
+    for line in lines:
+        if re.match(r"(pub )?(impl|trait)\b", line):
+            block = line
+        elif line.startswith("}"):
+            block = ""
+        if block and re.match(r" *ghost (?!use)", line):
+            yield block, line
+
+
+def contract_at(lines, start):
+    """The clauses that follow a function's name, up to its body or its end."""
+    indent, text = len(lines[start]) - len(lines[start].lstrip()), []
+    for line in lines[start:]:
+        text.append(line)
+        is_clause = re.match(r"\s*(ensures|requires)\b", line)
+        if line.strip() in ("{", "{}") and len(line) - len(line.lstrip()) == indent or not is_clause and line.rstrip().endswith(("{", "{}", "};")):
+            break
+        if line.rstrip().endswith(";") and not is_clause:
+            break
+        if is_clause and line.rstrip().endswith("};"):
+            break
+    return " ".join(text)
+
+
+def contracts_of(crate, wanted=None):
+    """The definitions that contracts cite: of what a library passes on, or of the functions of these names."""
+    names = exported(crate)
+    for path, lines in rust_of(crate):
+        uses = uses_of(lines, ghost=True)
+        for block, is_public, name, contract in functions_of(lines):
+            is_ours = bool(names & {*re.findall(r"\w+", block.partition(" for ")[2] or block)})
+            is_wanted = name in wanted if wanted is not None else (is_ours and (is_public or " for " in block or "trait " in block) if block else name in names)
+            if is_wanted:
+                yield from words_in(contract, uses)
+        if wanted is None:
+            for block, text in ghosts_of(lines):
+                if names & {*re.findall(r"\w+", block.partition(" for ")[2] or block)}:
+                    yield from words_in(text, uses)
+
+
+def lines_of(module, names):
+    file = file_of(module)
+    return sum(len(file.items[name]) for name in names)
+
+
+def table(found):
+    rows, total = [], 0
+    for module in sorted(found):
+        lines = lines_of(module, found[module])
+        total += lines
+        names = ", ".join(f"`{name}`" for name in file_of(module).items if name in found[module])
+        rows.append(f"| `{file_of(module).path}` | {lines} | {names} |")
+    return rows, total
+
+
+def section(title, text, seeds):
+    found = reached(seeds)
+    rows, total = table(found)
+    head = [f"## {title}", "", text, "", f"{len(found)} files, {total} lines without comments and blank lines.", "", "| File in `crates/` | Lines | Definitions |", "|---|---|---|"]
+    return [*head, *rows, ""]
+
+
+# The claims of README.md, each with the functions that it names, and the crates that these are in.
+CLAIMS = [
+    ("Equal normal forms", [("ill_normal", "normal_forms_are_equal_exactly_if_apdus_are"), ("ill_normal", "same_message")]),
+    ("What is accepted", [("ill_refusals", "one_outcome"), ("ill_read", "decode"), ("ill_read", "read_message")]),
+    ("However the input is cut", [("ill_read", "feed"), ("ill_read", "read_message")]),
+    ("One cause at one offset", [("ill_refusals", "one_outcome"), ("ill_normal", "one_refusal_of_a_slice")]),
+]
+
+# How a function is named that is in a type.
+NAMES = {"feed": "Decoder::feed"}
+
+# Definitions that a law states in the words of others, so that nobody has to believe them: the law, and what they are.
+READING = "Rattle.ill_refusals.specs.Reading"
+LAWS = {(READING, name): ("ill_refusals", "headers_are_read") for name in ("class_of", "tagged", "read_digits", "read_number", "read_identifier", "read_length")}
+PRODUCT = "ber_core ber_framing ber_leaf ill_schema ill_refusals ill_read ill_write ill_normal ill_text ill_json ill_commands ill_dump ill_lines ill_args ill_files ill_cli ill_c ill_typed ill_parts ill_apdu".split()
+
+
+def claims():
+    """What each of the claims of README.md reaches, and all of them together."""
+    rows, all_seeds = ["| Claim | Functions | Files | Lines |", "|---|---|---|---|"], []
+    for title, functions in CLAIMS:
+        seeds = [seed for crate, name in functions for seed in contracts_of(crate, (name,))]
+        files, lines = table(reached(seeds))
+        all_seeds += seeds
+        rows.append(f"| {title} | {', '.join(f'`{crate}::{NAMES.get(name, name)}`' for crate, name in functions)} | {len(files)} | {lines} |")
+    return rows, all_seeds
+
+
+def document():
+    run = [*contracts_of("ill_commands", ("run_as", "run_same_as"))]
+    rows, all_claims = claims()
+    text = ["# What must be believed", ""]
+    text += ["The definitions between a theorem and its reader. `tests/docs/trusted.py` prints this list, and `tests/all.sh` fails where it is out of date. Each definition is named with the words that it cites, and so on to the end. The types that Rust code declares, and the definitions of std, of `jiff`, of `json`, of `hex` and of `sha2`, are cited too, and not listed.", ""]
+    text += ["`ill_refusals::headers_are_read` is a law: what the definitions of `ill_refusals/specs/Reading.antt` read at the front of octets is an identifier or a length as X.690 spells it. So in place of these the list has the words of that law.", ""]
+    text += section("The theorem", "What the contracts of the functions say that README.md names beside its four claims. The last claim needs the causes and their order; the third one needs, besides, what a decoder needs and how it stands for the octets that it was fed.\n\n" + "\n".join(rows), all_claims)
+    text += section("The program's jobs", "All that the contracts of `ill_commands::run_as` and `ill_commands::run_same_as` say, in either profile, with causes and offsets, text and hexadecimal digits.", run)
+    text += section("Lines", "All that the contract of `ill_lines::run_lines_as` says.", contracts_of("ill_lines", ("run_lines_as",)))
+    text += section("The calls for C", "All that the contracts of `ill_c` say, with what a call leaves in the caller's memory, and causes as numbers.", contracts_of("ill_c"))
+    return "\n".join(text)
+
+
+def private():
+    found = {}
+    for crate in PRODUCT:
+        for module, names in reached(contracts_of(crate)).items():
+            found.setdefault(module, set()).update(names)
+    for crate in PRODUCT:
+        specs = os.path.join(CRATES, crate, "specs")
+        for at, _, files in sorted(os.walk(specs)):
+            for name in sorted(files):
+                module = "Rattle." + os.path.relpath(os.path.join(at, name), CRATES)[:-5].replace(os.sep, ".")
+                if not name.endswith(".antt") or name == "Lib.antt" or not file_of(module).items:
+                    continue
+                is_code = ".specs.code." in module
+                if (module in found) == is_code:
+                    print(f"{file_of(module).path}: {'reached' if is_code else 'not reached'} by a public contract", *sorted(found.get(module, [])))
+
+
+if __name__ == "__main__":
+    if sys.argv[1:] == ["--private"]:
+        private()
+    elif sys.argv[1:] == ["--check"]:
+        with open(LIST, encoding="utf-8") as it:
+            sys.exit(0 if it.read() == document() else "docs/TRUSTED.md is out of date: python3 tests/docs/trusted.py > docs/TRUSTED.md")
+    else:
+        sys.stdout.write(document())

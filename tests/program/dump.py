@@ -1,0 +1,436 @@
+#!/usr/bin/env python3
+"""Compares `illcanon dump` with another writer of the dump, over spellings of random APDUs, good and changed, and over the examples of `illcanon help causes`.
+
+The writer goes by the judge of judge.py, the tables and the names. Each APDU, each note and each cause has to come at least once; a message has
+a note if and only if it is not in normal form; the line on standard error is that of `check`. Needs the program built.
+Usage: dump.py [SEED [COUNT [PROFILE]]], PROFILE being `2`, the default, or `module`. Prints the seed, with which a run is made again.
+"""
+import copy
+import os
+import random
+import re
+import subprocess
+import sys
+import tempfile
+from collections import Counter
+from pathlib import Path
+
+sys.path.insert(0, str(Path(__file__).resolve().parents[1]))
+
+from model.encoder import Speller, Writer, is_default
+from model.judge import LIMIT, Judge, Refused, bits_of, content_value, due, missing
+from refusals import Misspeller, changed
+from shown import identifier_text, octets_text
+from model.tables import ALL_ROWS, NAMES, PROGRAM, ROOTS, profile_and_words, random_value, seed_and_count
+
+TYPES = {
+    ("universal", 2): "INTEGER",
+    ("universal", 6): "OBJECT IDENTIFIER",
+    ("universal", 8): "EXTERNAL",
+    ("universal", 10): "ENUMERATED",
+    ("universal", 16): "SEQUENCE",
+    ("universal", 26): "VisibleString",
+    ("universal", 27): "GeneralString",
+}
+CLASSES = {"universal": "UNIVERSAL ", "application": "APPLICATION ", "context": "", "private": "PRIVATE "}
+TRIED = [("universal", n) for n in range(1, 31)] + [("application", n) for n in range(31)] + [("context", n) for n in range(61)]
+TEXTS = {
+    "Truncated": "the input ends inside the message",
+    "BadTag": "no identifier begins so, or the tag number has more than four octets",
+    "BadLength": "the first length octet is FF, or 80 in a primitive element",
+    "TooLong": "the message would have more than 1,048,576 octets",
+    "Overrun": "the element would go past the end of an element round it",
+    "TooDeep": "more than 32 elements would be open",
+    "UnexpectedTag": "the tag is not due there",
+    "LeftOut": "this part is not read",
+    "WrongForm": "it is primitive where it has to be constructed, or the reverse",
+    "Missing": "the element ends before a mandatory part",
+    "BadEnd": "the second octet of an end mark is not 00",
+    "BadBoolean": "a BOOLEAN has one octet",
+    "BadInteger": "the number has no octet, or one more than it needs",
+    "IntegerTooLong": "the number has more than eight octets",
+    "BadText": "an octet is not in the alphabet of the string",
+    "BadDate": "it is not eight digits of a day that exists",
+    "BadTime": "it is not six digits of a time of day",
+    "TrailingBytes": "octets follow the message",
+    "NormalTooLong": "the normal form would have more than 1,048,576 octets",
+    "BadNull": "a NULL has no octets",
+    "BadOid": "the identifier has no octet, one more than it needs, or no end",
+    "BadBits": "the first octet is not the number of unused bits",
+}
+LEVELS_TEXT = "a value of an open type would have more than 20 levels"
+# the causes that only the module profile has
+MODULE = {"BadNull", "BadOid", "BadBits"}
+NOTES = ["indefinite", "length in", "in segments", "segment", "default written", "TRUE as", "without inner SEQUENCE"]
+MODULE_NOTES = ["unused bits are not 0"]
+# the nodes of profile 2 in which the module has other tags, or a row more
+RETAGGED = {"UnitsPerMedium", "WillSupply", "Conditional"}
+TAG_ONLY = {"UnexpectedTag", "LeftOut", "WrongForm", "TooDeep"}
+HEADER_ONLY = {"BadLength", "Overrun", "TooLong"}
+
+
+def hexed(octets):
+    return bytes(octets).hex(" ")
+
+
+def quoted(octets):
+    escapes = {ord(c): "\\" + c for c in '"\\'}
+    return '"' + "".join(escapes.get(o, chr(o) if 0x20 <= o <= 0x7E else f"\\x{o:02x}") for o in octets) + '"'
+
+
+def tag_text(tag):
+    return f"[{CLASSES[tag[0]]}{tag[1]}]"
+
+
+def bits_text(content):
+    """What a primitive BIT STRING has, its unused bits as they are written. A segment that has no bits by X.690, 8.6 is shown in hexadecimal."""
+    if bits_of(content) is None:
+        return hexed(content)
+    return f"bits {8 * len(content[1:]) - content[0]} {content[1:].hex()}".rstrip()
+
+
+def has_unused_bits_set(content):
+    return bits_of(content) is not None and bits_of(content).octets != content[1:]
+
+
+# what only the module profile has
+MODULE_VALUES = {
+    "Null": lambda content: "NULL",
+    "ObjectIdentifier": identifier_text,
+    "OctetString": octets_text,
+    "ObjectDescriptor": quoted,
+    "Any": octets_text,
+}
+
+
+class Dumper(Judge):
+    """Judges a message, and keeps a line for each element."""
+
+    def __init__(self, octets, profile):
+        super().__init__(octets, profile)
+        self.lines, self.labels, self.counts = [], [], []
+
+    def round(self):
+        return self.path[-1] if self.path else None
+
+    def due(self, tag):
+        """What a tag begins here, with nothing changed."""
+        return due(copy.deepcopy(self.path), tag, self.profile)
+
+    def label(self, element, tag):
+        """The name of an element, and whether it is one of the tables."""
+        inner = self.round()
+        if inner is None:
+            return NAMES[ROOTS[self.profile]][1][element.chosen[0] if element.chosen else element.part[1]], True
+        if element.kind == "foreign":
+            return tag_text(tag), False
+        if element.kind == "segment":
+            return "BIT STRING" if element.node == "BitString" else "OCTET STRING", False
+        if inner.kind == "list":
+            return f"{NAMES[inner.node][1][0]}[{self.counts[-1]}]", True
+        if element.row is not None:
+            name = NAMES[inner.node][1][element.row]
+            if element.chosen:
+                name += "." + NAMES[ALL_ROWS[inner.node][element.row].node][1][element.chosen[0]]
+            elif element.kind == "left out" and element.part[0] != inner.node:
+                name += "." + NAMES[element.part[0]][1][element.part[1]]
+            return name, True
+        if element.chosen and inner.node != "TaggedExternal":
+            return NAMES[inner.node][1][element.chosen[0]], True
+        if element.kind == "left out":
+            return NAMES[element.part[0]][1][element.part[1]], True
+        return TYPES[tag], False
+
+    def element(self, place):
+        known, tag, element, begun = None, None, None, place
+        depth, inner = len(self.path), self.round()
+        try:
+            tag, constructed, begun = self.identifier(place)
+            element = self.due(tag)
+            known = element and self.label(element, tag)
+            size, body = self.length(begun, constructed, place)
+        except Refused:
+            size = body = None
+        try:
+            after = super().element(place)
+        except Refused as fault:
+            if fault.cause == "Truncated" and body is not None and element and body <= len(self.octets):
+                notes = self.length_notes(begun, body, size) + ["cut short"]
+                self.lines.append([place, depth, self.octets[place:body], known[0], "", notes, None])
+            elif fault.cause not in ("Truncated", "BadTag") and known and known[1]:
+                self.labels.append(known[0])
+            raise
+        if inner:
+            self.counts[-1] += 1
+        notes = self.length_notes(begun, body, size)
+        value, after_header = "", None
+        if constructed:
+            self.labels.append(known[0] if known[1] else None)
+            self.counts.append(0)
+            if element.kind == "loose":
+                after_header = True if size == 0 else body
+            elif element.kind in ("string", "segment"):
+                notes.append("in segments" if element.kind == "string" else "segment")
+        else:
+            content = self.octets[body : body + size]
+            value = " = " + self.value_text(element, content)
+            if element.kind == "segment":
+                notes.append("segment")
+            if element.node == "Boolean" and content not in (b"\0", b"\xff"):
+                notes.append(f"TRUE as {hexed(content)}")
+            if element.node == "BitString" and has_unused_bits_set(content):
+                notes.append("unused bits are not 0")
+            if element.row is not None and element.kind == "leaf" and is_default(content_value(element.node, content), ALL_ROWS[inner.node][element.row]):
+                notes.append("default written")
+        self.lines.append([place, depth, self.octets[place:body], known[0], value, notes, after_header])
+        return after
+
+    def length_notes(self, begun, body, size):
+        if size is None:
+            return ["indefinite"]
+        least, count = len(Writer().length(size)), body - begun
+        return [f"length in {count} octets where {least} {'does' if least == 1 else 'do'}"] if count > least else []
+
+    def value_text(self, element, content):
+        if element.node == "BitString":
+            return bits_text(content)
+        if element.kind == "segment":
+            return quoted(content)
+        if element.node in MODULE_VALUES:
+            return MODULE_VALUES[element.node](content)
+        value = content_value(element.node, content)
+        if isinstance(value, bool):
+            return "TRUE" if value else "FALSE"
+        if isinstance(value, int):
+            return str(value)
+        return content.decode() if element.node in ("IsoDate", "IsoTime") else quoted(content)
+
+    def close(self, place):
+        ends = self.path[-1].end
+        super().close(place)
+        self.labels.pop()
+        self.counts.pop()
+        if ends is None:
+            self.lines.append([place, len(self.path), b"\0\0", "end mark", "", [], None])
+
+    def text(self, stop):
+        """The lines of the elements that begin before an offset."""
+        for place, depth, header, name, value, notes, inside in self.lines:
+            if place >= stop:
+                continue
+            if inside is True or inside is not None and inside < stop and self.octets[inside] != 0x30:
+                notes = notes + ["without inner SEQUENCE"]
+            noted = f"  ({', '.join(notes)})" if notes else ""
+            yield f"{place:>7}  {'  ' * depth}{hexed(header)}  {name}{value}{noted}\n"
+
+    def found(self, fault):
+        """What is at the place of a fault."""
+        if fault.cause == "Truncated":
+            return "the end of the input"
+        if fault.cause == "Missing":
+            return "the end of the element"
+        if fault.cause == "BadEnd":
+            return hexed(self.octets[fault.at : fault.at + 2])
+        rest = self.octets[fault.at : self.bound() if self.bound() is not None else LIMIT]
+        if not rest:
+            return "nothing before the end"
+        tag = constructed = None
+        begun = fault.at
+        try:
+            tag, constructed, begun = self.identifier(fault.at)
+            size, body = self.length(begun, constructed, fault.at)
+        except Refused as other:
+            if tag is None:
+                # Up to the octet that begins no identifier.
+                count = 1 if rest[0] == 0 else next((i for i in range(2, 6) if i > len(rest) or not self.may_begin(rest[:i])), len(rest))
+                return hexed(rest[: min(count, len(rest))])
+            size, body = None, begun + 1 if other.cause == "BadLength" else fault.at + len(rest)
+        if fault.cause in TAG_ONLY:
+            end = begun
+        elif fault.cause in HEADER_ONLY or constructed:
+            end = body
+        else:
+            end = body + size
+        return f"{tag_text(tag)} {'constructed' if constructed else 'primitive'}: {hexed(self.octets[fault.at : end])}"
+
+    @staticmethod
+    def may_begin(octets):
+        """Whether an identifier may begin with more than one octet, these."""
+        try:
+            Judge(octets).identifier(0)
+        except Refused as fault:
+            return fault.cause == "Truncated"
+        return True
+
+    def refusal(self, fault):
+        part = f" {fault.part_name()}" if fault.part else ""
+        # in a foreign tree, or where it is to begin
+        in_tree = bool(self.path) and self.round().node == "Any" and (self.round().kind == "foreign" or not self.round().position)
+        text = LEVELS_TEXT if fault.cause == "TooDeep" and in_tree else TEXTS[fault.cause]
+        yield f"refused at {fault.at}: {fault.cause}{part}\n    {text}\n"
+        if fault.cause == "NormalTooLong":
+            return
+        yield f"    path {'.'.join(label for label in self.labels if label) or 'none'}\n"
+        yield f"    found {self.found(fault)}\n"
+        if fault.cause in ("UnexpectedTag", "Missing"):
+            yield from self.due_lines(in_tree)
+        yield from self.hint(fault)
+
+    def due_lines(self, in_tree):
+        """What was due."""
+        if in_tree:
+            yield "    due one element of any tag\n"
+            return
+        for tag in TRIED:
+            element = self.due(tag)
+            if element:
+                left_out = " (not read)" if element.kind == "left out" else ""
+                yield f"    due {tag_text(tag)} {self.label(element, tag)[0]}{left_out}\n"
+        if self.path and not missing(self.path[-1]):
+            yield "    due the end of the element\n"
+
+    def hint(self, fault):
+        """What the module profile has there."""
+        if self.profile == "module":
+            return
+        if fault.cause == "LeftOut":
+            yield "    --profile module reads this part\n"
+        elif fault.cause in ("WrongForm", "UnexpectedTag") and self.path and self.round().node in RETAGGED:
+            yield "    --profile module has other tags here\n"
+
+
+def dump(octets, profile, name=None):
+    """What is written for the messages of a file, and the line on standard error."""
+    label, text, errors, number = f"{name}: " if name else "", "", "", 0
+    while octets:
+        number += 1
+        dumper = Dumper(octets, profile)
+        try:
+            apdu, size = dumper.message()
+        except Refused as fault:
+            text += f"{label}message {number}: refused\n" + "".join(dumper.text(fault.at)) + "".join(dumper.refusal(fault))
+            line = fault.line(number)
+            return text, line.replace("illcanon: ", f"illcanon: {label}", 1)
+        normal = Writer().value(ROOTS[profile], apdu, None)
+        end = "normal" if normal == octets[:size] else f"not normal, normal form {len(normal)} octets"
+        text += f"{label}message {number}: {NAMES[ROOTS[profile]][1][apdu[0]]}, {size} octets, {end}\n" + "".join(dumper.text(size))
+        octets = octets[size:]
+    return text, errors
+
+
+def inputs(chance, count, root):
+    """Files with one or two messages, good and changed."""
+    apdus = [i for i, row in enumerate(ALL_ROWS[root]) if row.presence != "LeftOut"]
+    for number in range(count):
+        row = apdus[number % len(apdus)]
+        apdu = row, random_value(chance, ALL_ROWS[root][row].node)
+        writer = Writer() if chance.random() < 0.15 else Speller(chance)
+        octets = writer.value(root, apdu, None)
+        if root == ROOTS["module"] and chance.random() < 0.3:
+            octets = Misspeller(chance).value(root, apdu, None)
+        elif chance.random() < 0.5:
+            octets = changed(chance, octets)
+        if chance.random() < 0.2:
+            octets += Speller(chance).value(root, random_value(chance, root), None)
+        if chance.random() < 0.2:
+            octets = octets[: chance.randrange(len(octets) + 1)]
+        yield octets
+
+
+def examples():
+    """The examples of `illcanon help causes`: each cause with its octets."""
+    text = subprocess.run([PROGRAM, "help", "causes"], capture_output=True, text=True, check=True).stdout
+    for cause, meaning, lines in re.findall(r"^([A-Z]\w+) +(.*)\n((?:^    .*\n?)+)", text, re.M):
+        if meaning != TEXTS.get(cause):
+            sys.exit(f"dump.py: help causes says of {cause}: {meaning}")
+        lines = [line.strip() for line in lines.splitlines()]
+        if lines[0].startswith("$ "):
+            script = "\n".join(lines)[2:]
+            octets = subprocess.run(["sh", "-c", script], capture_output=True, check=True).stdout
+        else:
+            octets = bytes.fromhex("".join(lines))
+        yield cause, octets
+
+
+def compare(folder, names, seed, profile, words):
+    """The program and the writer over files. Returns the text."""
+    wanted = {name: dump((folder / name).read_bytes(), profile, name) for name in names}
+    done = subprocess.run([PROGRAM, "dump", *words, *names], cwd=folder, capture_output=True, check=False)
+    text = "".join(wanted[name][0] for name in names)
+    errors = "".join(wanted[name][1] for name in names)
+    found = done.stdout.decode("latin-1")
+    if found != text:
+        pairs = zip(found.splitlines() + [""], text.splitlines() + [""])
+        number = next((i for i, (one, other) in enumerate(pairs) if one != other), -1)
+        before = [line for line in text.splitlines()[: number + 1] if ": message" in line][-1:]
+        sys.exit(f"dump.py: seed {seed}, line {number} after {before}:\n  {found.splitlines()[number:number + 1]}\n  {text.splitlines()[number:number + 1]}")
+    if done.stderr.decode() != errors or done.returncode != (1 if errors else 0):
+        sys.exit(f"dump.py: seed {seed}: status {done.returncode}, {done.stderr.decode()}\nwanted {errors}")
+    checked = subprocess.run([PROGRAM, "check", *words, *names], cwd=folder, capture_output=True, check=False)
+    if checked.stderr != done.stderr or checked.stdout.decode() != "".join(line + "\n" for line in text.splitlines() if re.search(r": message \d+: .*normal", line)):
+        sys.exit(f"dump.py: seed {seed}: check says something else")
+    return text
+
+
+def check_notes(text):
+    """A message has a note exactly if it is not normal."""
+    for message in re.split(r"^(?=[\w-]+: message )", text, flags=re.M)[1:]:
+        head, *rest = message.splitlines()
+        noted = any(re.search(rf"  \((.*, )?{note}[^\"]*\)$", line) for line in rest for note in NOTES + MODULE_NOTES)
+        if not head.endswith("refused") and noted != ("not normal" in head):
+            sys.exit(f"dump.py: notes and normal form differ:\n{message}")
+
+
+def compare_examples(folder, profile):
+    """The examples of each cause give it. Returns the names of those that `dump` is compared over."""
+    causes, names = Counter(), []
+    for cause, octets in examples():
+        causes[cause] += 1
+        if cause == "TrailingBytes":
+            done = subprocess.run([PROGRAM, "check", "--lines", "-"], input=octets.hex().encode() + b"\n", capture_output=True, check=False)
+            if f": {cause}" not in done.stdout.decode():
+                sys.exit(f"dump.py: the example of {cause} gives {done.stdout}")
+            continue
+        if cause not in MODULE or profile == "module":
+            names.append(f"example-{cause}-{causes[cause]}")
+            (folder / names[-1]).write_bytes(octets)
+        if f": {cause}" not in dump(octets, "module" if cause in MODULE else "2")[1]:
+            sys.exit(f"dump.py: the example of {cause} gives another cause")
+    for cause in TEXTS:
+        if not causes[cause]:
+            sys.exit(f"dump.py: no example of {cause}")
+    return names
+
+
+def compare_hexadecimal(folder, names, seed, profile, words):
+    """The same from hexadecimal, of a file without a fault."""
+    octets = next(octets for octets in ((folder / name).read_bytes() for name in names) if "refused" not in dump(octets, profile)[0])
+    done = subprocess.run([PROGRAM, "dump", *words, "--hex", "-"], input=octets.hex().encode(), capture_output=True, check=False)
+    if done.stdout.decode("latin-1") != dump(octets, profile)[0]:
+        sys.exit(f"dump.py: seed {seed}: --hex gives something else")
+
+
+def main():
+    seed, count = seed_and_count()
+    profile, words = profile_and_words()
+    chance = random.Random(seed)
+    with tempfile.TemporaryDirectory() as place:
+        folder = Path(place)
+        names = []
+        for number, octets in enumerate(inputs(chance, min(count, 400), ROOTS[profile])):
+            names.append(f"f{number}")
+            (folder / names[-1]).write_bytes(octets)
+        names += compare_examples(folder, profile)
+        text = compare(folder, names, seed, profile, words)
+        check_notes(text)
+        compare_hexadecimal(folder, names, seed, profile, words)
+    for note in NOTES + (MODULE_NOTES if profile == "module" else []):
+        if not re.search(rf"  \((.*, )?{note}", text):
+            sys.exit(f"dump.py: seed {seed}: no message has the note {note}")
+    kinds = Counter(re.findall(r"^refused at \d+: (\w+)", text, re.M))
+    lines = text.count("\n")
+    print(f"seed {seed}, profile {profile}: {len(names)} files, {lines} lines, all right;", ", ".join(f"{cause} {times}" for cause, times in kinds.most_common()))
+
+
+if __name__ == "__main__":
+    main()

@@ -1,0 +1,157 @@
+#!/bin/bash
+# What the built program does where memory, room, a pipe or its input fails under it: status 3 and its line, or the message's refusal, and in
+# the output exactly what the line says. Run by hand, from anywhere, with the program built. The last line is 'N passed, M failed'.
+program=$(cd "$(dirname "$0")/../.." && pwd)/crates/illcanon/out/illcanon
+folder=$(mktemp -d) && cd "$folder" || exit 1
+passed=0 failed=0
+
+# expect NAME STATUS PATTERN: of the last run, whose line on standard error must match the pattern; none is wanted where that is empty
+expect() {
+    if [ -z "$3" ]; then [ ! -s err ]; else grep -qx -- "$3" err; fi
+    if [ $? = 0 ] && [ "$status" = "$2" ]; then
+        passed=$((passed + 1))
+    else
+        failed=$((failed + 1))
+        echo "failed: $1: status $status, wanted $2"
+        head -c 300 err
+    fi
+}
+
+# front NAME FILE WHOLE: the first file must be a first part of the second
+front() {
+    if cmp -s -n "$(stat -c %s "$2")" "$2" "$3"; then
+        passed=$((passed + 1))
+    else
+        failed=$((failed + 1))
+        echo "failed: $1: what was written is no first part"
+    fi
+}
+
+printf '\x74\x1f\x30\x1d\x80\x01\x02\xa1\x0a\xa1\x03\x1b\x01\x47\xa2\x03\x1b\x01\x51\xa2\x0c\xa0\x0a\x80\x0820240229' >ONE
+cp ONE MANY
+for _ in 1 2 3 4 5 6 7 8 9 10 11 12 13 14 15 16 17; do cat MANY MANY >MORE && mv MORE MANY; done
+# A MESSAGE of 1,048,573 octets, whose note has 1,048,526.
+{
+    printf '\x71\x80\x30\x80\x80\x01\x02\xa1\x0a\xa1\x03\x1b\x01\x47\xa2\x03\x1b\x01\x51\xa2\x0c\xa0\x0a\x80\x0820240229\xbf\x2e\x80\x1b\x83\x0f\xff\xce'
+    head -c 1048526 /dev/zero | tr '\0' A
+    printf '\0\0\0\0\0\0'
+} >LARGE
+
+# A pipe that is closed by who reads it.
+"$program" canonicalise MANY - 2>err | head -c 10 >PART
+status=${PIPESTATUS[0]}
+expect closed-pipe 3 ''
+
+# A file of at most one block, as standard output; and as OUT, which isn't made then.
+(trap '' XFSZ && ulimit -f 1 && exec "$program" canonicalise MANY - >PART 2>err)
+status=$?
+expect file-size 3 'illcanon: write fault after [0-9]* octets'
+front file-size PART MANY
+[ "$(stat -c %s PART)" = "$(tr -dc 0-9 <err)" ] || { failed=$((failed + 1)) && echo 'failed: file-size: another number of octets'; }
+(trap '' XFSZ && ulimit -f 1 && exec "$program" canonicalise MANY OUT 2>err)
+status=$?
+expect file-size-of-out 3 'illcanon: write fault after [0-9]* octets'
+ls OUT OUT.part 2>/dev/null && failed=$((failed + 1)) && echo 'failed: file-size-of-out: a file is left'
+
+# Memory that suffices for small messages, and not for a large one after them. Standard output has what came before, and OUT stays as it was.
+cat ONE ONE LARGE >THREE
+(ulimit -v 4500 && exec "$program" canonicalise THREE - >PART 2>err)
+status=$?
+expect memory 3 'illcanon: out of memory'
+cat ONE ONE | cmp -s - PART || { failed=$((failed + 1)) && echo 'failed: memory: not the two messages before'; }
+cp ONE OUT
+(ulimit -v 4500 && exec "$program" canonicalise THREE OUT 2>err)
+status=$?
+expect memory-of-out 3 'illcanon: out of memory'
+cmp -s ONE OUT || { failed=$((failed + 1)) && echo 'failed: memory-of-out: OUT has changed'; }
+
+# A small stack.
+(ulimit -s 256 && exec "$program" canonicalise LARGE OUT 2>err)
+status=$?
+expect stack 0 ''
+
+# A slow pipe, and a program that is stopped and goes on.
+{ cat ONE && sleep 0.3 && head -c 5 ONE && sleep 0.3 && tail -c +6 ONE; } | "$program" canonicalise - OUT 2>err
+status=$?
+expect slow-pipe 0 ''
+cat ONE ONE | cmp -s - OUT || { failed=$((failed + 1)) && echo 'failed: slow-pipe: not the two messages'; }
+mkfifo PIPE
+"$program" canonicalise PIPE OUT 2>err &
+(cat ONE && sleep 0.2 && kill -STOP $! && sleep 0.2 && kill -CONT $! && cat ONE) >PIPE
+wait $!
+status=$?
+expect stopped 0 ''
+
+# A read that a signal interrupts, the first or a later one: a wrapper around read returns this, and reports how many octets were given before.
+# What is written is exactly the messages that are whole in these.
+if command -v cc >/dev/null; then
+    cc -shared -fPIC -O1 -o interrupt.so -x c - -ldl <<'C' || exit 1
+#define _GNU_SOURCE
+#include <dlfcn.h>
+#include <errno.h>
+#include <stdio.h>
+#include <stdlib.h>
+#include <unistd.h>
+ssize_t read(int file, void *octets, size_t size) {
+    static ssize_t (*inner)(int, void *, size_t);
+    static long calls, given;
+    if (!inner)
+        inner = dlsym(RTLD_NEXT, "read");
+    if (++calls == atol(getenv("INTERRUPT"))) {
+        FILE *given_file = fopen("GIVEN", "w");
+        fprintf(given_file, "%ld\n", given);
+        fclose(given_file);
+        errno = EINTR;
+        return -1;
+    }
+    ssize_t count = inner(file, octets, size);
+    given += count > 0 ? count : 0;
+    return count;
+}
+C
+    for call in 1 2 3 50; do
+        INTERRUPT=$call LD_PRELOAD=$folder/interrupt.so "$program" canonicalise - - <MANY >PART 2>err
+        status=$?
+        expect "interrupted-$call" 3 'illcanon: read fault'
+        head -c $(($(cat GIVEN) / 33 * 33)) MANY | cmp -s - PART || { failed=$((failed + 1)) && echo "failed: interrupted-$call: not the messages before"; }
+    done
+fi
+
+# A file that shrinks, and one that grows, while it is read: what was read is refused or done, and what is written is a first part.
+cp MANY SHRINKS
+"$program" canonicalise SHRINKS OUT 2>err &
+truncate -s 1000 SHRINKS
+wait $!
+status=$?
+if [ $status = 0 ]; then expect shrinks 0 ''; else expect shrinks 1 'illcanon: refused at [0-9]* in message [0-9]*: Truncated'; fi
+front shrinks OUT MANY
+cp MANY GROWS
+"$program" canonicalise GROWS OUT 2>err &
+cat ONE >>GROWS
+wait $!
+status=$?
+expect grows 0 ''
+front grows OUT GROWS
+
+# No permission, where a user without rights is there to try it.
+if [ "$(id -u)" = 0 ] && command -v setpriv >/dev/null; then
+    chmod 755 . && chmod 600 ONE
+    cp "$program" illcanon && chmod 755 illcanon
+    setpriv --reuid 65534 --clear-groups ./illcanon canonicalise ONE - >OUT 2>err
+    status=$?
+    expect no-permission 3 'illcanon: cannot open ONE'
+fi
+
+# A million messages through pipes, and one more.
+{ cat MANY MANY MANY MANY MANY MANY MANY && head -c $((33 * 82496)) MANY; } | "$program" canonicalise - - 2>err | wc -c >OUT
+status=${PIPESTATUS[1]}
+expect million-through-pipes 0 ''
+[ "$(cat OUT)" = 33000000 ] || { failed=$((failed + 1)) && echo 'failed: not a million messages'; }
+{ cat MANY MANY MANY MANY MANY MANY MANY && head -c $((33 * 82497)) MANY; } | "$program" canonicalise - - 2>err | wc -c >OUT
+status=${PIPESTATUS[1]}
+expect more-than-a-million 1 'illcanon: more than 1000000 messages'
+[ "$(cat OUT)" = 33000000 ] || { failed=$((failed + 1)) && echo 'failed: not the million before'; }
+
+cd / && rm -rf "$folder"
+echo "$passed passed, $failed failed"
+[ $failed = 0 ]

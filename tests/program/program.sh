@@ -1,0 +1,564 @@
+#!/bin/bash
+# Starts the built program on files, pipes and what can't be opened, read or written, and compares
+# status, standard output and standard error. Run by hand, from anywhere, with the program built:
+# (cd crates/illcanon && rt run -- --version). The last line is 'N passed, M failed'.
+program=$(cd "$(dirname "$0")/../.." && pwd)/crates/illcanon/out/illcanon
+folder=$(mktemp -d) && cd "$folder" || exit 1
+passed=0 failed=0
+
+# octets FILE HEX: the octets that the digits stand for
+octets() {
+    printf "$(printf %s "$2" | sed 's/../\\x&/g')" >"$1"
+}
+
+# compare NAME STATUS [any]: of the last run, whose output is in out and err, wanted in want-out and want-err, or anything but nothing in err
+compare() {
+    if [ "$3" = any ]; then [ -s err ]; else cmp -s err want-err; fi
+    if [ $? = 0 ] && [ "$status" = "$2" ] && cmp -s out want-out; then
+        passed=$((passed + 1))
+    else
+        failed=$((failed + 1))
+        echo "failed: $1: status $status, wanted $2"
+        head -3 out err
+    fi
+}
+
+# row NAME STATUS STDOUT STDERR WORD..: STDERR is any where clap's text is there
+row() {
+    name=$1 wanted=$2 lines=$3
+    printf "$lines" >want-out
+    printf "$4" >want-err
+    any=no
+    [ "$4" = any ] && any=any
+    shift 4
+    "$program" "$@" <in >out 2>err
+    status=$?
+    compare "$name" "$wanted" "$any"
+}
+
+EXPIRED=741f301d800102a10aa1031b0147a2031b0151a20ca00a80083230323430323239
+INDEFINITE=74803080800102a180a1801b01470000a2801b015100000000a280a080800832303234303232390000000000000000
+REQUEST=61343032800102a10aa1031b0147a2031b0151a20ca00a80083230323430323239a9030a0101ab0c800100810100820101830101b000
+CUT=741f301d800102a2
+INCOMPLETE=748030808001020000
+: >in
+
+octets F $CUT
+row fault-line-refused 1 '' 'illcanon: refused at 7 in message 1: UnexpectedTag\n' show F
+octets G $EXPIRED
+row fault-line-first-file 1 '' 'illcanon: refused at 7 in the first file: UnexpectedTag\n' same F G
+row fault-line-second-file 1 '' 'illcanon: refused at 7 in the second file: UnexpectedTag\n' same G F
+octets F $INCOMPLETE
+row fault-line-with-part 1 '' 'illcanon: refused at 7 in message 1: Missing Expired.transaction-id\n' check F
+row fault-line-cannot-open 3 '' 'illcanon: cannot open NAME\n' check NAME
+row fault-line-same-word 2 '' 'illcanon: the same word twice\n' same - -
+octets F $EXPIRED
+row fault-line-same-word-canonicalise 2 '' 'illcanon: the same word twice\n' canonicalise F F
+row show 0 'message 1 Expired\nprotocol-version-num = 2\ntransaction-id.transaction-group-qualifier = general "G"\ntransaction-id.transaction-qualifier = general "Q"\nservice-date-time.date-time-of-this-service.date = 20240229\n' '' show F
+row same-of-one-file 0 'same\n' '' same F F
+octets G $REQUEST
+row different-of-two-files 1 'different\n' '' same F G
+row check-of-no-message 0 '' '' check -
+examples=$(cd "$(dirname "$program")/../../../examples" && pwd)
+# Octets and normal forms of another encoder.
+row check-of-every-part 1 "$(cat "$examples/every-part.check")\n" '' check "$examples/every-part.ber"
+row every-part-into-a-file 0 '' '' canonicalise "$examples/every-part.ber" OUT
+cmp -s OUT "$examples/every-part.der" || { failed=$((failed + 1)) && echo 'failed: OUT is not the normal forms of every-part'; }
+octets F $INDEFINITE
+# The elements of a message, by hand.
+row dump-of-indefinite 0 'message 1: Expired, 47 octets, not normal, normal form 33 octets
+      0  74 80  Expired  (indefinite)
+      2    30 80  SEQUENCE  (indefinite)
+      4      80 01  protocol-version-num = 2
+      7      a1 80  transaction-id  (indefinite)
+      9        a1 80  transaction-group-qualifier  (indefinite)
+     11          1b 01  GeneralString = "G"
+     14        00 00  end mark
+     16        a2 80  transaction-qualifier  (indefinite)
+     18          1b 01  GeneralString = "Q"
+     21        00 00  end mark
+     23      00 00  end mark
+     25      a2 80  service-date-time  (indefinite)
+     27        a0 80  date-time-of-this-service  (indefinite)
+     29          80 08  date = 20240229
+     39        00 00  end mark
+     41      00 00  end mark
+     43    00 00  end mark
+     45  00 00  end mark
+' '' dump F
+octets F $CUT
+row dump-of-a-refused-message 1 'message 1: refused
+      0  74 1f  Expired
+      2    30 1d  SEQUENCE
+      4      80 01  protocol-version-num = 2
+refused at 7: UnexpectedTag
+    the tag is not due there
+    path Expired
+    found [2] constructed: a2
+    due [1] transaction-id
+' 'illcanon: refused at 7 in message 1: UnexpectedTag\n' dump F
+row dump-of-no-file 3 '' 'illcanon: cannot open NAME\n' dump NAME
+octets F $INDEFINITE
+row check-of-indefinite 1 'message 1: Expired, 47 octets, not normal, normal form 33 octets\n' '' check F
+row canonicalise-into-a-file 0 '' '' canonicalise F OUT
+octets G $EXPIRED
+cmp -s G OUT || { failed=$((failed + 1)) && echo 'failed: OUT is not the normal form'; }
+{ cat F && printf u; } >TWO
+row refused-after-what-goes-into-a-file 1 '' 'illcanon: refused at 0 in message 2: UnexpectedTag\n' canonicalise TWO OUT
+cmp -s G OUT || { failed=$((failed + 1)) && echo 'failed: OUT is not the normal form of the message before'; }
+printf %s $EXPIRED | tr a-f A-F >TEXT
+printf '%s\n' $INDEFINITE >OTHER
+row same-of-texts 0 'same\n' '' same --hex TEXT OTHER
+printf '7 G' >BAD
+row same-of-no-text 1 '' 'illcanon: hex: bad digit at 1\n' same --hex TEXT BAD
+rm OTHER OUT TEXT BAD TWO
+row no-command 2 '' any
+printf %s $INDEFINITE | tr a-f A-F >in
+row stored-run 0 "$EXPIRED\n" '' canonicalise --hex - -
+printf '7G' >in
+row hex-bad-digit 1 '' 'illcanon: hex: bad digit at 1\n' check --hex -
+printf '74 1' >in
+row hex-odd-number-of-digits 1 '' 'illcanon: hex: odd number of digits\n' canonicalise --hex - -
+head -c 4194305 /dev/zero | tr '\0' ' ' >in
+row hex-text-too-long 1 '' 'illcanon: hex: too long\n' show --hex -
+: >in
+
+# Words that are no command line, help and version.
+row no-such-command 2 '' any shwo F
+row file-left-out 2 '' any same F
+row word-too-many 2 '' any same F G H
+required='error: the following required arguments were not provided:\n  '
+usage='\n\nUsage: illcanon '
+help="\n\nFor more information, try '--help'.\n"
+two_forms="${usage}canonicalise [OPTIONS] <IN> <OUT>\n       illcanon canonicalise [OPTIONS] -o <OUT> <FILE>...$help"
+for command in show check digest; do
+    row "no-file: $command" 2 '' "$required<FILE>..., or --files-from <LIST>$usage$command [OPTIONS] [FILE]...$help" $command
+done
+row no-in 2 '' "$required<IN>\n  <OUT>$two_forms" canonicalise
+row no-out 2 '' "$required<OUT>$two_forms" canonicalise F
+row no-file-for-out 2 '' "$required<FILE>..., or --files-from <LIST>$two_forms" canonicalise -o F
+row list-without-out 2 '' "$required-o <OUT>$two_forms" canonicalise --files-from F G H
+row a-third-word 2 '' "error: unexpected argument 'H' found$two_forms" canonicalise F G H
+row lines-and-keep-going 2 '' 'illcanon: --lines excludes --keep-going\n' check --lines --keep-going F
+row same-keeps-not-going 2 '' any same --keep-going F F
+row lines-and-summary 2 '' 'illcanon: --lines excludes --summary\n' check --lines --summary F
+row check-has-no-json 2 '' any check --json F
+row no-such-flag 2 '' any check --hexx F
+values="\n  [possible values: 2, module]$help"
+for command in show check digest dump 'same F' 'canonicalise F'; do
+    row "no-such-profile: $command" 2 '' "error: invalid value '3' for '--profile <NAME>'$values" $command --profile 3 F
+done
+row profile-without-name 2 '' "error: a value is required for '--profile <NAME>' but none was supplied$values" check F --profile
+row profile-without-name-before-a-flag 2 '' "error: a value is required for '--profile <NAME>' but none was supplied$values" check --profile --hex F
+row profile-twice 2 '' "error: the argument '--profile <NAME>' cannot be used multiple times${usage}check [OPTIONS] [FILE]...$help" check --profile module --profile=2 F
+row program-has-no-profile 2 '' any --profile 2 check F
+row version 0 'illcanon 0.1.0\n' '' --version
+for words in --help 'show --help' 'check --help' 'same --help' 'canonicalise --help' 'dump --help' 'help same'; do
+    "$program" $words >out 2>err
+    status=$?
+    grep -q '^Example: ' out && grep -q '^Status: ' out && cp out want-out || echo no example or status >want-out
+    : >want-err
+    compare "help: $words" 0
+done
+
+for words in 'help causes' 'help profile'; do
+    "$program" $words >out 2>err
+    status=$?
+    cp out want-out
+    : >want-err
+    [ "$(wc -l <out)" -gt 20 ] || echo 'no such text' >want-out
+    compare "$words" 0
+done
+# A topic of help is no command.
+for words in causes profile 'causes --' 'causes F'; do
+    row "topic: $words" 2 '' any $words
+done
+# Messages that are passed over. An EXPIRED with nothing in it is refused at its end; one without its second part, and without its
+# end marks, is refused at 7, and its end is unknown.
+EMPTY=7400
+normal='Expired, 33 octets, normal\n'
+not_normal='Expired, 47 octets, not normal, normal form 33 octets\n'
+missing='Missing Expired.protocol-version-num\n'
+unknown='refused at 7 in message 2: Missing Expired.transaction-id; its end is unknown\n'
+digest=41b0dca84b6db1db587880995cae8f2ae640c5af026d4d9745a5bc56ba11a782
+octets GOOD $EXPIRED
+octets FIRST $EMPTY$EXPIRED$INDEFINITE
+octets MIDDLE $EXPIRED$EMPTY$EXPIRED
+octets LAST $EXPIRED$EXPIRED$EMPTY
+octets ENDLESS $EXPIRED$INCOMPLETE$EXPIRED
+: >NOTHING
+row going-over-the-first 1 "message 2: ${normal}message 3: $not_normal" "illcanon: refused at 2 in message 1: $missing" check --keep-going FIRST
+row going-over-the-middle 1 "message 1: ${normal}message 3: $normal" "illcanon: refused at 2 in message 2: $missing" check --keep-going MIDDLE
+row going-over-the-last 1 "message 1: ${normal}message 2: $normal" "illcanon: refused at 2 in message 3: $missing" check --keep-going LAST
+row not-going-over-the-middle 1 "message 1: $normal" "illcanon: refused at 2 in message 2: $missing" check MIDDLE
+row going-to-an-unknown-end 1 "message 1: $normal" "illcanon: $unknown" check --keep-going ENDLESS
+row going-over-no-message 0 '' '' check --keep-going NOTHING
+row going-over-a-good-one 0 "message 1: $normal" '' check --keep-going GOOD
+row going-over-files 1 "FIRST: message 2: ${normal}FIRST: message 3: ${not_normal}ENDLESS: message 1: ${normal}GOOD: message 1: $normal" \
+    "illcanon: FIRST: refused at 2 in message 1: ${missing}illcanon: ENDLESS: $unknown" check --keep-going FIRST NOTHING ENDLESS GOOD
+row going-over-an-absent-file 3 "GOOD: message 1: $normal" 'illcanon: cannot open ABSENT\n' check --keep-going ABSENT GOOD
+row going-digest 1 "$digest  MIDDLE:1\n$digest  MIDDLE:3\n" "illcanon: refused at 2 in message 2: $missing" digest --keep-going MIDDLE
+printf '%s\n%s %s\n' $EXPIRED $EMPTY $EXPIRED >in
+row going-in-hexadecimal 1 "$EXPIRED\n$EXPIRED\n" "illcanon: refused at 2 in message 2: $missing" canonicalise --keep-going --hex - -
+octets in $EMPTY$EXPIRED$EMPTY
+row going-show 1 'message 2 Expired\nprotocol-version-num = 2\ntransaction-id.transaction-group-qualifier = general "G"\ntransaction-id.transaction-qualifier = general "Q"\nservice-date-time.date-time-of-this-service.date = 20240229\n' \
+    "illcanon: refused at 2 in message 1: ${missing}illcanon: refused at 2 in message 3: $missing" show --keep-going -
+: >in
+
+# Numbers at the end. FIRST has 2, 33 and 47 octets; of ENDLESS those of the first message are known.
+numbers='1 file, 3 messages, 1 normal, 1 not normal, 1 refused, 82 octets\n'
+row summary-of-check 1 "message 2: ${normal}message 3: $not_normal" "illcanon: refused at 2 in message 1: ${missing}illcanon: $numbers" check --keep-going --summary FIRST
+row summary-of-digest 1 "$digest  FIRST:2\n$digest  FIRST:3\n" "illcanon: refused at 2 in message 1: ${missing}illcanon: $numbers" digest --keep-going --summary FIRST
+row summary-of-canonicalise 1 '' "illcanon: refused at 2 in message 1: ${missing}illcanon: $numbers" canonicalise --keep-going --summary FIRST OUT
+row summary-up-to-a-refusal 1 "message 1: $normal" "illcanon: refused at 2 in message 2: ${missing}illcanon: 1 file, 2 messages, 1 normal, 0 not normal, 1 refused, 33 octets\n" check --summary MIDDLE
+row summary-of-files 3 "GOOD: message 1: ${normal}ENDLESS: message 1: $normal" \
+    "illcanon: cannot open ABSENT\nillcanon: ENDLESS: ${unknown}illcanon: 2 files, 3 messages, 2 normal, 0 not normal, 1 refused, 66 octets\n" check --keep-going --summary GOOD ABSENT ENDLESS
+row summary-of-many-into-one 0 '' 'illcanon: 2 files, 2 messages, 2 normal, 0 not normal, 0 refused, 66 octets\n' canonicalise --summary -o OUT GOOD GOOD
+row summary-of-nothing 0 '' 'illcanon: 1 file, 0 messages, 0 normal, 0 not normal, 0 refused, 0 octets\n' show --summary NOTHING
+
+# Lines of JSON, by hand.
+value='"value":{"protocol-version-num":2,"transaction-id":{"transaction-group-qualifier":{"general":"G"},"transaction-qualifier":{"general":"Q"}},"service-date-time":{"date-time-of-this-service":{"date":"20240229"}}}}\n'
+row show-as-json 0 '{"number":1,"offset":0,"octets":33,"apdu":"Expired","normal":true,'"$value" '' show --json GOOD
+row show-many-as-json 1 '{"file":"FIRST","number":2,"offset":2,"octets":33,"apdu":"Expired","normal":true,'"$value"'{"file":"FIRST","number":3,"offset":35,"octets":47,"apdu":"Expired","normal":false,'"$value" \
+    "illcanon: FIRST: refused at 2 in message 1: ${missing}illcanon: 2 files, 3 messages, 1 normal, 1 not normal, 1 refused, 82 octets\n" show --json --keep-going --summary FIRST NOTHING
+
+# Many files into one. forms NAME COUNT: OUT holds the normal form this many times
+forms() {
+    i=0
+    while [ $i -lt "$2" ]; do cat GOOD; i=$((i + 1)); done >WANTED
+    cmp -s WANTED OUT || { failed=$((failed + 1)) && echo "failed: $1: OUT is not the normal forms"; }
+}
+row many-into-one 0 '' '' canonicalise -o OUT GOOD NOTHING GOOD
+forms many-into-one 2
+row many-of-which-two-are-bad 1 '' "illcanon: FIRST: refused at 2 in message 1: ${missing}illcanon: MIDDLE: refused at 2 in message 2: $missing" canonicalise -o OUT FIRST MIDDLE GOOD
+forms many-of-which-two-are-bad 2
+row many-going-over 1 '' "illcanon: FIRST: refused at 2 in message 1: ${missing}illcanon: ENDLESS: $unknown" canonicalise --keep-going -o OUT FIRST ENDLESS GOOD
+forms many-going-over 4
+row one-going-over 1 '' "illcanon: refused at 2 in message 1: $missing" canonicalise --keep-going FIRST OUT
+forms one-going-over 2
+row one-by-the-option 1 '' "illcanon: refused at 2 in message 1: $missing" canonicalise -o OUT FIRST
+forms one-by-the-option 0
+printf 'GOOD\0MIDDLE' >LIST
+row many-of-a-list 1 '' "illcanon: LAST: refused at 2 in message 3: ${missing}illcanon: MIDDLE: refused at 2 in message 2: $missing" \
+    canonicalise -o OUT --files-from LIST LAST --keep-going
+forms many-of-a-list 5
+row many-with-an-absent-one 3 '' 'illcanon: cannot open ABSENT\n' canonicalise --output OUT ABSENT GOOD
+forms many-with-an-absent-one 1
+row absent-ones-leave-out-as-it-was 3 '' 'illcanon: cannot open ABSENT\nillcanon: cannot open absent/too\n' canonicalise -o OUT ABSENT absent/too
+forms absent-ones-leave-out-as-it-was 1
+row out-is-one-of-many 2 '' 'illcanon: IN and OUT are the same file\n' canonicalise -o OUT GOOD ./OUT
+row out-is-the-list 2 '' 'illcanon: IN and OUT are the same file\n' canonicalise -o ./OUT GOOD --files-from OUT
+row out-is-one-of-the-words 2 '' 'illcanon: OUT is one of the files that are read\n' canonicalise -o OUT GOOD OUT
+row full-device-for-many 3 '' 'illcanon: write fault after 0 octets\n' canonicalise -o /dev/full GOOD GOOD
+forms what-many-leave 1
+ls | grep part && failed=$((failed + 1)) && echo 'failed: a temporary file is left'
+rm -f OUT WANTED LIST NOTHING
+
+# What is made of the messages that came is written before more is waited for.
+mkfifo ASKED TOLD
+for words in 'canonicalise - -' 'canonicalise -o - - NOTHING' 'check -' 'digest --keep-going -' 'show -'; do
+    : >NOTHING
+    "$program" $words <ASKED >TOLD 2>err &
+    exec 3>ASKED 4<TOLD
+    cat GOOD >&3
+    case $words in canonicalise*) timeout 10 head -c 33 <&4 >out ;; *) timeout 10 head -n 1 <&4 >out ;; esac
+    first=$(wc -c <out)
+    cat GOOD >&3
+    exec 3>&-
+    cat <&4 >>out
+    exec 4<&-
+    wait $!
+    status=$?
+    if [ $status = 0 ] && [ "$first" -gt 0 ] && [ "$(wc -c <out)" -gt "$first" ] && [ ! -s err ]; then
+        passed=$((passed + 1))
+    else
+        failed=$((failed + 1)) && echo "failed: flushed before it waits: $words: status $status, $first octets first"
+    fi
+done
+rm ASKED TOLD NOTHING FIRST MIDDLE LAST ENDLESS
+
+# What can't be opened, read or written.
+mkdir D
+octets F $EXPIRED
+row directory-as-input 3 '' 'illcanon: read fault\n' check D
+row directory-as-output 3 '' 'illcanon: cannot open D\n' canonicalise F D
+row no-such-folder 3 '' 'illcanon: cannot open no/such\n' canonicalise F no/such
+row first-file-opened-first 3 '' 'illcanon: cannot open NAME\n' same NAME OTHER
+row second-file-opened-before-reading 3 '' 'illcanon: cannot open OTHER\n' same D OTHER
+rm -f OUT
+row input-opened-before-output 3 '' 'illcanon: cannot open NAME\n' canonicalise NAME OUT
+[ -e OUT ] && failed=$((failed + 1)) && echo 'failed: OUT was made though IN was not opened'
+printf 'illcanon: flush fault\n' >want-err
+: >want-out
+"$program" check F >/dev/full 2>err
+status=$?
+: >out
+compare full-device 3
+"$program" canonicalise F - >&- 2>err
+status=$?
+compare closed-standard-output 3
+i=0
+while [ $i -lt 400 ]; do cat F; i=$((i + 1)); done >MANY
+"$program" canonicalise MANY /dev/full >out 2>err
+status=$?
+printf 'illcanon: write fault after 0 octets\n' >want-err
+compare full-device-in-the-middle 3
+
+# Pipes and files give the same.
+"$program" show MANY >want-out 2>want-err
+cat MANY | "$program" show - >out 2>err
+status=$?
+compare pipe-as-file 0
+cat MANY | "$program" canonicalise - - | cmp -s - MANY
+status=$?
+: >out && : >err && : >want-out && : >want-err
+compare pipe-to-pipe 0
+# A message is refused after others, which are written.
+{ cat F; printf u; } >TWO
+row refused-after-a-message 1 'message 1: Expired, 33 octets, normal\n' 'illcanon: refused at 0 in message 2: UnexpectedTag\n' check TWO
+"$program" check MANY | grep -c 'normal' >out
+status=$?
+echo 400 >want-out
+compare check-into-grep 0
+# OUT is empty where hexadecimal text is invalid.
+printf 7 >in
+"$program" canonicalise --hex - OUT <in >out 2>err
+status=$?
+: >want-out
+printf 'illcanon: hex: odd number of digits\n' >want-err
+compare out-is-made-before-the-text-is-read 1
+if [ ! -e OUT ] || [ -s OUT ]; then failed=$((failed + 1)) && echo 'failed: OUT is no empty file'; fi
+: >in
+
+# One file under two names is refused, and stays as it was.
+octets F $INDEFINITE
+cp F KEPT
+ln F HARD
+ln -s F SOFT
+ln -s "$folder" LOOP
+same_line='illcanon: IN and OUT are the same file\n'
+# unlost NAME FILE: after a refusal the file is what it was
+unlost() {
+    cmp -s KEPT "$2" || { failed=$((failed + 1)) && echo "failed: $1: the file has changed"; }
+}
+for names in 'F ./F' "F $folder/F" 'F HARD' 'HARD F' 'F SOFT' 'SOFT F' 'F LOOP/F' '/dev/stdin F'; do
+    "$program" canonicalise $names <F >out 2>err
+    status=$?
+    : >want-out
+    printf "$same_line" >want-err
+    compare "one-file: $names" 2
+    unlost "one-file: $names" F
+done
+"$program" canonicalise - F <F >out 2>err
+status=$?
+compare one-file-as-standard-input 2
+unlost one-file-as-standard-input F
+"$program" canonicalise F - >>F 2>err
+status=$?
+: >out
+compare one-file-as-standard-output 2
+unlost one-file-as-standard-output F
+"$program" canonicalise - - <F >>F 2>err
+status=$?
+compare one-file-as-both 2
+unlost one-file-as-both F
+row one-file-as-hexadecimal-text 2 '' "$same_line" canonicalise --hex F HARD
+row one-device-is-no-file 0 '' '' canonicalise /dev/null //dev/null
+rm HARD SOFT LOOP
+
+# OUT is whole, or what it was before.
+octets G $EXPIRED
+echo before >OLD
+cp OLD OUT && chmod 600 OUT
+row replaced-with-its-mode 0 '' '' canonicalise F OUT
+cmp -s G OUT || { failed=$((failed + 1)) && echo 'failed: OUT is not the normal form'; }
+[ "$(stat -c %a OUT)" = 600 ] || { failed=$((failed + 1)) && echo 'failed: the mode of OUT has changed'; }
+rm OUT
+(umask 027 && "$program" canonicalise F OUT)
+[ "$(stat -c %a OUT)" = 640 ] || { failed=$((failed + 1)) && echo 'failed: a new OUT has another mode than the shell makes'; }
+mkfifo FIFO
+cat FIFO >OTHER &
+row fifo-as-output 0 '' '' canonicalise F FIFO
+wait
+cmp -s G OTHER || { failed=$((failed + 1)) && echo 'failed: the fifo got something else'; }
+row full-device-as-output 3 '' 'illcanon: flush fault\n' canonicalise F /dev/full
+ln -s TARGET LINK
+row link-as-output 0 '' '' canonicalise F LINK
+row link-to-a-file-as-output 0 '' 'illcanon: LINK is written directly: it is a link\n' canonicalise F LINK
+row link-as-whole-output 3 '' 'illcanon: cannot replace LINK\n' canonicalise --whole F LINK
+{ [ -L LINK ] && cmp -s G TARGET; } || { failed=$((failed + 1)) && echo 'failed: the link is gone, or its file is not written'; }
+cp OLD OUT && ln OUT SECOND
+row second-name-as-output 0 '' 'illcanon: OUT is written directly: it has several names\n' canonicalise F OUT
+row second-name-as-whole-output 3 '' 'illcanon: cannot replace OUT\n' canonicalise --whole F OUT
+cmp -s G SECOND || { failed=$((failed + 1)) && echo 'failed: the second name has something else'; }
+rm OUT SECOND LINK TARGET OTHER
+ls | grep part && failed=$((failed + 1)) && echo 'failed: a temporary file is left'
+
+# A folder or a file that may not be written to, by a user who isn't root.
+as_nobody=
+if [ "$(id -u)" = 0 ]; then
+    command -v setpriv >/dev/null && as_nobody='setpriv --reuid 65534 --regid 65534 --clear-groups' || as_nobody=skip
+fi
+if [ "$as_nobody" != skip ]; then
+    chmod 711 "$folder" && mkdir READONLY && cp OLD READONLY/OUT && cp OLD READONLY/LOCKED
+    chmod 666 READONLY/OUT && chmod 444 READONLY/LOCKED && chmod 555 READONLY
+    cp "$program" illcanon && chmod 755 illcanon && chmod 644 F
+    $as_nobody ./illcanon canonicalise F READONLY/OUT >out 2>err
+    status=$?
+    : >want-out
+    echo 'illcanon: READONLY/OUT is written directly: no new file can be made beside it' >want-err
+    compare read-only-folder 0
+    cmp -s G READONLY/OUT || { failed=$((failed + 1)) && echo 'failed: OUT in a read-only folder is not the normal form'; }
+    for name in READONLY/NEW READONLY/LOCKED; do
+        $as_nobody ./illcanon canonicalise F $name >out 2>err
+        status=$?
+        printf "illcanon: cannot open $name\n" >want-err
+        compare "may-not-be-written: $name" 3
+    done
+    cmp -s OLD READONLY/LOCKED || { failed=$((failed + 1)) && echo 'failed: a locked OUT has changed'; }
+    # A folder that may be written to, with a read-only file.
+    mkdir WRITABLE && cp OLD WRITABLE/LOCKED && chmod 444 WRITABLE/LOCKED && chmod 777 WRITABLE
+    $as_nobody ./illcanon canonicalise F WRITABLE/LOCKED >out 2>err
+    status=$?
+    printf "illcanon: cannot open WRITABLE/LOCKED\n" >want-err
+    compare read-only-file 3
+    cmp -s OLD WRITABLE/LOCKED || { failed=$((failed + 1)) && echo 'failed: a locked OUT was replaced'; }
+    # A read-only file of the user's own.
+    if [ "$(id -u)" = 0 ]; then
+        cp OLD WRITABLE/OWN && chown 65534:65534 WRITABLE/OWN && chmod 444 WRITABLE/OWN
+        $as_nobody ./illcanon canonicalise F WRITABLE/OWN >out 2>err
+        status=$?
+        printf "illcanon: cannot open WRITABLE/OWN\n" >want-err
+        compare own-read-only-file 3
+        cmp -s OLD WRITABLE/OWN || { failed=$((failed + 1)) && echo 'failed: a read-only OUT was replaced'; }
+        rm -f WRITABLE/OWN
+    fi
+    # A file of another owner, whom a new file can't have.
+    if [ "$(id -u)" = 0 ]; then
+        cp OLD WRITABLE/OUT && chmod 666 WRITABLE/OUT
+        number=$(stat -c %i WRITABLE/OUT)
+        $as_nobody ./illcanon canonicalise F WRITABLE/OUT >out 2>err
+        status=$?
+        echo "illcanon: WRITABLE/OUT is written directly: its owner and mode can't be given to a new file" >want-err
+        compare owned-by-another 0
+        { cmp -s G WRITABLE/OUT && [ "$(stat -c %i,%u WRITABLE/OUT)" = "$number,0" ]; } || { failed=$((failed + 1)) && echo 'failed: OUT has lost its owner'; }
+        [ "$(ls WRITABLE)" = "$(printf 'LOCKED\nOUT')" ] || { failed=$((failed + 1)) && echo 'failed: a temporary file is left'; }
+        # root can give the new file its owner, group and mode.
+        chown 65534:65534 WRITABLE/OUT && chmod 4711 WRITABLE/OUT
+        row owner-group-and-mode 0 '' '' canonicalise F WRITABLE/OUT
+        [ "$(stat -c %u:%g:%a WRITABLE/OUT)" = 65534:65534:4711 ] || { failed=$((failed + 1)) && echo 'failed: owner, group or mode have changed'; }
+    fi
+    chmod 755 READONLY
+fi
+
+# A kill in the middle of 100 MB: OUT is what it was, and only the temporary file is left.
+{
+    printf '\x71\x80\x30\x80\x80\x01\x02\xa1\x0a\xa1\x03\x1b\x01\x47\xa2\x03\x1b\x01\x51\xa2\x0c\xa0\x0a\x80\x0820240229\xbf\x2e\x80\x1b\x83\x0f\xff\xce'
+    head -c 1048526 /dev/zero | tr '\0' A
+    printf '\0\0\0\0\0\0'
+} >LARGE
+cp OLD OUT
+mkfifo ENDLESS
+"$program" canonicalise - OUT <ENDLESS 2>err &
+exec 3>ENDLESS
+for _ in $(seq 100); do cat LARGE; done >&3
+for _ in $(seq 200); do [ "$(stat -c %s OUT.part 2>/dev/null || echo 0)" -gt 100000000 ] && break; sleep 0.1; done
+kill -9 $!
+wait $! 2>/dev/null
+exec 3>&-
+if cmp -s OLD OUT && [ -s OUT.part ]; then passed=$((passed + 1)); else failed=$((failed + 1)) && echo 'failed: killed: OUT is not what it was'; fi
+row after-a-kill 0 '' '' canonicalise F OUT
+cmp -s G OUT || { failed=$((failed + 1)) && echo 'failed: OUT is not the normal form after a kill'; }
+rm OUT.part
+
+# All of OUT, or OUT as it was.
+octets TWO $EXPIRED$EXPIRED
+octets MIDDLE $EXPIRED$EMPTY$EXPIRED
+cp OLD OUT
+refused="illcanon: refused at 2 in message 2: $missing"
+# kept NAME: OUT is as it was, and no file is left beside it
+kept() {
+    cmp -s OLD OUT || { failed=$((failed + 1)) && echo "failed: $1: OUT has changed"; }
+    ls | grep part && failed=$((failed + 1)) && echo "failed: $1: a temporary file is left"
+}
+row whole-with-a-refusal 1 '' "$refused" canonicalise --whole MIDDLE OUT
+kept whole-with-a-refusal
+row whole-going-on 1 '' "$refused" canonicalise --whole --keep-going MIDDLE OUT
+kept whole-going-on
+row whole-of-many 1 '' "illcanon: MIDDLE: refused at 2 in message 2: $missing" canonicalise --whole -o OUT GOOD MIDDLE
+kept whole-of-many
+row whole-without-a-file 3 '' 'illcanon: cannot open ABSENT\n' canonicalise --whole -o OUT GOOD ABSENT
+kept whole-without-a-file
+row directory-as-input-of-out 3 '' 'illcanon: read fault\n' canonicalise D OUT
+kept directory-as-input-of-out
+row whole-to-standard-output 2 '' 'illcanon: --whole needs a file for OUT\n' canonicalise --whole GOOD -
+row whole 0 '' '' canonicalise --whole TWO OUT
+cmp -s TWO OUT || { failed=$((failed + 1)) && echo 'failed: whole: OUT is not the normal forms'; }
+# All names for a new file are taken.
+cp OLD OUT && touch OUT.part $(seq -f OUT.part%g 99)
+row names-are-taken 3 '' 'illcanon: cannot write OUT: all names from OUT.part to OUT.part99 are taken\n' canonicalise GOOD OUT
+rm OUT.part*
+kept names-are-taken
+# The system's name of standard output appends as `-` does.
+cp OLD LOG
+"$program" canonicalise GOOD /dev/stdout >>LOG 2>err
+status=$?
+cat OLD GOOD | cmp -s - LOG || { failed=$((failed + 1)) && echo 'failed: standard output by its name: the file was emptied'; }
+cp LOG out && cat OLD GOOD >want-out && : >want-err
+compare standard-output-by-its-name 0
+# Lines that are read of the file that they are written to would never end.
+echo 7400 >SELF
+for command in check digest; do
+    "$program" $command --lines SELF >>SELF 2>err
+    status=$?
+    printf "$same_line" >want-err
+    : >out && : >want-out
+    compare "lines-into-their-file: $command" 2
+done
+[ "$(cat SELF)" = 7400 ] || { failed=$((failed + 1)) && echo 'failed: lines were written to their own file'; }
+rm OUT LOG SELF
+# Help that can't be written, and help that nobody reads.
+printf 'illcanon: flush fault\n' >want-err
+for words in --help --version 'help causes'; do
+    "$program" $words >/dev/full 2>err
+    status=$?
+    compare "full-device: $words" 3
+done
+# Nobody reads the output any more, which is more than a pipe holds: nothing is said of that.
+for _ in 1 2 3 4 5 6 7 8 9 10; do cat MANY; done >BIG
+: >want-err && : >out && : >want-out
+for words in 'show BIG' 'canonicalise BIG -' 'check BIG'; do
+    "$program" $words 2>err | true
+    status=${PIPESTATUS[0]}
+    compare "closed-pipe: $words" 3
+done
+rm BIG
+# Words that are no text stop no other, and clap's texts have no control of theirs.
+other=$(printf 'M\374ller.ber')
+row word-that-is-no-text 3 "GOOD: message 1: $normal" "illcanon: cannot open \$'M\\\\374ller.ber'\n" check GOOD "$other"
+"$program" check "$(printf -- '--\033]0;owned\007\nx')" >out 2>err
+status=$?
+word='--\\033]0;owned\\007\\nx'
+printf "error: unexpected argument '$word' found\n\n  tip: to pass '$word' as a value, use '-- $word'\n\nUsage: illcanon check [OPTIONS] [FILE]...$help" >want-err
+: >want-out
+compare hidden-characters-in-a-word 2
+
+# Names in lines: one line each, and the shell reads it back.
+for name in 'a b' "it's" 'K\303\266ln' 'x\ny' '\033[2J' 'caf\351' '\302\205' "a\\tb'c" "\$'\\\\n'" 'gpj.\342\200\256reb'; do
+    word=$(printf "$name.")
+    word=${word%.}
+    "$program" check "$word" >out 2>err
+    status=$?
+    line=$(cat err)
+    shown=${line#illcanon: cannot open }
+    case $shown in \$\'*) eval "read=$shown" ;; *) read=$shown ;; esac
+    if [ $status = 3 ] && [ "$(wc -l <err)" = 1 ] && [ "$read" = "$word" ] && ! LC_ALL=C grep -q "[$(printf '\001')-$(printf '\037')]" err; then
+        passed=$((passed + 1))
+    else
+        failed=$((failed + 1)) && echo "failed: name $name: status $status" && cat -v err
+    fi
+done
+
+cd / && rm -rf "$folder"
+echo "$passed passed, $failed failed"
+[ $failed = 0 ]
