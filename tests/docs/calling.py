@@ -33,7 +33,7 @@ TEXT = """# Calling illcanon from Rattle
 - Nothing is written for a message that is refused. Of a message whose writing failed, the sink has the first octets, as many as the error says.
 - A call without a profile reads profile 2. Those that end in `_as` take a `Profile`.
 - `decode`, `read_message`, `Decoder` and the structs of `ill_apdu` are of profile 2 alone.
-- That a spelling is accepted is a clause of its own (`accepts`, `normalised`): `IfOk` alone would allow a call that always fails.
+- That a spelling is accepted is a clause of its own (`accepts`): `IfOk` alone would allow a call that always fails.
 
 ## A caller
 
